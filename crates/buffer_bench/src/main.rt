@@ -55,18 +55,19 @@ fn taken_from(buffer: &mut ScrubBuf) -> u64 {
     first as u64
 }
 
-// The sum of the first bytes of the pieces, each copied into a vector.
+// The sum of the first bytes of the pieces, each copied to the end of a vector, which is emptied once it holds a backlog.
 fn through_a_vector(alloc: Global, pieces: u64) -> Result<u64, AllocError> {
-    let mut vector = Vec::with_capacity(alloc, PIECE)?;
+    let mut vector = Vec::new(alloc);
     let mut piece = [0; PIECE];
     let mut sum: u64 = 0;
     for number in 0..pieces {
         piece[0] = (number % 251) as u8;
-        vector.clear();
-        vector.extend_from_slice(&piece)?;
-        if let Some(first) = vector.first() {
-            sum = sum.wrapping_add(*first as u64);
+        if number % BACKLOG == 0 {
+            vector.clear();
         }
+        let start = vector.len();
+        vector.extend_from_slice(&piece)?;
+        sum = sum.wrapping_add(vector[start] as u64);
     }
     Ok(sum)
 }
