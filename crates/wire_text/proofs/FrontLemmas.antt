@@ -25,6 +25,16 @@ front-bad max bytes starts =
       | inr above ↦ grind (arith, nat_tests)
     ]
 
+-- fewer than four bytes decide nothing
+pub front-short : (max : ℕ) (bytes : List ℕ) → length bytes < 4 → front max bytes ≡ More
+unfolding front
+front-short max bytes short = grind (arith, nat_tests)
+
+-- a body that is not there yet decides nothing
+pub front-waits : (max : ℕ) (bytes : List ℕ) → 4 ≤ length bytes → 0 < announced_len bytes → announced_len bytes ≤ max → length bytes < 4 + announced_len bytes → front max bytes ≡ More
+unfolding front
+front-waits max bytes header some within waits = grind (arith, nat_tests)
+
 -- the facts that a front stands for
 abbrev pub FrontIs : ℕ → List ℕ → Front → Type 0
 FrontIs max bytes (Whole body_len) = StartsWithFrame max bytes × (body_len ≡ announced_len bytes)
@@ -38,22 +48,18 @@ bad_is_no_frame max bytes bad whole =
     let within : announced_len bytes ≤ max = whole.within in
     elim bad.refused [ inl none ↦ omega arith | inr above ↦ omega arith ]
 
--- fewer than four bytes decide nothing
+-- neither is there in fewer than four bytes
 short_is_more : (max : ℕ) (bytes : List ℕ) → length bytes < 4 → FrontIs max bytes (front max bytes)
-unfolding front
 short_is_more max bytes short =
-    let more : front max bytes ≡ More = grind (arith, nat_tests) in
-    subst (FrontIs max bytes) (sym more) (record {
+    subst (FrontIs max bytes) (sym (front-short max bytes short)) (record {
       no_frame = λ starts. let header : 4 ≤ length bytes = starts.header in omega arith;
       not_bad = λ starts. let header : 4 ≤ length bytes = starts.header in omega arith;
     })
 
--- a body that is not there yet decides nothing
+-- nor in a part of a frame
 waits_is_more : (max : ℕ) (bytes : List ℕ) → 4 ≤ length bytes → 0 < announced_len bytes → announced_len bytes ≤ max → length bytes < 4 + announced_len bytes → FrontIs max bytes (front max bytes)
-unfolding front
 waits_is_more max bytes header some within waits =
-    let more : front max bytes ≡ More = grind (arith, nat_tests) in
-    subst (FrontIs max bytes) (sym more) (record {
+    subst (FrontIs max bytes) (sym (front-waits max bytes header some within waits)) (record {
       no_frame = λ starts. let follows : 4 + announced_len bytes ≤ length bytes = starts.follows in omega arith;
       not_bad = λ starts. elim starts.refused [ inl none ↦ omega arith | inr above ↦ omega arith ];
     })

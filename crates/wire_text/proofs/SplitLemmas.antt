@@ -42,7 +42,7 @@ too_short : (max : ℕ) (bytes : List ℕ) → length bytes ≤ 0 → StartsWith
 too_short max bytes short starts = let header : 4 ≤ length bytes = starts.header in omega arith
 
 -- a count past the number of bytes changes nothing
-split_up_to-enough : (count more : ℕ) (max : ℕ) (bytes : List ℕ) → length bytes ≤ count → length bytes ≤ more → split_up_to count max bytes ≡ split_up_to more max bytes
+pub split_up_to-enough : (count more : ℕ) (max : ℕ) (bytes : List ℕ) → length bytes ≤ count → length bytes ≤ more → split_up_to count max bytes ≡ split_up_to more max bytes
 unfolding split_up_to
 split_up_to-enough zero zero max bytes fits fits_more = refl
 split_up_to-enough zero (suc more) max bytes fits fits_more =

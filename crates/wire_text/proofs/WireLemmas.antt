@@ -49,6 +49,17 @@ unfolding announced_len
 announced_len-append s t header =
     grind (arith, get_or_append_left s t 0 0, get_or_append_left s t 0 1, get_or_append_left s t 0 2, get_or_append_left s t 0 3)
 
+-- and they hold the same number alone
+pub announced_len-take : (bytes : List ℕ) → 4 ≤ length bytes → announced_len (take 4 bytes) ≡ announced_len bytes
+announced_len-take bytes header =
+    sym (announced_len-append (take 4 bytes) (drop 4 bytes) (omega (arith, length-take 4 bytes)))
+    ∙ ap announced_len (take-append-drop 4 bytes)
+
+-- what is read from the first four bytes is the length that they announce
+pub announced_len-read : (bytes header : List ℕ) (value : ℕ) → 4 ≤ length bytes → header ≡ take 4 bytes → value ≡ from_be_bytes w32 header → value ≡ announced_len bytes
+unfolding announced_len
+announced_len-read bytes header value enough front read = read ∙ ap (from_be_bytes w32) front ∙ announced_len-take bytes enough
+
 -- every place of bytes has one, and past the end stands 0
 pub byte_at_each : (bytes : List ℕ) → IsBytes bytes → (i : ℕ) → get_or bytes i 0 < 256
 byte_at_each bytes small i =
