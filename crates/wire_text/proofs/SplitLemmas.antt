@@ -2,6 +2,7 @@
 use Rattle.std.proofs.Common.{◌≡◌, ℕ, zero, suc, ◌+◌, ◌^◌, ◌<◌, ◌≤◌, List, [], ◌∷◌, ◌++◌, length, take, drop, refl, sym, ap, subst, ◌∙◌, append_assoc, arith}
 use Rattle.std.specs.Prelude.{All}
 use Rattle.std.proofs.lemmas.List.{length-drop, take_at, drop_at, take-append-le, drop-append-le}
+use Rattle.std.proofs.lemmas.List.Concat.{flat_map-append}
 use Rattle.std.proofs.lemmas.List.Elements.{All-nil, All-cons, All-head, All-tail, All-drop}
 use Rattle.wire_text.specs.Wire.{IsBytes, string, announced_len}
 use Rattle.wire_text.specs.Frames.{IsBody, frames, Front, Whole, Bad, More, front, StartsWithFrame, StartsBadly, Splits, Split, unsplit, then_split, front_body, after_front, split_from, split_up_to, split}
@@ -93,6 +94,10 @@ split-string max body rest bound fits =
     ∙ ap (λ (r : List ℕ). then_split (body ∷ []) (split max r)) rest-is
 
 -- ---- cuts
+
+-- two streams, one after the other, are the stream of both
+pub frames-append : (xs ys : List (List ℕ)) → frames (xs ++ ys) ≡ frames xs ++ frames ys
+frames-append xs ys = flat_map-append string xs ys
 
 -- bytes t behind bytes s are split as s was, and then as its rest and t are
 abbrev GoesOn : ℕ → List ℕ → List ℕ → Split → Type 0

@@ -14,16 +14,16 @@ uint32 value = to_be_bytes w32 value
 unfoldable pub uint64 : ℕ → List ℕ
 uint64 value = to_be_bytes w64 value
 
--- a truth value in one byte, as a writer has to store it: 1 for true, 0 for false
+-- a truth value in one byte, as it is written: 1 for true, 0 for false
 abbrev pub boolean : Bool → List ℕ
 boolean true = 1 ∷ []
 boolean false = 0 ∷ []
 
--- the truth value that a reader takes from a byte: every byte but 0 is true
+-- a byte as a truth value, as it is read: every byte but 0 is true
 abbrev pub boolean_of : ℕ → Bool
 boolean_of byte = not (byte == 0)
 
--- a text after its length in four bytes; of a message this is its frame
+-- a text behind its length in four bytes; the string of a message's body is its frame
 unfoldable pub string : List ℕ → List ℕ
 string text = uint32 (length text) ++ text
 

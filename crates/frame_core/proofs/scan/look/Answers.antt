@@ -15,11 +15,11 @@ returns-then-announced-max c =
 pub returns-then-rest-announced : goal.returns-then-rest-announced
 returns-then-rest-announced c =
     let found = c.in-Some.ensures.cases in
-    let is = IsLook-more c.args.max c.args.bytes.now c.in-Some.header.now c.in-Some.rest.now c.from_be_bytes-announced.result (record { first = found.0; behind = found.2; value = c.from_be_bytes-announced.ensures }) (omega arith) c.if-announced-max.false.1 c.if-rest-announced.true in
+    let is = IsLook-more c.args.max c.args.bytes.now c.in-Some.header.now c.in-Some.rest.now c.from_be_bytes-announced.result (record { first = found.0; behind = found.2; value = c.from_be_bytes-announced.ensures }) (omega arith) (omega arith) c.if-rest-announced.true in
     record { exact = is.exact; whole = is.whole; bad = is.bad; more = is.more }
 
 pub returns-else-rest-announced : goal.returns-else-rest-announced
 returns-else-rest-announced c =
     let found = c.in-Some.ensures.cases in
-    let is = IsLook-whole c.args.max c.args.bytes.now c.in-Some.header.now c.in-Some.rest.now c.from_be_bytes-announced.result (record { first = found.0; behind = found.2; value = c.from_be_bytes-announced.ensures }) (omega arith) c.if-announced-max.false.1 c.if-rest-announced.false in
+    let is = IsLook-whole c.args.max c.args.bytes.now c.in-Some.header.now c.in-Some.rest.now c.from_be_bytes-announced.result (record { first = found.0; behind = found.2; value = c.from_be_bytes-announced.ensures }) (omega arith) (omega arith) c.if-rest-announced.false in
     record { exact = is.exact; whole = is.whole; bad = is.bad; more = is.more }
