@@ -9,11 +9,12 @@ use crate::outcome::Look;
 
 /// Looks for a frame with a body of 1 to `max` bytes at the front of `bytes`.
 ///
-/// A bad length is answered from its four bytes, before any byte of the body is there. The bound is the
-/// caller's: the protocol has none but 2^32 - 1. Takes no memory.
+/// A bad length is answered from its four bytes, before any byte of the body is there. The bound is
+/// the caller's: the protocol has none but 2^32 - 1. Takes no memory.
 pub fn look(bytes: &[u8], max: u32) -> Look
     ensures exact { front_of result ≡ front max bytes.now }
-    ensures whole { (result ≡ Look.Whole (announced_len bytes.now)) ↔ StartsWithFrame max bytes.now }
+    ensures whole { (result ≡ Look.Whole (announced_len bytes.now))
+        ↔ StartsWithFrame max bytes.now }
     ensures bad { (result ≡ Look.Bad (announced_len bytes.now)) ↔ StartsBadly max bytes.now }
     ensures more { (result ≡ Look.More) ↔ IsUnfinished max bytes.now }
 {

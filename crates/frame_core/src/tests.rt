@@ -1,7 +1,8 @@
 use super::*;
 use std::test::*;
 
-/// A request for the list of identities (draft-miller-ssh-agent, "Requesting a list of keys"): number 11 alone.
+/// A request for the list of identities (draft-miller-ssh-agent, "Requesting a list of keys"): the
+/// number 11 alone.
 const LIST_REQUEST: [u8; 5] = [0, 0, 0, 1, 11];
 
 #[test]

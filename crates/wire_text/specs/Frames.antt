@@ -43,14 +43,16 @@ pub data Front : Type 0 where
 unfoldable pub front : ℕ → List ℕ → Front
 front max bytes =
     if nat_lt (length bytes) 4 then More
-    else if (announced_len bytes == 0) || nat_lt max (announced_len bytes) then Bad (announced_len bytes)
+    else if (announced_len bytes == 0) || nat_lt max (announced_len bytes)
+    then Bad (announced_len bytes)
     else if nat_lt (length bytes) (4 + announced_len bytes) then More
     else Whole (announced_len bytes)
 
 -- ---- the split of a stream
 
 -- the stream is the frames of these bodies and then the rest, at whose front stands no whole frame
-pub record Splits (max : ℕ) (stream : List ℕ) (bodies : List (List ℕ)) (rest : List ℕ) : Type 0 where
+pub record Splits (max : ℕ) (stream : List ℕ) (bodies : List (List ℕ)) (rest : List ℕ)
+    : Type 0 where
   pub whole : stream ≡ frames bodies ++ rest
   pub each : All (IsBody max) bodies
   pub left : ¬ (StartsWithFrame max rest)

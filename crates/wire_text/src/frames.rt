@@ -24,7 +24,8 @@ pub fn a_front_is_found_early()
 
 /// What is found as a whole frame is the string of a body, and the string of a body is found.
 pub fn a_whole_front_is_a_string()
-    ensures found { (max : ℕ) (bytes : List ℕ) (body_len : ℕ) → IsBytes bytes → front max bytes ≡ Whole body_len
+    ensures found { (max : ℕ) (bytes : List ℕ) (body_len : ℕ)
+        → IsBytes bytes → front max bytes ≡ Whole body_len
         → bytes ≡ string (front_body body_len bytes) ++ after_front body_len bytes }
     ensures body { (max : ℕ) (bytes : List ℕ) (body_len : ℕ) → front max bytes ≡ Whole body_len
         → IsBody max (front_body body_len bytes) × (length (front_body body_len bytes) ≡ body_len) }
@@ -44,11 +45,12 @@ pub fn a_stream_has_one_split()
         → Splits max stream xs r → Splits max stream ys q → (xs ≡ ys) × (r ≡ q) }
 {}
 
-/// Where a stream is cut does not matter: the bodies of its first part, and then those of what that left
-/// and what followed.
+/// Where a stream is cut does not matter: it has the bodies of its first part, and then those of
+/// what that left and what followed.
 pub fn cuts_do_not_matter()
     ensures { (max : ℕ) (s t : List ℕ)
-        → split max (s ++ t) ≡ then_split (split max s).bodies (split max ((split max s).rest ++ t)) }
+        → split max (s ++ t)
+        ≡ then_split (split max s).bodies (split max ((split max s).rest ++ t)) }
 {}
 
 /// Behind a bad length no body is found, whatever follows.

@@ -1,6 +1,6 @@
-//! Numbers, booleans and strings of the SSH protocols as bytes (RFC 4251, section 5), and the split of a
-//! stream of messages into frames. Definitions in specs/, and no code: each function is a law, proved of
-//! all bytes, and does nothing.
+//! Numbers, booleans and strings of the SSH protocols as bytes (RFC 4251, section 5), and the split
+//! of a stream of messages into frames. Definitions stand in specs/, and each function is a law: its
+//! clauses hold of all bytes, and it does nothing.
 #![tactic(auto)]
 
 mod frames;

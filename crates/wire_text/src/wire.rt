@@ -25,7 +25,8 @@ pub fn no_string_begins_another()
 
 /// The first four bytes of a string are the length of its text, whatever follows.
 pub fn a_string_announces_its_length()
-    ensures { (text rest : List ℕ) → length text < 2 ^ 32 → announced_len (string text ++ rest) ≡ length text }
+    ensures { (text rest : List ℕ) → length text < 2 ^ 32
+        → announced_len (string text ++ rest) ≡ length text }
 {}
 
 /// Four bytes are the bytes of the number that they announce.
