@@ -1,0 +1,3 @@
+pub mod Looks
+pub use Rattle.wire_text.specs.Wire
+pub use Rattle.wire_text.specs.Frames
