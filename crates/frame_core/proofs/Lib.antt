@@ -1,2 +1,3 @@
 pub mod LookLemmas
+pub mod PutLemmas
 pub mod TurnLemmas

@@ -1,5 +1,5 @@
 -- A look as the front that it tells of, and looks in turn along a stream.
-use Rattle.std.specs.Prelude.{◌≡◌, ℕ, zero, suc, List, [], ◌∷◌, drop}
+use Rattle.std.specs.Prelude.{◌≡◌, ℕ, zero, suc, List, [], ◌∷◌, drop, length}
 use Rattle.frame_core.specs.declared.outcome.Look.{Look}
 use Rattle.frame_core.specs.declared.outcome.Look.TheVariants as answers
 use Rattle.wire_text.specs.Frames.{Front, Whole, Bad, More, front, front_body, after_front, Split, unsplit, then_split}
@@ -9,6 +9,12 @@ abbrev pub front_of : Look → Front
 front_of (answers.Whole body) = Whole body
 front_of (answers.Bad announced) = Bad announced
 front_of answers.More = More
+
+-- a look at these bytes tells of the whole frame of this body, behind which the rest stands
+pub record FindsBody (bytes : List ℕ) (answer : Look) (body rest : List ℕ) : Type 0 where
+  pub whole : answer ≡ answers.Whole (length body)
+  pub found : front_body (length body) bytes ≡ body
+  pub left : after_front (length body) bytes ≡ rest
 
 -- at each place of the stream the look tells of the front of what is left there
 abbrev pub TellsOfFronts : ℕ → (List ℕ → Look) → List ℕ → Type 0

@@ -1,13 +1,15 @@
 //! Frames of messages at the front of a byte stream: draft-miller-ssh-agent, "Protocol Messages".
-//! Stands on wire_text, which has the definitions and the laws of streams.
+//! Stands on wire_text, which has the definitions and the laws of streams, and secret_buf.
 #![tactic(auto)]
 
 mod laws;
 mod outcome;
+mod put;
 mod scan;
 #[cfg(test)]
 mod tests;
 
-pub use laws::looks_in_turn_split_the_stream;
+pub use laws::{a_put_frame_is_found_whole, looks_in_turn_split_the_stream};
 pub use outcome::Look;
+pub use put::put_frame;
 pub use scan::look;

@@ -1,4 +1,5 @@
 use super::*;
+use secret_buf::ScrubBuf;
 use std::test::*;
 
 /// A request for the list of identities (draft-miller-ssh-agent, "Requesting a list of keys"): the
@@ -43,4 +44,16 @@ fn a_length_of_zero_or_above_the_limit_is_bad(rt: HostRuntime) {
     for (bytes, want) in cases {
         assert_eq!(rt; look(&bytes, 8), want, "at {bytes:?}");
     }
+}
+
+#[test]
+fn a_put_frame_is_its_length_and_its_body(rt: HostRuntime) -> Result<(), Fail> {
+    let mut out = ScrubBuf::new(rt.alloc());
+    put_frame(&mut out, &[11])?;
+    assert_eq!(rt; out.live(), LIST_REQUEST.as_slice());
+    put_frame(&mut out, &[])?;
+    out.consume(5);
+    assert_eq!(rt; out.live(), [0, 0, 0, 0].as_slice());
+    assert_eq!(rt; look(out.live(), 262144), Look::Bad { announced: 0 });
+    Ok(())
 }
