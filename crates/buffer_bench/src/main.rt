@@ -1,4 +1,4 @@
-//! Moves a number of pieces through a ScrubBuf or a plain Vec, for `bench/secret_buf.sh`, which takes the time.
+//! Moves pieces through a ScrubBuf or a plain Vec, for `bench/secret_buf.sh`, which takes the time.
 #![tactic(auto)]
 
 use secret_buf::ScrubBuf;
@@ -55,7 +55,8 @@ fn taken_from(buffer: &mut ScrubBuf) -> u64 {
     first as u64
 }
 
-// The sum of the first bytes of the pieces, each copied to the end of a vector, which is emptied once it holds a backlog.
+// The sum of the first bytes of the pieces, each copied to the end of a vector, which is emptied
+// once it holds a backlog.
 fn through_a_vector(alloc: Global, pieces: u64) -> Result<u64, AllocError> {
     let mut vector = Vec::new(alloc);
     let mut piece = [0; PIECE];

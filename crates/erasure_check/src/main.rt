@@ -1,5 +1,6 @@
-//! Counts the copies of marked bytes that stand in this program's own heap, before and after secret_buf lets go of them.
-//! A plain vector, which leaves its bytes in freed memory, shows that the count sees what is freed. Linux alone.
+//! Counts the copies of marked bytes in this program's own heap, before and after secret_buf lets
+//! go of them. A plain vector, whose bytes stay in freed memory, shows that what is freed is seen.
+//! Linux alone.
 #![tactic(auto)]
 
 mod heap;

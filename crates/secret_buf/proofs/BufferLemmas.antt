@@ -4,82 +4,112 @@ use Rattle.std.proofs.Math.ListN.{length-replicate}
 use Rattle.std.proofs.lemmas.List.{take_at, take-append-le, drop-append-le, drop-take}
 use Rattle.std.proofs.lemmas.List.Elements.{All-append, All-drop, All-replicate}
 use Rattle.std.proofs.lemmas.Slice.{drop-append-drop}
-use Rattle.secret_buf.specs.Buffers.{IsWiped, IsScrubbed}
+use Rattle.secret_buf.specs.Buffers.{Buffer, buffer_of, cleared, overwritten, IsWiped, IsScrubbed}
 
--- zeros, and then bytes that are zero
-wiped_and : (xs : List ℕ) (n : ℕ) → IsWiped xs → IsWiped (xs ++ replicate n 0)
-wiped_and xs n wiped = let P : ℕ → Type 0 = λ byte. byte ≡ 0 in All-append P xs (replicate n 0) wiped (All-replicate P n 0 refl)
+-- the lengths of parts and of what is put together of parts
+ruleset lengths = (length-append, length-take, length-drop, length-replicate)
+
+-- wiped bytes, and wiped bytes behind them
+wiped_both : (xs ys : List ℕ) → IsWiped xs → IsWiped ys → IsWiped (xs ++ ys)
+wiped_both = All-append (λ byte. byte ≡ 0)
+
+-- wiped bytes, and zeros behind them
+wiped_and_zeros : (xs : List ℕ) (n : ℕ) → IsWiped xs → IsWiped (xs ++ replicate n 0)
+wiped_and_zeros xs n wiped =
+    wiped_both xs _ wiped (All-replicate (λ byte. byte ≡ 0) n 0 refl)
 
 module _ (s : List ℕ) (start end : ℕ) (is : IsScrubbed s start end) where
-  -- with zeros in the place of the live bytes, all bytes are zero
-  pub all_wiped : (n : ℕ) → IsWiped (take start s ++ replicate n 0 ++ drop end s)
-  all_wiped n = let P : ℕ → Type 0 = λ byte. byte ≡ 0 in
-      All-append P (take start s ++ replicate n 0) (drop end s) (wiped_and _ n is.before) is.after
+  -- the live bytes are as many as there are from start to end
+  length-live : length (slice_range s start end) ≡ end - start
+  length-live = grind (arith, lengths, is.within)
 
-  pub length-live : length (slice_range s start end) ≡ end - start
-  length-live = omega (arith, is.within, length-take {A = ℕ}, length-drop {A = ℕ})
+  -- a number of live bytes ends within them
+  pub count_fits : (count : ℕ) (buffer : Buffer) → buffer_of s start end ≡ buffer
+      → count ≤ length buffer.live → start + count ≤ end
+  count_fits count buffer seen few =
+      omega (arith, is.ordered, length-live, ap (λ (b : Buffer). length b.live) seen)
 
-  -- a number of live bytes is counted within them
-  pub count_fits : (count : ℕ) (bytes : List ℕ) → slice_range s start end ≡ bytes
-      → count ≤ length bytes → start + count ≤ end
-  count_fits count bytes live few = omega (arith, is.ordered, length-live, ap (λ (xs : List ℕ). length xs) live)
+  -- with the live bytes cleared, all bytes are zero
+  pub IsWiped-cleared : IsWiped (cleared s start end)
+  IsWiped-cleared = wiped_both _ _ (wiped_and_zeros _ _ is.before) is.after
 
   module _ (to : ℕ) (from_start : start ≤ to) (to_end : to ≤ end) where
     length-front : length (take start s ++ replicate (to - start) 0) ≡ to
-    length-front = omega (arith, is.within, length-append {A = ℕ}, length-take {A = ℕ}, length-replicate {A = ℕ})
+    length-front = grind (arith, lengths, is.within)
 
-    -- zeros in the place of the first live bytes leave the others as they are
-    drop-front : (m : ℕ) → to ≤ m → drop m (take start s ++ replicate (to - start) 0 ++ drop to s) ≡ drop m s
-    drop-front m past = drop-append-drop to s _ m past length-front
+    -- what stands behind the cleared bytes stays
+    drop-cleared : (m : ℕ) → to ≤ m → drop m (cleared s start to) ≡ drop m s
+    drop-cleared m past = drop-append-drop to s _ m past length-front
 
-    -- without the first live bytes, which are zero then, storage is scrubbed
-    pub IsScrubbed-consumed : IsScrubbed (take start s ++ replicate (to - start) 0 ++ drop to s) to end
-    IsScrubbed-consumed = record {
-      ordered = to_end;
-      within = omega (arith, is.within, length-front, length-append {A = ℕ}, length-drop {A = ℕ});
-      halved = omega (arith, is.within, is.halved, length-front, length-append {A = ℕ}, length-drop {A = ℕ});
-      before = rw (take_at (take start s ++ replicate (to - start) 0) (drop to s) to length-front) (wiped_and _ _ is.before);
-      after = rw (drop-front end to_end) is.after;
-    }
+    -- with the first live bytes cleared, storage is scrubbed without them
+    pub IsScrubbed-cleared : IsScrubbed (cleared s start to) to end
+    IsScrubbed-cleared =
+        let same_length : length (cleared s start to) ≡ length s =
+        grind (arith, lengths, is.within, length-front) in
+        record {
+          ordered = to_end;
+          within = omega (arith, is.within, same_length);
+          halved = omega (arith, is.halved, same_length);
+          before =
+              rw (take_at (take start s ++ replicate (to - start) 0) (drop to s) to length-front)
+              (wiped_and_zeros _ _ is.before);
+          after = rw (drop-cleared end to_end) is.after;
+        }
 
-    -- the live bytes are the old ones without the first
-    pub live-consumed : (count : ℕ) → to ≡ start + count
-        → slice_range (take start s ++ replicate (to - start) 0 ++ drop to s) to end ≡ drop count (slice_range s start end)
-    live-consumed count at =
-        rw (drop-front to (omega arith), at, ← drop-drop count start s, ← drop-take count (end - (start + count)) (drop start s))
-        (ap (λ n. drop count (take n (drop start s))) (omega arith))
+    -- and the live bytes are the old ones without the first
+    pub live-cleared : (count : ℕ) → to ≡ start + count
+        → slice_range (cleared s start to) to end ≡ drop count (slice_range s start end)
+    live-cleared count at =
+        rw (drop-cleared to (omega arith), at, ← drop-drop count start s)
+        (rw (← drop-take count (end - (start + count)) (drop start s))
+        (ap (λ n. drop count (take n (drop start s))) (omega arith)))
 
   module _ (bytes : List ℕ) (fits : end + length bytes ≤ length s) where
-    length-head : length (take end s ++ bytes) ≡ end + length bytes
-    length-head = omega (arith, is.within, length-append {A = ℕ}, length-take {A = ℕ})
+    length-front_and_bytes : length (take end s ++ bytes) ≡ end + length bytes
+    length-front_and_bytes = grind (arith, lengths, is.within)
 
-    drop-pushed : drop (end + length bytes) (take end s ++ bytes ++ drop (end + length bytes) s) ≡ drop (end + length bytes) s
-    drop-pushed = drop-append-drop _ s _ _ (omega arith) length-head
+    -- what stands before the live bytes stays
+    take-overwritten : take start (overwritten s end bytes) ≡ take start s
+    take-overwritten =
+        let in_front : start ≤ length (take end s) =
+        grind (arith, lengths, is.ordered, is.within) in
+        let in_both : start ≤ length (take end s ++ bytes) =
+        omega (arith, is.ordered, length-front_and_bytes) in
+        take-append-le start (take end s ++ bytes) _ in_both
+        ∙ take-append-le start (take end s) bytes in_front
+        ∙ take-take start end s is.ordered
 
-    take-pushed : take start (take end s ++ bytes ++ drop (end + length bytes) s) ≡ take start s
-    take-pushed =
-        rw (take-append-le start (take end s ++ bytes) (drop (end + length bytes) s) (omega (arith, is.ordered, length-head)), take-append-le start (take end s) bytes (omega (arith, is.ordered, is.within, length-take {A = ℕ})))
-        (grind (arith, take-take {A = ℕ}, is.ordered))
+    -- with bytes written behind the live ones, storage is scrubbed with them
+    pub IsScrubbed-overwritten :
+        end + length bytes - start + (end + length bytes - start) ≤ length s
+        → IsScrubbed (overwritten s end bytes) start (end + length bytes)
+    IsScrubbed-overwritten half =
+        let same_length : length (overwritten s end bytes) ≡ length s =
+        grind (arith, lengths, fits, length-front_and_bytes) in
+        record {
+          ordered = omega (arith, is.ordered);
+          within = omega (arith, fits, same_length);
+          halved = omega (arith, half, same_length);
+          before = rw take-overwritten is.before;
+          after =
+              rw (drop-append-drop _ s _ (end + length bytes) (omega arith) length-front_and_bytes)
+              (rw (← drop-drop (length bytes) end s)
+              (All-drop (λ byte. byte ≡ 0) (length bytes) (drop end s) is.after));
+        }
 
-    -- with bytes written behind the live ones, storage is scrubbed
-    pub IsScrubbed-pushed : end + length bytes - start + (end + length bytes - start) ≤ length s
-        → IsScrubbed (take end s ++ bytes ++ drop (end + length bytes) s) start (end + length bytes)
-    IsScrubbed-pushed half = record {
-      ordered = omega (arith, is.ordered);
-      within = omega (arith, length-head, length-append {A = ℕ}, length-drop {A = ℕ});
-      halved = omega (arith, half, length-head, length-append {A = ℕ}, length-drop {A = ℕ});
-      before = rw take-pushed is.before;
-      after = let P : ℕ → Type 0 = λ byte. byte ≡ 0 in
-          rw (drop-pushed, ← drop-drop (length bytes) end s) (All-drop P (length bytes) (drop end s) is.after);
-    }
-
-    -- the live bytes are the old ones and then the written ones
-    pub live-pushed : slice_range (take end s ++ bytes ++ drop (end + length bytes) s) start (end + length bytes)
+    -- and the live bytes are the old ones and then those
+    pub live-overwritten : slice_range (overwritten s end bytes) start (end + length bytes)
         ≡ slice_range s start end ++ bytes
-    live-pushed =
-        let head : drop start (take end s ++ bytes) ≡ slice_range s start end ++ bytes =
-        drop-append-le start (take end s) bytes (omega (arith, is.ordered, is.within, length-take {A = ℕ}))
-        ∙ ap (λ xs. xs ++ bytes) (ap (λ n. drop start (take n s)) (omega (arith, is.ordered)) ∙ drop-take start (end - start) s) in
-        rw (drop-append-le start (take end s ++ bytes) (drop (end + length bytes) s) (omega (arith, is.ordered, length-head)), head)
-        (take_at (slice_range s start end ++ bytes) (drop (end + length bytes) s) (end + length bytes - start)
-        (omega (arith, is.ordered, length-live, length-append {A = ℕ})))
+    live-overwritten =
+        let in_front : start ≤ length (take end s) =
+        grind (arith, lengths, is.ordered, is.within) in
+        let in_both : start ≤ length (take end s ++ bytes) =
+        omega (arith, is.ordered, length-front_and_bytes) in
+        let same_front : drop start (take end s) ≡ slice_range s start end =
+        ap (λ n. drop start (take n s)) (omega (arith, is.ordered))
+        ∙ drop-take start (end - start) s in
+        let long : length (slice_range s start end ++ bytes) ≡ end + length bytes - start =
+        omega (arith, is.ordered, length-live, length-append {A = ℕ}) in
+        rw (drop-append-le start (take end s ++ bytes) (drop (end + length bytes) s) in_both)
+        (rw (drop-append-le start (take end s) bytes in_front, same_front)
+        (take_at (slice_range s start end ++ bytes) _ (end + length bytes - start) long))

@@ -1,5 +1,5 @@
 -- Buffers whose storage holds nothing but their live bytes (ours).
-use Rattle.std.specs.Prelude.{◌≡◌, ℕ, ◌+◌, ◌-◌, ◌≤◌, List, [], All, drop, length, take}
+use Rattle.std.specs.Prelude.{◌≡◌, ℕ, ◌+◌, ◌-◌, ◌/◌, ◌≤◌, List, [], ◌++◌, All, drop, length, replicate, slice_range, take}
 
 -- the bytes that were pushed and not consumed, and how many more may be pushed without memory
 pub record Buffer : Type 0 where
@@ -17,6 +17,21 @@ KeepsRoom old new = old.spare + length old.live ≤ new.spare + length new.live
 -- every byte is zero
 abbrev pub IsWiped : List ℕ → Type 0
 IsWiped bytes = All (λ byte. byte ≡ 0) bytes
+
+-- storage with these bytes in the place of those from at on
+abbrev pub overwritten : List ℕ → ℕ → List ℕ → List ℕ
+overwritten storage at bytes = take at storage ++ bytes ++ drop (at + length bytes) storage
+
+-- storage with zeros in the place of the bytes from start to end
+abbrev pub cleared : List ℕ → ℕ → ℕ → List ℕ
+cleared storage start end = take start storage ++ replicate (end - start) 0 ++ drop end storage
+
+-- the buffer whose live bytes are those from start to end: they may come to fill half the storage
+abbrev pub buffer_of : List ℕ → ℕ → ℕ → Buffer
+buffer_of storage start end = record {
+  live = slice_range storage start end;
+  spare = length storage / 2 - (end - start);
+}
 
 -- the bytes from start to end fill at most half of the storage, and all others are zero
 pub record IsScrubbed (storage : List ℕ) (start end : ℕ) : Type 0 where

@@ -1,5 +1,7 @@
-// Two impls of one trait may not overlap. Each pair below overlaps as soon as the type has the unwanted trait, so an
-// impl or a derive of that trait anywhere in the crate is an error, and no other crate may write one.
+// Two impls of one trait may not overlap. Each pair below overlaps as soon as the type has the
+// unwanted trait. So an impl or a derive of that trait anywhere in the crate is an error, and no
+// other crate may write one.
+
 use crate::scrub_buf::ScrubBuf;
 use crate::secret_bytes::SecretBytes;
 use crate::storage::Storage;

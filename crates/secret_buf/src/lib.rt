@@ -1,5 +1,5 @@
-//! Secret bytes on the heap, and a buffer of bytes, whose storage is set to zero before it is given up.
-//! Stands on std alone. What a copy in registers, on the stack or in swapped memory holds is not its matter.
+//! Secret bytes on the heap, and a buffer of bytes, whose storage is zero before it is given up.
+//! Stands on std alone. Copies in registers, on the stack or in swapped memory aren't its matter.
 #![tactic(auto)]
 
 mod guards;

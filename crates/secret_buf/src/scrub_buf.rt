@@ -1,5 +1,5 @@
-ghost use Rattle.std.specs.Prelude.{◌≡◌, ◌+◌, ◌*◌, ◌-◌, ◌/◌, ◌^◌, ◌<◌, ◌≤◌, [], ◌++◌, IfSome, IsOk, OnErr, OnOk, drop, length, slice_range, take};
-ghost use Rattle.secret_buf.specs.Buffers.{IsScrubbed, KeepsRoom, no_bytes};
+ghost use Rattle.std.specs.Prelude.{◌≡◌, ◌+◌, ◌*◌, ◌-◌, ◌/◌, ◌^◌, ◌<◌, ◌≤◌, [], ◌++◌, IfSome, IsOk, OnErr, OnOk, drop, length, slice_range};
+ghost use Rattle.secret_buf.specs.Buffers.{buffer_of, no_bytes, IsScrubbed, KeepsRoom};
 
 use crate::storage::Storage;
 use std::alloc::{AllocError, Global};
@@ -8,9 +8,9 @@ use std::mem;
 
 /// Bytes that are pushed behind and consumed in front, in storage that is zero outside them.
 ///
-/// The live bytes fill at most half of the storage. So where room behind them is short, at least as many bytes were
-/// consumed since they last lay in front as have to be moved, and a byte that is pushed is moved a bounded number of
-/// times on average.
+/// The live bytes fill at most half of the storage. So where room behind them is short, more bytes
+/// were consumed since they last lay in front than have to be moved, and on average a byte that is
+/// pushed is moved a bounded number of times.
 pub struct ScrubBuf {
     storage: Storage,
     start: usize,
@@ -18,12 +18,11 @@ pub struct ScrubBuf {
 }
 
 impl Model for ScrubBuf {
-    ghost use Rattle.std.specs.Prelude.{◌-◌, ◌/◌, length, slice_range};
-    ghost use Rattle.secret_buf.specs.Buffers.{Buffer, IsScrubbed};
+    ghost use Rattle.secret_buf.specs.Buffers.{Buffer, buffer_of, IsScrubbed};
 
     ghost Value = { Buffer };
 
-    ghost view = { λ b. record { live = slice_range b.storage b.start b.end; spare = length b.storage / 2 - (b.end - b.start) } };
+    ghost view = { λ b. buffer_of b.storage b.start b.end };
 
     ghost invariant = { λ b. IsScrubbed b.storage b.start b.end };
 }
@@ -131,11 +130,11 @@ impl ScrubBuf {
         Ok(())
     }
 
-    // Takes `storage`, in which the first `live` bytes are live, in the place of its own, which is wiped and freed.
+    // Takes `storage`, whose live bytes are the first `live`, in the place of its own, which is
+    // wiped and freed.
     fn replace(&mut self, storage: Storage, live: usize)
         requires { IsScrubbed storage 0 live }
-        ensures live { self.new.live ≡ take live storage }
-        ensures spare { self.new.spare ≡ length storage / 2 - live }
+        ensures { self.new ≡ buffer_of storage 0 live }
     {
         let mut old = mem::replace(&mut self.storage, storage);
         old.clear(self.start, self.end);
@@ -162,7 +161,8 @@ fn make_tail(storage: &mut Storage, start: usize, end: usize, more: usize) -> us
     requires scrubbed { IsScrubbed storage.old start end }
     requires room { end - start + more ≤ length storage.old / 2 }
     ensures scrubbed { IsScrubbed storage.new result (result + (end - start)) }
-    ensures live { slice_range storage.new result (result + (end - start)) ≡ slice_range storage.old start end }
+    ensures live { slice_range storage.new result (result + (end - start))
+        ≡ slice_range storage.old start end }
     ensures tail { result + (end - start) + more ≤ length storage.new }
     ensures bound { length storage.new < 2 ^ 64 }
     ensures len { length storage.new ≡ length storage.old }

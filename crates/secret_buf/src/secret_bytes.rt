@@ -34,7 +34,7 @@ impl SecretBytes {
         self.storage.len()
     }
 
-    /// Whether `bytes` are these bytes. Bytes of the same number are all looked at, whichever of them differ.
+    /// Whether `bytes` are these bytes. Where they are as many, all are looked at, whichever differ.
     pub fn same(&self, bytes: &[u8]) -> bool
         ensures { IsTrue result ↔ (self.now ≡ bytes.now) }
     {

@@ -1,13 +1,13 @@
-ghost use Rattle.std.specs.Prelude.{◌≡◌, ◌+◌, ◌-◌, ◌≤◌, [], ◌++◌, IfOk, drop, length, replicate, slice_range, take};
-ghost use Rattle.secret_buf.specs.Buffers.{IsWiped};
+ghost use Rattle.std.specs.Prelude.{◌≡◌, ◌+◌, ◌≤◌, [], ◌++◌, IfOk, drop, length, replicate, slice_range};
+ghost use Rattle.secret_buf.specs.Buffers.{cleared, overwritten, IsWiped};
 
 use std::alloc::{AllocError, Global};
 use std::marker::Model;
 
 /// Bytes on the heap, which only `give_up` frees.
 ///
-/// It has no `Drop`, so each value has to be moved or given up. The `Vec` is never grown: a growing `Vec` would be
-/// moved by the C library's `realloc`, which leaves the bytes of the old block as they are.
+/// It has no `Drop`, so each value has to be moved or given up. The `Vec` is never grown: a growing
+/// `Vec` is moved by the C library's `realloc`, which leaves the old block's bytes as they are.
 pub struct Storage {
     bytes: Vec<u8>,
 }
@@ -63,7 +63,7 @@ impl Storage {
     /// Writes `bytes` over those from `at` on.
     pub fn write(&mut self, at: usize, bytes: &[u8])
         requires { at + length bytes.now ≤ length self.old }
-        ensures { self.new ≡ take at self.old ++ bytes.now ++ drop (at + length bytes.now) self.old }
+        ensures { self.new ≡ overwritten self.old at bytes.now }
     {
         self.bytes[at..at + bytes.len()].copy_from_slice(bytes);
     }
@@ -72,16 +72,18 @@ impl Storage {
     pub fn clear(&mut self, start: usize, end: usize)
         requires ordered { start ≤ end }
         requires within { end ≤ length self.old }
-        ensures { self.new ≡ take start self.old ++ replicate (end - start) 0 ++ drop end self.old }
+        ensures { self.new ≡ cleared self.old start end }
     {
         self.bytes[start..end].fill(0);
     }
 
-    /// Moves the bytes from `start` to `end` to the front, and sets those between them and `end` to zero.
+    /// Moves the bytes from `start` to `end` to the front, and sets those from there to `end` to
+    /// zero.
     pub fn move_to_front(&mut self, start: usize, end: usize)
         requires ordered { start ≤ end }
         requires within { end ≤ length self.old }
-        ensures { self.new ≡ slice_range self.old start end ++ replicate start 0 ++ drop end self.old }
+        ensures { self.new
+            ≡ slice_range self.old start end ++ replicate start 0 ++ drop end self.old }
     {
         self.bytes.copy_within(start..end, 0);
         self.bytes[end - start..end].fill(0);
