@@ -1,5 +1,5 @@
 ghost use Rattle.std.specs.Prelude.{◌≡◌, ◌+◌, ◌^◌, ◌<◌, ◌≤◌, ◌↔◌, [], ◌∷◌, ◌++◌, length, take, drop, IsTrue, IsErr, IfOk, IfErr, OnOk, OnErr, MatchResult, Some, None};
-ghost use Rattle.wire_text.specs.Wire.{uint32, uint64, string};
+ghost use Rattle.wire_text.specs.Wire.{IsBytes, uint32, uint64, string};
 ghost use Rattle.wire_core.specs.Fields.{boolean_at, uint32_at, uint64_at, string_at, string_len, IsShortOf};
 
 use crate::short::Short;
@@ -17,6 +17,10 @@ impl<'a> Model for Cursor<'a> {
     ghost Value = { List ℕ };
 
     ghost view = { λ cursor. cursor.left.now };
+
+    ghost use Rattle.wire_text.specs.Wire.{IsBytes};
+
+    ghost invariant = { λ cursor. IsBytes cursor.left.now };
 }
 
 impl<'a> Cursor<'a> {
@@ -127,7 +131,8 @@ impl<'a> Cursor<'a> {
 
     /// The bytes that are left, which borrow from the buffer.
     pub fn rest(&self) -> &'a [u8]
-        ensures { result.now ≡ self.now }
+        ensures value { result.now ≡ self.now }
+        ensures bytes { IsBytes result.now }
     {
         self.left
     }
