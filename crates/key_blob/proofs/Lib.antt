@@ -4,3 +4,4 @@ pub mod TypeLemmas
 pub mod GrammarLemmas
 pub mod FaultLemmas
 pub mod Theorems
+pub mod SizeLemmas

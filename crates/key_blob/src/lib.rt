@@ -18,3 +18,6 @@ pub use fingerprints::fingerprint;
 pub use kind::KeyKind;
 pub use public_key::{Certificate, PublicKey, algorithm_fits, read_public, type_word};
 pub use size::bits;
+
+#[cfg(test)]
+mod tests;
