@@ -1,0 +1,68 @@
+-- Fields, as the table has them, and what reading them from left to right gives: their contents and the bytes that follow, or the first fault.
+use Rattle.std.specs.Prelude.{◌≡◌, ℕ, ◌^◌, ◌<◌, List, [], ◌∷◌, ◌++◌, length, Option, Some, None, Result, Ok, Err, ◌==◌, if◌then◌else◌}
+use Rattle.std.specs.List.{flat_map}
+use Rattle.std.specs.Option.{ok_or}
+use Rattle.std.specs.Str.{bytes_eq}
+use Rattle.wire_text.specs.Wire.{string}
+use Rattle.wire_core.specs.Fields.{string_at}
+use Rattle.key_blob.specs.declared.fault.KeyFault.{KeyFault}
+use Rattle.key_blob.specs.declared.fault.KeyFault.TheVariants.{Short, UnknownType, BadLength, Mismatch}
+use Rattle.key_blob.specs.declared.kind.KeyKind.{KeyKind}
+use Rattle.key_blob.specs.KeyTypes.{Field, any, sized, text, key_type, kind_named}
+
+-- ---- what fields are
+
+-- a content that the field may hold
+abbrev pub IsContent : Field → List ℕ → Type 0
+IsContent any content = Unit {0}
+IsContent (sized len) content = length content ≡ len
+IsContent (text bytes) content = content ≡ bytes
+
+-- contents that the fields may hold, each short enough for a string
+abbrev pub AreContents : List Field → List (List ℕ) → Type 0
+AreContents [] [] = Unit {0}
+AreContents [] (content ∷ contents) = ⊥
+AreContents (field ∷ fields) [] = ⊥
+AreContents (field ∷ fields) (content ∷ contents) =
+    (length content < 2 ^ 32) × IsContent field content × AreContents fields contents
+
+-- the contents, each as a string
+abbrev pub strings : List (List ℕ) → List ℕ
+strings contents = flat_map string contents
+
+-- ---- reading from left to right
+
+infixl 10 ◌>>=◌
+-- the first fault, or what the second reading gives for the value of the first
+abbrev pub ◌>>=◌ : {A B : Type 0} → Result A KeyFault → (A → Result B KeyFault) → Result B KeyFault
+(Ok x) >>= f = f x
+(Err fault) >>= f = Err fault
+
+-- a content that was read, where the field may hold it
+abbrev pub checked : Field → List ℕ × List ℕ → Result (List ℕ × List ℕ) KeyFault
+checked any found = Ok found
+checked (sized len) found = if length found.0 == len then Ok found else Err BadLength
+checked (text bytes) found = if bytes_eq found.0 bytes then Ok found else Err Mismatch
+
+-- the content of a field, and the bytes that follow
+unfoldable pub field_at : Field → List ℕ → Result (List ℕ × List ℕ) KeyFault
+field_at field bytes = ok_or (string_at bytes) Short >>= checked field
+
+-- the contents of the fields, and the bytes that follow
+unfoldable pub fields_at : List Field → List ℕ → Result (List (List ℕ) × List ℕ) KeyFault
+fields_at [] bytes = Ok ([], bytes)
+fields_at (field ∷ fields) bytes = do
+  first ← field_at field bytes
+  others ← fields_at fields first.1
+  Ok (first.0 ∷ others.0, others.1)
+
+-- the bytes that follow the fields
+unfoldable pub after_fields : List Field → List ℕ → Result (List ℕ) KeyFault
+after_fields fields bytes = fields_at fields bytes >>= λ read. Ok read.1
+
+-- the kind whose name is at the front, and the bytes that follow
+unfoldable pub kind_at : List ℕ → Result (KeyKind × List ℕ) KeyFault
+kind_at bytes = do
+  name ← ok_or (string_at bytes) Short
+  kind ← ok_or (kind_named name.0) UnknownType
+  Ok (kind, name.1)

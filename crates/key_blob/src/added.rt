@@ -1,0 +1,101 @@
+ghost use Rattle.std.specs.Prelude.{◌≡◌, ◌^◌, ◌<◌, ◌++◌, List, ℕ, length, IfOk, OnOk, OnErr, MatchResult, Ok, Err, if◌then◌else◌, ◌⊎◌};
+ghost use Rattle.wire_text.specs.Wire.{string};
+ghost use Rattle.key_blob.specs.declared.fault.KeyFault.TheVariants.{Memory};
+ghost use Rattle.key_blob.specs.Rows.{line_of};
+ghost use Rattle.key_blob.specs.declared.added.AddedKey.{AddedKey};
+ghost use Rattle.key_blob.specs.AddedKeys.{IsAddedKey, blob_fields_at, added_key_at};
+
+use crate::fault::KeyFault;
+use crate::fields::{skip_fields, take_field, take_kind};
+use crate::key_type::{KeyType, row};
+use plain_lists::Bytes;
+use secret_buf::SecretBytes;
+use std::alloc::{AllocError, Global};
+use wire_core::{Cursor, put_string};
+
+/// A key that is added to an agent.
+#[derive(Drop)]
+pub struct AddedKey {
+    /// The blob of its public key.
+    pub blob: Bytes,
+    /// The key type and the fields as they came, the private ones with them.
+    pub private: SecretBytes,
+}
+
+/// Appends `content` as a string to `strings`, or puts it in front of them.
+
+fn join(strings: &mut Vec<u8>, content: &[u8], in_front: bool) -> Result<(), AllocError>
+    requires { length content.now < 2 ^ 32 }
+    ensures { OnOk result (strings.new.items ≡ (if in_front then string content.now ++ strings.old.items
+        else strings.old.items ++ string content.now)) }
+{
+    put_string(strings, content)?;
+    if in_front {
+        strings.rotate_right(4 + content.len());
+    }
+    Ok(())
+}
+
+/// Takes the public fields, and gives them in the order of a blob. A refused call may have moved the cursor.
+fn take_public(
+    alloc: Global,
+    from: &mut Cursor<'_>,
+    key_type: &KeyType,
+) -> Result<Vec<u8>, KeyFault>
+    ensures { MatchResult result (λ strings. blob_fields_at (line_of key_type.now) from.old ≡ Ok (strings.items, from.new))
+        (λ fault. (fault ≡ Memory) ⊎ (blob_fields_at (line_of key_type.now) from.old ≡ Err fault)) }
+{
+    let mut strings = Vec::new(alloc);
+    for field in key_type.public {
+        let content = take_field(from, field)?;
+        join(&mut strings, content, key_type.is_reversed)?;
+    }
+    Ok(strings)
+}
+
+/// The blob of a type's name and its public fields.
+fn blob(alloc: Global, name: &[u8], fields: &[u8]) -> Result<Vec<u8>, AllocError>
+    requires { length name.now < 2 ^ 32 }
+    ensures { IfOk result (λ blob. blob.items ≡ string name.now ++ fields.now) }
+{
+    let mut blob = Vec::new(alloc);
+    put_string(&mut blob, name)?;
+    blob.extend_from_slice(fields)?;
+    Ok(blob)
+}
+
+/// Reads an addition at the front of `bytes`, and gives what follows it too.
+#[tactic(auto, unfolding(crate::specs::AddedKeys::added_key_at))]
+fn key_at(alloc: Global, bytes: &[u8]) -> Result<(AddedKey, &[u8]), KeyFault>
+    ensures { MatchResult result (λ read. added_key_at bytes.now ≡ Ok (read.0, read.1.now))
+        (λ fault. (fault ≡ Memory) ⊎ (added_key_at bytes.now ≡ Err fault)) }
+{
+    let mut from = Cursor::new(bytes);
+    let key_type = row(take_kind(&mut from)?);
+    let public = take_public(alloc, &mut from, &key_type)?;
+    skip_fields(&mut from, key_type.private)?;
+    let rest = from.rest();
+    let private = SecretBytes::from_slice(alloc, &bytes[..bytes.len() - rest.len()])?;
+    let blob = Bytes::from_vec(blob(alloc, key_type.name, &public)?);
+    Ok((AddedKey { blob, private }, rest))
+}
+
+/// Reads a key type and its fields, and stops before the comment.
+pub fn read_added(alloc: Global, from: &mut Cursor<'_>) -> Result<AddedKey, KeyFault>
+    // What is read is an addition, and what follows it is left.
+    ensures found { IfOk result (λ key. IsAddedKey key × (from.old ≡ key.private ++ from.new)) }
+
+    // An addition is read, unless memory runs out.
+    ensures only { (key : AddedKey) (rest : List ℕ) → IsAddedKey key → from.old ≡ key.private ++ rest →
+        MatchResult result (λ read. (read ≡ key) × (from.new ≡ rest)) (λ fault. fault ≡ Memory) }
+
+    // Which fault it is.
+    ensures exact { MatchResult result (λ key. added_key_at from.old ≡ Ok (key, from.new))
+        (λ fault. (fault ≡ Memory) ⊎ (added_key_at from.old ≡ Err fault)) }
+    ensures unchanged { OnErr result (from.new ≡ from.old) }
+{
+    let bytes = from.rest();
+    let (key, rest) = key_at(alloc, bytes)?;
+    *from = Cursor::new(rest);
+    Ok(key)
+}

@@ -1,0 +1,38 @@
+ghost use Rattle.std.specs.Prelude.{◌≡◌};
+ghost use Rattle.key_blob.specs.declared.fault.KeyFault.TheVariants.{Short as TooShort, Memory};
+
+use std::alloc::AllocError;
+use wire_core::Short;
+
+/// Why a key was refused: the first fault in the order of its fields.
+#[derive(Clone, Copy, Debug, PartialEq, Eq)]
+pub enum KeyFault {
+    /// A field passes the end of the bytes.
+    Short,
+    /// The type is none of the table in docs/PROTOCOL.md, "Keys".
+    UnknownType,
+    /// A field whose length the table gives has another length.
+    BadLength,
+    /// The name of the curve is not the one that the type names.
+    Mismatch,
+    /// Bytes stand after the last field of a blob.
+    Trailing,
+    /// Memory ran out. Says nothing of the bytes.
+    Memory,
+}
+
+impl From<Short> for KeyFault {
+    ghost from_gives = { λ _ fault. fault ≡ TooShort };
+
+    fn from(_short: Short) -> KeyFault {
+        KeyFault::Short
+    }
+}
+
+impl From<AllocError> for KeyFault {
+    ghost from_gives = { λ _ fault. fault ≡ Memory };
+
+    fn from(_error: AllocError) -> KeyFault {
+        KeyFault::Memory
+    }
+}

@@ -1,0 +1,23 @@
+//! Public keys in the blobs of the SSH protocols, and keys as they are added to an agent.
+//!
+//! Stands on `wire_core` for fields and on `secret_buf` for private bytes; the types are those of docs/PROTOCOL.md, "Keys".
+#![tactic(auto)]
+
+mod added;
+mod fault;
+mod fields;
+mod fingerprints;
+mod key_type;
+mod kind;
+mod public_key;
+mod size;
+
+pub use added::{AddedKey, read_added};
+pub use fault::KeyFault;
+pub use fingerprints::fingerprint;
+pub use kind::KeyKind;
+pub use public_key::{Certificate, PublicKey, algorithm_fits, read_public, type_word};
+pub use size::bits;
+
+#[cfg(test)]
+mod tests;
