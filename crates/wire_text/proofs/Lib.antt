@@ -1,0 +1,3 @@
+pub mod WireLemmas
+pub mod FrontLemmas
+pub mod SplitLemmas
