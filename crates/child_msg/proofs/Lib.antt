@@ -1,0 +1,5 @@
+pub mod FieldLemmas
+pub mod FromChildLemmas
+pub mod ToChildLemmas
+pub mod WriteLemmas
+pub mod Theorems
