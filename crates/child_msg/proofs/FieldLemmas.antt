@@ -58,3 +58,7 @@ last bytes field rest parts none = parts ∙ ap (λ (l : List ℕ). field ++ l) 
 -- a field, and what the bytes behind it are
 pub behind : (bytes field rest text : List ℕ) → bytes ≡ field ++ rest → rest ≡ text → bytes ≡ field ++ text
 behind bytes field rest text parts same = parts ∙ ap (λ (l : List ℕ). field ++ l) same
+
+-- the same behind a kind
+pub after_kind : (kind : ℕ) (bytes text : List ℕ) → bytes ≡ text → kind ∷ bytes ≡ kind ∷ text
+after_kind kind bytes text same = ap (λ (l : List ℕ). kind ∷ l) same

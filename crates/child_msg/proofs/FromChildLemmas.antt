@@ -1,36 +1,17 @@
--- Messages of a child process: what is printed is read, and what is read was printed.
-use Rattle.std.proofs.Common.{◌≡◌, ◌≢◌, ℕ, ◌^◌, ◌<◌, eqb, List, [], ◌∷◌, length, Result, Ok, Err, refl, subst, ap, sym, ◌∙◌, inl, inr, arith}
+-- Messages of a child process: what is read was printed.
+use Rattle.std.proofs.Common.{◌≡◌, ◌≢◌, ℕ, ◌^◌, ◌<◌, eqb, List, [], ◌∷◌, length, Result, Ok, Err, refl, subst, ap, sym, ◌∙◌, inl, inr}
 use Rattle.std.proofs.lemmas.Bool.{eqb-true, ne_eqb, cases_eq}
-use Rattle.wire_text.specs.Wire.{IsBytes, uint64, string}
+use Rattle.wire_text.specs.Wire.{IsBytes, uint64}
 use Rattle.wire_core.specs.Fields.{uint64_at, string_at}
-use Rattle.wire_core.proofs.Theorems.{uint64_at-uint64, uint64_is_front, string_is_front}
+use Rattle.wire_core.proofs.Theorems.{uint64_is_front, string_is_front}
 use Rattle.child_msg.specs.Messages.{FromChildMessage, Hello, Signed, Refused, True, False, Granted, Denied}
 use Rattle.child_msg.specs.ChildFrames.{from_child_body, FromChildFits, IsFromChild}
 use Rattle.child_msg.specs.Reading.{from_child_of, from_child_of_kind, hello_at, signed_at, number_alone, number_at_end, ticket_ended, ended, field_then}
-use Rattle.child_msg.proofs.FieldLemmas.{uint64_at-alone, string_at-alone, field_then_is, ended_is, cond_is, last, behind}
+use Rattle.child_msg.proofs.FieldLemmas.{field_then_is, ended_is, cond_is, last, behind}
 use Rattle.child_msg.specs.declared.fault.ChildFault.TheVariants.{Kind, TicketLength}
 use Rattle.child_msg.specs.declared.fault.ChildFault.{ChildFault}
 use Rattle.std.specs.Result.{result_map_both}
 use Rattle.std.proofs.lemmas.List.Elements.{All-drop}
-
--- a number alone is read
-number_at_end-uint64 : (number : ℕ) → number < 2 ^ 64 → number_at_end (uint64 number) ≡ Ok number
-number_at_end-uint64 number small = rw (uint64_at-alone number small) refl
-
--- what is printed is read
-pub from_child_of-from_child_body : (message : FromChildMessage) → FromChildFits message
-    → from_child_of (from_child_body message) ≡ Ok message
-unfolding from_child_of from_child_of_kind
-from_child_of-from_child_body (Hello job ticket) fits =
-    let small : length ticket < 2 ^ 32 = omega (arith, fits.1) in
-    rw (uint64_at-uint64 job (string ticket) fits.0, string_at-alone ticket small, fits.1) refl
-from_child_of-from_child_body (Signed ask signature) fits =
-    rw (uint64_at-uint64 ask (string signature) fits.0, string_at-alone signature fits.1) refl
-from_child_of-from_child_body (Refused ask) fits = rw (number_at_end-uint64 ask fits) refl
-from_child_of-from_child_body (True ask) fits = rw (number_at_end-uint64 ask fits) refl
-from_child_of-from_child_body (False ask) fits = rw (number_at_end-uint64 ask fits) refl
-from_child_of-from_child_body (Granted job) fits = rw (number_at_end-uint64 job fits) refl
-from_child_of-from_child_body (Denied job) fits = rw (number_at_end-uint64 job fits) refl
 
 -- a ticket that was read
 ticket_ended_is : (job : ℕ) (ticket rest : List ℕ) (message : FromChildMessage) → ticket_ended job ticket rest ≡ Ok message

@@ -9,9 +9,10 @@ use Rattle.child_msg.specs.Messages.{FromChildMessage, Hello, Signed, Refused, T
 use Rattle.child_msg.specs.ChildFrames.{from_child_body, to_child_body, from_child_length, to_child_length, FromChildFits, ToChildFits, IsFromChild, IsToChild}
 use Rattle.child_msg.specs.Reading.{from_child_of, to_child_of, IsFromChildAnswer, IsToChildAnswer}
 use Rattle.child_msg.specs.Writing.{IsFromChildWriting, IsToChildWriting}
-use Rattle.child_msg.proofs.FromChildLemmas.{from_child_of-from_child_body, IsFromChild_from_child_of}
+use Rattle.child_msg.proofs.FromChildLemmas.{IsFromChild_from_child_of}
+use Rattle.child_msg.proofs.PrintedLemmas.{from_child_of-from_child_body, to_child_of-to_child_body}
 use Rattle.child_msg.proofs.WriteLemmas.{length-from_child_body, length-to_child_body}
-use Rattle.child_msg.proofs.ToChildLemmas.{to_child_of-to_child_body, IsToChild_from_to_child_of}
+use Rattle.child_msg.proofs.ToChildLemmas.{IsToChild_from_to_child_of}
 
 -- ---- the readers
 

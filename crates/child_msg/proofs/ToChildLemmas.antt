@@ -1,36 +1,15 @@
--- Messages to a child process: what is printed is read, and what is read was printed.
+-- Messages to a child process: what is read was printed.
 use Rattle.std.proofs.Common.{◌≡◌, ◌≢◌, ℕ, ◌<◌, List, [], ◌∷◌, ◌++◌, Ok, Err, refl, subst, ap, sym, inl, inr}
 use Rattle.std.proofs.lemmas.Bool.{ne_eqb, cases_eq}
 use Rattle.std.proofs.lemmas.List.Elements.{All-drop}
-use Rattle.wire_text.specs.Wire.{IsBytes, uint32, string}
+use Rattle.wire_text.specs.Wire.{IsBytes, uint32, uint64, string}
 use Rattle.wire_core.specs.Fields.{uint32_at, uint64_at, string_at}
-use Rattle.wire_core.proofs.Theorems.{uint64_at-uint64, string_at-string, uint32_is_front, uint64_is_front, string_is_front}
+use Rattle.wire_core.proofs.Theorems.{uint32_is_front, uint64_is_front, string_is_front}
 use Rattle.child_msg.specs.declared.fault.ChildFault.TheVariants.{Kind}
 use Rattle.child_msg.specs.Messages.{ToChildMessage, Sign, Verify, Confirm}
-use Rattle.child_msg.specs.ChildFrames.{to_child_body, ToChildFits, IsToChild}
+use Rattle.child_msg.specs.ChildFrames.{IsToChild}
 use Rattle.child_msg.specs.Reading.{to_child_of, to_child_of_kind, sign_at, verify_at, confirm_at, ended, field_then}
-use Rattle.child_msg.proofs.FieldLemmas.{uint32_at-alone, string_at-alone, field_then_is, ended_is, last, behind}
-
--- what is printed is read
-pub to_child_of-to_child_body : (message : ToChildMessage) → ToChildFits message → to_child_of (to_child_body message) ≡ Ok message
-unfolding to_child_of to_child_of_kind
-to_child_of-to_child_body (Sign s) fits =
-    rw (
-      uint64_at-uint64 s.ask (string s.private ++ (string s.blob ++ (string s.message ++ uint32 s.flags))) fits.0,
-      string_at-string s.private (string s.blob ++ (string s.message ++ uint32 s.flags)) fits.1,
-      string_at-string s.blob (string s.message ++ uint32 s.flags) fits.2,
-      string_at-string s.message (uint32 s.flags) fits.3,
-      uint32_at-alone s.flags fits.4,
-    ) refl
-to_child_of-to_child_body (Verify v) fits =
-    rw (
-      uint64_at-uint64 v.ask (string v.host_key ++ (string v.signature ++ string v.session)) fits.0,
-      string_at-string v.host_key (string v.signature ++ string v.session) fits.1,
-      string_at-string v.signature (string v.session) fits.2,
-      string_at-alone v.session fits.3,
-    ) refl
-to_child_of-to_child_body (Confirm job prompt) fits =
-    rw (uint64_at-uint64 job (string prompt) fits.0, string_at-alone prompt fits.1) refl
+use Rattle.child_msg.proofs.FieldLemmas.{field_then_is, ended_is, last, behind, after_kind}
 
 -- the message of a SIGN body's fields
 abbrev signing : ℕ → List ℕ → List ℕ → List ℕ → ℕ → ToChildMessage
@@ -62,12 +41,19 @@ sign_is bytes message each h =
     (λ flags rest. ended (signing one.field two.field three.field four.field flags) rest) message four.read in
     let flags = uint32_is_front four.rest five.field five.rest text.0.left five.there in
     let end = ended_is (signing one.field two.field three.field four.field five.field) message five.rest five.read in
+    let e : four.rest ≡ uint32 five.field = last four.rest (uint32 five.field) five.rest flags.0.parts end.0 in
+    let d : three.rest ≡ string four.field ++ uint32 five.field =
+    behind three.rest (string four.field) four.rest (uint32 five.field) text.0.parts e in
+    let c : two.rest ≡ string three.field ++ (string four.field ++ uint32 five.field) =
+    behind two.rest (string three.field) three.rest (string four.field ++ uint32 five.field) blob.0.parts d in
+    let b : one.rest ≡ string two.field ++ (string three.field ++ (string four.field ++ uint32 five.field)) =
+    behind one.rest (string two.field) two.rest (string three.field ++ (string four.field ++ uint32 five.field)) private.0.parts c in
+    let a : bytes ≡ uint64 one.field ++ (string two.field ++ (string three.field ++ (string four.field ++ uint32 five.field))) =
+    behind bytes (uint64 one.field) one.rest
+    (string two.field ++ (string three.field ++ (string four.field ++ uint32 five.field))) ask.0.parts b in
     let P : ToChildMessage → Type 0 = λ m. IsToChild (1 ∷ bytes) m in
-    subst P {x = signing one.field two.field three.field four.field five.field} end.1 record {
-      printed = ap (λ (l : List ℕ). 1 ∷ l) (behind _ _ _ _ ask.0.parts (behind _ _ _ _ private.0.parts
-          (behind _ _ _ _ blob.0.parts (behind _ _ _ _ text.0.parts (last _ _ _ flags.0.parts end.0)))));
-      fits = (ask.1, private.1, blob.1, text.1, flags.1);
-    }
+    subst P {x = signing one.field two.field three.field four.field five.field} end.1
+    record { printed = after_kind 1 bytes (uint64 one.field ++ (string two.field ++ (string three.field ++ (string four.field ++ uint32 five.field)))) a; fits = (ask.1, private.1, blob.1, text.1, flags.1) }
 
 -- VERIFY that was read
 verify_is : (bytes : List ℕ) (message : ToChildMessage) → IsBytes bytes → verify_at bytes ≡ Ok message → IsToChild (2 ∷ bytes) message
@@ -87,12 +73,16 @@ verify_is bytes message each h =
     (λ session rest. ended (verification one.field two.field three.field session) rest) message three.read in
     let session = string_is_front three.rest four.field four.rest signature.0.left four.there in
     let end = ended_is (verification one.field two.field three.field four.field) message four.rest four.read in
+    let d : three.rest ≡ string four.field = last three.rest (string four.field) four.rest session.0.parts end.0 in
+    let c : two.rest ≡ string three.field ++ string four.field =
+    behind two.rest (string three.field) three.rest (string four.field) signature.0.parts d in
+    let b : one.rest ≡ string two.field ++ (string three.field ++ string four.field) =
+    behind one.rest (string two.field) two.rest (string three.field ++ string four.field) host_key.0.parts c in
+    let a : bytes ≡ uint64 one.field ++ (string two.field ++ (string three.field ++ string four.field)) =
+    behind bytes (uint64 one.field) one.rest (string two.field ++ (string three.field ++ string four.field)) ask.0.parts b in
     let P : ToChildMessage → Type 0 = λ m. IsToChild (2 ∷ bytes) m in
-    subst P end.1 record {
-      printed = ap (λ (l : List ℕ). 2 ∷ l) (behind _ _ _ _ ask.0.parts (behind _ _ _ _ host_key.0.parts
-          (behind _ _ _ _ signature.0.parts (last _ _ _ session.0.parts end.0))));
-      fits = (ask.1, host_key.1, signature.1, session.1);
-    }
+    subst P {x = verification one.field two.field three.field four.field} end.1
+    record { printed = after_kind 2 bytes (uint64 one.field ++ (string two.field ++ (string three.field ++ string four.field))) a; fits = (ask.1, host_key.1, signature.1, session.1) }
 
 -- CONFIRM that was read
 confirm_is : (bytes : List ℕ) (message : ToChildMessage) → IsBytes bytes → confirm_at bytes ≡ Ok message → IsToChild (3 ∷ bytes) message
