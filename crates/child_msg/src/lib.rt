@@ -1,6 +1,6 @@
-//! The messages between the agent and its child processes: the helper, which uses keys, and the relay,
-//! which asks the user. Each is a body in a frame (ours; docs/PROTOCOL.md, "Child frames").
-//! Stands on `wire_core`, for fields, and on `secret_buf`, since a SIGN frame has a private key in it.
+//! The messages between the agent and its child processes: the helper, which uses keys, and the
+//! relay, which asks the user. Each is a body in a frame (ours; docs/PROTOCOL.md, "Child frames").
+//! Stands on `wire_core`, for fields, and on `secret_buf`, since SIGN has a private key in it.
 #![tactic(auto)]
 
 mod fault;

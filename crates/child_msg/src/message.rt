@@ -1,7 +1,7 @@
 /// What a child process sends to the agent.
 #[derive(Clone, Copy, Debug, PartialEq, Eq)]
 pub enum FromChild<'a> {
-    /// The first message of a child: the job that it was started for, and the one-time ticket it was given.
+    /// The first message of a child: the job that it was started for, and its one-time ticket.
     Hello { job: u64, ticket: [u8; 16] },
     /// The signature that was asked for.
     Signed { ask: u64, signature: &'a [u8] },

@@ -19,7 +19,8 @@ pub fn write_from_child(out: &mut ScrubBuf, message: &FromChild<'_>) -> Result<(
     ensures ok { OnOk result
         (out.new.live ≡ out.old.live ++ string (from_child_body (from_child_message message.now))) }
     ensures err { OnErr result (out.new ≡ out.old) }
-    ensures enough { 4 + from_child_length (from_child_message message.now) ≤ out.old.spare → IsOk result }
+    ensures enough { 4 + from_child_length (from_child_message message.now) ≤ out.old.spare
+        → IsOk result }
     ensures written { OnOk result (IsFromChildWriting (from_child_message message.now)) }
     ensures keeps_room { KeepsRoom out.old out.new }
 {
@@ -39,7 +40,8 @@ pub fn write_to_child(out: &mut ScrubBuf, message: &ToChild<'_>) -> Result<(), A
     ensures ok { OnOk result
         (out.new.live ≡ out.old.live ++ string (to_child_body (to_child_message message.now))) }
     ensures err { OnErr result (out.new ≡ out.old) }
-    ensures enough { 4 + to_child_length (to_child_message message.now) ≤ out.old.spare → IsOk result }
+    ensures enough { 4 + to_child_length (to_child_message message.now) ≤ out.old.spare
+        → IsOk result }
     ensures written { OnOk result (IsToChildWriting (to_child_message message.now)) }
     ensures keeps_room { KeepsRoom out.old out.new }
 {
