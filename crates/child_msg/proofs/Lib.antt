@@ -1,0 +1,6 @@
+pub mod FieldLemmas
+pub mod FromChildLemmas
+pub mod PrintedLemmas
+pub mod ToChildLemmas
+pub mod WriteLemmas
+pub mod Theorems

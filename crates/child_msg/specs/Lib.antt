@@ -1,0 +1,4 @@
+pub mod ChildFrames
+pub mod Messages
+pub mod Reading
+pub mod Writing
