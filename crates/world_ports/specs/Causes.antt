@@ -1,5 +1,13 @@
 -- Counts of faults. Each object of the outside has one, which never falls and stays at 2^64 - 1 (ours).
-use Rattle.std.specs.Prelude.{◌≡◌, ◌⊎◌, ◌<◌, ◌≤◌, ◌-◌, ◌^◌, ℕ, Result, OnErr}
+use Rattle.std.specs.Prelude.{◌≡◌, ◌⊎◌, ◌<◌, ◌≤◌, ◌+◌, ◌-◌, ◌^◌, Bool, ℕ, Result, OnErr, min, if◌then◌else◌}
+
+-- one more, where there is one
+abbrev pub next_count : ℕ → ℕ
+next_count n = min (n + 1) (2 ^ 64 - 1)
+
+-- the count after a call that failed or did not
+abbrev pub count_after : Bool → ℕ → ℕ
+count_after failed n = if failed then next_count n else n
 
 -- a fault was counted since: there are more than before, or the count stands at its end
 abbrev pub Rose : ℕ → ℕ → Type 0

@@ -1,5 +1,6 @@
 -- Sources and sinks in memory (ours): what they hold, and which of their calls fail.
-use Rattle.std.specs.Prelude.{◌+◌, ◌-◌, ◌^◌, Bool, ℕ, zero, suc, List, min, length, Contains, if◌then◌else◌}
+use Rattle.std.specs.Prelude.{Bool, ℕ, zero, suc, List, min, length, Contains}
+use Rattle.world_ports.specs.Causes.{next_count, count_after}
 use Rattle.world_ports.specs.declared.stream.Pulled.{Pulled}
 use Rattle.world_ports.specs.declared.stream.Pulled.TheVariants.{Bytes, End}
 
@@ -9,20 +10,13 @@ pub record CallState : Type 0 where
   pub made : ℕ
   pub failed : ℕ
 
--- one more; a count stays at 2^64 - 1
-abbrev pub next_count : ℕ → ℕ
-next_count n = min (n + 1) (2 ^ 64 - 1)
-
 -- the number of the next call is one of those that are to fail
 abbrev pub IsNextListed : CallState → Type 0
 IsNextListed calls = Contains calls.failing (next_count calls.made)
 
 -- one more call was made, and failed or did not
 abbrev pub after_call : Bool → CallState → CallState
-after_call failed calls = record calls {
-  made = next_count calls.made;
-  failed = if failed then next_count calls.failed else calls.failed;
-}
+after_call failed calls = record calls { made = next_count calls.made; failed = count_after failed calls.failed }
 
 -- a source: what was read, what is left, the most that a read gives, and its calls
 pub record SourceState : Type 0 where
