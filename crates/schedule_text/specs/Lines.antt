@@ -1,12 +1,16 @@
 -- Lines of a schedule (ours): docs/PROTOCOL.md, "Schedules".
-use Rattle.std.specs.Prelude.{ℕ, ◌==◌, nat_lt, if◌then◌else◌, bytes_eq, codes, length, List, [], ◌∷◌, Result, Ok, Err, ok_or}
+use Rattle.std.specs.Prelude.{◌≡◌, ◌⊎◌, ℕ, ◌==◌, nat_lt, if◌then◌else◌, bytes_eq, codes, length, List, [], ◌∷◌, Result, Ok, Err, ok_or}
 use Rattle.world_ports.specs.declared.plain.Door.TheVariants.{Clients}
 use Rattle.schedule_text.specs.declared.fault.LineFault.{LineFault}
-use Rattle.schedule_text.specs.declared.fault.LineFault.TheVariants.{Word, TooLong}
+use Rattle.schedule_text.specs.declared.fault.LineFault.TheVariants.{Memory, TooLong, Word}
 use Rattle.schedule_text.specs.declared.step.Step.{Step}
 use Rattle.schedule_text.specs.declared.step.Step.TheVariants.{Skip, Join, Hear, End}
 use Rattle.schedule_text.specs.Fields.{fields_of}
 use Rattle.schedule_text.specs.Numbers.{bytes_of, number_of}
+
+-- the fault is that of a reading, or want of memory
+abbrev pub IsFaultOf : {A : Type 0} → Result A LineFault → LineFault → Type 0
+IsFaultOf reading fault = (fault ≡ Memory) ⊎ (reading ≡ Err fault)
 
 -- the second reading, where the first found no fault
 infixl 10 ◌>>=◌

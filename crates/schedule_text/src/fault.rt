@@ -1,7 +1,7 @@
 //! Why a line of a schedule is refused.
 
-/// The first fault of a line. The length is tried first, then the words and the number of fields, then each field from
-/// the left, and last what the run of the schedule says of the line.
+/// The first fault of a line. The length is tried first, then the words and the number of fields,
+/// then each field from the left, and last what the run of the schedule says of the line.
 #[derive(Clone, Copy, Debug, PartialEq, Eq)]
 pub enum LineFault {
     /// The first word, the number of fields, or the word after `join`.

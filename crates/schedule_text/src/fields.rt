@@ -15,7 +15,7 @@ fn space(text: &[u8]) -> Option<usize>
 /// The fields of a line that are left.
 #[derive(Drop)]
 pub struct Fields<'a> {
-    /// What stands behind the space after the last field that was taken, and `None` where no space did.
+    /// What stands behind the space that ended the last field, and `None` where none did.
     rest: Option<&'a [u8]>,
 }
 
@@ -38,7 +38,9 @@ impl<'a> Fields<'a> {
 
     /// Takes the next field.
     pub fn next_field(&mut self) -> Option<&'a [u8]>
-        ensures { MatchOption result ((self.old ≡ []) × (self.new ≡ [])) (λ field. self.old ≡ field.now ∷ self.new) }
+        ensures { MatchOption result
+            ((self.old ≡ []) × (self.new ≡ []))
+            (λ field. self.old ≡ field.now ∷ self.new) }
     {
         let rest = self.rest?;
         match space(rest) {

@@ -1,5 +1,6 @@
-//! Schedules and output as text: a line of a schedule is read as a step, and an output line is written.
-//! The format is this repository's own: docs/PROTOCOL.md, "Schedules". Stands on world_ports and plain_lists.
+//! Schedules and output as text: a line of a schedule is read, and a line of the output is written.
+//! The format is this repository's own: docs/PROTOCOL.md, "Schedules".
+//! Stands on world_ports and plain_lists, and on hex and itoa of the kit.
 #![tactic(auto)]
 
 mod deed;

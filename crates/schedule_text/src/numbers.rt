@@ -1,12 +1,13 @@
-//! Numbers and hexadecimal, read from a field.
+//! Numbers, read from a field.
 
-ghost use Rattle.std.specs.Prelude.{◌≡◌, ◌≤◌, ◌+◌, ◌-◌, ◌*◌, ◌^◌, nat_lt, if◌then◌else◌};
-ghost use Rattle.schedule_text.specs.Numbers.{number_of, value_of};
+ghost use Rattle.std.specs.Prelude.{◌≡◌, ◌≤◌, ◌^◌, ◌∷◌, [], nat_lt, if◌then◌else◌};
+ghost use Rattle.schedule_text.specs.Numbers.{number_after, number_of, value_of};
 
 /// The number whose digits are those of `value` and then `digit`, where it is below 2^64.
 fn appended(value: u64, digit: u8) -> Option<u64>
     requires { 48 ≤ digit }
-    ensures { result ≡ (if nat_lt (value * 10 + (digit - 48)) (2 ^ 64) then Some (value * 10 + (digit - 48)) else None) }
+    ensures { let number = number_after value (digit ∷ []) in
+        result ≡ (if nat_lt number (2 ^ 64) then Some number else None) }
 {
     value.checked_mul(10)?.checked_add(u64::from(digit - b'0'))
 }

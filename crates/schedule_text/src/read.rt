@@ -1,8 +1,8 @@
 //! Reading a line.
 
-ghost use Rattle.std.specs.Prelude.{◌≡◌, ◌⊎◌, IfOk, IfErr};
+ghost use Rattle.std.specs.Prelude.{◌≡◌, IfOk, IfErr};
 ghost use Rattle.schedule_text.specs.Fields.{fields_of};
-ghost use Rattle.schedule_text.specs.Lines.{bytes_field, end_step, hear_step, join_step, number_field, step_of, step_of_fields};
+ghost use Rattle.schedule_text.specs.Lines.{IsFaultOf, bytes_field, end_step, hear_step, join_step, number_field, step_of, step_of_fields};
 
 use crate::fields::Fields;
 use crate::numbers::number;
@@ -21,7 +21,7 @@ const MAX_LINE: usize = 65536;
 #[tactic(auto, unfolding(crate::specs::Lines::step_of))]
 pub fn read_line(alloc: Global, line: &[u8]) -> Result<Step, LineFault>
     ensures found { IfOk result (λ step. step_of line.now ≡ Ok step) }
-    ensures exact { IfErr result (λ fault. (fault ≡ LineFault.Memory) ⊎ (step_of line.now ≡ Err fault)) }
+    ensures exact { IfErr result (IsFaultOf (step_of line.now)) }
 {
     if line.len() > MAX_LINE {
         return Err(LineFault::TooLong);
@@ -34,7 +34,7 @@ pub fn read_line(alloc: Global, line: &[u8]) -> Result<Step, LineFault>
 
 fn read_fields(alloc: Global, line: &[u8]) -> Result<Step, LineFault>
     ensures found { IfOk result (λ step. step_of_fields (fields_of line.now) ≡ Ok step) }
-    ensures exact { IfErr result (λ fault. (fault ≡ LineFault.Memory) ⊎ (step_of_fields (fields_of line.now) ≡ Err fault)) }
+    ensures exact { IfErr result (IsFaultOf (step_of_fields (fields_of line.now))) }
 {
     let mut fields = Fields::of(line);
     let Some(word) = fields.next_field() else {
@@ -67,7 +67,7 @@ fn read_join(mut fields: Fields<'_>) -> Result<Step, LineFault>
 /// The rest of a line `hear PORT HEX`.
 fn read_hear(alloc: Global, mut fields: Fields<'_>) -> Result<Step, LineFault>
     ensures found { IfOk result (λ step. hear_step fields.entry ≡ Ok step) }
-    ensures exact { IfErr result (λ fault. (fault ≡ LineFault.Memory) ⊎ (hear_step fields.entry ≡ Err fault)) }
+    ensures exact { IfErr result (IsFaultOf (hear_step fields.entry)) }
 {
     let (Some(port), Some(bytes), None) = (
         fields.next_field(),
@@ -99,7 +99,7 @@ fn read_number(field: &[u8]) -> Result<u64, LineFault>
 
 fn read_bytes(alloc: Global, field: &[u8]) -> Result<Bytes, LineFault>
     ensures found { IfOk result (λ bytes. bytes_field field.now ≡ Ok bytes) }
-    ensures exact { IfErr result (λ fault. (fault ≡ LineFault.Memory) ⊎ (bytes_field field.now ≡ Err fault)) }
+    ensures exact { IfErr result (IsFaultOf (bytes_field field.now)) }
 {
     if field.is_empty() {
         return Err(LineFault::Word);
