@@ -1,5 +1,5 @@
-//! That the definitions say what docs/PROTOCOL.md says, on lines written out, and that each call succeeds with ample
-//! memory.
+//! That the definitions say what docs/PROTOCOL.md says, on lines written out.
+//! That each call succeeds with ample memory.
 use crate::{Deed, LineFault, Step, put_deed, read_line};
 use plain_lists::Bytes;
 use std::test::Fail;
@@ -150,9 +150,10 @@ fn each_output_line_has_its_text(rt: HostRuntime) -> Result<(), Fail> {
     for deed in &deeds {
         put_deed(&mut out, deed)?;
     }
-    let want =
-        "to 1 000000050c00abff\nto 2 \nclose 18446744073709551615\nstart 1 helper\nstart 20 confirm\n\
-        refused 1 word\nrefused 2 number\nrefused 3 hex\nrefused 4 port\nrefused 5 order\nrefused 0 long\nend\n";
+    let want = "to 1 000000050c00abff\nto 2 \nclose 18446744073709551615\n\
+        start 1 helper\nstart 20 confirm\n\
+        refused 1 word\nrefused 2 number\nrefused 3 hex\n\
+        refused 4 port\nrefused 5 order\nrefused 0 long\nend\n";
     assert_eq!(rt; out.as_slice(), want.as_bytes());
     Ok(())
 }
