@@ -1,0 +1,3 @@
+mod FieldLemmas
+pub mod NumberLemmas
+pub mod Theorems

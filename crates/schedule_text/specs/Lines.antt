@@ -1,0 +1,65 @@
+-- Lines of a schedule (ours): docs/PROTOCOL.md, "Schedules".
+use Rattle.std.specs.Prelude.{◌≡◌, ◌⊎◌, ℕ, ◌==◌, nat_lt, if◌then◌else◌, bytes_eq, codes, length, List, [], ◌∷◌, Result, Ok, Err, ok_or}
+use Rattle.world_ports.specs.declared.plain.Door.TheVariants.{Clients}
+use Rattle.schedule_text.specs.declared.fault.LineFault.{LineFault}
+use Rattle.schedule_text.specs.declared.fault.LineFault.TheVariants.{Memory, TooLong, Word}
+use Rattle.schedule_text.specs.declared.step.Step.{Step}
+use Rattle.schedule_text.specs.declared.step.Step.TheVariants.{Skip, Join, Hear, End}
+use Rattle.schedule_text.specs.Fields.{fields_of}
+use Rattle.schedule_text.specs.Numbers.{bytes_of, number_of}
+
+-- the fault is that of a reading, or want of memory
+abbrev pub IsFaultOf : {A : Type 0} → Result A LineFault → LineFault → Type 0
+IsFaultOf reading fault = (fault ≡ Memory) ⊎ (reading ≡ Err fault)
+
+-- the second reading, where the first found no fault
+infixl 10 ◌>>=◌
+abbrev pub ◌>>=◌ : {A B : Type 0} → Result A LineFault → (A → Result B LineFault) → Result B LineFault
+Ok x >>= f = f x
+Err fault >>= f = Err fault
+
+-- the number that a field writes
+abbrev pub number_field : List ℕ → Result ℕ LineFault
+number_field field = ok_or (number_of field) Word
+
+-- the bytes that a field writes
+abbrev pub bytes_field : List ℕ → Result (List ℕ) LineFault
+bytes_field field = ok_or (bytes_of field) Word
+
+-- `join client`
+abbrev pub join_step : List (List ℕ) → Result Step LineFault
+join_step (name ∷ []) = if bytes_eq name (codes "client") then Ok (Join Clients) else Err Word
+join_step _ = Err Word
+
+-- `hear PORT HEX`
+abbrev pub hear_step : List (List ℕ) → Result Step LineFault
+hear_step (port ∷ bytes ∷ []) = do
+  port ← number_field port
+  bytes ← bytes_field bytes
+  Ok (Hear port bytes)
+hear_step _ = Err Word
+
+-- `end PORT`
+abbrev pub end_step : List (List ℕ) → Result Step LineFault
+end_step (port ∷ []) = do
+  port ← number_field port
+  Ok (End port)
+end_step _ = Err Word
+
+-- what the fields ask for by the first of them, or their first fault
+abbrev pub step_of_fields : List (List ℕ) → Result Step LineFault
+step_of_fields [] = Err Word
+step_of_fields (word ∷ fields) =
+    if bytes_eq word (codes "join") then join_step fields
+    else if bytes_eq word (codes "hear") then hear_step fields
+    else if bytes_eq word (codes "end") then end_step fields
+    else Err Word
+
+-- the same of a line that isn't too long: where it is empty or begins with `#`, it is skipped
+abbrev pub step_of_short : List ℕ → Result Step LineFault
+step_of_short [] = Ok Skip
+step_of_short (first ∷ more) = if first == 35 then Ok Skip else step_of_fields (fields_of (first ∷ more))
+
+-- what a line asks for, or its first fault; it may have 65536 bytes
+unfoldable pub step_of : List ℕ → Result Step LineFault
+step_of line = if nat_lt 65536 (length line) then Err TooLong else step_of_short line

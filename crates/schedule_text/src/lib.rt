@@ -1,0 +1,20 @@
+//! Schedules and output as text: a line of a schedule is read, and a line of the output is written.
+//! The format is this repository's own: docs/PROTOCOL.md, "Schedules".
+//! Stands on world_ports and plain_lists, and on hex and itoa of the kit.
+#![tactic(auto)]
+
+mod deed;
+mod fault;
+mod fields;
+mod numbers;
+mod read;
+mod step;
+#[cfg(test)]
+mod tests;
+mod write;
+
+pub use crate::deed::Deed;
+pub use crate::fault::LineFault;
+pub use crate::read::read_line;
+pub use crate::step::Step;
+pub use crate::write::put_deed;

@@ -1,0 +1,112 @@
+//! Reading a line.
+
+ghost use Rattle.std.specs.Prelude.{◌≡◌, IfOk, IfErr};
+ghost use Rattle.schedule_text.specs.Fields.{fields_of};
+ghost use Rattle.schedule_text.specs.Lines.{IsFaultOf, bytes_field, end_step, hear_step, join_step, number_field, step_of, step_of_fields};
+
+use crate::fields::Fields;
+use crate::numbers::number;
+use crate::{LineFault, Step};
+use hex::FromHexError;
+use plain_lists::Bytes;
+use std::alloc::Global;
+use world_ports::Door;
+
+/// How long a line may be, in bytes without its LF.
+const MAX_LINE: usize = 65536;
+
+/// Reads one line, given without its LF.
+///
+/// `UnknownPort` and `Order` are never answered: the run finds them.
+#[tactic(auto, unfolding(crate::specs::Lines::step_of))]
+pub fn read_line(alloc: Global, line: &[u8]) -> Result<Step, LineFault>
+    ensures found { IfOk result (λ step. step_of line.now ≡ Ok step) }
+    ensures exact { IfErr result (IsFaultOf (step_of line.now)) }
+{
+    if line.len() > MAX_LINE {
+        return Err(LineFault::TooLong);
+    }
+    match line {
+        [] | [b'#', ..] => Ok(Step::Skip),
+        _ => read_fields(alloc, line),
+    }
+}
+
+fn read_fields(alloc: Global, line: &[u8]) -> Result<Step, LineFault>
+    ensures found { IfOk result (λ step. step_of_fields (fields_of line.now) ≡ Ok step) }
+    ensures exact { IfErr result (IsFaultOf (step_of_fields (fields_of line.now))) }
+{
+    let mut fields = Fields::of(line);
+    let Some(word) = fields.next_field() else {
+        return Err(LineFault::Word);
+    };
+    if word == b"join".as_slice() {
+        read_join(fields)
+    } else if word == b"hear".as_slice() {
+        read_hear(alloc, fields)
+    } else if word == b"end".as_slice() {
+        read_end(fields)
+    } else {
+        Err(LineFault::Word)
+    }
+}
+
+/// The rest of a line `join NAME`.
+fn read_join(mut fields: Fields<'_>) -> Result<Step, LineFault>
+    ensures { result ≡ join_step fields.entry }
+{
+    let (Some(name), None) = (fields.next_field(), fields.next_field()) else {
+        return Err(LineFault::Word);
+    };
+    match name {
+        b"client" => Ok(Step::Join(Door::Clients)),
+        _ => Err(LineFault::Word),
+    }
+}
+
+/// The rest of a line `hear PORT HEX`.
+fn read_hear(alloc: Global, mut fields: Fields<'_>) -> Result<Step, LineFault>
+    ensures found { IfOk result (λ step. hear_step fields.entry ≡ Ok step) }
+    ensures exact { IfErr result (IsFaultOf (hear_step fields.entry)) }
+{
+    let (Some(port), Some(bytes), None) = (
+        fields.next_field(),
+        fields.next_field(),
+        fields.next_field(),
+    ) else {
+        return Err(LineFault::Word);
+    };
+    let port = read_number(port)?;
+    let bytes = read_bytes(alloc, bytes)?;
+    Ok(Step::Hear { port, bytes })
+}
+
+/// The rest of a line `end PORT`.
+fn read_end(mut fields: Fields<'_>) -> Result<Step, LineFault>
+    ensures { result ≡ end_step fields.entry }
+{
+    let (Some(port), None) = (fields.next_field(), fields.next_field()) else {
+        return Err(LineFault::Word);
+    };
+    Ok(Step::End(read_number(port)?))
+}
+
+fn read_number(field: &[u8]) -> Result<u64, LineFault>
+    ensures { result ≡ number_field field.now }
+{
+    number(field).ok_or(LineFault::Word)
+}
+
+fn read_bytes(alloc: Global, field: &[u8]) -> Result<Bytes, LineFault>
+    ensures found { IfOk result (λ bytes. bytes_field field.now ≡ Ok bytes) }
+    ensures exact { IfErr result (IsFaultOf (bytes_field field.now)) }
+{
+    if field.is_empty() {
+        return Err(LineFault::Word);
+    }
+    match hex::decode(alloc, field) {
+        Ok(bytes) => Ok(Bytes::from_vec(bytes)),
+        Err(FromHexError::OutOfMemory) => Err(LineFault::Memory),
+        Err(_) => Err(LineFault::Word),
+    }
+}

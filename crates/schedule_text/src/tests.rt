@@ -1,0 +1,159 @@
+//! That the definitions say what docs/PROTOCOL.md says, on lines written out.
+//! That each call succeeds with ample memory.
+use crate::{Deed, LineFault, Step, put_deed, read_line};
+use plain_lists::Bytes;
+use std::test::Fail;
+use world_ports::{Door, Job, JobKind};
+
+#[test]
+fn empty_lines_and_comments_are_skipped(rt: HostRuntime) {
+    for line in [b"".as_slice(), b"#".as_slice(), b"# join client".as_slice()] {
+        assert_eq!(rt; read_line(rt.alloc(), line), Ok(Step::Skip), "at {line:?}");
+    }
+}
+
+#[test]
+fn joins_and_ends_are_read(rt: HostRuntime) {
+    let cases = [
+        (b"join client".as_slice(), Step::Join(Door::Clients)),
+        (b"end 0".as_slice(), Step::End(0)),
+        (b"end 10".as_slice(), Step::End(10)),
+        (b"end 18446744073709551615".as_slice(), Step::End(u64::MAX)),
+    ];
+    for (line, want) in cases {
+        assert_eq!(rt; read_line(rt.alloc(), line), Ok(want), "at {line:?}");
+    }
+}
+
+#[test]
+fn bytes_are_heard_in_either_case(rt: HostRuntime) -> Result<(), Fail> {
+    for line in [
+        b"hear 7 000000010bfF".as_slice(),
+        b"hear 7 000000010Bff".as_slice(),
+    ] {
+        let bytes = Bytes::from_vec(Vec::from_slice(rt.alloc(), &[0, 0, 0, 1, 11, 255])?);
+        assert_eq!(rt;
+            read_line(rt.alloc(), line),
+            Ok(Step::Hear { port: 7, bytes }),
+            "at {line:?}"
+        );
+    }
+    Ok(())
+}
+
+#[test]
+fn other_lines_are_refused_as_words(rt: HostRuntime) {
+    let lines = [
+        b" ".as_slice(),
+        b" join client".as_slice(),
+        b"join".as_slice(),
+        b"join ".as_slice(),
+        b"join clients".as_slice(),
+        b"join Client".as_slice(),
+        b"join client ".as_slice(),
+        b"joins client".as_slice(),
+        b"join  client".as_slice(),
+        b"leave 1".as_slice(),
+        b"end".as_slice(),
+        b"end ".as_slice(),
+        b"end 1 ".as_slice(),
+        b"end 1\r".as_slice(),
+        b"end 01".as_slice(),
+        b"end +1".as_slice(),
+        b"end x".as_slice(),
+        b"end 18446744073709551616".as_slice(),
+        b"end 99999999999999999999999".as_slice(),
+        b"hear 1".as_slice(),
+        b"hear 1 ".as_slice(),
+        b"hear  00".as_slice(),
+        b"hear 1 0".as_slice(),
+        b"hear 1 000".as_slice(),
+        b"hear 1 0g".as_slice(),
+        b"hear 1 00 ".as_slice(),
+        b"hear 1 00 00".as_slice(),
+        b"hear 01 0".as_slice(),
+    ];
+    for line in lines {
+        assert_eq!(rt;
+            read_line(rt.alloc(), line),
+            Err(LineFault::Word),
+            "at {line:?}"
+        );
+    }
+}
+
+#[test]
+fn a_line_may_have_65536_bytes(rt: HostRuntime) -> Result<(), Fail> {
+    let mut comment = vec![in rt.alloc(); b'#'; 65536]?;
+    assert_eq!(rt; read_line(rt.alloc(), &comment), Ok(Step::Skip));
+    comment.push(b'#')?;
+    assert_eq!(rt; read_line(rt.alloc(), &comment), Err(LineFault::TooLong));
+    let words = vec![in rt.alloc(); b' '; 65537]?;
+    assert_eq!(rt; read_line(rt.alloc(), &words), Err(LineFault::TooLong));
+    let mut heard = Vec::from_slice(rt.alloc(), b"hear 12 ")?;
+    heard.resize(65536, b'a')?;
+    let bytes = Bytes::from_vec(vec![in rt.alloc(); 0xaa; 32764]?);
+    assert_eq!(rt;
+        read_line(rt.alloc(), &heard),
+        Ok(Step::Hear { port: 12, bytes })
+    );
+    Ok(())
+}
+
+#[test]
+fn each_output_line_has_its_text(rt: HostRuntime) -> Result<(), Fail> {
+    let mut out = Vec::new(rt.alloc());
+    let deeds = [
+        Deed::To {
+            port: 1,
+            bytes: &[0, 0, 0, 5, 12, 0, 171, 255],
+        },
+        Deed::To {
+            port: 2,
+            bytes: &[],
+        },
+        Deed::Close(u64::MAX),
+        Deed::Start(Job {
+            number: 1,
+            kind: JobKind::Helper,
+        }),
+        Deed::Start(Job {
+            number: 20,
+            kind: JobKind::Confirm,
+        }),
+        Deed::Refused {
+            line: 1,
+            fault: LineFault::Word,
+        },
+        Deed::Refused {
+            line: 2,
+            fault: LineFault::Number,
+        },
+        Deed::Refused {
+            line: 3,
+            fault: LineFault::Hex,
+        },
+        Deed::Refused {
+            line: 4,
+            fault: LineFault::UnknownPort,
+        },
+        Deed::Refused {
+            line: 5,
+            fault: LineFault::Order,
+        },
+        Deed::Refused {
+            line: 0,
+            fault: LineFault::TooLong,
+        },
+        Deed::End,
+    ];
+    for deed in &deeds {
+        put_deed(&mut out, deed)?;
+    }
+    let want = "to 1 000000050c00abff\nto 2 \nclose 18446744073709551615\n\
+        start 1 helper\nstart 20 confirm\n\
+        refused 1 word\nrefused 2 number\nrefused 3 hex\n\
+        refused 4 port\nrefused 5 order\nrefused 0 long\nend\n";
+    assert_eq!(rt; out.as_slice(), want.as_bytes());
+    Ok(())
+}

@@ -1,0 +1,6 @@
+-- an interrupted call moved no byte
+use Rattle.std.specs.Io.KnownBytes.{Keeps}
+use Rattle.world_ports.proofs.std_streams.write_through.Given as goal
+
+abbrev pub invariant-loop : goal.invariant-loop
+invariant-loop g l = Keeps (g.W.Write.contents l.initial.writer) (g.W.Write.contents l.writer)

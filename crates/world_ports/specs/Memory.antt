@@ -1,0 +1,42 @@
+-- Sources and sinks in memory (ours): what they hold, and which of their calls fail.
+use Rattle.std.specs.Prelude.{Bool, ℕ, zero, suc, List, min, length, Contains}
+use Rattle.world_ports.specs.Causes.{next_count, count_after}
+use Rattle.world_ports.specs.declared.stream.Pulled.{Pulled}
+use Rattle.world_ports.specs.declared.stream.Pulled.TheVariants.{Bytes, End}
+
+-- the calls of one object: the numbers, from 1, of those that are to fail; how many were made, and how many failed
+pub record CallState : Type 0 where
+  pub failing : List ℕ
+  pub made : ℕ
+  pub failed : ℕ
+
+-- the number of the next call is one of those that are to fail
+abbrev pub IsNextListed : CallState → Type 0
+IsNextListed calls = Contains calls.failing (next_count calls.made)
+
+-- one more call was made, and failed or did not
+abbrev pub after_call : Bool → CallState → CallState
+after_call failed calls = record calls { made = next_count calls.made; failed = count_after failed calls.failed }
+
+-- a source: what was read, what is left, the most that a read gives, and its calls
+pub record SourceState : Type 0 where
+  pub taken : List ℕ
+  pub left : List ℕ
+  pub cut : ℕ
+  pub calls : CallState
+
+-- how many bytes the next read into a room of this length gives, where it does not fail
+abbrev pub read_len : ℕ → SourceState → ℕ
+read_len room source = min source.cut (min room (length source.left))
+
+-- so many bytes, or the end where there are none
+abbrev pub pulled_of : ℕ → Pulled
+pulled_of zero = End
+pulled_of (suc n) = Bytes (suc n)
+
+-- a sink: what was written, how many bytes more it has room for, the most that a write takes, and its calls
+pub record SinkState : Type 0 where
+  pub written : List ℕ
+  pub room : ℕ
+  pub cut : ℕ
+  pub calls : CallState

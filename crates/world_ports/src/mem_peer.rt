@@ -1,0 +1,51 @@
+// A source and a sink in one object.
+ghost use Rattle.std.specs.Prelude.{◌≡◌, None, Some};
+
+use crate::{Fault, Pulled, Sink, SliceSource, Source, Stream, VecSink};
+
+/// A peer in memory: what it says is read from its source, and what is said to it is kept by its sink.
+#[derive(Drop)]
+pub struct MemPeer<'a> {
+    source: SliceSource<'a>,
+    sink: VecSink,
+}
+
+impl<'a> MemPeer<'a> {
+    pub fn new(source: SliceSource<'a>, sink: VecSink) -> MemPeer<'a>
+        ensures source { result.source ≡ source.entry }
+        ensures sink { result.sink ≡ sink }
+    {
+        MemPeer { source, sink }
+    }
+
+    /// All that was written to it.
+    pub fn written(&self) -> &[u8]
+        ensures { result.now ≡ self.now.sink.written }
+    {
+        self.sink.written()
+    }
+}
+
+impl Stream for MemPeer<'_> {
+    ghost taken = { λ p. Some p.source.taken };
+
+    ghost left = { λ p. Some p.source.left };
+
+    ghost written = { λ p. Some p.sink.written };
+
+    ghost read_faults = { λ p. p.source.calls.failed };
+
+    ghost write_faults = { λ p. p.sink.calls.failed };
+}
+
+impl Source for MemPeer<'_> {
+    fn read(&mut self, room: &mut [u8]) -> Result<Pulled, Fault> {
+        self.source.read(room)
+    }
+}
+
+impl Sink for MemPeer<'_> {
+    fn write(&mut self, bytes: &[u8]) -> Result<u32, Fault> {
+        self.sink.write(bytes)
+    }
+}
