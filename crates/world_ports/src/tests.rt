@@ -159,14 +159,19 @@ fn an_interrupted_read_is_tried_again(rt: HostRuntime) {
 }
 
 #[test]
-fn a_write_that_takes_nothing_is_a_fault(rt: HostRuntime) {
-    let mut output = Writing::new(Flaky {
+fn a_write_is_flushed_and_one_that_takes_nothing_is_a_fault(rt: HostRuntime) {
+    let mut writer = Flaky {
         calls: 0,
         flushes: 0,
-    });
-    assert_eq!(rt; output.write(b"abc"), Ok(1));
-    assert_eq!(rt; output.write(b"bc"), Err(Fault));
-    assert_eq!(rt; output.write(b"bc"), Err(Fault));
+    };
+    {
+        let mut output = Writing::new(&mut writer);
+        assert_eq!(rt; output.write(b"abc"), Ok(1));
+        assert_eq!(rt; output.write(b"bc"), Err(Fault));
+        assert_eq!(rt; output.write(b"bc"), Err(Fault));
+    }
+    // Two after the first write, of which the first was interrupted, and one after the second.
+    assert_eq!(rt; writer.flushes, 3);
 }
 
 #[test]
