@@ -86,8 +86,8 @@ fn a_short_sink_takes_the_front_of_a_piece(rt: HostRuntime) -> Result<(), Fail> 
     let alloc = rt.alloc();
     let mut sink = VecSink::with_cut(alloc, 9, 2, Vec::new(alloc))?;
     assert_eq!(rt; sink.write(b"abc"), Ok(2));
-    assert_eq!(rt; sink.write(b"c"), Ok(1));
-    assert_eq!(rt; sink.written(), b"abc".as_slice());
+    assert_eq!(rt; write_all(&mut sink, b"cdefg"), Ok(()));
+    assert_eq!(rt; sink.written(), b"abcdefg".as_slice());
     Ok(())
 }
 
