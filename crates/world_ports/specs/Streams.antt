@@ -4,7 +4,7 @@ use Rattle.std.specs.Io.KnownBytes.{Appends, Consumes, Keeps, IsAtEnd}
 use Rattle.world_ports.specs.declared.stream.Pulled.{Pulled}
 use Rattle.world_ports.specs.declared.stream.Pulled.TheVariants.{Bytes, End}
 
--- the read gave at least one byte: they stand at the front of the room, and were the next that were left
+-- the read gave one byte or more: they are the front of the room, and were the next that were left
 pub record GivesBytes (n : ℕ) (room : List ℕ) (taken0 taken1 left0 left1 : Option (List ℕ)) : Type 0 where
   pub some : 0 < n
   pub within : n ≤ length room

@@ -1,5 +1,5 @@
 //! What the agent's programs meet of the outside: readers and writers whose failures are counted,
-//! in memory and over the standard streams, and the plain types of listeners, child processes and clocks.
+//! in memory and over std's, and the plain types of listeners, child processes and clock readings.
 //! Stands on std alone; docs/DEFINITIONS.md says what a count of faults means.
 #![tactic(auto)]
 

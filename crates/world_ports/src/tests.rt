@@ -104,7 +104,7 @@ fn a_peer_is_read_and_written(rt: HostRuntime) -> Result<(), Fail> {
     Ok(())
 }
 
-// Each call counts: it is interrupted, takes or gives one byte, takes or gives none, and then fails.
+// Its calls in turn: interrupted, one byte, no byte, and then failures.
 #[derive(Drop)]
 struct Flaky {
     calls: u32,

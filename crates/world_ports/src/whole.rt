@@ -9,7 +9,8 @@ use crate::{Fault, Sink};
 /// Writes all of `bytes`, in as many writes as the sink wants. Stops at the first that fails.
 pub fn write_all<O: Sink>(output: &mut O, bytes: &[u8]) -> Result<(), Fault>
     ensures ok { OnOk result (Appends (O.written output.old) (O.written output.new) bytes.now) }
-    ensures err { OnErr result (WritesPart bytes.now (O.written output.old) (O.written output.new)) }
+    ensures err { OnErr result (WritesPart bytes.now
+        (O.written output.old) (O.written output.new)) }
     ensures cause { HasCause (O.write_faults output.old) (O.write_faults output.new) result }
     ensures taken { O.taken output.new ≡ O.taken output.old }
     ensures left { O.left output.new ≡ O.left output.old }
