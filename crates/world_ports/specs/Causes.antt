@@ -1,4 +1,4 @@
--- Counts of faults. Each object of the outside has one, which never falls and stays at 2^64 - 1 (ours).
+-- Counts of faults, one for each object of the outside. None falls, and it stays at 2^64 - 1 (ours).
 use Rattle.std.specs.Prelude.{◌≡◌, ◌⊎◌, ◌<◌, ◌≤◌, ◌+◌, ◌-◌, ◌^◌, Bool, ℕ, Result, OnErr, min, if◌then◌else◌}
 
 -- one more, where there is one

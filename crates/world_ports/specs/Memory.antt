@@ -4,7 +4,7 @@ use Rattle.world_ports.specs.Causes.{next_count, count_after}
 use Rattle.world_ports.specs.declared.stream.Pulled.{Pulled}
 use Rattle.world_ports.specs.declared.stream.Pulled.TheVariants.{Bytes, End}
 
--- the calls of one object: the numbers, from 1, of those that are to fail; how many were made, and how many failed
+-- the calls of one object: the numbers, from 1, of those to fail; how many were made and failed
 pub record CallState : Type 0 where
   pub failing : List ℕ
   pub made : ℕ
@@ -16,7 +16,10 @@ IsNextListed calls = Contains calls.failing (next_count calls.made)
 
 -- one more call was made, and failed or did not
 abbrev pub after_call : Bool → CallState → CallState
-after_call failed calls = record calls { made = next_count calls.made; failed = count_after failed calls.failed }
+after_call failed calls = record calls {
+  made = next_count calls.made;
+  failed = count_after failed calls.failed;
+}
 
 -- a source: what was read, what is left, the most that a read gives, and its calls
 pub record SourceState : Type 0 where
@@ -34,7 +37,7 @@ abbrev pub pulled_of : ℕ → Pulled
 pulled_of zero = End
 pulled_of (suc n) = Bytes (suc n)
 
--- a sink: what was written, how many bytes more it has room for, the most that a write takes, and its calls
+-- a sink: what was written, the room that is left, the most that a write takes, its calls
 pub record SinkState : Type 0 where
   pub written : List ℕ
   pub room : ℕ

@@ -1,10 +1,10 @@
 -- What one read and one write do to the bytes that their object tells. `None` claims nothing.
-use Rattle.std.specs.Prelude.{◌<◌, ◌≤◌, ℕ, List, length, take, Option, Result, MatchResult}
+use Rattle.std.specs.Prelude.{◌≡◌, ◌++◌, ◌<◌, ◌≤◌, ℕ, List, length, take, Option, Result, MatchResult}
 use Rattle.std.specs.Io.KnownBytes.{Appends, Consumes, Keeps, IsAtEnd}
 use Rattle.world_ports.specs.declared.stream.Pulled.{Pulled}
 use Rattle.world_ports.specs.declared.stream.Pulled.TheVariants.{Bytes, End}
 
--- the read gave at least one byte: they stand at the front of the room, and were the next that were left
+-- the read gave one byte or more: they are the front of the room, and were the next that were left
 pub record GivesBytes (n : ℕ) (room : List ℕ) (taken0 taken1 left0 left1 : Option (List ℕ)) : Type 0 where
   pub some : 0 < n
   pub within : n ≤ length room
@@ -45,3 +45,13 @@ abbrev pub Writes : {E : Type 0} → Result ℕ E → List ℕ → Option (List 
 Writes result piece written0 written1 = MatchResult result
     (λ n. TakesFront n piece written0 written1)
     (λ _. Keeps written0 written1)
+
+-- a front of the bytes was written, and what is left of them was not
+pub record WritesFront (bytes rest : List ℕ) (written0 written1 : Option (List ℕ)) : Type 0 where
+  pub front : List ℕ
+  pub whole : front ++ rest ≡ bytes
+  pub written : Appends written0 written1 front
+
+-- some front of the bytes was written, all or none of them included
+abbrev pub WritesPart : List ℕ → Option (List ℕ) → Option (List ℕ) → Type 0
+WritesPart bytes written0 written1 = (rest : List ℕ) × WritesFront bytes rest written0 written1

@@ -3,7 +3,7 @@ ghost use Rattle.std.specs.Prelude.{◌≡◌, None, Some};
 
 use crate::{Fault, Pulled, Sink, SliceSource, Source, Stream, VecSink};
 
-/// A peer in memory: what it says is read from its source, and what is said to it is kept by its sink.
+/// A peer in memory: what it says is read from its source, and its sink keeps what is said to it.
 #[derive(Drop)]
 pub struct MemPeer<'a> {
     source: SliceSource<'a>,

@@ -69,7 +69,8 @@ impl Source for SliceSource<'_> {
             (Some self.old.left) (Some self.new.left) }
         ensures cause { HasCause self.old.calls.failed self.new.calls.failed result }
         ensures fails { IsErr result ↔ IsNextListed self.old.calls }
-        ensures value { IfOk result (λ pulled. pulled ≡ pulled_of (read_len (length room.old) self.old)) }
+        ensures value { IfOk result (λ pulled.
+            pulled ≡ pulled_of (read_len (length room.old) self.old)) }
         ensures calls { self.new.calls ≡ after_call (is_err result) self.old.calls }
         ensures kept { self.new.cut ≡ self.old.cut }
     {

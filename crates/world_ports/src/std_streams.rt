@@ -9,15 +9,19 @@ ghost use Rattle.world_ports.specs.Streams.{Reads, TakesFront};
 use crate::{Fault, Pulled, Sink, Source, Stream};
 use std::io::{Error, ErrorKind, Read, Result as IoResult, Write};
 
-/// A reader, as standard input, that tells nothing of its bytes. A read that a signal interrupts is tried again.
+/// A reader, as standard input, that tells nothing of its bytes.
+///
+/// A read that a signal interrupts is tried again.
 #[derive(Drop)]
 pub struct Reading<R> {
     reader: R,
     faults: u64,
 }
 
-/// A writer, as standard output, that tells nothing of its bytes. What it takes is flushed in the same call,
-/// and a write or a flush that a signal interrupts is tried again.
+/// A writer, as standard output, that tells nothing of its bytes.
+///
+/// What it takes is flushed in the same call, and a write or a flush that a signal interrupts is
+/// tried again. Where the flush fails, the writer may have the bytes although the write failed.
 #[derive(Drop)]
 pub struct Writing<W> {
     writer: W,
@@ -128,7 +132,8 @@ fn read_again<R: Read>(reader: &mut R, room: &mut [u8]) -> IoResult<usize>
 // One write, tried again while a signal interrupts it, and then a flush.
 fn write_through<W: Write>(writer: &mut W, bytes: &[u8]) -> IoResult<usize>
     ensures bound { WritesAtMost result bytes.now }
-    ensures bytes { IfOk result (λ n. Appends (W.contents writer.old) (W.contents writer.new) (take n bytes.now)) }
+    ensures bytes { IfOk result (λ n. Appends (W.contents writer.old) (W.contents writer.new)
+        (take n bytes.now)) }
     ensures retried { IfErr result (λ error. error_kind error ≢ ErrorKind.Interrupted) }
 {
     for _ in 0..u64::MAX {

@@ -1,4 +1,4 @@
-// Readers and writers as the programs see them: what they tell of their bytes, and how often they failed.
+// Readers and writers as programs see them: what they tell of their bytes, and how often they fail.
 ghost use Rattle.std.specs.Prelude.{◌≡◌, ◌<◌, List, Option, ℕ, length};
 ghost use Rattle.world_ports.specs.Causes.{HasCause};
 ghost use Rattle.world_ports.specs.Streams.{Reads, Writes};

@@ -93,9 +93,11 @@ impl Sink for VecSink {
         requires { 0 < length bytes.now }
         ensures writes { Writes result bytes.now (Some self.old.written) (Some self.new.written) }
         ensures cause { HasCause self.old.calls.failed self.new.calls.failed result }
-        ensures fails { IsErr result ↔ (IsNextListed self.old.calls ⊎ self.old.room < length bytes.now) }
+        ensures fails { IsErr result
+            ↔ (IsNextListed self.old.calls ⊎ self.old.room < length bytes.now) }
         ensures value { IfOk result (λ n. n ≡ min self.old.cut (length bytes.now)) }
-        ensures room { self.new.room + length self.new.written ≡ self.old.room + length self.old.written }
+        ensures room { self.new.room + length self.new.written
+            ≡ self.old.room + length self.old.written }
         ensures calls { self.new.calls ≡ after_call (is_err result) self.old.calls }
         ensures kept { self.new.cut ≡ self.old.cut }
     {
