@@ -1,0 +1,43 @@
+# make            builds every program into bin/, proving what isn't proved yet
+# make demo       runs the agent on a schedule of examples/
+# make check      proves and tests everything: the gate
+# make bench      measures, beside other programs of the same machine
+# make install    copies the programs to $(DESTDIR)$(PREFIX)/bin
+
+RT ?= rt
+PREFIX ?= /usr/local
+PROGRAMS := $(patsubst crates/%/src/main.rt,%,$(wildcard crates/*/src/main.rt))
+INSTALLED := agent_prog
+SOURCES := crates.txt $(shell find crates -name out -prune -o \( -name '*.rt' -o -name '*.antt' \) -print)
+
+.PHONY: all demo check bench install clean
+
+all: $(PROGRAMS:%=bin/%)
+
+# A program is linked by a run; its words make it end at once. The check before it tells whether all is proved.
+define program
+crates/$(1)/out/$(1): $$(SOURCES)
+	cd crates/$(1) && rm -f out/$(1) && $$(RT) check > /dev/null && { $$(RT) run -- 0 < /dev/null > /dev/null 2>&1 || true; }
+	test -x $$@ && touch $$@
+
+bin/$(1): crates/$(1)/out/$(1)
+	@mkdir -p bin
+	cp $$< $$@
+endef
+$(foreach name,$(PROGRAMS),$(eval $(call program,$(name))))
+
+demo: bin/agent_prog
+	@examples/run demo
+
+check:
+	$(RT) ci
+
+bench: $(PROGRAMS:%=bin/%)
+	bench/run
+
+install: $(INSTALLED:%=bin/%)
+	install -d $(DESTDIR)$(PREFIX)/bin
+	install -m 755 $(INSTALLED:%=bin/%) $(DESTDIR)$(PREFIX)/bin
+
+clean:
+	rm -rf bin crates/*/out
