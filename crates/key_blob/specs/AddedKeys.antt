@@ -1,5 +1,5 @@
 -- Keys that are added to an agent: the type's name, its public and its private fields (draft-miller-ssh-agent, "Adding keys to the agent").
-use Rattle.std.specs.Prelude.{◌≡◌, ℕ, ◌-◌, List, ◌++◌, length, take, Result, Ok, Err}
+use Rattle.std.specs.Prelude.{◌≡◌, ℕ, ◌-◌, List, ◌++◌, length, take, Result, Ok}
 use Rattle.wire_text.specs.Wire.{string}
 use Rattle.key_blob.specs.declared.added.AddedKey.{AddedKey}
 use Rattle.key_blob.specs.declared.fault.KeyFault.{KeyFault}

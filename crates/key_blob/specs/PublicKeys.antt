@@ -1,5 +1,5 @@
 -- Public keys, and their blobs: the type's name and its public fields, and nothing more (RFC 4253, section 6.6).
-use Rattle.std.specs.Prelude.{◌≡◌, ℕ, List, [], ◌∷◌, ◌++◌, Option, Some, None, Result, Ok, Err}
+use Rattle.std.specs.Prelude.{◌≡◌, ℕ, List, [], ◌∷◌, ◌++◌, Option, None, Result, Ok, Err}
 use Rattle.std.specs.Option.{option_map}
 use Rattle.wire_text.specs.Wire.{string}
 use Rattle.key_blob.specs.declared.fault.KeyFault.{KeyFault}
