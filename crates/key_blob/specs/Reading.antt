@@ -1,4 +1,5 @@
--- Fields, as the table has them, and what reading them from left to right gives: their contents and the bytes that follow, or the first fault.
+-- Fields, as the table has them, and what reading them from left to right gives: their contents and
+-- the bytes that follow, or the first fault.
 use Rattle.std.specs.Prelude.{◌≡◌, ℕ, ◌^◌, ◌<◌, List, [], ◌∷◌, length, Result, Ok, Err, ◌==◌, if◌then◌else◌}
 use Rattle.std.specs.List.{flat_map}
 use Rattle.std.specs.Option.{ok_or}
