@@ -23,7 +23,6 @@ pub struct AddedKey {
 }
 
 /// Appends `content` as a string to `strings`, or puts it in front of them.
-
 fn join(strings: &mut Vec<u8>, content: &[u8], in_front: bool) -> Result<(), AllocError>
     requires { length content.now < 2 ^ 32 }
     ensures { OnOk result (strings.new.items ≡
