@@ -4,7 +4,7 @@ use Rattle.std.specs.Option.{ok_or}
 use Rattle.std.specs.Str.{bytes_eq}
 use Rattle.wire_core.specs.Fields.{string_at}
 use Rattle.key_blob.specs.declared.fault.KeyFault.{KeyFault}
-use Rattle.key_blob.specs.declared.fault.KeyFault.TheVariants.{Short, UnknownType, BadLength, Mismatch, Trailing, Memory}
+use Rattle.key_blob.specs.declared.fault.KeyFault.TheVariants.{Short, UnknownType, BadLength, Mismatch, Memory}
 use Rattle.key_blob.specs.declared.kind.KeyKind.{KeyKind}
 use Rattle.key_blob.specs.KeyTypes.{Field, any, sized, text, key_type, kind_named}
 use Rattle.key_blob.specs.Reading.{◌>>=◌, checked, field_at, fields_at, after_fields, kind_at}

@@ -1,5 +1,5 @@
 -- The grammar of keys and their reading are one: what is read is in the grammar, and what is in the grammar is read.
-use Rattle.std.proofs.Common.{◌≡◌, ℕ, ◌+◌, ◌-◌, ◌<◌, ◌≤◌, Bool, true, false, List, [], ◌∷◌, ◌++◌, length, take, Result, Ok, Err, refl, sym, ap, subst, ◌∙◌, append_assoc, arith, inl, inr}
+use Rattle.std.proofs.Common.{◌≡◌, ℕ, ◌-◌, ◌≤◌, Bool, true, false, List, [], ◌∷◌, ◌++◌, length, take, Result, Ok, Err, refl, sym, ap, subst, ◌∙◌, append_assoc, arith, inl, inr}
 use Rattle.std.specs.Prelude.{reverse, ◌⊎◌, if◌then◌else◌}
 use Rattle.std.proofs.lemmas.List.{append-nil, length-append, take_at}
 use Rattle.std.proofs.lemmas.List.Concat.{flat_map-append}
@@ -8,7 +8,7 @@ use Rattle.wire_text.specs.Wire.{IsBytes, string}
 use Rattle.wire_core.proofs.Theorems.{IsFront}
 use Rattle.key_blob.specs.declared.added.AddedKey.{AddedKey}
 use Rattle.key_blob.specs.declared.fault.KeyFault.{KeyFault}
-use Rattle.key_blob.specs.declared.fault.KeyFault.TheVariants.{Trailing, Memory}
+use Rattle.key_blob.specs.declared.fault.KeyFault.TheVariants.{Memory}
 use Rattle.key_blob.specs.declared.kind.KeyKind.{KeyKind}
 use Rattle.key_blob.specs.declared.kind.KeyKind.TheVariants.{Ed25519, Rsa, Nistp256, Nistp384, Nistp521, StandIn}
 use Rattle.key_blob.specs.KeyTypes.{KeyType, key_type, blob_order}
@@ -16,7 +16,7 @@ use Rattle.key_blob.specs.Reading.{◌>>=◌, AreContents, strings, fields_at, a
 use Rattle.key_blob.specs.PublicKeys.{KeyParts, plain_key, IsPublicKey, ended, public_key_of}
 use Rattle.key_blob.specs.AddedKeys.{IsAddedKey, blob_fields, blob_fields_at, taken, added_key_at}
 use Rattle.key_blob.proofs.ReadingLemmas.{rest_of}
-use Rattle.key_blob.proofs.GrammarLemmas.{bind_ok, fields_are_front, fields_again, kind_is_front, kind_again, IsFront-append}
+use Rattle.key_blob.proofs.GrammarLemmas.{bind_ok, fields_are_front, fields_again, kind_is_front, kind_again}
 
 -- ---- blobs
 

@@ -1,5 +1,6 @@
--- Keys that are added to an agent: the type's name, its public and its private fields (draft-miller-ssh-agent, "Adding keys to the agent").
-use Rattle.std.specs.Prelude.{◌≡◌, ℕ, ◌-◌, List, ◌++◌, length, take, Result, Ok, Err}
+-- Keys that are added to an agent: the type's name, its public and its private fields
+-- (draft-miller-ssh-agent, "Adding keys to the agent").
+use Rattle.std.specs.Prelude.{◌≡◌, ℕ, ◌-◌, List, ◌++◌, length, take, Result, Ok}
 use Rattle.wire_text.specs.Wire.{string}
 use Rattle.key_blob.specs.declared.added.AddedKey.{AddedKey}
 use Rattle.key_blob.specs.declared.fault.KeyFault.{KeyFault}
@@ -25,11 +26,12 @@ pub record IsAddedKey (key : AddedKey) : Type 0 where
 abbrev pub taken : List ℕ → List ℕ → List ℕ
 taken bytes rest = take (length bytes - length rest) bytes
 
--- the public fields of a blob, from the public fields of an addition, and the bytes that follow these
+-- the public fields of a blob, from those of an addition, and the bytes that follow these
 unfoldable pub blob_fields_at : KeyType → List ℕ → Result (List ℕ × List ℕ) KeyFault
-blob_fields_at type bytes = fields_at type.public bytes >>= λ read. Ok (blob_fields type read.0, read.1)
+blob_fields_at type bytes =
+    fields_at type.public bytes >>= λ read. Ok (blob_fields type read.0, read.1)
 
--- the key whose addition is at the front and the bytes that follow, or the first fault from left to right
+-- the key whose addition is at the front and what follows, or the first fault from left to right
 unfoldable pub added_key_at : List ℕ → Result (AddedKey × List ℕ) KeyFault
 added_key_at bytes = do
   kind ← kind_at bytes

@@ -8,7 +8,8 @@ use Rattle.key_blob.specs.PublicKeys.{KeyParts}
 -- how many binary digits the number has whose bytes these are, the highest first
 abbrev pub digits_of : List ℕ → ℕ
 digits_of [] = 0
-digits_of (byte ∷ bytes) = if byte == 0 then digits_of bytes else 8 - leading_zeros w8 byte + 8 * length bytes
+digits_of (byte ∷ bytes) =
+    if byte == 0 then digits_of bytes else 8 - leading_zeros w8 byte + 8 * length bytes
 
 -- the number whose bytes these are, the highest first
 abbrev pub number_of : List ℕ → ℕ

@@ -1,5 +1,7 @@
--- The types of keys that are read. A blob is the type's name and then its public fields; an addition is the name, the public and the private fields. Each field is carried as a string.
--- RFC 8709, section 4 (Ed25519), RFC 4253, section 6.6 (RSA), RFC 5656, section 3.1 (ECDSA); draft-miller-ssh-agent, "Adding keys to the agent" (additions); "The stand-in key type" (ours).
+-- The types of keys that are read. A blob is the type's name and then its public fields; an addition
+-- is the name, the public and the private fields. Each field is carried as a string.
+-- RFC 8709, section 4 (Ed25519), RFC 4253, section 6.6 (RSA), RFC 5656, section 3.1 (ECDSA),
+-- draft-miller-ssh-agent, "Adding keys to the agent" (additions), "The stand-in key type" (ours).
 use Rattle.std.specs.Prelude.{ℕ, Bool, true, false, List, [], ◌∷◌, reverse, find, Option, Some, None, codes, if◌then◌else◌}
 use Rattle.std.specs.Str.{bytes_eq}
 use Rattle.key_blob.specs.declared.kind.KeyKind.{KeyKind}

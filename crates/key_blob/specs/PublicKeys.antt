@@ -1,5 +1,6 @@
--- Public keys, and their blobs: the type's name and its public fields, and nothing more (RFC 4253, section 6.6).
-use Rattle.std.specs.Prelude.{◌≡◌, ℕ, List, [], ◌∷◌, ◌++◌, Option, Some, None, Result, Ok, Err}
+-- Public keys, and their blobs: the type's name and its public fields, and nothing more
+-- (RFC 4253, section 6.6).
+use Rattle.std.specs.Prelude.{◌≡◌, ℕ, List, [], ◌∷◌, ◌++◌, Option, None, Result, Ok, Err}
 use Rattle.std.specs.Option.{option_map}
 use Rattle.wire_text.specs.Wire.{string}
 use Rattle.key_blob.specs.declared.fault.KeyFault.{KeyFault}
@@ -26,7 +27,7 @@ pub record KeyParts : Type 0 where
   pub fields : List ℕ
   pub certificate : Option CertificateParts
 
--- the names of the signature algorithms that the key can be used with (RFC 8332, section 3, of RSA keys)
+-- the signature algorithms that the key can be used with (RFC 8332, section 3, of RSA keys)
 abbrev pub algorithms_of : KeyParts → List (List ℕ)
 algorithms_of key = (key_type key.kind).name ∷ (key_type key.kind).other_algorithms
 
@@ -52,7 +53,12 @@ parts_of key = record {
 
 -- a key that is no certificate, of this kind and with these fields
 abbrev pub plain_key : KeyKind → List ℕ → KeyParts
-plain_key kind fields = record { kind = kind; type_name = (key_type kind).name; fields = fields; certificate = None }
+plain_key kind fields = record {
+  kind = kind;
+  type_name = (key_type kind).name;
+  fields = fields;
+  certificate = None;
+}
 
 -- the bytes are a blob of the key
 pub record IsPublicKey (bytes : List ℕ) (key : KeyParts) : Type 0 where

@@ -1,5 +1,6 @@
--- Fields, as the table has them, and what reading them from left to right gives: their contents and the bytes that follow, or the first fault.
-use Rattle.std.specs.Prelude.{◌≡◌, ℕ, ◌^◌, ◌<◌, List, [], ◌∷◌, ◌++◌, length, Option, Some, None, Result, Ok, Err, ◌==◌, if◌then◌else◌}
+-- Fields, as the table has them, and what reading them from left to right gives: their contents and
+-- the bytes that follow, or the first fault.
+use Rattle.std.specs.Prelude.{◌≡◌, ℕ, ◌^◌, ◌<◌, List, [], ◌∷◌, length, Result, Ok, Err, ◌==◌, if◌then◌else◌}
 use Rattle.std.specs.List.{flat_map}
 use Rattle.std.specs.Option.{ok_or}
 use Rattle.std.specs.Str.{bytes_eq}
@@ -8,7 +9,7 @@ use Rattle.wire_core.specs.Fields.{string_at}
 use Rattle.key_blob.specs.declared.fault.KeyFault.{KeyFault}
 use Rattle.key_blob.specs.declared.fault.KeyFault.TheVariants.{Short, UnknownType, BadLength, Mismatch}
 use Rattle.key_blob.specs.declared.kind.KeyKind.{KeyKind}
-use Rattle.key_blob.specs.KeyTypes.{Field, any, sized, text, key_type, kind_named}
+use Rattle.key_blob.specs.KeyTypes.{Field, any, sized, text, kind_named}
 
 -- ---- what fields are
 

@@ -23,10 +23,10 @@ pub struct AddedKey {
 }
 
 /// Appends `content` as a string to `strings`, or puts it in front of them.
-
 fn join(strings: &mut Vec<u8>, content: &[u8], in_front: bool) -> Result<(), AllocError>
     requires { length content.now < 2 ^ 32 }
-    ensures { OnOk result (strings.new.items ≡ (if in_front then string content.now ++ strings.old.items
+    ensures { OnOk result (strings.new.items ≡
+        (if in_front then string content.now ++ strings.old.items
         else strings.old.items ++ string content.now)) }
 {
     put_string(strings, content)?;
@@ -36,13 +36,16 @@ fn join(strings: &mut Vec<u8>, content: &[u8], in_front: bool) -> Result<(), All
     Ok(())
 }
 
-/// Takes the public fields, and gives them in the order of a blob. A refused call may have moved the cursor.
+/// Takes the public fields, and gives them in the order of a blob.
+///
+/// A refused call may have moved the cursor.
 fn take_public(
     alloc: Global,
     from: &mut Cursor<'_>,
     key_type: &KeyType,
 ) -> Result<Vec<u8>, KeyFault>
-    ensures { MatchResult result (λ strings. blob_fields_at (line_of key_type.now) from.old ≡ Ok (strings.items, from.new))
+    ensures { MatchResult result
+        (λ strings. blob_fields_at (line_of key_type.now) from.old ≡ Ok (strings.items, from.new))
         (λ fault. (fault ≡ Memory) ⊎ (blob_fields_at (line_of key_type.now) from.old ≡ Err fault)) }
 {
     let mut strings = Vec::new(alloc);
@@ -86,7 +89,8 @@ pub fn read_added(alloc: Global, from: &mut Cursor<'_>) -> Result<AddedKey, KeyF
     ensures found { IfOk result (λ key. IsAddedKey key × (from.old ≡ key.private ++ from.new)) }
 
     // An addition is read, unless memory runs out.
-    ensures only { (key : AddedKey) (rest : List ℕ) → IsAddedKey key → from.old ≡ key.private ++ rest →
+    ensures only { (key : AddedKey) (rest : List ℕ) → IsAddedKey key →
+        from.old ≡ key.private ++ rest →
         MatchResult result (λ read. (read ≡ key) × (from.new ≡ rest)) (λ fault. fault ≡ Memory) }
 
     // Which fault it is.

@@ -7,18 +7,20 @@ use crate::key_type::{Field, kind_of};
 use crate::kind::KeyKind;
 use wire_core::Cursor;
 
-#[tactic(auto, unfolding(crate::specs::Reading::kind_at))]
 /// Takes the name of a type. A refused call may have moved the cursor.
+#[tactic(auto, unfolding(crate::specs::Reading::kind_at))]
 pub fn take_kind(from: &mut Cursor<'_>) -> Result<KeyKind, KeyFault>
-    ensures { MatchResult result (λ kind. kind_at from.old ≡ Ok (kind, from.new)) (λ fault. kind_at from.old ≡ Err fault) }
+    ensures { MatchResult result (λ kind. kind_at from.old ≡ Ok (kind, from.new))
+        (λ fault. kind_at from.old ≡ Err fault) }
 {
     kind_of(from.take_string()?).ok_or(KeyFault::UnknownType)
 }
 
-#[tactic(auto, unfolding(crate::specs::Reading::field_at))]
 /// Takes a field. A refused call may have moved the cursor.
+#[tactic(auto, unfolding(crate::specs::Reading::field_at))]
 pub fn take_field<'a>(from: &mut Cursor<'a>, field: &Field) -> Result<&'a [u8], KeyFault>
-    ensures exact { MatchResult result (λ content. field_at (field_of field.now) from.old ≡ Ok (content.now, from.new))
+    ensures exact { MatchResult result
+        (λ content. field_at (field_of field.now) from.old ≡ Ok (content.now, from.new))
         (λ fault. field_at (field_of field.now) from.old ≡ Err fault) }
     ensures bound { IfOk result (λ content. length content.now < 2 ^ 32) }
 {
@@ -30,7 +32,9 @@ pub fn take_field<'a>(from: &mut Cursor<'a>, field: &Field) -> Result<&'a [u8], 
     }
 }
 
-/// Takes the fields, whose contents are not looked at further. A refused call may have moved the cursor.
+/// Takes the fields, whose contents are not looked at further.
+///
+/// A refused call may have moved the cursor.
 pub fn skip_fields(from: &mut Cursor<'_>, fields: &[Field]) -> Result<(), KeyFault>
     ensures { MatchResult result (λ _. after_fields (fields_of fields.now) from.old ≡ Ok from.new)
         (λ fault. after_fields (fields_of fields.now) from.old ≡ Err fault) }

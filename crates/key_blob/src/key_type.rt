@@ -16,7 +16,7 @@ pub enum Field {
 #[derive(Clone, Copy)]
 pub struct KeyType {
     pub name: &'static [u8],
-    /// The public fields. Of a reversed type they are all alike, so that their order does not show here.
+    /// The public fields. Of a reversed type they are alike, so that their order does not show here.
     pub public: &'static [Field],
     /// Whether an addition has the public fields in the opposite order of a blob.
     pub is_reversed: bool,
@@ -74,7 +74,8 @@ pub fn row(kind: KeyKind) -> KeyType
 }
 
 fn sized(name: &'static [u8], private: &'static [Field], word: &'static str) -> KeyType
-    ensures { line_of result ≡ record (sized_type name.now 0 word.now) { private = fields_of private.now } }
+    ensures { line_of result ≡
+        record (sized_type name.now 0 word.now) { private = fields_of private.now } }
 {
     KeyType {
         name,
@@ -88,7 +89,8 @@ fn sized(name: &'static [u8], private: &'static [Field], word: &'static str) -> 
 }
 
 fn ecdsa(name: &'static [u8], public: &'static [Field], bits: u64) -> KeyType
-    ensures { line_of result ≡ record (ecdsa_type name.now [] bits) { public = fields_of public.now } }
+    ensures { line_of result ≡
+        record (ecdsa_type name.now [] bits) { public = fields_of public.now } }
 {
     KeyType {
         name,

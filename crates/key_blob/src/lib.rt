@@ -1,6 +1,7 @@
 //! Public keys in the blobs of the SSH protocols, and keys as they are added to an agent.
 //!
-//! Stands on `wire_core` for fields and on `secret_buf` for private bytes; the types are those of docs/PROTOCOL.md, "Keys".
+//! Stands on `wire_core` for fields and on `secret_buf` for private bytes. The types are those of
+//! docs/PROTOCOL.md, "Keys".
 #![tactic(auto)]
 
 mod added;

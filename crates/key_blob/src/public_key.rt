@@ -56,7 +56,8 @@ pub fn read_public(bytes: &[u8]) -> Result<PublicKey<'_>, KeyFault>
     ensures found { IfOk result (λ key. IsPublicKey bytes.now (parts_of key)) }
 
     // A public key is read.
-    ensures only { (key : KeyParts) → IsPublicKey bytes.now key → IsOkAnd result (λ read. parts_of read ≡ key) }
+    ensures only { (key : KeyParts) → IsPublicKey bytes.now key →
+        IsOkAnd result (λ read. parts_of read ≡ key) }
 
     // Which fault it is.
     ensures exact { MatchResult result (λ key. public_key_of bytes.now ≡ Ok (parts_of key))

@@ -1,5 +1,5 @@
--- The data types of RFC 4251, section 5, at the front of bytes: what a reading gives is the value and the bytes
--- that follow it, or nothing where fewer bytes are left than the value takes.
+-- The data types of RFC 4251, section 5, at the front of bytes: what a reading gives is the value and
+-- the bytes that follow it, or nothing where fewer bytes are left than the value takes.
 use Rattle.std.specs.Prelude.{◌≡◌, ℕ, ◌+◌, Bool, List, [], ◌∷◌, length, take, drop, Option, Some, None, nat_lt, if◌then◌else◌}
 use Rattle.std.specs.Int.{w64, from_be_bytes}
 use Rattle.wire_text.specs.Wire.{boolean_of, announced_len}
@@ -16,7 +16,8 @@ uint32_at bytes = if nat_lt (length bytes) 4 then None else Some (announced_len 
 
 -- a uint64
 unfoldable pub uint64_at : List ℕ → Option (ℕ × List ℕ)
-uint64_at bytes = if nat_lt (length bytes) 8 then None else Some (from_be_bytes w64 bytes, drop 8 bytes)
+uint64_at bytes =
+    if nat_lt (length bytes) 8 then None else Some (from_be_bytes w64 bytes, drop 8 bytes)
 
 -- how many bytes a string at the front takes, as far as the bytes that are there tell
 unfoldable pub string_len : List ℕ → ℕ

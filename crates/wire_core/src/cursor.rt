@@ -108,14 +108,17 @@ impl<'a> Cursor<'a> {
         Ok(self.take_u8()? != 0)
     }
 
-    /// Takes a string, which borrows from the buffer. Where its four bytes of length are there, a refusal counts them too.
+    /// Takes a string, which borrows from the buffer.
+    ///
+    /// Where its four bytes of length are there, a refusal counts them too.
     #[tactic(auto, unfolding(wire_text::specs::Wire::string, crate::specs::Fields::string_len, crate::specs::Fields::string_at, crate::specs::Fields::uint32_at))]
     pub fn take_string(&mut self) -> Result<&'a [u8], Short>
         ensures found { IfOk result (λ value. self.old ≡ string value.now ++ self.new) }
         ensures bound { IfOk result (λ value. length value.now < 2 ^ 32) }
         ensures short { IsErr result ↔ (length self.old < string_len self.old) }
         ensures wanted { IfErr result (IsShortOf (string_len self.old) self.old) }
-        ensures exact { MatchResult result (λ value. string_at self.old ≡ Some (value.now, self.new))
+        ensures exact { MatchResult result
+            (λ value. string_at self.old ≡ Some (value.now, self.new))
             (λ _. string_at self.old ≡ None) }
         ensures unchanged { OnErr result (self.new ≡ self.old) }
     {

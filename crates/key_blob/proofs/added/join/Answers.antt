@@ -1,4 +1,4 @@
-use Rattle.std.proofs.Common.{◌++◌, length, sym, ap, arith}
+use Rattle.std.proofs.Common.{length, sym, ap, arith}
 use Rattle.std.proofs.lemmas.List.{length-append}
 use Rattle.wire_text.specs.Wire.{string}
 use Rattle.wire_text.proofs.WireLemmas.{length-string}

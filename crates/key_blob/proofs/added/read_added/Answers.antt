@@ -1,4 +1,4 @@
-use Rattle.std.proofs.Common.{◌≡◌, ℕ, ◌++◌, List, sym, ap, ◌∙◌, rules}
+use Rattle.std.proofs.Common.{ℕ, ◌++◌, List, sym, ap, ◌∙◌, rules}
 use Rattle.key_blob.proofs.Theorems.{added_is_found, read_is_addition, only_memory_fails}
 use Rattle.key_blob.proofs.added.read_added.Goals as goal
 

@@ -1,8 +1,6 @@
 use Rattle.std.proofs.Common.{◌∷◌, ap, subst, List, ℕ}
-use Rattle.std.specs.Prelude.{◌≡◌, ◌↔◌, IsTrue, Contains}
+use Rattle.std.specs.Prelude.{◌↔◌, IsTrue, Contains}
 use Rattle.key_blob.specs.KeyTypes.{KeyType}
-use Rattle.key_blob.specs.PublicKeys.{algorithms_of, parts_of}
-use Rattle.key_blob.specs.Rows.{line_of}
 use Rattle.key_blob.proofs.TypeLemmas.{is_tested_behind}
 use Rattle.key_blob.proofs.public_key.algorithm_fits.Goals as goal
 
