@@ -1,0 +1,12 @@
+pub mod OwingLemmas
+pub mod PlaceLemmas
+pub mod LookLemmas
+pub mod PortsLemmas
+pub mod ClosesLemmas
+pub mod StepLemmas
+pub mod KeptLemmas
+pub mod BudgetLemmas
+pub mod SoundLemmas
+pub mod RunsLemmas
+pub mod PiecesLemmas
+pub mod TakenLemmas

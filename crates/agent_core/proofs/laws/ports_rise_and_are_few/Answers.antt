@@ -1,0 +1,14 @@
+use Rattle.std.proofs.Common.{arith}
+use Rattle.agent_core.specs.State.{opening_state}
+use Rattle.agent_core.proofs.RunsLemmas.{opening_is_sound, run-fits, run_keeps-sound}
+use Rattle.agent_core.proofs.SoundLemmas.{step_keeps-sound}
+use Rattle.agent_core.proofs.laws.ports_rise_and_are_few.Goals as goal
+
+pub returns-clause-sound : goal.returns-clause-sound
+returns-clause-sound c = λ events. run_keeps-sound opening_state events opening_is_sound
+
+pub returns-clause-step : goal.returns-clause-step
+returns-clause-step c = step_keeps-sound
+
+pub returns-clause-fits : goal.returns-clause-fits
+returns-clause-fits c = λ events fit. run-fits opening_state events fit (omega arith)

@@ -1,0 +1,10 @@
+pub mod State
+pub mod Dispatch
+pub mod Step
+pub mod Runs
+pub mod Happenings
+pub mod Slots
+pub mod PortLook
+pub mod Places
+pub mod Owing
+pub mod Budget

@@ -1,0 +1,174 @@
+//! The agent.
+
+ghost use Rattle.std.specs.Prelude.{◌≡◌, ◌↔◌, [], IfOk, IsTrue, OnOk};
+ghost use Rattle.agent_core.specs.Happenings.{happening};
+ghost use Rattle.agent_core.specs.Slots.{FitsPorts, Takes};
+ghost use Rattle.agent_core.specs.State.{IsOpen, IsRising, client_count, next_owed, opening_state, owed_at};
+ghost use Rattle.agent_core.specs.Step.{Fits, Wants, step};
+
+use crate::ports::Ports;
+use crate::{CoreMemory, Event, Settings};
+use std::alloc::Global;
+use std::marker::Model;
+use world_ports::{Door, Job, Moment};
+
+/// An SSH agent without its outside: it is told what happens, and tells what is owed to whom.
+///
+/// Ports are numbered from 1 in the order in which they join, and no number is used again. A step that ran out of
+/// memory leaves an agent that can only be dropped.
+#[derive(Drop)]
+pub struct Agent {
+    moment: Moment,
+    ports: Ports,
+    closes: Vec<u64>,
+}
+
+impl Model for Agent {
+    ghost use Rattle.agent_core.specs.State.{State};
+
+    ghost Value = { State };
+
+    ghost view = { λ a. record {
+      moment = a.moment;
+      ports = a.ports.ports;
+      last_port = a.ports.last;
+      closes = a.closes.items;
+    } };
+}
+
+impl Agent {
+    /// An agent that holds nothing and to which nobody is connected. Takes no memory.
+    pub fn new(alloc: Global, _settings: Settings) -> Agent
+        ensures { result ≡ opening_state }
+    {
+        Agent {
+            moment: Moment { mono: 0, wall: 0 },
+            ports: Ports::new(alloc),
+            closes: Vec::new(alloc),
+        }
+    }
+
+    /// Whether the event may come now: the port that it names is open, a piece isn't empty, and a port takes at
+    /// least one byte and no more than it is owed.
+    pub fn fits(&self, event: &Event<'_>) -> bool
+        ensures { IsTrue result ↔ Fits (happening event.now) self.now }
+    {
+        match *event {
+            Event::Joined(door) => door == Door::Clients && self.ports.last() < u64::MAX,
+            Event::Heard { port, piece } => self.ports.is_open(port) && !piece.is_empty(),
+            Event::Ended { port } => self.ports.is_open(port),
+            Event::Took { port, count } => count > 0 && count <= self.ports.owed(port).len(),
+            Event::Started { .. } | Event::StartFailed { .. } => false,
+            Event::Tick => true,
+        }
+    }
+
+    /// Takes one event at a moment. The monotonic clock counts as never falling, and the wall clock as it is given.
+    pub fn step(&mut self, moment: Moment, event: &Event<'_>) -> Result<(), CoreMemory>
+        requires { Fits (happening event.now) self.old }
+        ensures { OnOk result (self.new ≡ (step self.old moment (happening event.now)).state) }
+    {
+        self.moment = Moment {
+            mono: self.moment.mono.max(moment.mono),
+            wall: moment.wall,
+        };
+        self.closes.clear();
+        if let Some(port) = take_event(&mut self.ports, event)? {
+            self.closes.push(port)?;
+        }
+        Ok(())
+    }
+
+    /// What the port is owed: nothing where it isn't open.
+    pub fn owed(&self, port: u64) -> &[u8]
+        ensures { result.now ≡ owed_at port self.now.ports }
+    {
+        self.ports.owed(port)
+    }
+
+    /// The open port of the least number above `after` that is owed bytes.
+    pub fn next_owed(&self, after: u64) -> Option<u64>
+        ensures next { result ≡ next_owed after self.now.ports }
+        ensures rising { IsRising 0 self.now.last_port self.now.ports }
+    {
+        self.ports.next_owed(after)
+    }
+
+    /// Whether the port is to be read: not where it isn't open, and not while a request of it waits to be taken.
+    pub fn wants(&self, port: u64) -> bool
+        ensures { IsTrue result ↔ Wants port self.now.ports }
+    {
+        self.ports.wants(port)
+    }
+
+    pub fn is_port(&self, port: u64) -> bool
+        ensures { IsTrue result ↔ IsOpen port self.now.ports }
+    {
+        self.ports.is_open(port)
+    }
+
+    /// The child processes that wait to be started.
+    pub fn starts(&self) -> &[Job]
+        ensures { result.now ≡ [] }
+    {
+        &[]
+    }
+
+    /// The ports that the last step closed, rising.
+    pub fn closes(&self) -> &[u64]
+        ensures { result.now ≡ self.now.closes }
+    {
+        &self.closes
+    }
+
+    /// How many clients are connected.
+    pub fn clients(&self) -> usize
+        ensures { result ≡ client_count self.now.ports }
+    {
+        self.ports.len()
+    }
+
+    /// The number of the last port that joined, 0 where none did.
+    pub fn ports_so_far(&self) -> u64
+        ensures { result ≡ self.now.last_port }
+    {
+        self.ports.last()
+    }
+}
+
+// Takes one event at the ports, and tells the port that it closed.
+fn take_event(ports: &mut Ports, event: &Event<'_>) -> Result<Option<u64>, CoreMemory>
+    requires { FitsPorts (happening event.now) ports.old }
+    ensures { IfOk result (Takes (happening event.now) ports.old ports.new) }
+{
+    match *event {
+        Event::Joined(_) => {
+            if ports.join()? {
+                Ok(None)
+            } else {
+                Ok(Some(ports.last()))
+            }
+        }
+        Event::Heard { port, piece } => {
+            if ports.hear(port, piece)? {
+                Ok(Some(port))
+            } else {
+                Ok(None)
+            }
+        }
+        Event::Ended { port } => {
+            ports.close(port);
+            Ok(Some(port))
+        }
+        Event::Took { port, count } => {
+            if ports.send(port, count)? {
+                Ok(Some(port))
+            } else {
+                Ok(None)
+            }
+        }
+        Event::Tick => Ok(None),
+        // No child process is begun, so none of these fits.
+        Event::Started { .. } | Event::StartFailed { .. } => unreachable!(),
+    }
+}

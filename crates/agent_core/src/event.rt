@@ -1,0 +1,50 @@
+ghost use Rattle.std.specs.Prelude.{◌≡◌};
+
+use std::alloc::{AllocError, AllocFailed};
+use world_ports::Door;
+
+/// What an agent is started with.
+#[derive(Clone, Copy, Debug, PartialEq, Eq)]
+pub struct Settings {
+    /// The lifetime, in seconds, of identities that are added without one. No request adds any.
+    pub default_life: Option<u32>,
+}
+
+/// What happens to the agent: the atomic step of its clients, its children and the clock.
+#[derive(Clone, Copy, Debug)]
+pub enum Event<'a> {
+    /// Somebody connected at a listener. The new port has the next number, from 1.
+    Joined(Door),
+    /// The next bytes of a port, in a piece of any length.
+    Heard { port: u64, piece: &'a [u8] },
+    /// A port has ended, or could not be read or written.
+    Ended { port: u64 },
+    /// A port took so many bytes of those that it is owed, from their front.
+    Took { port: u64, count: usize },
+    /// A child process was started, and this is the one-time token that its greeting has to carry.
+    Started { job: u64, ticket: [u8; 16] },
+    /// A child process could not be started.
+    StartFailed { job: u64 },
+    /// Nothing but the time.
+    Tick,
+}
+
+/// Memory ran out in a step. The agent can only be dropped; its buffers are wiped as it is.
+#[derive(Clone, Copy, Debug, PartialEq, Eq)]
+pub struct CoreMemory;
+
+impl From<AllocError> for CoreMemory {
+    ghost from_gives = { λ _ _. Unit {0} };
+
+    fn from(_: AllocError) -> CoreMemory {
+        CoreMemory
+    }
+}
+
+impl<T: Drop> From<AllocFailed<T>> for CoreMemory {
+    ghost from_gives = { λ _ _. Unit {0} };
+
+    fn from(_: AllocFailed<T>) -> CoreMemory {
+        CoreMemory
+    }
+}

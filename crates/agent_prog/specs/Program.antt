@@ -1,0 +1,75 @@
+-- What the end of the program says of its input and its output (ours).
+use Rattle.std.specs.Prelude.{◌≡◌, ℕ, List, ◌++◌, Option, None, IfSome}
+use Rattle.world_ports.specs.Causes.{Rose}
+use Rattle.agent_prog.specs.declared.status.Status.{Status}
+use Rattle.agent_prog.specs.declared.status.Status.TheVariants as status
+use Rattle.replay_run.specs.declared.run_end.RunEnd.{RunEnd}
+use Rattle.replay_run.specs.declared.run_end.RunEnd.TheVariants.{Done, Refused, Memory, ReadFault, WriteFault}
+use Rattle.replay_run.specs.Replay.{run_of}
+use Rattle.replay_run.specs.Claims.{Seen, EndsDone, EndsRefused, EndsEarly, EndsUnread, EndsUnwritten}
+
+-- the status of a run that ended so
+abbrev pub status_of : RunEnd → Status
+status_of Done = status.Done
+status_of (Refused line fault) = status.ScheduleRefused line fault
+status_of Memory = status.Memory
+status_of ReadFault = status.ReadFault
+status_of WriteFault = status.WriteFault
+
+-- the output is what the abstract agent prints for the input, as far as the status says
+abbrev pub ReplaysExactly : Status → Seen → Seen → Type 0
+-- the input was read to its end, no line of it is refused, and all that it prints is written
+ReplaysExactly status.Done old new = EndsDone old new
+-- the first refused line of the input is this one, and all that the input prints is written
+ReplaysExactly (status.ScheduleRefused line fault) old new = EndsRefused line fault old new
+-- the word was `replay`
+ReplaysExactly status.Usage old new = ⊥
+-- no socket is bound
+ReplaysExactly status.BindFault old new = ⊥
+-- nothing is waited for
+ReplaysExactly status.PollFault old new = ⊥
+-- a front of what the input prints is written
+ReplaysExactly status.Memory old new = EndsEarly old new
+-- a read failed, and all that the whole lines before it print is written
+ReplaysExactly status.ReadFault old new = EndsUnread old new
+-- a write failed, and a front of what the input prints is written
+ReplaysExactly status.WriteFault old new = EndsUnwritten old new
+
+-- the input was run to its end or to its first refused line, unless memory ran out
+abbrev pub IsComplete : Status → Type 0
+IsComplete status.Done = Unit {0}
+IsComplete (status.ScheduleRefused line fault) = Unit {0}
+IsComplete status.Usage = ⊥
+IsComplete status.BindFault = ⊥
+IsComplete status.PollFault = ⊥
+IsComplete status.Memory = Unit {0}
+IsComplete status.ReadFault = ⊥
+IsComplete status.WriteFault = ⊥
+
+-- the input was run to its end, unless memory ran out
+abbrev pub IsFinished : Status → Type 0
+IsFinished status.Done = Unit {0}
+IsFinished (status.ScheduleRefused line fault) = ⊥
+IsFinished status.Usage = ⊥
+IsFinished status.BindFault = ⊥
+IsFinished status.PollFault = ⊥
+IsFinished status.Memory = Unit {0}
+IsFinished status.ReadFault = ⊥
+IsFinished status.WriteFault = ⊥
+
+-- where no read and no write failed, the run is complete, and it is finished where no line of the input is refused
+pub record Completes (result : Status) (old new : Seen) : Type 0 where
+  pub complete : ¬ (Rose old.read_faults new.read_faults) → ¬ (Rose old.write_faults new.write_faults) → IsComplete result
+  pub finished : ¬ (Rose old.read_faults new.read_faults) → ¬ (Rose old.write_faults new.write_faults) →
+      IfSome old.left (λ input. (run_of input).refused ≡ None → IsFinished result)
+
+-- the exit status
+abbrev pub code_of : Status → ℕ
+code_of status.Done = 0
+code_of (status.ScheduleRefused line fault) = 1
+code_of status.Usage = 2
+code_of status.BindFault = 3
+code_of status.PollFault = 4
+code_of status.Memory = 5
+code_of status.ReadFault = 6
+code_of status.WriteFault = 7

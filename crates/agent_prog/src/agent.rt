@@ -1,0 +1,78 @@
+// The program over any input and output.
+ghost use Rattle.std.specs.Prelude.{◌≡◌, ◌≤◌, ◌↔◌};
+ghost use Rattle.agent_prog.specs.Program.{ReplaysExactly, Completes, status_of};
+ghost use Rattle.agent_prog.specs.Words.{IsReplay};
+ghost use Rattle.replay_run.specs.Claims.{Seen};
+
+use crate::status::Status;
+use crate::words::is_replay;
+use replay_run::{RunEnd, run_replay};
+use std::alloc::Global;
+use world_ports::{Sink, Source};
+
+// The status of a run that ended so.
+fn status_of_end(end: RunEnd) -> Status
+    ensures { result ≡ status_of end }
+{
+    match end {
+        RunEnd::Done => Status::Done,
+        RunEnd::Refused { line, fault } => Status::ScheduleRefused { line, fault },
+        RunEnd::Memory => Status::Memory,
+        RunEnd::ReadFault => Status::ReadFault,
+        RunEnd::WriteFault => Status::WriteFault,
+    }
+}
+
+/// The program: `words` are those of the command line after the program's name.
+///
+/// With the word `replay` it runs the schedule that the input gives, and writes to the output what that prints.
+/// With any other words it neither reads nor writes.
+pub fn agent_main<I: Source, O: Sink>(
+    alloc: Global,
+    words: &[String],
+    input: &mut I,
+    output: &mut O,
+) -> Status
+    ensures replays { IsReplay words.now → ReplaysExactly result
+        (record {
+          taken = I.taken input.old;
+          left = I.left input.old;
+          written = O.written output.old;
+          read_faults = I.read_faults input.old;
+          write_faults = O.write_faults output.old;
+        })
+        (record {
+          taken = I.taken input.new;
+          left = I.left input.new;
+          written = O.written output.new;
+          read_faults = I.read_faults input.new;
+          write_faults = O.write_faults output.new;
+        }) }
+    ensures completes { IsReplay words.now → Completes result
+        (record {
+          taken = I.taken input.old;
+          left = I.left input.old;
+          written = O.written output.old;
+          read_faults = I.read_faults input.old;
+          write_faults = O.write_faults output.old;
+        })
+        (record {
+          taken = I.taken input.new;
+          left = I.left input.new;
+          written = O.written output.new;
+          read_faults = I.read_faults input.new;
+          write_faults = O.write_faults output.new;
+        }) }
+    ensures usage { (result ≡ Status.Usage) ↔ ¬ (IsReplay words.now) }
+    ensures unused { ¬ (IsReplay words.now) → (input.new ≡ input.old) × (output.new ≡ output.old) }
+    ensures faults { (I.read_faults input.old ≤ I.read_faults input.new)
+        × (O.write_faults output.old ≤ O.write_faults output.new) }
+    ensures input_kept { (I.written input.new ≡ I.written input.old) × (I.write_faults input.new ≡ I.write_faults input.old) }
+    ensures output_kept { (O.taken output.new ≡ O.taken output.old) × (O.left output.new ≡ O.left output.old)
+        × (O.read_faults output.new ≡ O.read_faults output.old) }
+{
+    if !is_replay(words) {
+        return Status::Usage;
+    }
+    status_of_end(run_replay(alloc, input, output))
+}

@@ -1,0 +1,35 @@
+//! An SSH agent in memory, run on a schedule: `agent_prog replay` reads events from standard input and writes what the
+//! agent does to standard output. Stands on replay_run; the format is this repository's own: docs/PROTOCOL.md,
+//! "Schedules".
+#![tactic(auto)]
+
+mod agent;
+mod status;
+#[cfg(test)]
+mod tests;
+mod trouble;
+mod words;
+
+use crate::agent::agent_main;
+use crate::status::Status;
+use crate::trouble::Trouble;
+use std::env;
+use std::io::Result as IoResult;
+use std::process::ExitCode;
+use world_ports::{Reading, Writing};
+
+fn run(rt: &HostRuntime) -> IoResult<Status> {
+    let words: Vec<String> = env::args(rt)?.skip(1).collect(rt.alloc())?;
+    let mut input = Reading::new(rt.stdin());
+    let mut output = Writing::new(rt.stdout());
+    Ok(agent_main(rt.alloc(), &words, &mut input, &mut output))
+}
+
+fn main(rt: HostRuntime) -> ExitCode {
+    // Words that can't be read are no form of the program's.
+    let status = run(&rt).unwrap_or(Status::Usage);
+    if let Some(trouble) = Trouble::of(status) {
+        let _ = eprintln!(rt; "mortarleek: {trouble}");
+    }
+    ExitCode::from(status.code())
+}

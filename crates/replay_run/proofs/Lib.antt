@@ -1,0 +1,11 @@
+pub mod SettlingLemmas
+pub mod RunLemmas
+pub mod GoesOnLemmas
+pub mod RunCounts
+pub mod TurnLemmas
+pub mod LineEnds
+pub mod FeedLemmas
+pub mod WriteLemmas
+pub mod FeedsLemmas
+pub mod EndLemmas
+pub mod RoundLemmas

@@ -1,0 +1,43 @@
+-- What a line brings, by what was read in it.
+use Rattle.std.proofs.Common.{◌≡◌, ◌≢◌, ℕ, ◌+◌, ◌<◌, ◌≤◌, ◌⊎◌, inl, inr, List, ◌++◌, length, OnOk, Result, Ok, Err, None}
+use Rattle.std.proofs.lemmas.Result.{on_ok_weaker}
+use Rattle.agent_core.specs.declared.event.CoreMemory.{CoreMemory}
+use Rattle.schedule_text.specs.declared.fault.LineFault.{LineFault}
+use Rattle.schedule_text.specs.declared.fault.LineFault.TheVariants.{Memory}
+use Rattle.schedule_text.specs.declared.step.Step.{Step}
+use Rattle.schedule_text.specs.declared.step.Step.TheVariants.{Skip, At, Join, Hear, End, Hold, Free, Take, Started, Failed}
+use Rattle.schedule_text.specs.Lines.{step_of, IsFaultOf}
+use Rattle.schedule_text.proofs.Theorems.{heard_is_not_empty}
+use Rattle.replay_run.specs.Replay.{Run, refuse, turned, longest_schedule}
+use Rattle.replay_run.specs.Counts.{HearsSome}
+use Rattle.replay_run.proofs.RunLemmas.{turned-fault}
+
+-- a line that is read hears something
+pub heard_some : (line : List ℕ) (step : Step) → step_of line ≡ Ok step → HearsSome step
+heard_some line Skip read = tt
+heard_some line (Join door) read = tt
+heard_some line (Hear port bytes) read = heard_is_not_empty line port bytes read
+heard_some line (End port) read = tt
+heard_some line (At moment) read = tt
+heard_some line (Hold port) read = tt
+heard_some line (Free port) read = tt
+heard_some line (Take port count) read = tt
+heard_some line (Started job ticket) read = tt
+heard_some line (Failed job) read = tt
+
+-- a fault that isn't want of memory is the line's
+pub fault_is : (line : List ℕ) (fault : LineFault) → IsFaultOf (step_of line) fault → fault ≢ Memory → step_of line ≡ Err fault
+fault_is line fault (inl memory) other = absurd (other memory)
+fault_is line fault (inr is) other = is
+
+-- the run after a line that is refused for its fault
+pub fault_run : (line : List ℕ) (size : ℕ) (run : Run) (fault : LineFault) (result : Result (Unit {0}) CoreMemory) (after : Run) → run.refused ≡ None → run.read + size ≤ longest_schedule → IsFaultOf (step_of line) fault → OnOk result (fault ≢ Memory) → OnOk result (after ≡ (refuse fault run).run) → OnOk result (after ≡ (turned line size run).run)
+fault_run line size run fault (Ok done) after accepted within exact other is =
+    rw (turned-fault line size run fault accepted within (fault_is line fault exact other)) is
+fault_run line size run fault (Err memory) after accepted within exact other is = tt
+
+-- and what it printed
+pub fault_out : (line : List ℕ) (size : ℕ) (run : Run) (fault : LineFault) (result : Result (Unit {0}) CoreMemory) (before after : List ℕ) → run.refused ≡ None → run.read + size ≤ longest_schedule → IsFaultOf (step_of line) fault → OnOk result (fault ≢ Memory) → OnOk result (after ≡ before ++ (refuse fault run).output) → OnOk result (after ≡ before ++ (turned line size run).output)
+fault_out line size run fault (Ok done) before after accepted within exact other is =
+    rw (turned-fault line size run fault accepted within (fault_is line fault exact other)) is
+fault_out line size run fault (Err memory) before after accepted within exact other is = tt

@@ -1,0 +1,48 @@
+use Rattle.std.proofs.Common.{◌≡◌, ◌+◌, ◌<◌, ◌≤◌, ap, arith, inl, inr}
+use Rattle.replay_run.specs.Replay.{Run, longest_schedule}
+use Rattle.replay_run.proofs.RunLemmas.{turned-too_long, turned-step}
+use Rattle.replay_run.proofs.TurnLemmas.{heard_some, fault_run, fault_out}
+use Rattle.replay_run.proofs.replay.Replay.turn.Goals as goal
+
+pub returns-then-self-size-gt-LONGEST_SCHEDULE-clause-run :
+    goal.returns-then-self-size-gt-LONGEST_SCHEDULE-clause-run
+returns-then-self-size-gt-LONGEST_SCHEDULE-clause-run c =
+    let read_is = ap (λ (r : Run). r.read) c.self.view_is in
+    let late : longest_schedule < c.args.self.now.read + c.args.size = omega arith in
+    rw (turned-too_long c.args.line.now c.args.size c.args.self.now c.requires.counted.accepted (inr late)) c.refuse.ensures.run
+
+pub returns-then-self-size-gt-LONGEST_SCHEDULE-clause-out :
+    goal.returns-then-self-size-gt-LONGEST_SCHEDULE-clause-out
+returns-then-self-size-gt-LONGEST_SCHEDULE-clause-out c =
+    let read_is = ap (λ (r : Run). r.read) c.self.view_is in
+    let late : longest_schedule < c.args.self.now.read + c.args.size = omega arith in
+    rw (turned-too_long c.args.line.now c.args.size c.args.self.now c.requires.counted.accepted (inr late)) c.refuse.ensures.out
+
+pub take_step-requires-clause-hears : goal.take_step-requires-clause-hears
+take_step-requires-clause-hears c = heard_some c.args.line.now c.in-Ok.step c.in-Ok.ensures.found
+
+pub returns-in-Ok-clause-run : goal.returns-in-Ok-clause-run
+returns-in-Ok-clause-run c =
+    let read_is = ap (λ (r : Run). r.read) c.self.view_is in
+    let within : c.args.self.now.read + c.args.size ≤ longest_schedule = omega arith in
+    rw (turned-step c.args.line.now c.args.size c.args.self.now c.in-Ok.step c.requires.counted.accepted within c.in-Ok.ensures.found) c.take_step.ensures.run
+
+pub returns-in-Ok-clause-out : goal.returns-in-Ok-clause-out
+returns-in-Ok-clause-out c =
+    let read_is = ap (λ (r : Run). r.read) c.self.view_is in
+    let within : c.args.self.now.read + c.args.size ≤ longest_schedule = omega arith in
+    rw (turned-step c.args.line.now c.args.size c.args.self.now c.in-Ok.step c.requires.counted.accepted within c.in-Ok.ensures.found) c.take_step.ensures.out
+
+pub returns-in-Err-clause-run : goal.returns-in-Err-clause-run
+returns-in-Err-clause-run c =
+    let read_is = ap (λ (r : Run). r.read) c.self.view_is in
+    let within : c.args.self.now.read + c.args.size ≤ longest_schedule = omega arith in
+    fault_run c.args.line.now c.args.size c.args.self.now c.in-Err.fault c.refuse_for.result c.refuse_for.new.self
+    c.requires.counted.accepted within c.in-Err.ensures.exact c.refuse_for.ensures.fault c.refuse_for.ensures.run
+
+pub returns-in-Err-clause-out : goal.returns-in-Err-clause-out
+returns-in-Err-clause-out c =
+    let read_is = ap (λ (r : Run). r.read) c.self.view_is in
+    let within : c.args.self.now.read + c.args.size ≤ longest_schedule = omega arith in
+    fault_out c.args.line.now c.args.size c.args.self.now c.in-Err.fault c.refuse_for.result c.args.out.now.items c.refuse_for.new.out.items
+    c.requires.counted.accepted within c.in-Err.ensures.exact c.refuse_for.ensures.fault c.refuse_for.ensures.out

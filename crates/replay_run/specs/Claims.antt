@@ -1,0 +1,139 @@
+-- What a run says of its source and its sink (ours).
+use Rattle.std.specs.Prelude.{◌≡◌, ◌≤◌, ◌<◌, ℕ, true, false, List, [], ◌++◌, Option, None, Some, IfSome}
+use Rattle.std.specs.Io.KnownBytes.{Appends, Consumes, IsAtEnd}
+use Rattle.world_ports.specs.Causes.{Rose}
+use Rattle.schedule_text.specs.declared.fault.LineFault.{LineFault}
+use Rattle.replay_run.specs.declared.run_end.RunEnd.{RunEnd}
+use Rattle.replay_run.specs.declared.run_end.RunEnd.TheVariants.{Done, Refused, Memory, ReadFault, WriteFault}
+use Rattle.replay_run.specs.Replay.{Run, start_run, parts_of, printed, ran, output_of, run_of, output_so_far, longest_schedule}
+use Rattle.replay_run.specs.Feeding.{Feeding, start_feeding, IsReady, IsFront, Feeds, fed_so_far}
+use Rattle.replay_run.specs.Writing.{WritesSome}
+
+-- what the source and the sink tell at one time, and how often they failed
+pub record Seen : Type 0 where
+  pub taken : Option (List ℕ)
+  pub left : Option (List ℕ)
+  pub written : Option (List ℕ)
+  pub read_faults : ℕ
+  pub write_faults : ℕ
+
+-- these bytes were read
+pub record HasRead (old new : Seen) (bytes : List ℕ) : Type 0 where
+  pub taken : Appends old.taken new.taken bytes
+  pub left : Consumes old.left new.left bytes
+
+-- it holds of what was read, and of the whole input, where that is told
+pub record HoldsOfInput (left : Option (List ℕ)) (bytes : List ℕ) (P : List ℕ → Type 0) : Type 0 where
+  pub read : P bytes
+  pub whole : IfSome left (λ rest. P (bytes ++ rest))
+
+-- a schedule is refused at this line, and this is all that it prints
+pub record IsRefused (line : ℕ) (fault : LineFault) (text schedule : List ℕ) : Type 0 where
+  pub output : output_of schedule ≡ text
+  pub refused : (run_of schedule).refused ≡ Some fault
+  pub number : (run_of schedule).line ≡ line
+
+-- the input was read to its end, no line of it is refused, and all that it prints is written
+pub record EndsDone (old new : Seen) : Type 0 where
+  pub bytes : List ℕ
+  pub read : HasRead old new bytes
+  pub end : IsAtEnd new.left
+  pub wrote : Appends old.written new.written (output_of bytes)
+  pub accepted : (run_of bytes).refused ≡ None
+
+-- the input's first refused line is this one, and all that it prints is written
+pub record EndsRefused (line : ℕ) (fault : LineFault) (old new : Seen) : Type 0 where
+  pub bytes : List ℕ
+  pub read : HasRead old new bytes
+  pub text : List ℕ
+  pub wrote : Appends old.written new.written text
+  pub refused : HoldsOfInput new.left bytes (IsRefused line fault text)
+
+-- what is written is a front of what the input prints
+pub record EndsEarly (old new : Seen) : Type 0 where
+  pub bytes : List ℕ
+  pub read : HasRead old new bytes
+  pub text : List ℕ
+  pub wrote : Appends old.written new.written text
+  pub front : HoldsOfInput new.left bytes (λ schedule. IsFront text (output_of schedule))
+
+-- what the whole lines print that were read before is written, none of them is refused, and a read failed
+pub record EndsUnread (old new : Seen) : Type 0 where
+  pub bytes : List ℕ
+  pub read : HasRead old new bytes
+  pub wrote : Appends old.written new.written (output_so_far bytes)
+  pub accepted : (ran false start_run (parts_of bytes)).refused ≡ None
+  pub cause : Rose old.read_faults new.read_faults
+
+-- a front of what the input prints is written, and a write failed
+pub record EndsUnwritten (old new : Seen) : Type 0 where
+  pub early : EndsEarly old new
+  pub cause : Rose old.write_faults new.write_faults
+
+-- what the end of a run says
+unfoldable pub Ends : RunEnd → Seen → Seen → Type 0
+Ends Done old new = EndsDone old new
+Ends (Refused line fault) old new = EndsRefused line fault old new
+-- want of memory says nothing of the input
+Ends Memory old new = EndsEarly old new
+Ends ReadFault old new = EndsUnread old new
+Ends WriteFault old new = EndsUnwritten old new
+
+-- no fault is forgotten
+pub record NoFewerFaults (old new : Seen) : Type 0 where
+  pub reads : old.read_faults ≤ new.read_faults
+  pub writes : old.write_faults ≤ new.write_faults
+
+-- a run that goes on: these bytes were read and fed, and all that they print is written
+pub record IsUnderWay (old new : Seen) (feeding : Feeding) : Type 0 where
+  pub bytes : List ℕ
+  pub read : HasRead old new bytes
+  pub feeds : Feeds start_feeding bytes feeding old.written new.written
+  pub ready : IsReady feeding
+  pub empty : feeding.out ≡ []
+  pub later : NoFewerFaults old new
+
+-- more of the schedule was fed, and no more than it may have
+pub record IsLonger (old new : Feeding) : Type 0 where
+  pub more : fed_so_far old < fed_so_far new
+  pub within : fed_so_far new ≤ longest_schedule
+
+-- the end of a run with its last line
+abbrev pub end_by : ℕ → Option LineFault → RunEnd
+end_by line None = Done
+end_by line (Some fault) = Refused line fault
+
+abbrev pub end_of : Run → RunEnd
+end_of run = end_by run.line run.refused
+
+-- all that a run prints whose schedule ends here
+abbrev pub ending_text : Feeding → List ℕ
+ending_text feeding = feeding.out ++ printed true feeding.run (parts_of feeding.pending)
+
+-- the run after its last line
+abbrev pub ending_run : Feeding → Run
+ending_run feeding = ran true feeding.run (parts_of feeding.pending)
+
+-- the schedule ended, and all is written
+pub record FinishesDone (old : Feeding) (before after : Option (List ℕ)) : Type 0 where
+  pub wrote : Appends before after (ending_text old)
+  pub accepted : (ending_run old).refused ≡ None
+
+-- its last line is refused, and all is written
+pub record FinishesRefused (line : ℕ) (fault : LineFault) (old : Feeding) (before after : Option (List ℕ)) : Type 0 where
+  pub wrote : Appends before after (ending_text old)
+  pub refused : (ending_run old).refused ≡ Some fault
+  pub number : (ending_run old).line ≡ line
+
+-- a write failed
+pub record FinishesUnwritten (old : Feeding) (before after : Option (List ℕ)) (faults_before faults_after : ℕ) : Type 0 where
+  pub front : WritesSome (ending_text old) before after
+  pub cause : Rose faults_before faults_after
+
+-- how a run ends with its schedule
+abbrev pub Finishes : RunEnd → Feeding → Option (List ℕ) → Option (List ℕ) → ℕ → ℕ → Type 0
+Finishes Done old before after faults_before faults_after = FinishesDone old before after
+Finishes (Refused line fault) old before after faults_before faults_after = FinishesRefused line fault old before after
+Finishes Memory old before after faults_before faults_after = WritesSome (ending_text old) before after
+Finishes ReadFault old before after faults_before faults_after = ⊥
+Finishes WriteFault old before after faults_before faults_after = FinishesUnwritten old before after faults_before faults_after

@@ -1,0 +1,22 @@
+-- What the numbers of a run keep (ours).
+use Rattle.std.specs.Prelude.{◌≡◌, ℕ, ◌+◌, ◌<◌, ◌≤◌, List, length, None}
+use Rattle.replay_run.specs.Replay.{Run, longest_schedule}
+use Rattle.schedule_text.specs.declared.step.Step.{Step}
+use Rattle.schedule_text.specs.declared.step.Step.TheVariants.{Hear}
+
+-- a run that goes on: every line had a byte, and no more clients joined than lines were run
+pub record IsCounted (run : Run) : Type 0 where
+  pub accepted : run.refused ≡ None
+  pub ports : run.agent.last_port ≤ run.line
+  pub lines : run.line ≤ run.read
+  pub within : run.read ≤ longest_schedule
+
+-- the run after a line of so many bytes that was accepted
+pub record IsNext (run : Run) (size : ℕ) (next : Run) : Type 0 where
+  pub counted : IsCounted next
+  pub read : next.read ≡ run.read + size
+
+-- what is heard isn't empty
+abbrev pub HearsSome : Step → Type 0
+HearsSome (Hear port bytes) = 0 < length bytes
+HearsSome _ = Unit {0}

@@ -1,0 +1,7 @@
+pub mod Settling
+pub mod Replay
+pub mod GoesOn
+pub mod Counts
+pub mod Feeding
+pub mod Writing
+pub mod Claims

@@ -1,0 +1,160 @@
+-- The run of a schedule: what it prints, and where it stops (ours: docs/PROTOCOL.md, "Schedules").
+use Rattle.std.specs.Prelude.{ℕ, suc, ◌+◌, ◌==◌, ◌||◌, nat_lt, Bool, true, false, if◌then◌else◌, List, [], ◌∷◌, ◌++◌, length, Option, None, Some, Result, Ok, Err}
+use Rattle.std.specs.List.{slice_split}
+use Rattle.world_ports.specs.declared.plain.Door.TheVariants.{Clients, Children}
+use Rattle.agent_core.specs.State.{State, Port, opening_state, find_port}
+use Rattle.agent_core.specs.Step.{Happening, Joined, Heard, Ended}
+use Rattle.schedule_text.specs.declared.fault.LineFault.{LineFault}
+use Rattle.schedule_text.specs.declared.fault.LineFault.TheVariants.{Word, UnknownPort, TooLong}
+use Rattle.schedule_text.specs.declared.step.Step.{Step}
+use Rattle.schedule_text.specs.declared.step.Step.TheVariants.{Skip, At, Join, Hear, End, Hold, Free, Take, Started, Failed}
+use Rattle.schedule_text.specs.Deeds.{refused_line, end_line}
+use Rattle.schedule_text.specs.Lines.{step_of}
+use Rattle.replay_run.specs.Settling.{after_event, close_lines, settled}
+
+-- a run so far: the agent, how many lines were run, how many bytes they had, and why the next one was refused
+pub record Run : Type 0 where
+  pub agent : State
+  pub line : ℕ
+  pub read : ℕ
+  pub refused : Option LineFault
+
+-- the run before the first line
+abbrev pub start_run : Run
+start_run = record { agent = opening_state; line = 0; read = 0; refused = None }
+
+-- the run after a line, and what the line printed
+pub record Turned : Type 0 where
+  pub run : Run
+  pub output : List ℕ
+
+-- nothing comes of it
+abbrev pub unturned : Run → Turned
+unturned run = record { run = run; output = [] }
+
+-- one more line, of so many bytes
+abbrev pub counted : ℕ → Run → Run
+counted size run = record run { line = suc run.line; read = run.read + size }
+
+-- a skipped line is counted
+abbrev pub skipped : ℕ → Run → Turned
+skipped size run = unturned (counted size run)
+
+-- a line is refused: the run ends with it
+abbrev pub refuse : LineFault → Run → Turned
+refuse fault run = record {
+  run = record run { line = suc run.line; refused = Some fault };
+  output = refused_line (suc run.line) fault;
+}
+
+-- the line's event, and the settling after it
+abbrev pub happened : Happening → ℕ → Run → Turned
+happened event size run =
+    let state = after_event run.agent event in
+    record {
+      run = record run { agent = (settled state).agent; line = suc run.line; read = run.read + size };
+      output = close_lines state.closes ++ (settled state).output;
+    }
+
+-- the event of a port, where that one is open
+abbrev pub at_port : Option Port → Happening → ℕ → Run → Turned
+at_port None event size run = refuse UnknownPort run
+at_port (Some port) event size run = happened event size run
+
+-- what a step brings
+abbrev pub step_turned : Step → ℕ → Run → Turned
+step_turned Skip size run = skipped size run
+step_turned (Join Clients) size run = happened (Joined Clients) size run
+step_turned (Join Children) size run = refuse Word run
+step_turned (Hear port bytes) size run = at_port (find_port port run.agent.ports) (Heard port bytes) size run
+step_turned (End port) size run = at_port (find_port port run.agent.ports) (Ended port) size run
+step_turned (At moment) size run = refuse Word run
+step_turned (Hold port) size run = refuse Word run
+step_turned (Free port) size run = refuse Word run
+step_turned (Take port count) size run = refuse Word run
+step_turned (Started job ticket) size run = refuse Word run
+step_turned (Failed job) size run = refuse Word run
+
+-- the most bytes of a line, without its LF, and of a schedule
+abbrev pub longest_line : ℕ
+longest_line = 65536
+
+abbrev pub longest_schedule : ℕ
+longest_schedule = 268435456
+
+-- what a line asks for that ends with this byte of the schedule, counted from 1
+abbrev pub step_at : ℕ → List ℕ → Result Step LineFault
+step_at end line = if nat_lt longest_schedule end then Err TooLong else step_of line
+
+-- what a line brings by what it asks for
+abbrev pub line_turned : Result Step LineFault → ℕ → Run → Turned
+line_turned (Ok step) size run = step_turned step size run
+line_turned (Err fault) size run = refuse fault run
+
+-- a run that was refused stays so
+abbrev pub turned_by : Option LineFault → List ℕ → ℕ → Run → Turned
+turned_by None line size run = line_turned (step_at (run.read + size) line) size run
+turned_by (Some fault) line size run = unturned run
+
+-- what a line brings that takes so many bytes of the schedule
+unfoldable pub turned : List ℕ → ℕ → Run → Turned
+turned line size run = turned_by run.refused line size run
+
+-- a line with its LF
+abbrev pub whole_turned : List ℕ → Run → Turned
+whole_turned line run = turned line (length line + 1) run
+
+-- a last line without LF counts where it isn't empty
+abbrev pub last_turned : List ℕ → Run → Turned
+last_turned [] run = unturned run
+last_turned (byte ∷ bytes) run = turned (byte ∷ bytes) (length (byte ∷ bytes)) run
+
+-- a line that begins with these bytes, the last of which is this byte of the schedule, is too long however it goes on
+abbrev pub is_too_long : ℕ → List ℕ → Bool
+is_too_long end bytes = nat_lt longest_line (length bytes) || nat_lt longest_schedule end
+
+-- the front of a line brings nothing but its refusal
+abbrev pub begun_turned : List ℕ → Run → Turned
+begun_turned bytes run =
+    if is_too_long (run.read + length bytes) bytes then turned bytes (length bytes) run else unturned run
+
+-- the last part of a text, where the schedule ends there, or where it goes on
+abbrev pub part_turned : Bool → List ℕ → Run → Turned
+part_turned true bytes run = last_turned bytes run
+part_turned false bytes run = begun_turned bytes run
+
+-- `end` stands at the end of a schedule that wasn't refused
+abbrev pub ending : Bool → Option LineFault → List ℕ
+ending true None = end_line
+ending true (Some fault) = []
+ending false refused = []
+
+-- the parts of a text: its lines, and what stands after the last LF
+abbrev pub parts_of : List ℕ → List (List ℕ)
+parts_of text = slice_split (λ byte. byte == 10) text
+
+-- what the parts of a text print, from this run on
+unfoldable pub printed : Bool → Run → List (List ℕ) → List ℕ
+printed ended run [] = []
+printed ended run (part ∷ []) =
+    (part_turned ended part run).output ++ ending ended (part_turned ended part run).run.refused
+printed ended run (line ∷ next ∷ parts) =
+    (whole_turned line run).output ++ printed ended (whole_turned line run).run (next ∷ parts)
+
+-- the run after the parts of a text
+unfoldable pub ran : Bool → Run → List (List ℕ) → Run
+ran ended run [] = run
+ran ended run (part ∷ []) = (part_turned ended part run).run
+ran ended run (line ∷ next ∷ parts) = ran ended (whole_turned line run).run (next ∷ parts)
+
+-- all that a schedule prints
+abbrev pub output_of : List ℕ → List ℕ
+output_of text = printed true start_run (parts_of text)
+
+-- the run after a schedule
+abbrev pub run_of : List ℕ → Run
+run_of text = ran true start_run (parts_of text)
+
+-- what the whole lines of the front of a schedule print
+abbrev pub output_so_far : List ℕ → List ℕ
+output_so_far text = printed false start_run (parts_of text)

@@ -1,0 +1,260 @@
+// A run that is fed with pieces.
+ghost use Rattle.std.specs.Prelude.{◌≡◌, ◌∷◌, [], ◌++◌, ◌≤◌, ◌+◌, MatchOption, None, true, OnErr, OnOk, length};
+ghost use Rattle.std.specs.Io.KnownBytes.{Appends};
+ghost use Rattle.world_ports.specs.Causes.{HasCause};
+ghost use Rattle.replay_run.specs.Claims.{Finishes, end_of};
+ghost use Rattle.replay_run.specs.Replay.{last_turned, ending};
+ghost use Rattle.replay_run.specs.Feeding.{start_feeding, IsReady, GoesOnFed, Halts, fed_so_far};
+ghost use Rattle.replay_run.specs.GoesOn.{HasNoLf, IsLineEnd, GoesOn};
+ghost use Rattle.replay_run.specs.Writing.{WritesSome};
+
+use crate::limits::{LONGEST_LINE, LONGEST_SCHEDULE, ROOM};
+use crate::write::write_all;
+use crate::{Replay, RunEnd};
+use agent_core::CoreMemory;
+use schedule_text::{Deed, LineFault, put_deed};
+use std::alloc::Global;
+use std::marker::Model;
+use world_ports::{Fault, Sink};
+
+/// A run, the front of the line that waits for its LF, and what was printed and isn't written yet.
+#[derive(Drop)]
+pub struct Feed {
+    run: Replay,
+    pending: Vec<u8>,
+    out: Vec<u8>,
+}
+
+impl Model for Feed {
+    ghost use Rattle.replay_run.specs.Feeding.{Feeding};
+
+    ghost Value = { Feeding };
+
+    ghost view = { λ f. record { run = f.run; pending = f.pending.items; out = f.out.items } };
+}
+
+// The place of the first LF.
+pub fn line_end(bytes: &[u8]) -> Option<usize>
+    ensures { MatchOption result (HasNoLf bytes.now) (IsLineEnd bytes.now) }
+{
+    bytes.iter().position(|byte| *byte == b'\n')
+}
+
+impl Feed {
+    pub fn new(alloc: Global) -> Self
+        ensures { result ≡ start_feeding }
+    {
+        Feed {
+            run: Replay::new(alloc),
+            pending: Vec::new(alloc),
+            out: Vec::new(alloc),
+        }
+    }
+
+    // Runs the line that ends with these bytes. Where nothing waits, they aren't copied.
+    fn end_line(&mut self, alloc: Global, line: &[u8]) -> Result<(), CoreMemory>
+        requires ready { IsReady self.old }
+        requires part { HasNoLf line.now }
+        ensures goes { OnOk result (GoesOn self.old.out self.old.run (self.old.pending ++ (line.now ++ 10 ∷ []))
+            self.new.out self.new.run self.new.pending) }
+        ensures ready { OnOk result (self.new.run.refused ≡ None → IsReady self.new) }
+        ensures size { OnOk result (self.new.run.refused ≡ None → fed_so_far self.new ≡ fed_so_far self.old + length (line.now ++ 10 ∷ [])) }
+    {
+        if self.pending.as_slice().is_empty() {
+            let size = line.len() as u64 + 1;
+            return self.run.turn(alloc, line, size, &mut self.out);
+        }
+        self.pending.extend_from_slice(line)?;
+        let size = self.pending.as_slice().len() as u64 + 1;
+        self.run.turn(alloc, &self.pending, size, &mut self.out)?;
+        self.pending.clear();
+        Ok(())
+    }
+
+    // Keeps the front of a line, unless it is too long already.
+    fn begin_line(&mut self, front: &[u8]) -> Result<(), CoreMemory>
+        requires ready { IsReady self.old }
+        requires part { HasNoLf front.now }
+        ensures goes { OnOk result (GoesOn self.old.out self.old.run (self.old.pending ++ front.now)
+            self.new.out self.new.run self.new.pending) }
+        ensures ready { OnOk result (self.new.run.refused ≡ None → IsReady self.new) }
+        ensures size { OnOk result (self.new.run.refused ≡ None → fed_so_far self.new ≡ fed_so_far self.old + length front.now) }
+    {
+        self.pending.extend_from_slice(front)?;
+        let size = self.pending.as_slice().len();
+        if size > LONGEST_LINE || self.run.read() + size as u64 > LONGEST_SCHEDULE {
+            return self.run.refuse(LineFault::TooLong, &mut self.out);
+        }
+        Ok(())
+    }
+
+    // Writes what was printed.
+    fn write_out<O: Sink>(&mut self, output: &mut O) -> Result<(), Fault>
+        ensures ok { OnOk result (Appends (O.written output.old) (O.written output.new) self.old.out) }
+        ensures new { OnOk result (self.new ≡ record self.old { out = [] }) }
+        ensures err { OnErr result (WritesSome self.old.out (O.written output.old) (O.written output.new)) }
+        ensures cause { HasCause (O.write_faults output.old) (O.write_faults output.new) result }
+        ensures taken { O.taken output.new ≡ O.taken output.old }
+        ensures left { O.left output.new ≡ O.left output.old }
+        ensures read_faults { O.read_faults output.new ≡ O.read_faults output.old }
+    {
+        let Ok(()) = write_all(&self.out, output) else {
+            return Err(Fault);
+        };
+        self.out.clear();
+        Ok(())
+    }
+
+    // Ends the run where its last line was refused. Else writes what was printed, where that is more than `most` bytes.
+    fn look_back<O: Sink>(&mut self, most: usize, output: &mut O) -> Option<RunEnd>
+        requires ready { self.old.run.refused ≡ None → IsReady self.old }
+        ensures feeds { MatchOption result
+            (GoesOnFed self.old [] self.new (O.written output.old) (O.written output.new) × (length self.new.out ≤ most))
+            (λ end. Halts end self.old [] (O.written output.old) (O.written output.new)
+            (O.write_faults output.old) (O.write_faults output.new)) }
+        ensures later { O.write_faults output.old ≤ O.write_faults output.new }
+        ensures taken { O.taken output.new ≡ O.taken output.old }
+        ensures left { O.left output.new ≡ O.left output.old }
+        ensures read_faults { O.read_faults output.new ≡ O.read_faults output.old }
+    {
+        if let Some(fault) = self.run.refused() {
+            let line = self.run.line();
+            return match self.write_out(output) {
+                Ok(()) => Some(RunEnd::Refused { line, fault }),
+                Err(_) => Some(RunEnd::WriteFault),
+            };
+        }
+        if self.out.as_slice().len() <= most {
+            return None;
+        }
+        match self.write_out(output) {
+            Ok(()) => None,
+            Err(_) => Some(RunEnd::WriteFault),
+        }
+    }
+
+    // Runs the line that ends with these bytes, and writes what was printed where that is much.
+    fn run_line<O: Sink>(&mut self, alloc: Global, line: &[u8], output: &mut O) -> Option<RunEnd>
+        requires ready { IsReady self.old }
+        requires part { HasNoLf line.now }
+        ensures feeds { MatchOption result
+            (GoesOnFed self.old (line.now ++ 10 ∷ []) self.new (O.written output.old) (O.written output.new) × (length self.new.out ≤ 65536))
+            (λ end. Halts end self.old (line.now ++ 10 ∷ []) (O.written output.old) (O.written output.new)
+            (O.write_faults output.old) (O.write_faults output.new)) }
+        ensures later { O.write_faults output.old ≤ O.write_faults output.new }
+        ensures taken { O.taken output.new ≡ O.taken output.old }
+        ensures left { O.left output.new ≡ O.left output.old }
+        ensures read_faults { O.read_faults output.new ≡ O.read_faults output.old }
+    {
+        let Ok(()) = self.end_line(alloc, line) else {
+            return Some(RunEnd::Memory);
+        };
+        self.look_back(ROOM, output)
+    }
+
+    // Keeps the front of a line, and writes all that was printed.
+    fn run_front<O: Sink>(&mut self, front: &[u8], output: &mut O) -> Option<RunEnd>
+        requires ready { IsReady self.old }
+        requires part { HasNoLf front.now }
+        ensures feeds { MatchOption result
+            (GoesOnFed self.old front.now self.new (O.written output.old) (O.written output.new) × (length self.new.out ≤ 0))
+            (λ end. Halts end self.old front.now (O.written output.old) (O.written output.new)
+            (O.write_faults output.old) (O.write_faults output.new)) }
+        ensures later { O.write_faults output.old ≤ O.write_faults output.new }
+        ensures taken { O.taken output.new ≡ O.taken output.old }
+        ensures left { O.left output.new ≡ O.left output.old }
+        ensures read_faults { O.read_faults output.new ≡ O.read_faults output.old }
+    {
+        let Ok(()) = self.begin_line(front) else {
+            return Some(RunEnd::Memory);
+        };
+        self.look_back(0, output)
+    }
+
+    /// Runs the lines of a piece, and writes all that they print.
+    pub fn run_piece<O: Sink>(
+        &mut self,
+        alloc: Global,
+        piece: &[u8],
+        output: &mut O,
+    ) -> Option<RunEnd>
+        requires ready { IsReady self.old }
+        ensures feeds { MatchOption result
+            (GoesOnFed self.old piece.now self.new (O.written output.old) (O.written output.new) × (length self.new.out ≤ 0))
+            (λ end. Halts end self.old piece.now (O.written output.old) (O.written output.new)
+            (O.write_faults output.old) (O.write_faults output.new)) }
+        ensures later { O.write_faults output.old ≤ O.write_faults output.new }
+        ensures taken { O.taken output.new ≡ O.taken output.old }
+        ensures left { O.left output.new ≡ O.left output.old }
+        ensures read_faults { O.read_faults output.new ≡ O.read_faults output.old }
+    {
+        let mut rest = piece;
+        'lines: while let Some(place) = line_end(rest) {
+            if let Some(end) = self.run_line(alloc, &rest[..place], output) {
+                return Some(end);
+            }
+            rest = &rest[place + 1..];
+        }
+        self.run_front(rest, output)
+    }
+
+    // Runs a last line without LF, where one waits.
+    fn run_pending(&mut self, alloc: Global) -> Result<(), CoreMemory>
+        requires ready { IsReady self.old }
+        ensures run { OnOk result (self.new.run ≡ (last_turned self.old.pending self.old.run).run) }
+        ensures out { OnOk result (self.new.out ≡ self.old.out ++ (last_turned self.old.pending self.old.run).output) }
+    {
+        if self.pending.as_slice().is_empty() {
+            return Ok(());
+        }
+        let size = self.pending.as_slice().len() as u64;
+        self.run.turn(alloc, &self.pending, size, &mut self.out)
+    }
+
+    // Prints `end`, unless the run was refused.
+    fn put_end(&mut self) -> Result<(), CoreMemory>
+        ensures run { OnOk result (self.new.run ≡ self.old.run) }
+        ensures out { OnOk result (self.new.out ≡ self.old.out ++ ending true self.old.run.refused) }
+    {
+        if self.run.refused().is_none() {
+            put_deed(&mut self.out, &Deed::End)?;
+        }
+        Ok(())
+    }
+
+    // How the run ended, where all of it is written.
+    fn verdict(&self) -> RunEnd
+        ensures { result ≡ end_of self.now.run }
+    {
+        match self.run.refused() {
+            Some(fault) => RunEnd::Refused {
+                line: self.run.line(),
+                fault,
+            },
+            None => RunEnd::Done,
+        }
+    }
+
+    /// Ends the schedule, and writes all that is left to write.
+    pub fn finish<O: Sink>(&mut self, alloc: Global, output: &mut O) -> RunEnd
+        requires ready { IsReady self.old }
+        ensures ends { Finishes result self.old (O.written output.old) (O.written output.new)
+            (O.write_faults output.old) (O.write_faults output.new) }
+        ensures later { O.write_faults output.old ≤ O.write_faults output.new }
+        ensures taken { O.taken output.new ≡ O.taken output.old }
+        ensures left { O.left output.new ≡ O.left output.old }
+        ensures read_faults { O.read_faults output.new ≡ O.read_faults output.old }
+    {
+        let Ok(()) = self.run_pending(alloc) else {
+            return RunEnd::Memory;
+        };
+        let Ok(()) = self.put_end() else {
+            return RunEnd::Memory;
+        };
+        let end = self.verdict();
+        match self.write_out(output) {
+            Ok(()) => end,
+            Err(_) => RunEnd::WriteFault,
+        }
+    }
+}

@@ -1,0 +1,17 @@
+//! The run of a schedule: lines of events are read from a source, run by the agent's core, and what they bring is
+//! written to a sink. The format is this repository's own: docs/PROTOCOL.md, "Schedules".
+//! Stands on agent_core, schedule_text and world_ports.
+#![tactic(auto)]
+
+mod feed;
+mod limits;
+mod replay;
+mod run;
+mod run_end;
+mod settle;
+mod write;
+
+use feed::Feed;
+use replay::Replay;
+pub use run::run_replay;
+pub use run_end::RunEnd;

@@ -1,0 +1,183 @@
+// A run of a schedule, a line at a time.
+ghost use Rattle.std.specs.Prelude.{◌≡◌, ◌≢◌, ◌+◌, ◌<◌, ◌≤◌, ◌++◌, ◌^◌, OnOk, None, length};
+ghost use Rattle.agent_core.specs.Happenings.{happening};
+ghost use Rattle.agent_core.specs.State.{IsOpen, find_port};
+ghost use Rattle.agent_core.specs.Step.{Fits};
+ghost use Rattle.replay_run.specs.Counts.{HearsSome, IsCounted};
+ghost use Rattle.replay_run.specs.Replay.{start_run, skipped, refuse, happened, at_port, step_turned, turned, longest_schedule};
+
+use crate::limits::LONGEST_SCHEDULE;
+use crate::settle::{run_event, settle};
+use agent_core::{Agent, CoreMemory, Event, Settings};
+use schedule_text::{Deed, LineFault, Step, put_deed, read_line};
+use std::alloc::Global;
+use std::marker::Model;
+use world_ports::Door;
+
+/// The agent, the lines that it was run on, and the fault of the line that was refused.
+#[derive(Drop)]
+pub struct Replay {
+    agent: Agent,
+    line: u64,
+    read: u64,
+    refused: Option<LineFault>,
+}
+
+impl Model for Replay {
+    ghost use Rattle.replay_run.specs.Replay.{Run};
+
+    ghost Value = { Run };
+
+    ghost view = { λ r. record { agent = r.agent; line = r.line; read = r.read; refused = r.refused } };
+}
+
+impl Replay {
+    pub fn new(alloc: Global) -> Self
+        ensures { result ≡ start_run }
+    {
+        Replay {
+            agent: Agent::new(alloc, Settings { default_life: None }),
+            line: 0,
+            read: 0,
+            refused: None,
+        }
+    }
+
+    /// How many lines were run, the refused one among them.
+    pub fn line(&self) -> u64
+        ensures { result ≡ self.now.line }
+    {
+        self.line
+    }
+
+    /// How many bytes these lines had, without the refused one.
+    pub fn read(&self) -> u64
+        ensures { result ≡ self.now.read }
+    {
+        self.read
+    }
+
+    /// Why the last line was refused.
+    pub fn refused(&self) -> Option<LineFault>
+        ensures { result ≡ self.now.refused }
+    {
+        self.refused
+    }
+
+    /// Runs one line, which takes `size` bytes of the schedule, its LF among them.
+    pub fn turn(
+        &mut self,
+        alloc: Global,
+        line: &[u8],
+        size: u64,
+        out: &mut Vec<u8>,
+    ) -> Result<(), CoreMemory>
+        requires counted { IsCounted self.old }
+        requires some { 0 < size }
+        requires fits { size + self.old.read < 2 ^ 64 }
+        ensures run { OnOk result (self.new ≡ (turned line.now size self.old).run) }
+        ensures out { OnOk result (out.new.items ≡ out.old.items ++ (turned line.now size self.old).output) }
+    {
+        if self.read + size > LONGEST_SCHEDULE {
+            return self.refuse(LineFault::TooLong, out);
+        }
+        match read_line(alloc, line) {
+            Ok(step) => self.take_step(&step, size, out),
+            Err(fault) => self.refuse_for(fault, out),
+        }
+    }
+
+    // Does what a line asks for.
+    fn take_step(&mut self, step: &Step, size: u64, out: &mut Vec<u8>) -> Result<(), CoreMemory>
+        requires counted { IsCounted self.old }
+        requires some { 0 < size }
+        requires within { self.old.read + size ≤ longest_schedule }
+        requires hears { HearsSome step.now }
+        ensures run { OnOk result (self.new ≡ (step_turned step.now size self.old).run) }
+        ensures out { OnOk result (out.new.items ≡ out.old.items ++ (step_turned step.now size self.old).output) }
+    {
+        match step {
+            Step::Skip => {
+                self.line += 1;
+                self.read += size;
+                Ok(())
+            }
+            Step::Join(Door::Clients) => self.happen(&Event::Joined(Door::Clients), size, out),
+            Step::Hear { port, bytes } => {
+                let piece = bytes.as_slice();
+                self.happen_at(*port, &Event::Heard { port: *port, piece }, size, out)
+            }
+            Step::End(port) => self.happen_at(*port, &Event::Ended { port: *port }, size, out),
+            _ => self.refuse(LineFault::Word, out),
+        }
+    }
+
+    // The event of a port, where that one is open.
+    fn happen_at(
+        &mut self,
+        port: u64,
+        event: &Event<'_>,
+        size: u64,
+        out: &mut Vec<u8>,
+    ) -> Result<(), CoreMemory>
+        requires counted { IsCounted self.old }
+        requires some { 0 < size }
+        requires within { self.old.read + size ≤ longest_schedule }
+        requires fits { IsOpen port self.old.agent.ports → Fits (happening event.now) self.old.agent }
+        ensures run { OnOk result (self.new ≡ (at_port (find_port port self.old.agent.ports) (happening event.now) size self.old).run) }
+        ensures out { OnOk result (out.new.items ≡ out.old.items ++ (at_port (find_port port self.old.agent.ports) (happening event.now) size self.old).output) }
+    {
+        if !self.agent.is_port(port) {
+            return self.refuse(LineFault::UnknownPort, out);
+        }
+        self.happen(event, size, out)
+    }
+
+    // The event, and the settling after it.
+    fn happen(&mut self, event: &Event<'_>, size: u64, out: &mut Vec<u8>) -> Result<(), CoreMemory>
+        requires counted { IsCounted self.old }
+        requires some { 0 < size }
+        requires within { self.old.read + size ≤ longest_schedule }
+        requires fits { Fits (happening event.now) self.old.agent }
+        ensures run { OnOk result (self.new ≡ (happened (happening event.now) size self.old).run) }
+        ensures out { OnOk result (out.new.items ≡ out.old.items ++ (happened (happening event.now) size self.old).output) }
+    {
+        run_event(&mut self.agent, event, out)?;
+        settle(&mut self.agent, out)?;
+        self.line += 1;
+        self.read += size;
+        Ok(())
+    }
+
+    // Refuses the next line, unless its fault only says that memory ran out.
+    fn refuse_for(&mut self, fault: LineFault, out: &mut Vec<u8>) -> Result<(), CoreMemory>
+        requires counted { IsCounted self.old }
+        ensures fault { OnOk result (fault ≢ LineFault.Memory) }
+        ensures run { OnOk result (self.new ≡ (refuse fault self.old).run) }
+        ensures out { OnOk result (out.new.items ≡ out.old.items ++ (refuse fault self.old).output) }
+    {
+        match fault {
+            LineFault::Memory => Err(CoreMemory),
+            _ => self.refuse(fault, out),
+        }
+    }
+
+    /// Refuses the next line.
+    pub fn refuse(&mut self, fault: LineFault, out: &mut Vec<u8>) -> Result<(), CoreMemory>
+        requires counted { IsCounted self.old }
+        requires printable { fault ≢ LineFault.Memory }
+        ensures run { OnOk result (self.new ≡ (refuse fault self.old).run) }
+        ensures out { OnOk result (out.new.items ≡ out.old.items ++ (refuse fault self.old).output) }
+    {
+        self.line += 1;
+        self.refused = Some(fault);
+        put_deed(
+            out,
+            &Deed::Refused {
+                line: self.line,
+                fault,
+            },
+        )?;
+        Ok(())
+    }
+}

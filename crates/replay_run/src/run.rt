@@ -1,0 +1,138 @@
+// The loop over reads.
+ghost use Rattle.std.specs.Prelude.{◌≡◌, ◌<◌, ◌≤◌, IfOk, MatchOption, length, vec_len};
+ghost use Rattle.replay_run.specs.Claims.{Seen, Ends, IsUnderWay, IsLonger};
+ghost use Rattle.replay_run.specs.Feeding.{IsReady};
+
+use crate::limits::ROOM;
+use crate::{Feed, RunEnd};
+use std::alloc::{AllocError, Global};
+use world_ports::{Pulled, Sink, Source};
+
+// Room for reads.
+fn zeros(alloc: Global, size: usize) -> Result<Vec<u8>, AllocError>
+    ensures { IfOk result (λ room. length room.items ≡ size) }
+{
+    vec![in alloc; 0; size]
+}
+
+// Reads once, and runs what was read.
+fn run_round<I: Source, O: Sink>(
+    alloc: Global,
+    feed: &mut Feed,
+    room: &mut [u8],
+    input: &mut I,
+    output: &mut O,
+) -> Option<RunEnd>
+    requires room { 0 < length room.old }
+    requires ready { IsReady feed.old }
+    ensures round { (start : Seen) →
+        IsUnderWay start (record {
+          taken = I.taken input.old;
+          left = I.left input.old;
+          written = O.written output.old;
+          read_faults = I.read_faults input.old;
+          write_faults = O.write_faults output.old;
+        }) feed.old →
+        MatchOption result
+        (IsUnderWay start (record {
+          taken = I.taken input.new;
+          left = I.left input.new;
+          written = O.written output.new;
+          read_faults = I.read_faults input.new;
+          write_faults = O.write_faults output.new;
+        }) feed.new
+        × IsLonger feed.old feed.new)
+        (λ end. Ends end start (record {
+          taken = I.taken input.new;
+          left = I.left input.new;
+          written = O.written output.new;
+          read_faults = I.read_faults input.new;
+          write_faults = O.write_faults output.new;
+        })) }
+    ensures reads { I.read_faults input.old ≤ I.read_faults input.new }
+    ensures writes { O.write_faults output.old ≤ O.write_faults output.new }
+    ensures input_written { I.written input.new ≡ I.written input.old }
+    ensures input_faults { I.write_faults input.new ≡ I.write_faults input.old }
+    ensures output_taken { O.taken output.new ≡ O.taken output.old }
+    ensures output_left { O.left output.new ≡ O.left output.old }
+    ensures output_faults { O.read_faults output.new ≡ O.read_faults output.old }
+{
+    match input.read(room) {
+        Ok(Pulled::Bytes(n)) => feed.run_piece(alloc, &room[..n as usize], output),
+        Ok(Pulled::End) => Some(feed.finish(alloc, output)),
+        Err(_) => Some(RunEnd::ReadFault),
+    }
+}
+
+// Reads into this room until the run ends.
+fn run_rounds<I: Source, O: Sink>(
+    alloc: Global,
+    room: &mut [u8],
+    input: &mut I,
+    output: &mut O,
+) -> RunEnd
+    requires { 0 < length room.old }
+    ensures ends { Ends result
+        (record {
+          taken = I.taken input.old;
+          left = I.left input.old;
+          written = O.written output.old;
+          read_faults = I.read_faults input.old;
+          write_faults = O.write_faults output.old;
+        })
+        (record {
+          taken = I.taken input.new;
+          left = I.left input.new;
+          written = O.written output.new;
+          read_faults = I.read_faults input.new;
+          write_faults = O.write_faults output.new;
+        }) }
+    ensures reads { I.read_faults input.old ≤ I.read_faults input.new }
+    ensures writes { O.write_faults output.old ≤ O.write_faults output.new }
+    ensures input_written { I.written input.new ≡ I.written input.old }
+    ensures input_faults { I.write_faults input.new ≡ I.write_faults input.old }
+    ensures output_taken { O.taken output.new ≡ O.taken output.old }
+    ensures output_left { O.left output.new ≡ O.left output.old }
+    ensures output_faults { O.read_faults output.new ≡ O.read_faults output.old }
+{
+    let mut feed = Feed::new(alloc);
+    'rounds: loop {
+        if let Some(end) = run_round(alloc, &mut feed, room, input, output) {
+            return end;
+        }
+    }
+}
+
+/// Runs the schedule that the source gives, and writes to the sink what it prints.
+///
+/// Lines are run as they are read, and what they print is written before the next read. A line may have 65536 bytes
+/// and a schedule 268435456. Reading stops at the first refused line, and nothing is written after a failed write.
+pub fn run_replay<I: Source, O: Sink>(alloc: Global, input: &mut I, output: &mut O) -> RunEnd
+    ensures ends { Ends result
+        (record {
+          taken = I.taken input.old;
+          left = I.left input.old;
+          written = O.written output.old;
+          read_faults = I.read_faults input.old;
+          write_faults = O.write_faults output.old;
+        })
+        (record {
+          taken = I.taken input.new;
+          left = I.left input.new;
+          written = O.written output.new;
+          read_faults = I.read_faults input.new;
+          write_faults = O.write_faults output.new;
+        }) }
+    ensures reads { I.read_faults input.old ≤ I.read_faults input.new }
+    ensures writes { O.write_faults output.old ≤ O.write_faults output.new }
+    ensures input_written { I.written input.new ≡ I.written input.old }
+    ensures input_faults { I.write_faults input.new ≡ I.write_faults input.old }
+    ensures output_taken { O.taken output.new ≡ O.taken output.old }
+    ensures output_left { O.left output.new ≡ O.left output.old }
+    ensures output_faults { O.read_faults output.new ≡ O.read_faults output.old }
+{
+    let Ok(mut room) = zeros(alloc, ROOM) else {
+        return RunEnd::Memory;
+    };
+    run_rounds(alloc, &mut room, input, output)
+}
