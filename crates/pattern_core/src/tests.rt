@@ -33,7 +33,7 @@ fn word(number: usize, len: usize) -> [u8; 3] {
     word
 }
 
-// OpenSSH, regress/unittests/match/tests.c, "match_pattern" and "match_pattern wildcard".
+// OpenSSH 9.2p1, regress/unittests/match/tests.c, "match_pattern" and "match_pattern wildcard".
 #[test]
 fn patterns_match_as_in_openssh(rt: HostRuntime) {
     let cases = [
@@ -62,7 +62,7 @@ fn patterns_match_as_in_openssh(rt: HostRuntime) {
     }
 }
 
-// The same file, "match_pattern_list", and ssh_config(5), "PATTERNS", for the example of the network.
+// The same file, "match_pattern_list": 1 is true there, and 0 and -1 are false.
 #[test]
 fn lists_match_as_in_openssh(rt: HostRuntime) {
     let cases = [
@@ -76,6 +76,20 @@ fn lists_match_as_in_openssh(rt: HostRuntime) {
         ("a", "!a,*", false),
         ("b", "!a,*", true),
         ("b", "*,!a", true),
+    ];
+    for (host, patterns, want) in cases {
+        assert_eq!(rt;
+            list_matches(host.as_bytes(), patterns.as_bytes()),
+            want,
+            "{host:?} at {patterns:?}"
+        );
+    }
+}
+
+// ssh_config(5), "PATTERNS": the example of a dialup pool, and letters of either case on either side.
+#[test]
+fn letters_of_both_cases_are_one(rt: HostRuntime) {
+    let cases = [
         ("A", "*,!a", false),
         ("a", "*,!A", false),
         (
