@@ -1,4 +1,4 @@
--- The words of the command line (ours: man/).
+-- The words of the command line (ours: README.md).
 use Rattle.std.specs.Prelude.{◌≡◌, ℕ, List, [], ◌∷◌, map, codes}
 use Rattle.std.specs.String.{string_bytes}
 use Rattle.std.specs.declared.string.String.{String}

@@ -38,6 +38,7 @@ fn call(alloc: Global, number: u64) -> Result<Vec<u64>, AllocError> {
 }
 
 // A run whose source gives at most `cut` bytes a call.
+#[derive(Clone, Copy)]
 struct Run<'a> {
     schedule: &'a [u8],
     cut: u32,
@@ -213,20 +214,25 @@ fn a_sink_that_takes_one_byte_at_a_time_gets_all(rt: HostRuntime) -> Result<(), 
     Ok(())
 }
 
+// A run with these words.
+fn start(alloc: Global, words: &[&str]) -> Result<(Status, VecSink), AllocError> {
+    let mut source = SliceSource::new(b"join client\n", 4096, Vec::new(alloc));
+    let mut sink = VecSink::new(alloc, ROOM, Vec::new(alloc))?;
+    let words = texts(alloc, words)?;
+    let status = agent_main(alloc, &words, &mut source, &mut sink);
+    Ok((status, sink))
+}
+
 #[test]
 fn other_words_write_nothing(rt: HostRuntime) -> Result<(), Fail> {
-    let cases = [
-        ["reply"].as_slice(),
-        [].as_slice(),
-        ["replay", "x"].as_slice(),
-    ];
-    for words in cases {
-        let mut source = SliceSource::new(b"join client\n", 4096, Vec::new(rt.alloc()));
-        let mut sink = VecSink::new(rt.alloc(), ROOM, Vec::new(rt.alloc()))?;
-        let words = texts(rt.alloc(), words)?;
-        let status = agent_main(rt.alloc(), &words, &mut source, &mut sink);
-        assert_eq!(rt; status, Status::Usage, "at {words:?}");
-        assert_eq!(rt; sink.written(), b"".as_slice(), "at {words:?}");
-    }
+    let (status, sink) = start(rt.alloc(), &["reply"])?;
+    assert_eq!(rt; status, Status::Usage);
+    assert!(rt; sink.written().is_empty());
+    let (status, sink) = start(rt.alloc(), &[])?;
+    assert_eq!(rt; status, Status::Usage);
+    assert!(rt; sink.written().is_empty());
+    let (status, sink) = start(rt.alloc(), &["replay", "x"])?;
+    assert_eq!(rt; status, Status::Usage);
+    assert!(rt; sink.written().is_empty());
     Ok(())
 }
