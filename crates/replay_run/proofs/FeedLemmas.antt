@@ -1,15 +1,15 @@
 -- Lemmas on a run that is fed with pieces.
-use Rattle.std.proofs.Common.{◌≡◌, ℕ, suc, ◌+◌, ◌<◌, ◌≤◌, ◌⊎◌, inl, inr, List, [], ◌∷◌, ◌++◌, length, refl, ap, sym, ◌∙◌, subst, arith, Option, Some, None, Bool, true, ◌==◌, OnOk, Result, Ok, Err, append_assoc, length-append}
-use Rattle.std.proofs.lemmas.List.{append-nil, nil_from_length}
+use Rattle.std.proofs.Common.{◌≡◌, ℕ, ◌+◌, ◌<◌, ◌⊎◌, List, [], ◌∷◌, ◌++◌, length, ap, sym, ◌∙◌, arith, None, true, ◌==◌, OnOk, Result, Ok, Err, append_assoc, length-append}
+use Rattle.std.proofs.lemmas.List.{nil_from_length}
 use Rattle.std.proofs.lemmas.Bool.Decides.{nat_tests}
 use Rattle.agent_core.specs.declared.event.CoreMemory.{CoreMemory}
 use Rattle.schedule_text.specs.declared.fault.LineFault.TheVariants.{TooLong}
-use Rattle.replay_run.specs.Replay.{Run, refuse, turned, whole_turned, parts_of, printed, longest_line, longest_schedule}
+use Rattle.replay_run.specs.Replay.{Run, refuse, turned, longest_line, longest_schedule}
 use Rattle.replay_run.specs.Counts.{IsCounted}
-use Rattle.replay_run.specs.GoesOn.{HasNoLf, IsBegun, GoesOn}
-use Rattle.replay_run.specs.Feeding.{Feeding, IsReady}
+use Rattle.replay_run.specs.GoesOn.{HasNoLf, GoesOn}
+use Rattle.replay_run.specs.Feeding.{IsReady}
 use Rattle.replay_run.proofs.RunCounts.{turned-next}
-use Rattle.replay_run.proofs.GoesOnLemmas.{no_lf-append, goes_on-line, goes_on-too_long, goes_on-same}
+use Rattle.replay_run.proofs.GoesOnLemmas.{no_lf-append, goes_on-line, goes_on-too_long}
 
 -- the line that waits, ended by these bytes, is run
 pub line_goes : (out pending line whole : List ℕ) (run : Run) (size : ℕ) (new_out : List ℕ) (new_run : Run) (left : List ℕ) → HasNoLf pending → HasNoLf line → whole ≡ pending ++ line → size ≡ length whole + 1 → new_run ≡ (turned whole size run).run → new_out ≡ out ++ (turned whole size run).output → left ≡ [] → GoesOn out run (pending ++ (line ++ 10 ∷ [])) new_out new_run left

@@ -1,16 +1,15 @@
 -- Lemmas on what was written while a run was fed: piece after piece.
-use Rattle.std.proofs.Common.{◌≡◌, ℕ, ◌≤◌, List, [], ◌∷◌, ◌++◌, length, refl, ap, sym, ◌∙◌, subst, arith, Option, Some, None, Bool, MatchOption, append_assoc, ◌+◌, ◌-◌, take, drop, length-drop, length-append}
+use Rattle.std.proofs.Common.{◌≡◌, ℕ, ◌≤◌, List, [], ◌∷◌, ◌++◌, length, refl, ap, sym, ◌∙◌, subst, arith, Option, Some, None, MatchOption, append_assoc, ◌+◌, ◌-◌, take, drop, length-drop, length-append}
 use Rattle.std.proofs.lemmas.List.{append-nil, take_all}
 use Rattle.std.proofs.KnownBytes.{Appends-nil, Appends-trans}
 use Rattle.std.specs.Io.KnownBytes.{Appends}
-use Rattle.world_ports.specs.Causes.{Rose}
-use Rattle.world_ports.proofs.CauseLemmas.{Rose-later, Rose-earlier}
+use Rattle.world_ports.proofs.CauseLemmas.{Rose-earlier}
 use Rattle.schedule_text.specs.declared.fault.LineFault.{LineFault}
 use Rattle.replay_run.specs.declared.run_end.RunEnd.{RunEnd}
 use Rattle.replay_run.specs.declared.run_end.RunEnd.TheVariants.{Done, Refused, Memory, ReadFault, WriteFault}
-use Rattle.replay_run.specs.Replay.{Run, parts_of, printed, ran}
+use Rattle.replay_run.specs.Replay.{parts_of, printed}
 use Rattle.replay_run.specs.GoesOn.{GoesOn, IsLineEnd}
-use Rattle.replay_run.specs.Feeding.{Feeding, IsReady, IsFront, Feeds, GoesOnFed, FedSoFar, fed_so_far, WritesFront, WritesRefusal, WritesUntilFault, Halts}
+use Rattle.replay_run.specs.Feeding.{Feeding, Feeds, GoesOnFed, FedSoFar, fed_so_far, WritesFront, WritesRefusal, Halts}
 use Rattle.replay_run.specs.Writing.{WritesSome}
 use Rattle.replay_run.proofs.GoesOnLemmas.{goes_on-same, goes_on-then, goes_on-more, goes_on-front, goes_on-refused}
 

@@ -1,10 +1,9 @@
 -- Lemmas on runs that go on: whatever follows, what was printed and what is to come stay the same together.
-use Rattle.std.proofs.Common.{◌≡◌, ℕ, zero, suc, ◌+◌, ◌<◌, ◌≤◌, ◌⊎◌, inl, inr, List, [], ◌∷◌, ◌++◌, length, refl, ap, sym, ◌∙◌, arith, Option, Some, None, Bool, true, false, if◌then◌else◌, append_assoc, length-append}
+use Rattle.std.proofs.Common.{◌≡◌, ℕ, ◌+◌, ◌<◌, ◌≤◌, ◌⊎◌, inl, inr, List, [], ◌∷◌, ◌++◌, length, refl, ap, sym, ◌∙◌, arith, Some, None, Bool, true, false, if◌then◌else◌, append_assoc, length-append}
 use Rattle.std.proofs.lemmas.List.{append-nil}
-use Rattle.std.specs.List.{AllByRecursion}
 use Rattle.schedule_text.specs.declared.fault.LineFault.{LineFault}
 use Rattle.schedule_text.specs.declared.fault.LineFault.TheVariants.{TooLong}
-use Rattle.replay_run.specs.Replay.{Run, Turned, unturned, refuse, turned, whole_turned, last_turned, is_too_long, begun_turned, part_turned, ending, parts_of, printed, ran, longest_line, longest_schedule}
+use Rattle.replay_run.specs.Replay.{Run, unturned, refuse, turned, whole_turned, last_turned, part_turned, ending, parts_of, printed, ran, longest_line, longest_schedule}
 use Rattle.replay_run.specs.GoesOn.{HasNoLf, IsBegun, GoesOn}
 use Rattle.replay_run.proofs.RunLemmas.{parts_of-cons, parts_of-append, parts_of-part, printed-refused, ran-refused, printed-line, ran-line, turned-too_long, too_long-true, too_long-false, last_turned-some}
 

@@ -6,13 +6,12 @@ use Rattle.std.proofs.KnownBytes.{Appends-nil, Appends-trans, Appends-kept, Cons
 use Rattle.std.specs.Io.KnownBytes.{Appends, Consumes, Keeps, IsAtEnd}
 use Rattle.world_ports.specs.Causes.{Rose}
 use Rattle.world_ports.proofs.CauseLemmas.{Rose-earlier}
-use Rattle.schedule_text.specs.declared.fault.LineFault.{LineFault}
 use Rattle.replay_run.specs.declared.run_end.RunEnd.{RunEnd}
 use Rattle.replay_run.specs.declared.run_end.RunEnd.TheVariants.{Done, Refused, Memory, ReadFault, WriteFault}
-use Rattle.replay_run.specs.Replay.{Run, start_run, parts_of, printed, ran, output_of, run_of, output_so_far, longest_schedule}
-use Rattle.replay_run.specs.Feeding.{Feeding, start_feeding, IsReady, IsFront, Feeds, GoesOnFed, WritesFront, WritesRefusal, Halts, fed_so_far}
+use Rattle.replay_run.specs.Replay.{Run, start_run, parts_of, printed, ran, output_of, run_of, output_so_far}
+use Rattle.replay_run.specs.Feeding.{Feeding, start_feeding, IsFront, Feeds, GoesOnFed, Halts}
 use Rattle.replay_run.specs.Writing.{WritesSome}
-use Rattle.replay_run.specs.Claims.{Seen, HasRead, HoldsOfInput, IsRefused, EndsEarly, EndsRefused, Ends, NoFewerFaults, IsUnderWay, IsLonger, ending_text, ending_run, Finishes}
+use Rattle.replay_run.specs.Claims.{Seen, HasRead, HoldsOfInput, IsRefused, EndsEarly, Ends, NoFewerFaults, IsUnderWay, IsLonger, ending_text, ending_run, Finishes}
 use Rattle.replay_run.proofs.RunLemmas.{printed-refused, ran-refused}
 use Rattle.replay_run.proofs.GoesOnLemmas.{goes_on-same, begun-nothing, begun-same}
 use Rattle.replay_run.proofs.FeedsLemmas.{feeds_by, feeds_then, feeds_halts}

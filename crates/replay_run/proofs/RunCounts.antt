@@ -1,8 +1,8 @@
 -- A line keeps what the numbers of a run say.
-use Rattle.std.proofs.Common.{◌≡◌, ℕ, suc, ◌+◌, ◌<◌, ◌≤◌, List, [], ◌∷◌, length, refl, ap, sym, ◌∙◌, arith, Option, Some, None, Bool, true, false, nat_lt, if◌then◌else◌, Result, Ok, Err}
+use Rattle.std.proofs.Common.{◌≡◌, ℕ, suc, ◌+◌, ◌<◌, ◌≤◌, List, refl, ap, sym, ◌∙◌, arith, Option, Some, None, Bool, true, false, nat_lt, if◌then◌else◌, Result, Ok, Err}
 use Rattle.std.proofs.lemmas.Bool.Decides.{nat_tests}
 use Rattle.world_ports.specs.declared.plain.Door.TheVariants.{Clients, Children}
-use Rattle.agent_core.specs.State.{State, Port, find_port}
+use Rattle.agent_core.specs.State.{Port, find_port}
 use Rattle.agent_core.specs.Step.{Happening, Joined, Heard, Ended, Took, Started, StartFailed, Tick}
 use Rattle.agent_core.proofs.SoundLemmas.{step-last_port, last_after}
 use Rattle.schedule_text.specs.declared.fault.LineFault.{LineFault}
@@ -10,8 +10,8 @@ use Rattle.schedule_text.specs.declared.fault.LineFault.TheVariants.{TooLong}
 use Rattle.schedule_text.specs.declared.step.Step.{Step}
 use Rattle.schedule_text.specs.declared.step.Step.TheVariants.{Skip, At, Join, Hear, End, Hold, Free, Take, Started as StartedStep, Failed}
 use Rattle.schedule_text.specs.Lines.{step_of}
-use Rattle.replay_run.specs.Settling.{start_moment, after_event, settled}
-use Rattle.replay_run.specs.Replay.{Run, happened, at_port, step_turned, line_turned, step_at, turned, turned_by, longest_schedule}
+use Rattle.replay_run.specs.Settling.{start_moment, after_event}
+use Rattle.replay_run.specs.Replay.{Run, happened, at_port, step_turned, line_turned, turned, turned_by, longest_schedule}
 use Rattle.replay_run.specs.Counts.{IsCounted, IsNext}
 use Rattle.replay_run.proofs.SettlingLemmas.{settled-last_port}
 

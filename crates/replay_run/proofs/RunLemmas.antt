@@ -1,16 +1,14 @@
 -- Lemmas on the run of a schedule: a line at the front, and runs that were refused.
-use Rattle.std.proofs.Common.{◌≡◌, ℕ, zero, suc, ◌+◌, ◌<◌, ◌≤◌, ◌⊎◌, inl, inr, List, [], ◌∷◌, ◌++◌, length, refl, ap, sym, ◌∙◌, arith, Option, Some, None, Bool, true, false, nat_lt, nat_eq, ◌==◌, ◌||◌, cond, if◌then◌else◌, append_assoc, Result, Ok, Err}
+use Rattle.std.proofs.Common.{◌≡◌, ℕ, ◌+◌, ◌<◌, ◌≤◌, ◌⊎◌, inl, inr, List, [], ◌∷◌, ◌++◌, length, refl, ap, sym, ◌∙◌, arith, Some, None, Bool, true, false, nat_lt, ◌==◌, cond, if◌then◌else◌, Ok, Err}
 use Rattle.std.proofs.lemmas.List.{append-nil}
-use Rattle.std.proofs.lemmas.Bool.{cases_lt}
 use Rattle.std.proofs.lemmas.Bool.Decides.{nat_tests}
-use Rattle.std.specs.List.{slice_split, onto_first}
+use Rattle.std.specs.List.{onto_first}
 use Rattle.schedule_text.specs.declared.fault.LineFault.{LineFault}
 use Rattle.schedule_text.specs.declared.fault.LineFault.TheVariants.{TooLong}
 use Rattle.schedule_text.specs.declared.step.Step.{Step}
-use Rattle.schedule_text.specs.Deeds.{refused_line}
 use Rattle.schedule_text.specs.Lines.{step_of}
 use Rattle.schedule_text.proofs.Theorems.{step_of-long}
-use Rattle.replay_run.specs.Replay.{Run, Turned, unturned, refuse, turned, turned_by, line_turned, step_turned, step_at, whole_turned, last_turned, is_too_long, begun_turned, part_turned, ending, parts_of, printed, ran, longest_line, longest_schedule}
+use Rattle.replay_run.specs.Replay.{Run, unturned, refuse, turned, turned_by, line_turned, step_turned, step_at, whole_turned, last_turned, is_too_long, part_turned, ending, parts_of, printed, ran, longest_line, longest_schedule}
 use Rattle.replay_run.specs.GoesOn.{HasNoLf}
 
 -- ---- parts

@@ -1,8 +1,8 @@
 -- Lemmas on settling: it takes one port after another, and ends with nothing owed.
-use Rattle.std.proofs.Common.{◌≡◌, ℕ, zero, suc, ◌+◌, ◌<◌, ◌≤◌, List, [], ◌∷◌, ◌++◌, length, refl, ap, sym, ◌∙◌, subst, arith, Option, Some, None, true}
+use Rattle.std.proofs.Common.{◌≡◌, ℕ, zero, suc, ◌<◌, ◌≤◌, List, [], length, refl, ap, sym, ◌∙◌, arith, Option, Some, None, true}
 use Rattle.std.proofs.lemmas.Bool.Decides.{nat_tests}
 use Rattle.agent_core.specs.State.{State, next_owed, owed_at, is_some_bytes}
-use Rattle.agent_core.specs.Step.{Took, step}
+use Rattle.agent_core.specs.Step.{Took}
 use Rattle.agent_core.specs.Budget.{budget}
 use Rattle.agent_core.proofs.BudgetLemmas.{taking_lowers, found_owed}
 use Rattle.agent_core.proofs.SoundLemmas.{IsNumbered, step_keeps-rising, step-last_port}

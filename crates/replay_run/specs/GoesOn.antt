@@ -1,5 +1,5 @@
 -- A run over a text that comes in pieces (ours).
-use Rattle.std.specs.Prelude.{◌≡◌, ℕ, ◌+◌, ◌==◌, ◌≤◌, Bool, false, List, [], ◌∷◌, ◌++◌, length, take, drop, ◌<◌}
+use Rattle.std.specs.Prelude.{◌≡◌, ℕ, ◌+◌, ◌==◌, ◌≤◌, Bool, false, List, ◌∷◌, ◌++◌, length, take, drop, ◌<◌}
 use Rattle.std.specs.List.{AllByRecursion}
 use Rattle.replay_run.specs.Replay.{Run, parts_of, printed, ran, longest_line, longest_schedule}
 

@@ -1,6 +1,5 @@
-use Rattle.std.proofs.Common.{take, refl, arith}
+use Rattle.std.proofs.Common.{take, refl}
 use Rattle.replay_run.specs.Claims.{Seen}
-use Rattle.replay_run.specs.declared.run_end.RunEnd.TheVariants.{ReadFault}
 use Rattle.replay_run.proofs.RoundLemmas.{round_answer, round_finishes, round_unread, take_some}
 use Rattle.replay_run.proofs.run.run_round.Goals as goal
 

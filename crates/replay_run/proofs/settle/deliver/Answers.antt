@@ -1,5 +1,4 @@
-use Rattle.std.proofs.Common.{arith, length}
-use Rattle.agent_core.specs.State.{owed_at}
+use Rattle.std.proofs.Common.{arith}
 use Rattle.replay_run.proofs.SettlingLemmas.{owed_some}
 use Rattle.replay_run.proofs.settle.deliver.Goals as goal
 

@@ -1,6 +1,6 @@
-use Rattle.std.proofs.Common.{◌≡◌, ◌++◌, List, ℕ, ap, sym, ◌∙◌, append_assoc, Some, None}
+use Rattle.std.proofs.Common.{◌++◌, List, ℕ, ap, sym, ◌∙◌, append_assoc}
 use Rattle.std.proofs.lemmas.List.{append-nil}
-use Rattle.agent_core.specs.State.{State, next_owed}
+use Rattle.agent_core.specs.State.{State}
 use Rattle.replay_run.specs.Settling.{Settled, delivered, delivery_lines, settled}
 use Rattle.replay_run.proofs.SettlingLemmas.{delivered_lowers, settled_none, settled_some}
 use Rattle.replay_run.proofs.settle.settle.Goals as goal

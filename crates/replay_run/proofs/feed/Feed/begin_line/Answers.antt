@@ -1,4 +1,4 @@
-use Rattle.std.proofs.Common.{◌≡◌, ◌+◌, ◌<◌, ◌⊎◌, inl, inr, ◌++◌, ℕ, List, length, ap, sym, ◌∙◌, subst, arith}
+use Rattle.std.proofs.Common.{◌≡◌, ◌+◌, ◌<◌, ◌⊎◌, inl, inr, ◌++◌, ℕ, List, length, ap, sym, subst, arith}
 use Rattle.replay_run.specs.Counts.{IsCounted}
 use Rattle.replay_run.specs.Feeding.{Feeding}
 use Rattle.replay_run.specs.GoesOn.{HasNoLf}

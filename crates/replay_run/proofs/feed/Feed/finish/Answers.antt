@@ -1,4 +1,3 @@
-use Rattle.std.proofs.Common.{ap, ◌∙◌}
 use Rattle.replay_run.specs.Claims.{ending_text}
 use Rattle.replay_run.proofs.EndLemmas.{nothing_left, ends_text, finished, finishes_unwritten}
 use Rattle.replay_run.proofs.feed.Feed.finish.Goals as goal

@@ -1,4 +1,3 @@
-use Rattle.std.proofs.Common.{◌++◌, ◌∷◌, []}
 use Rattle.replay_run.proofs.FeedsLemmas.{fed_then}
 use Rattle.replay_run.proofs.feed.Feed.run_front.Goals as goal
 

@@ -1,4 +1,4 @@
-use Rattle.std.proofs.Common.{◌≡◌, ◌≤◌, ◌++◌, length}
+use Rattle.std.proofs.Common.{◌≡◌, ◌≤◌, length}
 use Rattle.replay_run.specs.Feeding.{FedSoFar}
 use Rattle.replay_run.proofs.feed.Feed.run_piece.Given as goal
 

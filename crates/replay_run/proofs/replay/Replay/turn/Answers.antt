@@ -1,4 +1,4 @@
-use Rattle.std.proofs.Common.{◌≡◌, ◌+◌, ◌<◌, ◌≤◌, ap, arith, inl, inr}
+use Rattle.std.proofs.Common.{◌+◌, ◌<◌, ◌≤◌, ap, arith, inr}
 use Rattle.replay_run.specs.Replay.{Run, longest_schedule}
 use Rattle.replay_run.proofs.RunLemmas.{turned-too_long, turned-step}
 use Rattle.replay_run.proofs.TurnLemmas.{heard_some, fault_run, fault_out}
