@@ -1,0 +1,4 @@
+pub mod CutLemmas
+pub mod PlaceLemmas
+pub mod SettlingLemmas
+pub mod StreamLemmas

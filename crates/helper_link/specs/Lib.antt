@@ -1,0 +1,4 @@
+pub mod HelperLink
+pub mod Settling
+pub mod Stream
+pub mod Telling
