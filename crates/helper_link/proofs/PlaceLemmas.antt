@@ -57,5 +57,5 @@ is_place number asks (Some place) is =
       within = (at (record { number = 0; asker = 0; kind = Signing })).0;
       found = λ other. found_there number asks place other (at other).0 (at other).1 (at other).2;
       removed = let other : Ask = record { number = 0; asker = 0; kind = Signing } in
-      removed_there number asks place other (at other).0 (at other).1 (at other).2;
+          removed_there number asks place other (at other).0 (at other).1 (at other).2;
     }

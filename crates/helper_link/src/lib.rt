@@ -18,7 +18,7 @@ mod tests;
 pub use answer::{Answer, Settled, Told};
 pub use ask::{Ask, AskKind};
 pub use fault::{AskFault, LinkFault};
-pub use laws::cuts_of_the_stream_do_not_matter;
+pub use laws::{asks_stay_in_order, cuts_of_the_stream_do_not_matter};
 pub use link::Link;
 pub use settled_list::SettledList;
 pub use state::LinkState;

@@ -41,13 +41,13 @@ impl Model for Link {
     ghost Value = { HelperLink };
 
     ghost view = { λ link. record {
-        state = link.state;
-        asks = link.asks.items;
-        last = link.last;
-        owed = link.owed.live;
-        heard = link.heard.live;
-        failed = askers link.failed.items;
-        faults = link.faults;
+      state = link.state;
+      asks = link.asks.items;
+      last = link.last;
+      owed = link.owed.live;
+      heard = link.heard.live;
+      failed = askers link.failed.items;
+      faults = link.faults;
     } };
 
     ghost invariant = { λ link. 0 < vec_len link.failed → vec_len link.asks ≡ 0 };
@@ -256,12 +256,7 @@ impl Link {
     }
 
     // Writes the request and then keeps the ask, for which room was made before.
-    fn submit(
-        &mut self,
-        asker: u64,
-        kind: AskKind,
-        request: &ToChild<'_>,
-    ) -> Result<(), AllocError>
+    fn submit(&mut self, asker: u64, kind: AskKind, request: &ToChild<'_>) -> Result<(), AllocError>
         requires last { self.old.last < 2 ^ 64 - 1 }
         requires failed { self.old.failed ≡ [] }
         requires body { to_child_length (to_child_message request.now) ≤ 1048576 }

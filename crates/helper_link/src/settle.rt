@@ -137,7 +137,7 @@ fn settle_frame(alloc: Global, body: &[u8], asks: &mut Vec<Ask>) -> Result<Settl
 fn settle_ask(asks: &mut Vec<Ask>, number: u64, kind: AskKind) -> Result<u64, LinkFault>
     ensures settled { IfOk result (λ asker. (answer : AnAnswer)
         → answer_to kind number answer asks.old.items
-            ≡ Settles (settled_ask number asker answer) asks.new.items) }
+        ≡ Settles (settled_ask number asker answer) asks.new.items) }
     ensures stops { IfErr result (λ fault. (answer : AnAnswer)
         → answer_to kind number answer asks.old.items ≡ Stops fault) }
     ensures unchanged { OnErr result (asks.new.items ≡ asks.old.items) }
