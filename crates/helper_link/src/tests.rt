@@ -214,16 +214,24 @@ fn a_257th_ask_is_refused_until_one_is_answered(rt: HostRuntime) -> Result<(), F
 #[test]
 fn answers_are_the_same_in_any_pieces(rt: HostRuntime) -> Result<(), Fail> {
     let mut stream = Vec::new(rt.alloc());
-    for ask in 0..256 {
+    for ask in 0..256_u64 {
         stream.extend_from_slice(&[0, 0, 0, 9, 103])?;
-        stream.extend_from_slice(&(256 - ask as u64).to_be_bytes())?;
+        stream.extend_from_slice(&(256 - ask).to_be_bytes())?;
     }
     for size in [1, 7, 4096] {
         let all = told_in_pieces(rt.alloc(), stream.as_slice(), size)?;
         assert_eq!(rt; all.len(), 256);
         for (i, one) in all.iter().enumerate() {
-            assert_eq!(rt; one.ask, 256 - i as u64, "in pieces of {size}");
-            assert_eq!(rt; one.asker, 1255 - i as u64, "in pieces of {size}");
+            assert_eq!(rt;
+                Some(one.ask),
+                256_u64.checked_sub(i as u64),
+                "in pieces of {size}"
+            );
+            assert_eq!(rt;
+                Some(one.asker),
+                1255_u64.checked_sub(i as u64),
+                "in pieces of {size}"
+            );
         }
     }
     Ok(())
