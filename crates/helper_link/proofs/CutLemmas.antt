@@ -1,15 +1,14 @@
 -- It does not matter how the helper's stream is cut.
-use Rattle.std.proofs.Common.{◌≡◌, ℕ, List, [], ◌∷◌, ◌++◌, Option, Some, None, refl, sym, ap, subst, ◌∙◌, append_assoc}
+use Rattle.std.proofs.Common.{◌≡◌, ℕ, List, [], ◌∷◌, ◌++◌, Option, Some, None, refl, sym, ap, ◌∙◌, append_assoc}
 use Rattle.wire_text.specs.Frames.{Front, Whole, Bad, More, front, Split, split, StartsWithFrame}
 use Rattle.wire_text.proofs.FrontLemmas.{FrontIs, front-is, front-append_bad}
-use Rattle.wire_text.proofs.SplitLemmas.{split-append, split-bad, rest_has_no_frame}
+use Rattle.wire_text.proofs.SplitLemmas.{split-append, rest_has_no_frame}
 use Rattle.helper_link.specs.HelperLink.{HelperLink}
-use Rattle.helper_link.specs.Settling.{Verdict, Settles, Stops, Settling, verdict, settling, settle, settle_split, after_verdict, at_rest, stopped, waiting, onto}
+use Rattle.helper_link.specs.Settling.{Verdict, Settles, Stops, Settling, verdict, settling, settle, settle_split, after_verdict, at_rest, onto}
 use Rattle.helper_link.specs.Telling.{Telling, telling, telling_of, told_in_turn, unless_faulty, settled_before, joined}
 use Rattle.helper_link.specs.declared.answer.Settled.{Settled}
 use Rattle.helper_link.specs.declared.ask.Ask.{Ask}
 use Rattle.helper_link.specs.declared.fault.LinkFault.{LinkFault}
-use Rattle.helper_link.specs.declared.fault.LinkFault.TheVariants.{BadFrame}
 use Rattle.helper_link.proofs.SettlingLemmas.{settling-bad}
 
 -- what is settled later, from the asks and bytes that are left, unless a fault was found

@@ -1,12 +1,12 @@
 -- Asks stay in the order of their numbers.
-use Rattle.std.proofs.Common.{◌≡◌, ◌==◌, ℕ, ◌+◌, ◌<◌, ◌≤◌, Bool, true, false, cond, List, [], ◌∷◌, ◌++◌, Option, Some, None, Result, Ok, Err, arith}
+use Rattle.std.proofs.Common.{◌==◌, ℕ, ◌+◌, ◌<◌, ◌≤◌, Bool, true, false, cond, List, [], ◌∷◌, ◌++◌, Option, Some, None, Result, Ok, Err, arith}
 use Rattle.wire_text.specs.Frames.{Front, Whole, Bad, More, front, split}
 use Rattle.child_msg.specs.Messages.{FromChildMessage, Hello, Signed, Refused, True, False, Granted, Denied, ToChildMessage}
 use Rattle.child_msg.specs.Reading.{from_child_of}
 use Rattle.child_msg.specs.declared.fault.ChildFault.{ChildFault}
 use Rattle.helper_link.specs.HelperLink.{HelperLink, ask_of, submitted, lost}
 use Rattle.helper_link.specs.Order.{RiseTo, IsInOrder}
-use Rattle.helper_link.specs.Settling.{Verdict, Settles, Stops, Settling, find_ask, remove_ask, same_kind, settled_ask, answer_found, answer_to, message_verdict, reading_verdict, verdict, settling, settle, after_verdict, at_rest}
+use Rattle.helper_link.specs.Settling.{Verdict, Settles, Stops, Settling, find_ask, remove_ask, same_kind, settled_ask, answer_found, message_verdict, reading_verdict, verdict, settling, settle, after_verdict, at_rest}
 use Rattle.helper_link.specs.Telling.{told_all}
 use Rattle.helper_link.specs.declared.answer.Answer.{Answer}
 use Rattle.helper_link.specs.declared.answer.Answer.TheVariants as answer

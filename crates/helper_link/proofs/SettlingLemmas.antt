@@ -1,8 +1,8 @@
 -- A stream settles frame after frame.
-use Rattle.std.proofs.Common.{◌≡◌, ℕ, ◌+◌, ◌≤◌, List, [], ◌∷◌, ◌++◌, length, take, drop, refl, sym, ap, ◌∙◌, append_assoc}
+use Rattle.std.proofs.Common.{◌≡◌, ℕ, List, [], ◌∷◌, ◌++◌, sym, ap, ◌∙◌, append_assoc}
 use Rattle.wire_text.specs.Frames.{Front, Whole, Bad, More, front, Split, front_body, after_front}
 use Rattle.wire_text.proofs.SplitLemmas.{split-whole, split-bad, split-more}
-use Rattle.helper_link.specs.Settling.{Verdict, Settles, Stops, Settling, verdict, settling, settle_split, after_verdict, at_rest, stopped, waiting, onto}
+use Rattle.helper_link.specs.Settling.{Verdict, Settles, Stops, verdict, settling, settle_split, after_verdict, at_rest, stopped, waiting, onto}
 use Rattle.helper_link.specs.declared.answer.Settled.{Settled}
 use Rattle.helper_link.specs.declared.ask.Ask.{Ask}
 use Rattle.helper_link.specs.declared.fault.LinkFault.{LinkFault}

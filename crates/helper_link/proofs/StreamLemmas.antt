@@ -1,11 +1,11 @@
 -- The steps of a loop over the frames of a stream.
-use Rattle.std.proofs.Common.{◌≡◌, ℕ, ◌+◌, ◌-◌, ◌≤◌, List, [], ◌∷◌, ◌++◌, length, take, drop, Option, Some, None, refl, sym, ap, ◌∙◌, arith}
+use Rattle.std.proofs.Common.{◌≡◌, ℕ, ◌+◌, ◌≤◌, List, [], ◌∷◌, ◌++◌, length, drop, Option, Some, None, sym, ap, ◌∙◌, arith}
 use Rattle.std.proofs.lemmas.List.{drop-drop, append-nil, length-drop}
 use Rattle.std.proofs.Math.Seq.{drop-length}
 use Rattle.wire_text.specs.Wire.{announced_len}
 use Rattle.wire_text.proofs.FrontLemmas.{front_says}
 use Rattle.wire_text.specs.Frames.{Whole, Bad, More, front, front_body, after_front}
-use Rattle.helper_link.specs.Settling.{Settles, Stops, Settling, verdict, settling, onto, stopped, waiting}
+use Rattle.helper_link.specs.Settling.{Settles, Stops, Settling, verdict, settling, onto}
 use Rattle.helper_link.specs.Stream.{settled_to}
 use Rattle.helper_link.specs.declared.settle.Settlement.{Settlement}
 use Rattle.helper_link.specs.declared.answer.Settled.{Settled}

@@ -1,5 +1,5 @@
 -- The link to the helper process, as plain values (ours).
-use Rattle.std.specs.Prelude.{ℕ, ◌+◌, ◌-◌, ◌^◌, ◌<◌, ◌≤◌, List, [], ◌∷◌, ◌++◌, drop, map, min}
+use Rattle.std.specs.Prelude.{ℕ, ◌+◌, ◌-◌, ◌^◌, List, [], ◌∷◌, ◌++◌, drop, map, min}
 use Rattle.wire_text.specs.Wire.{string}
 use Rattle.child_msg.specs.ChildFrames.{to_child_body}
 use Rattle.child_msg.specs.Messages.{ToChildMessage, Sign, Verify}

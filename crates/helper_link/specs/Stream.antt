@@ -1,5 +1,5 @@
 -- The parts of a settling that functions of the code answer for (ours).
-use Rattle.std.specs.Prelude.{◌≡◌, ℕ, ◌<◌, List, [], Option, Some, None, drop, length, slice_index_or}
+use Rattle.std.specs.Prelude.{◌≡◌, ℕ, ◌<◌, List, Some, drop, length, slice_index_or}
 use Rattle.std.specs.List.{remove}
 use Rattle.helper_link.specs.Settling.{Settling, Verdict, Stops, find_ask, remove_ask}
 use Rattle.helper_link.specs.declared.ask.Ask.{Ask}
