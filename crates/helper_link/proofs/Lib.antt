@@ -1,0 +1,5 @@
+pub mod CutLemmas
+pub mod OrderLemmas
+pub mod PlaceLemmas
+pub mod SettlingLemmas
+pub mod StreamLemmas

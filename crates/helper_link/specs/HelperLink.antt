@@ -1,0 +1,101 @@
+-- The link to the helper process, as plain values (ours).
+use Rattle.std.specs.Prelude.{ℕ, ◌+◌, ◌-◌, ◌^◌, List, [], ◌∷◌, ◌++◌, drop, map, min}
+use Rattle.wire_text.specs.Wire.{string}
+use Rattle.child_msg.specs.ChildFrames.{to_child_body}
+use Rattle.child_msg.specs.Messages.{ToChildMessage, Sign, Verify}
+use Rattle.helper_link.specs.declared.ask.Ask.{Ask}
+use Rattle.helper_link.specs.declared.ask.AskKind.{AskKind}
+use Rattle.helper_link.specs.declared.state.LinkState.{LinkState}
+use Rattle.helper_link.specs.declared.state.LinkState.TheVariants as states
+
+-- what the agent knows of its helper
+pub record HelperLink : Type 0 where
+  -- whether a helper is there, is being started, or neither
+  pub state : LinkState
+  -- the unanswered asks, in the order of their numbers
+  pub asks : List Ask
+  -- the number of the ask that was put last, 0 before the first
+  pub last : ℕ
+  -- the bytes to be sent, once the helper is there
+  pub owed : List ℕ
+  -- the bytes of the helper's stream behind its last whole frame
+  pub heard : List ℕ
+  -- the askers of failed asks, not handed out yet, in the order of their asks
+  pub failed : List ℕ
+  -- how often the link was lost
+  pub faults : ℕ
+
+-- before the first helper is started
+abbrev pub no_link : HelperLink
+no_link = record { state = states.None; asks = []; last = 0; owed = []; heard = []; failed = []; faults = 0 }
+
+-- a helper is being started
+abbrev pub IsStarting : LinkState → Type 0
+IsStarting states.None = ⊥
+IsStarting (states.Starting job) = Unit {0}
+IsStarting (states.Linked port) = ⊥
+
+-- the helper is there
+abbrev pub IsLinked : LinkState → Type 0
+IsLinked states.None = ⊥
+IsLinked (states.Starting job) = ⊥
+IsLinked (states.Linked port) = Unit {0}
+
+-- a helper is started by this job
+abbrev pub begun : ℕ → HelperLink → HelperLink
+begun job link = record link { state = states.Starting job }
+
+-- the helper came to this port
+abbrev pub linked_to : ℕ → HelperLink → HelperLink
+linked_to port link = record link { state = states.Linked port }
+
+-- the request for a signature, with an ask's number
+abbrev pub sign_request : List ℕ → List ℕ → List ℕ → ℕ → ℕ → ToChildMessage
+sign_request private blob message flags number =
+    Sign record { ask = number; private = private; blob = blob; message = message; flags = flags }
+
+-- the request for a verification, with an ask's number
+abbrev pub verify_request : List ℕ → List ℕ → List ℕ → ℕ → ToChildMessage
+verify_request host_key signature session number =
+    Verify record { ask = number; host_key = host_key; signature = signature; session = session }
+
+-- an ask of this number
+abbrev pub ask_of : ℕ → ℕ → AskKind → Ask
+ask_of number asker kind = record { number = number; asker = asker; kind = kind }
+
+-- an ask is put: it has the next number, and the frame of its request is to be sent
+abbrev pub submitted : AskKind → ℕ → (ℕ → ToChildMessage) → HelperLink → HelperLink
+submitted kind asker request link = record link {
+  asks = link.asks ++ (ask_of (link.last + 1) asker kind ∷ []);
+  last = link.last + 1;
+  owed = link.owed ++ string (to_child_body (request (link.last + 1)));
+}
+
+-- what may be sent: nothing before the helper is there
+abbrev pub sendable : LinkState → List ℕ → List ℕ
+sendable states.None owed = []
+sendable (states.Starting job) owed = []
+sendable (states.Linked port) owed = owed
+
+-- so many bytes were sent
+abbrev pub sent : ℕ → HelperLink → HelperLink
+sent count link = record link { owed = drop count link.owed }
+
+-- the askers of asks, in their order
+abbrev pub askers : List Ask → List ℕ
+askers asks = map (λ (ask : Ask). ask.asker) asks
+
+-- the helper is gone: what was unanswered failed, and the count of losses stays at its last value
+abbrev pub lost : HelperLink → HelperLink
+lost link = record link {
+  state = states.None;
+  asks = [];
+  owed = [];
+  heard = [];
+  failed = link.failed ++ askers link.asks;
+  faults = min (link.faults + 1) (2 ^ 64 - 1);
+}
+
+-- the asker of the first failed ask was handed out
+abbrev pub handed_out : HelperLink → HelperLink
+handed_out link = record link { failed = drop 1 link.failed }

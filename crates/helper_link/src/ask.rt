@@ -1,0 +1,17 @@
+/// What an ask is for.
+#[derive(Clone, Copy, Debug, PartialEq, Eq)]
+pub enum AskKind {
+    /// A signature.
+    Signing,
+    /// The verification of a signature.
+    Verifying,
+}
+
+/// An ask that was put to the helper, as contracts see it.
+#[derive(Clone, Copy, Debug, PartialEq, Eq)]
+pub struct Ask {
+    pub number: u64,
+    /// Who asked: a number of the caller's own, which comes back with the answer.
+    pub asker: u64,
+    pub kind: AskKind,
+}

@@ -1,0 +1,24 @@
+//! The agent's link to its helper process, which uses the keys: what was asked, what is to be sent,
+//! and what the helper's stream settles (ours; docs/PROTOCOL.md, "Child frames").
+//! Stands on `child_msg`, for the messages, `frame_core`, and `secret_buf`, for what is sent and read.
+#![tactic(auto)]
+
+mod answer;
+mod ask;
+mod fault;
+mod laws;
+mod link;
+mod settle;
+mod settled_list;
+mod state;
+mod stop;
+#[cfg(test)]
+mod tests;
+
+pub use answer::{Answer, Settled, Told};
+pub use ask::{Ask, AskKind};
+pub use fault::{AskFault, LinkFault};
+pub use laws::{asks_stay_in_order, cuts_of_the_stream_do_not_matter};
+pub use link::Link;
+pub use settled_list::SettledList;
+pub use state::LinkState;

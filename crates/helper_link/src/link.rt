@@ -1,0 +1,277 @@
+ghost use Rattle.std.specs.Prelude.{◌≡◌, ◌≢◌, ◌↔◌, ◌+◌, ◌-◌, ◌^◌, ◌<◌, ◌≤◌, [], ◌++◌, IsTrue, IfOk, IfErr, OnOk, OnErr, length, slice_get};
+ghost use Rattle.child_msg.specs.ChildFrames.{to_child_length};
+ghost use Rattle.child_msg.specs.Messages.{to_child_message};
+ghost use Rattle.helper_link.specs.HelperLink.{begun, handed_out, linked_to, lost, no_link, sendable, sent, sign_request, submitted, verify_request, IsLinked, IsStarting};
+ghost use Rattle.helper_link.specs.Telling.{settled_by, told_all, told_of};
+
+use crate::answer::Told;
+use crate::ask::{Ask, AskKind};
+use crate::fault::AskFault;
+use crate::settle::settle_stream;
+use crate::settled_list::SettledList;
+use crate::state::LinkState;
+use child_msg::{ToChild, write_to_child};
+use secret_buf::{ScrubBuf, SecretBytes};
+use std::alloc::{AllocError, Global};
+use std::marker::Model;
+use std::mem;
+
+/// How many asks may be unanswered (ours).
+const MAX_ASKS: usize = 256;
+
+/// The agent's side of the link to its helper process.
+///
+/// Dropping it wipes what is to be sent.
+#[derive(Drop)]
+pub struct Link {
+    state: LinkState,
+    asks: Vec<Ask>,
+    last: u64,
+    owed: ScrubBuf,
+    heard: ScrubBuf,
+    // The asks that failed. No ask is unanswered while there are any.
+    failed: Vec<Ask>,
+    faults: u64,
+}
+
+impl Model for Link {
+    ghost use Rattle.std.specs.Prelude.{◌≡◌, ◌<◌, vec_len};
+    ghost use Rattle.helper_link.specs.HelperLink.{HelperLink, askers};
+
+    ghost Value = { HelperLink };
+
+    ghost view = { λ link. record {
+      state = link.state;
+      asks = link.asks.items;
+      last = link.last;
+      owed = link.owed.live;
+      heard = link.heard.live;
+      failed = askers link.failed.items;
+      faults = link.faults;
+    } };
+
+    ghost invariant = { λ link. 0 < vec_len link.failed → vec_len link.asks ≡ 0 };
+}
+
+impl Link {
+    /// Takes no memory.
+    pub fn new(alloc: Global) -> Link
+        ensures { result ≡ no_link }
+    {
+        Link {
+            state: LinkState::None,
+            asks: Vec::new(alloc),
+            last: 0,
+            owed: ScrubBuf::new(alloc),
+            heard: ScrubBuf::new(alloc),
+            failed: Vec::new(alloc),
+            faults: 0,
+        }
+    }
+
+    pub fn state(&self) -> LinkState
+        ensures { result ≡ self.now.state }
+    {
+        self.state
+    }
+
+    /// A helper is being started by this job. Takes no memory.
+    pub fn begin(&mut self, job: u64)
+        requires { self.old.state ≡ LinkState.None }
+        ensures { self.new ≡ begun job self.old }
+    {
+        self.state = LinkState::Starting { job };
+    }
+
+    /// The helper came to this port. Takes no memory.
+    pub fn linked(&mut self, port: u64)
+        requires { IsStarting self.old.state }
+        ensures { self.new ≡ linked_to port self.old }
+    {
+        self.state = LinkState::Linked { port };
+    }
+
+    /// Puts an ask for a signature of `message` by the private key, whose public key blob is `blob`,
+    /// and gives its number.
+    ///
+    /// The private key is in no memory but that of buffers that are wiped.
+    pub fn ask_sign(
+        &mut self,
+        asker: u64,
+        private: &SecretBytes,
+        blob: &[u8],
+        message: &[u8],
+        flags: u32,
+    ) -> Result<u64, AskFault>
+        requires state { self.old.state ≢ LinkState.None }
+        requires failed { self.old.failed ≡ [] }
+        requires body { to_child_length (sign_request private.now blob.now message.now flags 0)
+            ≤ 1048576 }
+        ensures ok { OnOk result (self.new ≡ submitted AskKind.Signing asker
+            (sign_request private.now blob.now message.now flags) self.old) }
+        ensures value { IfOk result (λ number. number ≡ self.old.last + 1) }
+        ensures full { (result ≡ Err AskFault.Full) ↔ (256 ≤ length self.old.asks) }
+        ensures numbers_spent { (result ≡ Err AskFault.NumbersSpent)
+            ↔ (length self.old.asks < 256) × (self.old.last ≡ 2 ^ 64 - 1) }
+        ensures unchanged { OnErr result (self.new ≡ self.old) }
+    {
+        let number = self.next_number()?;
+        let mut secret = ScrubBuf::new(*self.asks.allocator());
+        private.append_to(&mut secret)?;
+        let request = ToChild::Sign {
+            ask: number,
+            private: secret.live(),
+            blob,
+            message,
+            flags,
+        };
+        self.submit(asker, AskKind::Signing, &request)?;
+        Ok(number)
+    }
+
+    /// Puts an ask for the verification of a host key's signature over a session identifier, and
+    /// gives its number.
+    pub fn ask_verify(
+        &mut self,
+        asker: u64,
+        host_key: &[u8],
+        signature: &[u8],
+        session: &[u8],
+    ) -> Result<u64, AskFault>
+        requires state { self.old.state ≢ LinkState.None }
+        requires failed { self.old.failed ≡ [] }
+        requires body { to_child_length (verify_request host_key.now signature.now session.now 0)
+            ≤ 1048576 }
+        ensures ok { OnOk result (self.new ≡ submitted AskKind.Verifying asker
+            (verify_request host_key.now signature.now session.now) self.old) }
+        ensures value { IfOk result (λ number. number ≡ self.old.last + 1) }
+        ensures full { (result ≡ Err AskFault.Full) ↔ (256 ≤ length self.old.asks) }
+        ensures numbers_spent { (result ≡ Err AskFault.NumbersSpent)
+            ↔ (length self.old.asks < 256) × (self.old.last ≡ 2 ^ 64 - 1) }
+        ensures unchanged { OnErr result (self.new ≡ self.old) }
+    {
+        let number = self.next_number()?;
+        let request = ToChild::Verify {
+            ask: number,
+            host_key,
+            signature,
+            session,
+        };
+        self.submit(asker, AskKind::Verifying, &request)?;
+        Ok(number)
+    }
+
+    /// The bytes to be sent to the helper: none while it isn't there.
+    pub fn owed(&self) -> &[u8]
+        ensures { result.now ≡ sendable self.now.state self.now.owed }
+    {
+        match self.state {
+            LinkState::Linked { .. } => self.owed.live(),
+            _ => &[],
+        }
+    }
+
+    /// The first `count` bytes of `owed` were sent. Takes no memory.
+    pub fn took(&mut self, count: usize)
+        requires { count ≤ length (sendable self.old.state self.old.owed) }
+        ensures { self.new ≡ sent count self.old }
+    {
+        self.owed.consume(count);
+    }
+
+    /// Takes in a piece of the helper's stream, and tells what it settles.
+    ///
+    /// After want of memory the link is only to be dropped.
+    pub fn told(&mut self, piece: &[u8]) -> Result<Told, AllocError>
+        requires { IsLinked self.old.state }
+        ensures link { OnOk result (self.new ≡ told_all piece.now self.old) }
+        ensures told { IfOk result (λ told. told ≡ told_of (settled_by piece.now self.old)) }
+    {
+        self.heard.push_slice(piece)?;
+        let alloc = *self.asks.allocator();
+        let end = settle_stream(alloc, self.heard.live(), &mut self.asks)?;
+        self.heard.consume(end.read);
+        Ok(Told {
+            settled: SettledList::from_vec(end.settled),
+            fault: end.fault,
+        })
+    }
+
+    /// The helper is gone, or failed to start. Takes no memory.
+    ///
+    /// What is to be sent and what was heard is wiped. Each unanswered ask failed: `next_failed`
+    /// gives its asker.
+    pub fn lose(&mut self)
+        requires { self.old.state ≢ LinkState.None }
+        ensures { self.new ≡ lost self.old }
+    {
+        self.state = LinkState::None;
+        self.owed.wipe();
+        self.heard.wipe();
+        self.faults = self.faults.saturating_add(1);
+        if self.failed.is_empty() {
+            mem::swap(&mut self.asks, &mut self.failed);
+        }
+    }
+
+    /// Hands out the asker of the first ask that failed. Takes no memory.
+    pub fn next_failed(&mut self) -> Option<u64>
+        ensures value { result ≡ slice_get self.old.failed 0 }
+        ensures link { self.new ≡ handed_out self.old }
+    {
+        if self.failed.is_empty() {
+            return None;
+        }
+        Some(self.failed.remove(0).asker)
+    }
+
+    /// How often the link was lost: it stays at 2^64 - 1.
+    pub fn faults(&self) -> u64
+        ensures { result ≡ self.now.faults }
+    {
+        self.faults
+    }
+
+    /// Whether each number was used, so that no ask can be put any more.
+    pub fn spent(&self) -> bool
+        ensures { IsTrue result ↔ (self.now.last ≡ 2 ^ 64 - 1) }
+    {
+        self.last == u64::MAX
+    }
+}
+
+impl Link {
+    // The number of an ask that is put now.
+    fn next_number(&self) -> Result<u64, AskFault>
+        ensures ok { OnOk result ((length self.now.asks < 256) × (self.now.last < 2 ^ 64 - 1)) }
+        ensures value { IfOk result (λ number. number ≡ self.now.last + 1) }
+        ensures full { (result ≡ Err AskFault.Full) ↔ (256 ≤ length self.now.asks) }
+        ensures numbers_spent { (result ≡ Err AskFault.NumbersSpent)
+            ↔ (length self.now.asks < 256) × (self.now.last ≡ 2 ^ 64 - 1) }
+    {
+        if self.asks.len() >= MAX_ASKS {
+            return Err(AskFault::Full);
+        }
+        self.last.checked_add(1).ok_or(AskFault::NumbersSpent)
+    }
+
+    // Writes the request and then keeps the ask, for which room was made before.
+    fn submit(&mut self, asker: u64, kind: AskKind, request: &ToChild<'_>) -> Result<(), AllocError>
+        requires last { self.old.last < 2 ^ 64 - 1 }
+        requires failed { self.old.failed ≡ [] }
+        requires body { to_child_length (to_child_message request.now) ≤ 1048576 }
+        ensures ok { OnOk result (self.new
+            ≡ submitted kind asker (λ _. to_child_message request.now) self.old) }
+        ensures unchanged { OnErr result (self.new ≡ self.old) }
+    {
+        self.asks.reserve(1)?;
+        write_to_child(&mut self.owed, request)?;
+        self.last += 1;
+        self.asks.push(Ask {
+            number: self.last,
+            asker,
+            kind,
+        })?;
+        Ok(())
+    }
+}
