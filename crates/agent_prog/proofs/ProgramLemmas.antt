@@ -1,13 +1,12 @@
 -- What a status says, by how the run ended.
-use Rattle.std.proofs.Common.{◌≡◌, ℕ, List, ◌++◌, refl, ap, sym, ◌∙◌, Option, Some, None, IfSome}
+use Rattle.std.proofs.Common.{◌≡◌, ℕ, List, ◌++◌, ap, sym, ◌∙◌, Option, Some, None, IfSome}
 use Rattle.std.specs.Io.KnownBytes.{Consumes}
-use Rattle.world_ports.specs.Causes.{Rose}
 use Rattle.schedule_text.specs.declared.fault.LineFault.{LineFault}
 use Rattle.replay_run.specs.declared.run_end.RunEnd.{RunEnd}
 use Rattle.replay_run.specs.declared.run_end.RunEnd.TheVariants.{Done, Refused, Memory, ReadFault, WriteFault}
 use Rattle.replay_run.specs.Replay.{run_of}
 use Rattle.replay_run.specs.Claims.{Seen, IsRefused, Ends}
-use Rattle.agent_prog.specs.Program.{status_of, ReplaysExactly, IsComplete, IsFinished, Completes}
+use Rattle.agent_prog.specs.Program.{status_of, ReplaysExactly, IsComplete, IsFinished, HasNoFault, Completes}
 
 -- each end says what its status says
 pub replays_by : (end : RunEnd) (old new : Seen) → Ends end old new → ReplaysExactly (status_of end) old new
@@ -19,13 +18,13 @@ replays_by ReadFault old new ends = ends
 replays_by WriteFault old new ends = ends
 
 -- a fault is answered only where one was counted
-complete_by : (end : RunEnd) (old new : Seen) → Ends end old new → ¬ (Rose old.read_faults new.read_faults) → ¬ (Rose old.write_faults new.write_faults) → IsComplete (status_of end)
+complete_by : (end : RunEnd) (old new : Seen) → Ends end old new → HasNoFault old new → IsComplete (status_of end)
 unfolding Ends
-complete_by Done old new ends read written = tt
-complete_by (Refused line fault) old new ends read written = tt
-complete_by Memory old new ends read written = tt
-complete_by ReadFault old new ends read written = absurd (read ends.cause)
-complete_by WriteFault old new ends read written = absurd (written ends.cause)
+complete_by Done old new ends none = tt
+complete_by (Refused line fault) old new ends none = tt
+complete_by Memory old new ends none = tt
+complete_by ReadFault old new ends none = absurd (none.reads ends.cause)
+complete_by WriteFault old new ends none = absurd (none.writes ends.cause)
 
 -- the whole input isn't both refused and accepted
 refused_input : (left new_left : Option (List ℕ)) (bytes text : List ℕ) (line : ℕ) (fault : LineFault) → Consumes left new_left bytes → IfSome new_left (λ rest. IsRefused line fault text (bytes ++ rest)) → IfSome left (λ input. (run_of input).refused ≡ None → ⊥)
@@ -40,14 +39,14 @@ some_of None P holds = tt
 some_of (Some input) P holds = holds input
 
 -- an input of which no line is refused is run to its end
-finished_by : (end : RunEnd) (old new : Seen) → Ends end old new → ¬ (Rose old.read_faults new.read_faults) → ¬ (Rose old.write_faults new.write_faults) → IfSome old.left (λ input. (run_of input).refused ≡ None → IsFinished (status_of end))
+finished_by : (end : RunEnd) (old new : Seen) → Ends end old new → HasNoFault old new → IfSome old.left (λ input. (run_of input).refused ≡ None → IsFinished (status_of end))
 unfolding Ends
-finished_by Done old new ends read written = some_of old.left (λ input. (run_of input).refused ≡ None → Unit {0}) (λ input accepted. tt)
-finished_by (Refused line fault) old new ends read written =
+finished_by Done old new ends none = some_of old.left (λ input. (run_of input).refused ≡ None → Unit {0}) (λ input accepted. tt)
+finished_by (Refused line fault) old new ends none =
     refused_input old.left new.left ends.bytes ends.text line fault ends.read.left ends.refused.whole
-finished_by Memory old new ends read written = some_of old.left (λ input. (run_of input).refused ≡ None → Unit {0}) (λ input accepted. tt)
-finished_by ReadFault old new ends read written = absurd (read ends.cause)
-finished_by WriteFault old new ends read written = absurd (written ends.cause)
+finished_by Memory old new ends none = some_of old.left (λ input. (run_of input).refused ≡ None → Unit {0}) (λ input accepted. tt)
+finished_by ReadFault old new ends none = absurd (none.reads ends.cause)
+finished_by WriteFault old new ends none = absurd (none.writes ends.cause)
 
 pub completes_by : (end : RunEnd) (old new : Seen) → Ends end old new → Completes (status_of end) old new
 completes_by end old new ends = record {

@@ -1,5 +1,5 @@
 -- What the end of the program says of its input and its output (ours).
-use Rattle.std.specs.Prelude.{◌≡◌, ℕ, List, ◌++◌, Option, None, IfSome}
+use Rattle.std.specs.Prelude.{◌≡◌, ℕ, None, IfSome}
 use Rattle.world_ports.specs.Causes.{Rose}
 use Rattle.agent_prog.specs.declared.status.Status.{Status}
 use Rattle.agent_prog.specs.declared.status.Status.TheVariants as status
@@ -57,10 +57,16 @@ IsFinished status.Memory = Unit {0}
 IsFinished status.ReadFault = ⊥
 IsFinished status.WriteFault = ⊥
 
--- where no read and no write failed, the run is complete, and it is finished where no line of the input is refused
+-- no read and no write failed
+pub record HasNoFault (old new : Seen) : Type 0 where
+  pub reads : ¬ (Rose old.read_faults new.read_faults)
+  pub writes : ¬ (Rose old.write_faults new.write_faults)
+
+-- where no read and no write failed, the run is complete, and it is finished where no line of the
+-- input is refused
 pub record Completes (result : Status) (old new : Seen) : Type 0 where
-  pub complete : ¬ (Rose old.read_faults new.read_faults) → ¬ (Rose old.write_faults new.write_faults) → IsComplete result
-  pub finished : ¬ (Rose old.read_faults new.read_faults) → ¬ (Rose old.write_faults new.write_faults) →
+  pub complete : HasNoFault old new → IsComplete result
+  pub finished : HasNoFault old new →
       IfSome old.left (λ input. (run_of input).refused ≡ None → IsFinished result)
 
 -- the exit status

@@ -25,7 +25,8 @@ fn status_of_end(end: RunEnd) -> Status
 
 /// The program: `words` are those of the command line after the program's name.
 ///
-/// With the word `replay` it runs the schedule that the input gives, and writes to the output what that prints.
+/// With the word `replay` it runs the schedule that the input gives, and writes to the output what that
+/// prints.
 /// With any other words it neither reads nor writes.
 pub fn agent_main<I: Source, O: Sink>(
     alloc: Global,
@@ -67,8 +68,10 @@ pub fn agent_main<I: Source, O: Sink>(
     ensures unused { ¬ (IsReplay words.now) → (input.new ≡ input.old) × (output.new ≡ output.old) }
     ensures faults { (I.read_faults input.old ≤ I.read_faults input.new)
         × (O.write_faults output.old ≤ O.write_faults output.new) }
-    ensures input_kept { (I.written input.new ≡ I.written input.old) × (I.write_faults input.new ≡ I.write_faults input.old) }
-    ensures output_kept { (O.taken output.new ≡ O.taken output.old) × (O.left output.new ≡ O.left output.old)
+    ensures input_kept { (I.written input.new ≡ I.written input.old)
+        × (I.write_faults input.new ≡ I.write_faults input.old) }
+    ensures output_kept { (O.taken output.new ≡ O.taken output.old)
+        × (O.left output.new ≡ O.left output.old)
         × (O.read_faults output.new ≡ O.read_faults output.old) }
 {
     if !is_replay(words) {

@@ -1,6 +1,6 @@
-//! An SSH agent in memory, run on a schedule: `agent_prog replay` reads events from standard input and writes what the
-//! agent does to standard output. Stands on replay_run; the format is this repository's own: docs/PROTOCOL.md,
-//! "Schedules".
+//! An SSH agent in memory, run on a schedule: `agent_prog replay` reads events from standard input and
+//! writes what the agent does to standard output. Stands on replay_run; the format is this repository's
+//! own: docs/PROTOCOL.md, "Schedules".
 #![tactic(auto)]
 
 mod agent;
@@ -14,7 +14,7 @@ use crate::agent::agent_main;
 use crate::status::Status;
 use crate::trouble::Trouble;
 use std::env;
-use std::io::Result as IoResult;
+use std::io::{ErrorKind, Result as IoResult};
 use std::process::ExitCode;
 use world_ports::{Reading, Writing};
 
@@ -26,8 +26,12 @@ fn run(rt: &HostRuntime) -> IoResult<Status> {
 }
 
 fn main(rt: HostRuntime) -> ExitCode {
-    // Words that can't be read are no form of the program's.
-    let status = run(&rt).unwrap_or(Status::Usage);
+    let status = match run(&rt) {
+        Ok(status) => status,
+        Err(error) if error.kind() == ErrorKind::OutOfMemory => Status::Memory,
+        // Words that can't be read are no form of the program's.
+        Err(_) => Status::Usage,
+    };
     if let Some(trouble) = Trouble::of(status) {
         let _ = eprintln!(rt; "mortarleek: {trouble}");
     }

@@ -1,5 +1,5 @@
-// Whole runs, on schedules and outputs written out by hand. Bodies and replies are those of the agent protocol:
-// 11 asks for identities, 12 with a count of 0 answers, 5 is failure.
+// Whole runs, on schedules and outputs written out by hand. Bodies and replies are those of the agent
+// protocol: 11 asks for identities, 12 with a count of 0 answers, 5 is failure.
 ghost use Rattle.std.specs.Prelude.{◌<◌};
 
 use crate::agent::agent_main;

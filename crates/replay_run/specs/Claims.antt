@@ -57,7 +57,8 @@ pub record EndsEarly (old new : Seen) : Type 0 where
   pub wrote : Appends old.written new.written text
   pub front : HoldsOfInput new.left bytes (λ schedule. IsFront text (output_of schedule))
 
--- what the whole lines print that were read before is written, none of them is refused, and a read failed
+-- what the whole lines print that were read before is written, none of them is refused, and a read
+-- failed
 pub record EndsUnread (old new : Seen) : Type 0 where
   pub bytes : List ℕ
   pub read : HasRead old new bytes
@@ -120,20 +121,22 @@ pub record FinishesDone (old : Feeding) (before after : Option (List ℕ)) : Typ
   pub accepted : (ending_run old).refused ≡ None
 
 -- its last line is refused, and all is written
-pub record FinishesRefused (line : ℕ) (fault : LineFault) (old : Feeding) (before after : Option (List ℕ)) : Type 0 where
+pub record FinishesRefused
+    (line : ℕ) (fault : LineFault) (old : Feeding) (before after : Option (List ℕ)) : Type 0 where
   pub wrote : Appends before after (ending_text old)
   pub refused : (ending_run old).refused ≡ Some fault
   pub number : (ending_run old).line ≡ line
 
 -- a write failed
-pub record FinishesUnwritten (old : Feeding) (before after : Option (List ℕ)) (faults_before faults_after : ℕ) : Type 0 where
+pub record FinishesUnwritten
+    (old : Feeding) (before after : Option (List ℕ)) (faults_before faults_after : ℕ) : Type 0 where
   pub front : WritesSome (ending_text old) before after
   pub cause : Rose faults_before faults_after
 
 -- how a run ends with its schedule
 abbrev pub Finishes : RunEnd → Feeding → Option (List ℕ) → Option (List ℕ) → ℕ → ℕ → Type 0
-Finishes Done old before after faults_before faults_after = FinishesDone old before after
-Finishes (Refused line fault) old before after faults_before faults_after = FinishesRefused line fault old before after
-Finishes Memory old before after faults_before faults_after = WritesSome (ending_text old) before after
-Finishes ReadFault old before after faults_before faults_after = ⊥
-Finishes WriteFault old before after faults_before faults_after = FinishesUnwritten old before after faults_before faults_after
+Finishes Done old before after faults0 faults1 = FinishesDone old before after
+Finishes (Refused line fault) old before after faults0 faults1 = FinishesRefused line fault old before after
+Finishes Memory old before after faults0 faults1 = WritesSome (ending_text old) before after
+Finishes ReadFault old before after faults0 faults1 = ⊥
+Finishes WriteFault old before after faults0 faults1 = FinishesUnwritten old before after faults0 faults1

@@ -30,7 +30,8 @@ pub record IsFront (text all : List ℕ) : Type 0 where
   pub is : text ++ more ≡ all
 
 -- these bytes were fed: what was written since, and how the run goes on from there
-pub record Feeds (old : Feeding) (bytes : List ℕ) (new : Feeding) (before after : Option (List ℕ)) : Type 0 where
+pub record Feeds
+    (old : Feeding) (bytes : List ℕ) (new : Feeding) (before after : Option (List ℕ)) : Type 0 where
   pub text : List ℕ
   pub wrote : Appends before after text
   pub goes : GoesOn old.out old.run (old.pending ++ bytes) (text ++ new.out) new.run new.pending
@@ -40,21 +41,25 @@ abbrev pub fed_so_far : Feeding → ℕ
 fed_so_far feeding = feeding.run.read + length feeding.pending
 
 -- the same of a run that was ready and is ready for more
-pub record GoesOnFed (old : Feeding) (bytes : List ℕ) (new : Feeding) (before after : Option (List ℕ)) : Type 0 where
+pub record GoesOnFed
+    (old : Feeding) (bytes : List ℕ) (new : Feeding) (before after : Option (List ℕ)) : Type 0 where
   pub accepted : old.run.refused ≡ None
   pub feeds : Feeds old bytes new before after
   pub ready : IsReady new
   pub size : fed_so_far new ≡ fed_so_far old + length bytes
 
 -- what was written is a front of what the run prints, whatever follows these bytes
-pub record WritesFront (old : Feeding) (bytes : List ℕ) (before after : Option (List ℕ)) : Type 0 where
+pub record WritesFront
+    (old : Feeding) (bytes : List ℕ) (before after : Option (List ℕ)) : Type 0 where
   pub text : List ℕ
   pub wrote : Appends before after text
   pub front : (ended : Bool) (more : List ℕ) →
       IsFront text (old.out ++ printed ended old.run (parts_of ((old.pending ++ bytes) ++ more)))
 
 -- a line was refused, and all that the run prints is written
-pub record WritesRefusal (old : Feeding) (bytes : List ℕ) (line : ℕ) (fault : LineFault) (before after : Option (List ℕ)) : Type 0 where
+pub record WritesRefusal
+    (old : Feeding) (bytes : List ℕ) (line : ℕ) (fault : LineFault) (before after : Option (List ℕ))
+    : Type 0 where
   pub text : List ℕ
   pub wrote : Appends before after text
   pub run : Run
@@ -63,20 +68,23 @@ pub record WritesRefusal (old : Feeding) (bytes : List ℕ) (line : ℕ) (fault 
   pub number : run.line ≡ line
 
 -- the same as a front, where writing failed
-pub record WritesUntilFault (old : Feeding) (bytes : List ℕ) (before after : Option (List ℕ)) (faults_before faults_after : ℕ) : Type 0 where
+pub record WritesUntilFault
+    (old : Feeding) (bytes : List ℕ) (before after : Option (List ℕ)) (faults_before faults_after : ℕ)
+    : Type 0 where
   pub front : WritesFront old bytes before after
   pub cause : Rose faults_before faults_after
 
 -- why the run ended while these bytes were fed
 abbrev pub Halts : RunEnd → Feeding → List ℕ → Option (List ℕ) → Option (List ℕ) → ℕ → ℕ → Type 0
-Halts Done old bytes before after faults_before faults_after = ⊥
-Halts (Refused line fault) old bytes before after faults_before faults_after = WritesRefusal old bytes line fault before after
-Halts Memory old bytes before after faults_before faults_after = WritesFront old bytes before after
-Halts ReadFault old bytes before after faults_before faults_after = ⊥
-Halts WriteFault old bytes before after faults_before faults_after = WritesUntilFault old bytes before after faults_before faults_after
+Halts Done old bytes before after faults0 faults1 = ⊥
+Halts (Refused line fault) old bytes before after faults0 faults1 = WritesRefusal old bytes line fault before after
+Halts Memory old bytes before after faults0 faults1 = WritesFront old bytes before after
+Halts ReadFault old bytes before after faults0 faults1 = ⊥
+Halts WriteFault old bytes before after faults0 faults1 = WritesUntilFault old bytes before after faults0 faults1
 
 -- the front of a piece was fed, and this is left of it
-pub record FedSoFar (old : Feeding) (piece rest : List ℕ) (new : Feeding) (before after : Option (List ℕ)) : Type 0 where
+pub record FedSoFar
+    (old : Feeding) (piece rest : List ℕ) (new : Feeding) (before after : Option (List ℕ)) : Type 0 where
   pub front : List ℕ
   pub is : front ++ rest ≡ piece
   pub fed : GoesOnFed old front new before after

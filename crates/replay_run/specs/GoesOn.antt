@@ -23,10 +23,12 @@ pub record IsBegun (run : Run) (bytes : List ℕ) : Type 0 where
   pub short : length bytes ≤ longest_line
   pub within : run.read + length bytes ≤ longest_schedule
 
--- whatever follows: a run that has printed out, with bytes to come, does the same as one that has printed
--- new_out, with left to come
-pub record GoesOn (out : List ℕ) (run : Run) (bytes new_out : List ℕ) (new_run : Run) (left : List ℕ) : Type 0 where
+-- whatever follows: a run that has printed out, with bytes to come, does the same as one that has
+-- printed new_out, with left to come
+pub record GoesOn
+    (out : List ℕ) (run : Run) (bytes new_out : List ℕ) (new_run : Run) (left : List ℕ) : Type 0 where
   pub printed_same : (ended : Bool) (more : List ℕ) →
-      out ++ printed ended run (parts_of (bytes ++ more)) ≡ new_out ++ printed ended new_run (parts_of (left ++ more))
+      out ++ printed ended run (parts_of (bytes ++ more))
+      ≡ new_out ++ printed ended new_run (parts_of (left ++ more))
   pub ran_same : (ended : Bool) (more : List ℕ) →
       ran ended run (parts_of (bytes ++ more)) ≡ ran ended new_run (parts_of (left ++ more))

@@ -12,7 +12,8 @@ use Rattle.schedule_text.specs.Deeds.{refused_line, end_line}
 use Rattle.schedule_text.specs.Lines.{step_of}
 use Rattle.replay_run.specs.Settling.{after_event, close_lines, settled}
 
--- a run so far: the agent, how many lines were run, how many bytes they had, and why the next one was refused
+-- a run so far: the agent, how many lines were run, how many bytes they had, and why the next one was
+-- refused; the refused line is counted, and its bytes are not
 pub record Run : Type 0 where
   pub agent : State
   pub line : ℕ
@@ -52,7 +53,7 @@ abbrev pub happened : Happening → ℕ → Run → Turned
 happened event size run =
     let state = after_event run.agent event in
     record {
-      run = record run { agent = (settled state).agent; line = suc run.line; read = run.read + size };
+      run = record (counted size run) { agent = (settled state).agent };
       output = close_lines state.closes ++ (settled state).output;
     }
 
@@ -66,8 +67,10 @@ abbrev pub step_turned : Step → ℕ → Run → Turned
 step_turned Skip size run = skipped size run
 step_turned (Join Clients) size run = happened (Joined Clients) size run
 step_turned (Join Children) size run = refuse Word run
-step_turned (Hear port bytes) size run = at_port (find_port port run.agent.ports) (Heard port bytes) size run
-step_turned (End port) size run = at_port (find_port port run.agent.ports) (Ended port) size run
+step_turned (Hear port bytes) size run =
+    at_port (find_port port run.agent.ports) (Heard port bytes) size run
+step_turned (End port) size run =
+    at_port (find_port port run.agent.ports) (Ended port) size run
 step_turned (At moment) size run = refuse Word run
 step_turned (Hold port) size run = refuse Word run
 step_turned (Free port) size run = refuse Word run
@@ -109,14 +112,17 @@ abbrev pub last_turned : List ℕ → Run → Turned
 last_turned [] run = unturned run
 last_turned (byte ∷ bytes) run = turned (byte ∷ bytes) (length (byte ∷ bytes)) run
 
--- a line that begins with these bytes, the last of which is this byte of the schedule, is too long however it goes on
+-- a line that begins with these bytes, the last of which is this byte of the schedule, is too long
+-- however it goes on
 abbrev pub is_too_long : ℕ → List ℕ → Bool
 is_too_long end bytes = nat_lt longest_line (length bytes) || nat_lt longest_schedule end
 
 -- the front of a line brings nothing but its refusal
 abbrev pub begun_turned : List ℕ → Run → Turned
 begun_turned bytes run =
-    if is_too_long (run.read + length bytes) bytes then turned bytes (length bytes) run else unturned run
+    if is_too_long (run.read + length bytes) bytes
+    then turned bytes (length bytes) run
+    else unturned run
 
 -- the last part of a text, where the schedule ends there, or where it goes on
 abbrev pub part_turned : Bool → List ℕ → Run → Turned

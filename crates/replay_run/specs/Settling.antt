@@ -25,7 +25,8 @@ close_lines (port ∷ ports) = close_line port ++ close_lines ports
 
 -- what a taking prints: the bytes, and then the ports that were closed by it
 abbrev pub delivery_lines : ℕ → State → List ℕ
-delivery_lines port state = to_line port (owed_at port state.ports) ++ close_lines (delivered port state).closes
+delivery_lines port state =
+    to_line port (owed_at port state.ports) ++ close_lines (delivered port state).closes
 
 -- the state that a settling leaves, and what it prints
 pub record Settled : Type 0 where
@@ -39,7 +40,8 @@ after_output output settling = record settling { output = output ++ settling.out
 -- one taking of the next port, where there is one, and then what follows later
 abbrev pub settled_from : (State → Settled) → State → Option ℕ → Settled
 settled_from later state None = record { agent = state; output = [] }
-settled_from later state (Some port) = after_output (delivery_lines port state) (later (delivered port state))
+settled_from later state (Some port) =
+    after_output (delivery_lines port state) (later (delivered port state))
 
 -- at most so many takings, each of the open port of the least number that is owed bytes
 abbrev pub settled_by : ℕ → State → Settled

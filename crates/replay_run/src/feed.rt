@@ -1,5 +1,6 @@
 // A run that is fed with pieces.
-ghost use Rattle.std.specs.Prelude.{◌≡◌, ◌∷◌, [], ◌++◌, ◌≤◌, ◌+◌, MatchOption, None, true, OnErr, OnOk, length};
+ghost use Rattle.std.specs.Prelude.{◌≡◌, ◌∷◌, [], ◌++◌, ◌≤◌, ◌+◌, length, true};
+ghost use Rattle.std.specs.Prelude.{MatchOption, None, OnErr, OnOk};
 ghost use Rattle.std.specs.Io.KnownBytes.{Appends};
 ghost use Rattle.world_ports.specs.Causes.{HasCause};
 ghost use Rattle.replay_run.specs.Claims.{Finishes, end_of};
@@ -55,10 +56,12 @@ impl Feed {
     fn end_line(&mut self, alloc: Global, line: &[u8]) -> Result<(), CoreMemory>
         requires ready { IsReady self.old }
         requires part { HasNoLf line.now }
-        ensures goes { OnOk result (GoesOn self.old.out self.old.run (self.old.pending ++ (line.now ++ 10 ∷ []))
+        ensures goes { OnOk result (GoesOn
+            self.old.out self.old.run (self.old.pending ++ (line.now ++ 10 ∷ []))
             self.new.out self.new.run self.new.pending) }
         ensures ready { OnOk result (self.new.run.refused ≡ None → IsReady self.new) }
-        ensures size { OnOk result (self.new.run.refused ≡ None → fed_so_far self.new ≡ fed_so_far self.old + length (line.now ++ 10 ∷ [])) }
+        ensures size { OnOk result (self.new.run.refused ≡ None →
+            fed_so_far self.new ≡ fed_so_far self.old + length (line.now ++ 10 ∷ [])) }
     {
         if self.pending.as_slice().is_empty() {
             let size = line.len() as u64 + 1;
@@ -78,7 +81,8 @@ impl Feed {
         ensures goes { OnOk result (GoesOn self.old.out self.old.run (self.old.pending ++ front.now)
             self.new.out self.new.run self.new.pending) }
         ensures ready { OnOk result (self.new.run.refused ≡ None → IsReady self.new) }
-        ensures size { OnOk result (self.new.run.refused ≡ None → fed_so_far self.new ≡ fed_so_far self.old + length front.now) }
+        ensures size { OnOk result (self.new.run.refused ≡ None →
+            fed_so_far self.new ≡ fed_so_far self.old + length front.now) }
     {
         self.pending.extend_from_slice(front)?;
         let size = self.pending.as_slice().len();
@@ -90,9 +94,11 @@ impl Feed {
 
     // Writes what was printed.
     fn write_out<O: Sink>(&mut self, output: &mut O) -> Result<(), Fault>
-        ensures ok { OnOk result (Appends (O.written output.old) (O.written output.new) self.old.out) }
+        ensures ok { OnOk result
+            (Appends (O.written output.old) (O.written output.new) self.old.out) }
         ensures new { OnOk result (self.new ≡ record self.old { out = [] }) }
-        ensures err { OnErr result (WritesSome self.old.out (O.written output.old) (O.written output.new)) }
+        ensures err { OnErr result
+            (WritesSome self.old.out (O.written output.old) (O.written output.new)) }
         ensures cause { HasCause (O.write_faults output.old) (O.write_faults output.new) result }
         ensures taken { O.taken output.new ≡ O.taken output.old }
         ensures left { O.left output.new ≡ O.left output.old }
@@ -105,11 +111,13 @@ impl Feed {
         Ok(())
     }
 
-    // Ends the run where its last line was refused. Else writes what was printed, where that is more than `most` bytes.
+    // Ends the run where its last line was refused. Else writes what was printed, where that is more
+    // than `most` bytes.
     fn look_back<O: Sink>(&mut self, most: usize, output: &mut O) -> Option<RunEnd>
         requires ready { self.old.run.refused ≡ None → IsReady self.old }
         ensures feeds { MatchOption result
-            (GoesOnFed self.old [] self.new (O.written output.old) (O.written output.new) × (length self.new.out ≤ most))
+            (GoesOnFed self.old [] self.new (O.written output.old) (O.written output.new)
+            × (length self.new.out ≤ most))
             (λ end. Halts end self.old [] (O.written output.old) (O.written output.new)
             (O.write_faults output.old) (O.write_faults output.new)) }
         ensures later { O.write_faults output.old ≤ O.write_faults output.new }
@@ -138,8 +146,11 @@ impl Feed {
         requires ready { IsReady self.old }
         requires part { HasNoLf line.now }
         ensures feeds { MatchOption result
-            (GoesOnFed self.old (line.now ++ 10 ∷ []) self.new (O.written output.old) (O.written output.new) × (length self.new.out ≤ 65536))
-            (λ end. Halts end self.old (line.now ++ 10 ∷ []) (O.written output.old) (O.written output.new)
+            (GoesOnFed self.old (line.now ++ 10 ∷ []) self.new
+            (O.written output.old) (O.written output.new)
+            × (length self.new.out ≤ 65536))
+            (λ end. Halts end self.old (line.now ++ 10 ∷ [])
+            (O.written output.old) (O.written output.new)
             (O.write_faults output.old) (O.write_faults output.new)) }
         ensures later { O.write_faults output.old ≤ O.write_faults output.new }
         ensures taken { O.taken output.new ≡ O.taken output.old }
@@ -157,7 +168,8 @@ impl Feed {
         requires ready { IsReady self.old }
         requires part { HasNoLf front.now }
         ensures feeds { MatchOption result
-            (GoesOnFed self.old front.now self.new (O.written output.old) (O.written output.new) × (length self.new.out ≤ 0))
+            (GoesOnFed self.old front.now self.new (O.written output.old) (O.written output.new)
+            × (length self.new.out ≤ 0))
             (λ end. Halts end self.old front.now (O.written output.old) (O.written output.new)
             (O.write_faults output.old) (O.write_faults output.new)) }
         ensures later { O.write_faults output.old ≤ O.write_faults output.new }
@@ -180,7 +192,8 @@ impl Feed {
     ) -> Option<RunEnd>
         requires ready { IsReady self.old }
         ensures feeds { MatchOption result
-            (GoesOnFed self.old piece.now self.new (O.written output.old) (O.written output.new) × (length self.new.out ≤ 0))
+            (GoesOnFed self.old piece.now self.new (O.written output.old) (O.written output.new)
+            × (length self.new.out ≤ 0))
             (λ end. Halts end self.old piece.now (O.written output.old) (O.written output.new)
             (O.write_faults output.old) (O.write_faults output.new)) }
         ensures later { O.write_faults output.old ≤ O.write_faults output.new }
@@ -202,7 +215,8 @@ impl Feed {
     fn run_pending(&mut self, alloc: Global) -> Result<(), CoreMemory>
         requires ready { IsReady self.old }
         ensures run { OnOk result (self.new.run ≡ (last_turned self.old.pending self.old.run).run) }
-        ensures out { OnOk result (self.new.out ≡ self.old.out ++ (last_turned self.old.pending self.old.run).output) }
+        ensures out { OnOk result (self.new.out
+            ≡ self.old.out ++ (last_turned self.old.pending self.old.run).output) }
     {
         if self.pending.as_slice().is_empty() {
             return Ok(());
@@ -214,7 +228,8 @@ impl Feed {
     // Prints `end`, unless the run was refused.
     fn put_end(&mut self) -> Result<(), CoreMemory>
         ensures run { OnOk result (self.new.run ≡ self.old.run) }
-        ensures out { OnOk result (self.new.out ≡ self.old.out ++ ending true self.old.run.refused) }
+        ensures out { OnOk result
+            (self.new.out ≡ self.old.out ++ ending true self.old.run.refused) }
     {
         if self.run.refused().is_none() {
             put_deed(&mut self.out, &Deed::End)?;

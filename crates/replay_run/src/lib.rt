@@ -1,5 +1,5 @@
-//! The run of a schedule: lines of events are read from a source, run by the agent's core, and what they bring is
-//! written to a sink. The format is this repository's own: docs/PROTOCOL.md, "Schedules".
+//! The run of a schedule: lines of events are read from a source, run by the agent's core, and what
+//! they bring is written to a sink. The format is this repository's own: docs/PROTOCOL.md, "Schedules".
 //! Stands on agent_core, schedule_text and world_ports.
 #![tactic(auto)]
 

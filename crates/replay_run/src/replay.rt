@@ -4,7 +4,8 @@ ghost use Rattle.agent_core.specs.Happenings.{happening};
 ghost use Rattle.agent_core.specs.State.{IsOpen, find_port};
 ghost use Rattle.agent_core.specs.Step.{Fits};
 ghost use Rattle.replay_run.specs.Counts.{HearsSome, IsCounted};
-ghost use Rattle.replay_run.specs.Replay.{start_run, skipped, refuse, happened, at_port, step_turned, turned, longest_schedule};
+ghost use Rattle.replay_run.specs.Replay.{start_run, longest_schedule, turned, step_turned};
+ghost use Rattle.replay_run.specs.Replay.{refuse, happened, at_port};
 
 use crate::limits::LONGEST_SCHEDULE;
 use crate::settle::{run_event, settle};
@@ -28,7 +29,12 @@ impl Model for Replay {
 
     ghost Value = { Run };
 
-    ghost view = { λ r. record { agent = r.agent; line = r.line; read = r.read; refused = r.refused } };
+    ghost view = { λ r. record {
+      agent = r.agent;
+      line = r.line;
+      read = r.read;
+      refused = r.refused;
+    } };
 }
 
 impl Replay {
@@ -76,7 +82,8 @@ impl Replay {
         requires some { 0 < size }
         requires fits { size + self.old.read < 2 ^ 64 }
         ensures run { OnOk result (self.new ≡ (turned line.now size self.old).run) }
-        ensures out { OnOk result (out.new.items ≡ out.old.items ++ (turned line.now size self.old).output) }
+        ensures out { OnOk result
+            (out.new.items ≡ out.old.items ++ (turned line.now size self.old).output) }
     {
         if self.read + size > LONGEST_SCHEDULE {
             return self.refuse(LineFault::TooLong, out);
@@ -94,7 +101,8 @@ impl Replay {
         requires within { self.old.read + size ≤ longest_schedule }
         requires hears { HearsSome step.now }
         ensures run { OnOk result (self.new ≡ (step_turned step.now size self.old).run) }
-        ensures out { OnOk result (out.new.items ≡ out.old.items ++ (step_turned step.now size self.old).output) }
+        ensures out { OnOk result (out.new.items ≡ out.old.items
+            ++ (step_turned step.now size self.old).output) }
     {
         match step {
             Step::Skip => {
@@ -123,9 +131,12 @@ impl Replay {
         requires counted { IsCounted self.old }
         requires some { 0 < size }
         requires within { self.old.read + size ≤ longest_schedule }
-        requires fits { IsOpen port self.old.agent.ports → Fits (happening event.now) self.old.agent }
-        ensures run { OnOk result (self.new ≡ (at_port (find_port port self.old.agent.ports) (happening event.now) size self.old).run) }
-        ensures out { OnOk result (out.new.items ≡ out.old.items ++ (at_port (find_port port self.old.agent.ports) (happening event.now) size self.old).output) }
+        requires fits { IsOpen port self.old.agent.ports →
+            Fits (happening event.now) self.old.agent }
+        ensures run { OnOk result (self.new ≡ (at_port
+            (find_port port self.old.agent.ports) (happening event.now) size self.old).run) }
+        ensures out { OnOk result (out.new.items ≡ out.old.items ++ (at_port
+            (find_port port self.old.agent.ports) (happening event.now) size self.old).output) }
     {
         if !self.agent.is_port(port) {
             return self.refuse(LineFault::UnknownPort, out);
@@ -140,7 +151,8 @@ impl Replay {
         requires within { self.old.read + size ≤ longest_schedule }
         requires fits { Fits (happening event.now) self.old.agent }
         ensures run { OnOk result (self.new ≡ (happened (happening event.now) size self.old).run) }
-        ensures out { OnOk result (out.new.items ≡ out.old.items ++ (happened (happening event.now) size self.old).output) }
+        ensures out { OnOk result (out.new.items ≡ out.old.items
+            ++ (happened (happening event.now) size self.old).output) }
     {
         run_event(&mut self.agent, event, out)?;
         settle(&mut self.agent, out)?;
@@ -154,7 +166,8 @@ impl Replay {
         requires counted { IsCounted self.old }
         ensures fault { OnOk result (fault ≢ LineFault.Memory) }
         ensures run { OnOk result (self.new ≡ (refuse fault self.old).run) }
-        ensures out { OnOk result (out.new.items ≡ out.old.items ++ (refuse fault self.old).output) }
+        ensures out { OnOk result
+            (out.new.items ≡ out.old.items ++ (refuse fault self.old).output) }
     {
         match fault {
             LineFault::Memory => Err(CoreMemory),
@@ -167,7 +180,8 @@ impl Replay {
         requires counted { IsCounted self.old }
         requires printable { fault ≢ LineFault.Memory }
         ensures run { OnOk result (self.new ≡ (refuse fault self.old).run) }
-        ensures out { OnOk result (out.new.items ≡ out.old.items ++ (refuse fault self.old).output) }
+        ensures out { OnOk result
+            (out.new.items ≡ out.old.items ++ (refuse fault self.old).output) }
     {
         self.line += 1;
         self.refused = Some(fault);

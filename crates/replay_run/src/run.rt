@@ -105,8 +105,9 @@ fn run_rounds<I: Source, O: Sink>(
 
 /// Runs the schedule that the source gives, and writes to the sink what it prints.
 ///
-/// Lines are run as they are read, and what they print is written before the next read. A line may have 65536 bytes
-/// and a schedule 268435456. Reading stops at the first refused line, and nothing is written after a failed write.
+/// Lines are run as they are read, and what they print is written before the next read. A line may
+/// have 65536 bytes and a schedule 268435456. Reading stops at the first refused line, and nothing is
+/// written after a failed write.
 pub fn run_replay<I: Source, O: Sink>(alloc: Global, input: &mut I, output: &mut O) -> RunEnd
     ensures ends { Ends result
         (record {

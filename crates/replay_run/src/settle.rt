@@ -3,7 +3,8 @@ ghost use Rattle.std.specs.Prelude.{◌≡◌, ◌++◌, OnOk, Some, ◌∷◌};
 ghost use Rattle.agent_core.specs.Happenings.{happening};
 ghost use Rattle.agent_core.specs.State.{IsRising, next_owed};
 ghost use Rattle.agent_core.specs.Step.{Fits};
-ghost use Rattle.replay_run.specs.Settling.{after_event, close_lines, delivered, delivery_lines, settled};
+ghost use Rattle.replay_run.specs.Settling.{after_event, close_lines, settled};
+ghost use Rattle.replay_run.specs.Settling.{delivered, delivery_lines};
 
 use agent_core::{Agent, CoreMemory, Event};
 use schedule_text::{Deed, put_deed};
@@ -26,7 +27,8 @@ fn put_closes(closes: &[u64], out: &mut Vec<u8>) -> Result<(), CoreMemory>
 pub fn run_event(agent: &mut Agent, event: &Event<'_>, out: &mut Vec<u8>) -> Result<(), CoreMemory>
     requires { Fits (happening event.now) agent.old }
     ensures agent { OnOk result (agent.new ≡ after_event agent.old (happening event.now)) }
-    ensures out { OnOk result (out.new.items ≡ out.old.items ++ close_lines (after_event agent.old (happening event.now)).closes) }
+    ensures out { OnOk result (out.new.items ≡ out.old.items
+        ++ close_lines (after_event agent.old (happening event.now)).closes) }
 {
     agent.step(START, event)?;
     put_closes(agent.closes(), out)

@@ -8,7 +8,8 @@ use world_ports::{Fault, Sink};
 
 // Writes all bytes, in as many calls as the sink wants. Nothing is written after a failed call.
 pub fn write_all<O: Sink>(bytes: &[u8], output: &mut O) -> Result<(), Fault>
-    ensures writes { MatchResult result (λ _. Appends (O.written output.old) (O.written output.new) bytes.now)
+    ensures writes { MatchResult result
+        (λ _. Appends (O.written output.old) (O.written output.new) bytes.now)
         (λ _. WritesSome bytes.now (O.written output.old) (O.written output.new)) }
     ensures cause { HasCause (O.write_faults output.old) (O.write_faults output.new) result }
     ensures taken { O.taken output.new ≡ O.taken output.old }
