@@ -43,6 +43,7 @@ number_read (Some found) terms after rest read =
     let same : whole ≡ (after, rest) = cc in
     (found.0, ap (λ (x : Terms × List ℕ). Some (found.0, x.1)) same, ap (λ (x : Terms × List ℕ). x.0) (sym same))
 
+-- a lifetime is read from its contents
 lifetime_is : (terms : Terms) (bytes : List ℕ) (after : Terms) (rest : List ℕ) → IsBytes bytes →
     new_contents_at terms (Lifetime, bytes) ≡ Ok (after, rest) → IsNext terms (1 ∷ bytes) after rest
 unfolding contents_at
@@ -59,6 +60,7 @@ lifetime_is terms bytes after rest small read =
       added = number.2;
     }
 
+-- confirmation is read from no contents
 confirm_is : (terms : Terms) (bytes : List ℕ) (after : Terms) (rest : List ℕ) → IsBytes bytes →
     new_contents_at terms (Confirm, bytes) ≡ Ok (after, rest) → IsNext terms (2 ∷ bytes) after rest
 unfolding contents_at
@@ -75,6 +77,7 @@ confirm_is terms bytes after rest small read =
       added = ap (λ (x : Terms × List ℕ). x.0) (sym same);
     }
 
+-- by the byte at the front
 next_by_byte : (terms : Terms) (byte : ℕ) (bytes : List ℕ) (after : Terms) (rest : List ℕ) (is_one is_two : Bool) →
     eqb byte 1 ≡ is_one → eqb byte 2 ≡ is_two → IsBytes bytes →
     (cond is_one (Ok (Lifetime, bytes)) (cond is_two (Ok (Confirm, bytes)) (Err Unknown)) >>= new_contents_at terms) ≡ Ok (after, rest) →

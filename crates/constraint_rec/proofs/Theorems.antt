@@ -28,6 +28,7 @@ pub goes_on-start : (bytes : List ℕ) → GoesOn (terms_of bytes) no_terms byte
 unfolding terms_of
 goes_on-start bytes = record { count = length bytes; enough = omega arith; same = refl }
 
+-- where bytes are left, one more constraint is read
 one_more : (count : ℕ) (whole : Result Terms TermFault) (terms : Terms) (left : List ℕ) (next : Result (Terms × List ℕ) TermFault) →
     length left ≤ count → left ≢ [] → whole ≡ terms_up_to count terms left → next_at terms left ≡ next →
     (before : ℕ) × (length left ≤ suc before) × (whole ≡ (next >>= λ read. terms_up_to before read.0 read.1))
@@ -50,6 +51,7 @@ pub goes_on-fault : (whole : Result Terms TermFault) (terms : Terms) (left : Lis
 goes_on-fault whole terms left fault so_far some read =
     (one_more so_far.count whole terms left (Err fault) so_far.enough some so_far.same read).2
 
+-- no bytes are no constraints
 none_left : (count : ℕ) (terms : Terms) → terms_up_to count terms [] ≡ Ok terms
 unfolding terms_up_to
 none_left zero terms = refl
@@ -69,16 +71,19 @@ pub record AreRead (terms : Terms) (bytes : List ℕ) (after : Terms) : Type 0 w
   pub readable : AreReadable terms items
   pub values : after ≡ with_items terms items
 
+-- what is read in the end was read first
 read_is : (next : Result (Terms × List ℕ) TermFault) (count : ℕ) (after : Terms) →
     (next >>= λ read. terms_up_to count read.0 read.1) ≡ Ok after →
     (read : Terms × List ℕ) × (next ≡ Ok read) × (terms_up_to count read.0 read.1 ≡ Ok after)
 read_is (Ok read) count after all = (read, refl, all)
 read_is (Err fault) count after all = absurd cc
 
+-- a constraint takes a byte at least
 some_text : (item : Item) → 1 ≤ length (item_text item)
 some_text (Life seconds) = omega arith
 some_text Confirmation = omega arith
 
+-- by the number of constraints
 are_read : (count : ℕ) (terms : Terms) (bytes : List ℕ) (after : Terms) → IsBytes bytes → length bytes ≤ count →
     terms_up_to count terms bytes ≡ Ok after → AreRead terms bytes after
 unfolding terms_up_to
@@ -116,16 +121,19 @@ has_kind-with terms (Life seconds) Confirmation = refl
 has_kind-with terms Confirmation (Life others) = refl
 has_kind-with terms Confirmation Confirmation = refl
 
+-- constraints that are alike have one kind
 alike_kinds : (item other : Item) → is_alike item other ≡ true → kind_of item ≡ kind_of other
 alike_kinds (Life seconds) (Life others) same = refl
 alike_kinds (Life seconds) Confirmation same = absurd cc
 alike_kinds Confirmation (Life others) same = absurd cc
 alike_kinds Confirmation Confirmation same = refl
 
+-- a constraint is like itself
 alike_itself : (item : Item) → is_alike item item ≡ true
 alike_itself (Life seconds) = refl
 alike_itself Confirmation = refl
 
+-- one more constraint of a new kind counts once
 counted : (terms : Terms) (first item : Item) (items : List Item) (is : Bool) → is_alike item first ≡ is →
     has_kind terms (kind_of first) ≡ false → had (with_item terms first) item + alike item items ≤ 1 →
     had terms item + alike item (first ∷ items) ≤ 1
@@ -139,6 +147,7 @@ counted terms first item items false same is_new once =
     has_kind-with terms item first ∙ ap (λ (b : Bool). b || has_kind terms (kind_of item)) same in
     rw same (rw both at once)
 
+-- each kind counts once
 once_each : (items : List Item) (terms : Terms) → AreReadable terms items → (item : Item) → had terms item + alike item items ≤ 1
 once_each [] terms readable item = at_most (has_kind terms (kind_of item))
   where
@@ -148,6 +157,7 @@ once_each [] terms readable item = at_most (has_kind terms (kind_of item))
 once_each (first ∷ items) terms readable item =
     counted terms first item items (is_alike item first) refl readable.1 (once_each items (with_item terms first) readable.2 item)
 
+-- each constraint fits its fields
 fit_each : (items : List Item) (terms : Terms) → AreReadable terms items → All IsItem items
 fit_each [] terms readable = λ k d inside. absurd (omega arith)
 fit_each (first ∷ items) terms readable = All-cons IsItem first items readable.0 (fit_each items (with_item terms first) readable.2)
@@ -167,6 +177,7 @@ terms_are_found bytes terms small read =
 
 -- ---- constraints are read
 
+-- without the first one, each kind still counts once
 counted_back : (terms : Terms) (first item : Item) (items : List Item) (is has : Bool) → is_alike item first ≡ is →
     has_kind terms (kind_of item) ≡ has →
     had terms item + alike item (first ∷ items) ≤ 1 → had (with_item terms first) item + alike item items ≤ 1
@@ -179,11 +190,13 @@ counted_back terms first item items false has same had_it once =
     has_kind-with terms item first ∙ ap (λ (b : Bool). b || has_kind terms (kind_of item)) same in
     rw both (rw same at once)
 
+-- the terms have no kind that is still to be read
 is_first : (terms : Terms) (first : Item) (items : List Item) (has : Bool) → has_kind terms (kind_of first) ≡ has →
     had terms first + alike first (first ∷ items) ≤ 1 → has ≡ false
 is_first terms first items true has once = absurd (omega (arith, rw (has, alike_itself first) at once))
 is_first terms first items false has once = refl
 
+-- constraints that fit and come once can be read
 readable_each : (items : List Item) (terms : Terms) → All IsItem items → ((item : Item) → had terms item + alike item items ≤ 1) → AreReadable terms items
 readable_each [] terms fit once = tt
 readable_each (first ∷ items) terms fit once = (
@@ -193,6 +206,7 @@ readable_each (first ∷ items) terms fit once = (
       (λ item. counted_back terms first item items (is_alike item first) (has_kind terms (kind_of item)) refl refl (once item)),
 )
 
+-- constraints that can be read are read
 all_read : (items : List Item) (count : ℕ) (terms : Terms) → length (flat_map item_text items) ≤ count → AreReadable terms items →
     terms_up_to count terms (flat_map item_text items) ≡ Ok (with_items terms items)
 all_read [] count terms enough readable = none_left count terms

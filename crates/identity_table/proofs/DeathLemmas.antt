@@ -8,12 +8,14 @@ use Rattle.identity_table.specs.Identities.{HeldKey, alive_at, next_death}
 
 -- ---- the earlier of several
 
+-- of three, the order of comparing makes no difference
 pub earlier-assoc : (a b c : Option ℕ) → earlier (earlier a b) c ≡ earlier a (earlier b c)
 earlier-assoc None b c = refl
 earlier-assoc (Some a) None c = refl
 earlier-assoc (Some a) (Some b) None = refl
 earlier-assoc (Some a) (Some b) (Some c) = ap (λ (n : ℕ). Some n) (omega arith)
 
+-- none is later than all
 pub earlier-none : (a : Option ℕ) → earlier a None ≡ a
 earlier-none None = refl
 earlier-none (Some a) = refl
@@ -26,6 +28,7 @@ pub next_death-more : (keys : List HeldKey) (i : ℕ) (default : HeldKey) → i 
 unfolding next_death
 next_death-more keys i default inside = ap next_death (drop_more keys i default inside)
 
+-- behind the last is none
 pub next_death-end : (keys : List HeldKey) (i : ℕ) → length keys ≤ i → next_death (drop i keys) ≡ None
 unfolding next_death
 next_death-end keys i past = ap next_death (drop_all i keys past)
@@ -37,16 +40,19 @@ abbrev pub IsAhead : ℕ → Option ℕ → Type 0
 IsAhead now None = Unit {0}
 IsAhead now (Some death) = now < death
 
+-- where the earlier is still to come, both are
 both_ahead : (now : ℕ) (a b : Option ℕ) → IsAhead now (earlier a b) → IsAhead now a × IsAhead now b
 both_ahead now None b ahead = (tt, ahead)
 both_ahead now (Some a) None ahead = (ahead, tt)
 both_ahead now (Some a) (Some b) ahead = (omega arith, omega arith)
 
+-- the same by the test of the clock
 lives_by : (now death : ℕ) (reached : Bool) → ltb death (2 ^ 64) ≡ reached → now < 2 ^ 64 →
     IsAhead now (cond reached (Some death) None) → ltb now death ≡ true
 lives_by now death true reached small ahead = (Decides-ltb now death).1 ahead
 lives_by now death false reached small ahead = (Decides-ltb now death).1 (omega (arith, ltb-false _ _ reached))
 
+-- where a death on the clock is still to come, the identity is alive
 lives : (now : ℕ) (death : Option ℕ) → now < 2 ^ 64 → IsAhead now (on_clock death) → lives_at now death ≡ true
 lives now None small ahead = refl
 lives now (Some death) small ahead = lives_by now death (ltb death (2 ^ 64)) refl small ahead
@@ -69,6 +75,7 @@ first_goes_on keys i first key inside is so_far =
     ∙ ap (earlier first) (ap (λ (k : HeldKey). earlier (on_clock k.death) rest) is ∙ sym (next_death-more keys i key inside))
     ∙ so_far
 
+-- behind the last, it is that of all
 pub first_ends : (keys : List HeldKey) (i : ℕ) (first : Option ℕ) → length keys ≤ i →
     earlier first (next_death (drop i keys)) ≡ next_death keys → first ≡ next_death keys
 first_ends keys i first past so_far =

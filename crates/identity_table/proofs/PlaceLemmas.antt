@@ -11,17 +11,25 @@ use Rattle.identity_table.specs.Places.{IsPlaceOf, IsPlaceOfNumber, taken_by}
 
 -- ---- the tests
 
+-- equal texts pass the test
 pub same_bytes : (a b : List ℕ) → a ≡ b → bytes_eq a b ≡ true
 same_bytes a b same = (bytes_eq-Decides a b).1 same
 
+-- different texts do not
 pub other_bytes : (a b : List ℕ) → a ≢ b → bytes_eq a b ≡ false
 other_bytes a b differ = false_from_ne_true (bytes_eq a b) (λ e. differ ((bytes_eq-Decides a b).0 e))
 
+-- different numbers do not
 other_numbers : (a b : ℕ) → a ≢ b → eqb a b ≡ false
 other_numbers a b differ = false_from_ne_true (eqb a b) (λ e. differ (eqb-true a b e))
 
+-- texts that pass the test are equal
+pub equal : (a b : List ℕ) → bytes_eq a b ≡ true → a ≡ b
+equal a b same = (bytes_eq-Decides a b).0 same
+
 -- ---- one place on
 
+-- behind the first identity the place is one less
 later : (blob : List ℕ) (key : HeldKey) (keys : List HeldKey) (place : ℕ) → IsPlaceOf blob (key ∷ keys) (suc place) → IsPlaceOf blob keys place
 later blob key keys place at = record {
   within = omega (arith, at.within);
@@ -29,6 +37,7 @@ later blob key keys place at = record {
   before = λ k default earlier. at.before (suc k) default (omega (arith, earlier));
 }
 
+-- the same for numbers
 later_number : (number : ℕ) (key : HeldKey) (keys : List HeldKey) (place : ℕ) → IsPlaceOfNumber number (key ∷ keys) (suc place) → IsPlaceOfNumber number keys place
 later_number number key keys place at = record {
   within = omega (arith, at.within);
@@ -38,6 +47,7 @@ later_number number key keys place at = record {
 
 -- ---- at a place
 
+-- the blob finds what stands there
 pub find_identity-at : (blob : List ℕ) (keys : List HeldKey) (place : ℕ) (default : HeldKey) → IsPlaceOf blob keys place →
     find_identity blob keys ≡ Some (get_or keys place default)
 unfolding find_identity
@@ -46,6 +56,7 @@ find_identity-at blob (key ∷ keys) zero default at = rw (same_bytes key.blob b
 find_identity-at blob (key ∷ keys) (suc place) default at =
     rw (other_bytes key.blob blob (at.before 0 default (omega arith))) (find_identity-at blob keys place default (later blob key keys place at))
 
+-- the number finds what stands there
 pub find_number-at : (number : ℕ) (keys : List HeldKey) (place : ℕ) (default : HeldKey) → IsPlaceOfNumber number keys place →
     find_number number keys ≡ Some (get_or keys place default)
 unfolding find_number
@@ -54,6 +65,7 @@ find_number-at number (key ∷ keys) zero default at = rw (eq-eqb key.number num
 find_number-at number (key ∷ keys) (suc place) default at =
     rw (other_numbers key.number number (at.before 0 default (omega arith))) (find_number-at number keys place default (later_number number key keys place at))
 
+-- the identity is put there
 pub put_identity-at : (new : HeldKey) (keys : List HeldKey) (place : ℕ) → IsPlaceOf new.blob keys place →
     put_identity new keys ≡ set keys place new
 unfolding put_identity
@@ -63,6 +75,7 @@ put_identity-at new (key ∷ keys) (suc place) at =
     rw (other_bytes key.blob new.blob (at.before 0 key (omega arith)))
     (ap (λ (rest : List HeldKey). key ∷ rest) (put_identity-at new keys place (later new.blob key keys place at)))
 
+-- what stands there is removed
 pub remove_identity-at : (blob : List ℕ) (keys : List HeldKey) (place : ℕ) → IsPlaceOf blob keys place →
     remove_identity blob keys ≡ remove keys place
 unfolding remove_identity
@@ -74,6 +87,7 @@ remove_identity-at blob (key ∷ keys) (suc place) at =
 
 -- ---- at none
 
+-- where no identity has the blob, it finds none
 pub find_identity-none : (blob : List ℕ) (keys : List HeldKey) → ((k : ℕ) (default : HeldKey) → k < length keys → (get_or keys k default).blob ≢ blob) →
     find_identity blob keys ≡ None
 unfolding find_identity
@@ -81,6 +95,7 @@ find_identity-none blob [] all = refl
 find_identity-none blob (key ∷ keys) all =
     rw (other_bytes key.blob blob (all 0 key (omega arith))) (find_identity-none blob keys (λ k default inside. all (suc k) default (omega (arith, inside))))
 
+-- where no identity has the number, it finds none
 pub find_number-none : (number : ℕ) (keys : List HeldKey) → ((k : ℕ) (default : HeldKey) → k < length keys → (get_or keys k default).number ≢ number) →
     find_number number keys ≡ None
 unfolding find_number
@@ -88,6 +103,7 @@ find_number-none number [] all = refl
 find_number-none number (key ∷ keys) all =
     rw (other_numbers key.number number (all 0 key (omega arith))) (find_number-none number keys (λ k default inside. all (suc k) default (omega (arith, inside))))
 
+-- what is none is neither the first nor a later one
 pub some_or_later : (is : Bool) (key : HeldKey) (found : Option HeldKey) → cond is (Some key) found ≡ None → (is ≡ false) × (found ≡ None)
 some_or_later true key found none = absurd cc
 some_or_later false key found none = (refl, none)
@@ -138,6 +154,7 @@ unfolding entries_len
 entries_len-more keys i key inside is =
     ap entries_len (drop_more keys i key inside) ∙ ap (λ (k : HeldKey). entry_len k + entries_len (drop (i + 1) keys)) (sym is)
 
+-- behind the last are none
 pub entries_len-end : (keys : List HeldKey) (i : ℕ) → length keys ≤ i → entries_len (drop i keys) ≡ 0
 unfolding entries_len
 entries_len-end keys i past = ap entries_len (drop_all i keys past)

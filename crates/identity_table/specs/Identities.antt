@@ -70,7 +70,7 @@ entries_len (key ∷ keys) = entry_len key + entries_len keys
 abbrev pub answer_len : List HeldKey → ℕ
 answer_len keys = 5 + entries_len keys
 
--- the longest body of a message (OpenSSH's agent; ours where a list comes to it)
+-- the longest reply that OpenSSH's clients take: 256 KiB (authfd.c, MAX_AGENT_REPLY_LEN)
 abbrev pub max_answer : ℕ
 max_answer = 262144
 

@@ -1,4 +1,4 @@
--- The lock of an agent (draft-miller-ssh-agent, "Locking and unlocking the agent"): the passphrase that opens it,
+-- The lock of an agent (draft-miller-ssh-agent, "Locking and unlocking an agent"): the passphrase that opens it,
 -- or none where it is open.
 use Rattle.std.specs.Prelude.{ℕ, Bool, true, false, List, [], ◌∷◌, Option, Some, None}
 use Rattle.std.specs.Str.{bytes_eq}

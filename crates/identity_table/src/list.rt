@@ -6,7 +6,7 @@ ghost use Rattle.identity_table.specs.Places.{IsPlaceOf, IsPlaceOfNumber, taken_
 use crate::identity::Identity;
 use std::alloc::AllocError;
 
-/// The longest body of an answer.
+// The longest body of an answer: the protocol's clients take no longer one.
 const MAX_ANSWER: usize = 262144;
 
 /// The place of the identity with this blob.
