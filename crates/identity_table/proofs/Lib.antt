@@ -1,0 +1,7 @@
+pub mod PlaceLemmas
+pub mod DeathLemmas
+pub mod FindLemmas
+pub mod NumberLemmas
+pub mod NumberLaws
+pub mod MapLemmas
+pub mod Theorems

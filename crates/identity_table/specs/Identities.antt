@@ -1,0 +1,127 @@
+-- The identities that an agent holds (draft-miller-ssh-agent; OpenSSH's ssh-agent keeps such a list).
+use Rattle.std.specs.Prelude.{◌≡◌, ℕ, ◌+◌, ◌≤◌, Bool, List, [], ◌∷◌, length, filter, Option, Some, None, ◌==◌, if◌then◌else◌}
+use Rattle.std.specs.Str.{bytes_eq}
+use Rattle.constraint_rec.specs.declared.constraint.Constraint.{Constraint}
+use Rattle.constraint_rec.specs.declared.terms.Terms.{Terms}
+use Rattle.key_blob.specs.declared.added.AddedKey.{AddedKey}
+use Rattle.identity_table.specs.Deaths.{death_of, lives_at, on_clock, earlier}
+
+-- an identity: its addition's number, its key, its comment and its constraints
+pub record HeldKey : Type 0 where
+  pub number : ℕ
+  pub blob : List ℕ
+  pub private : List ℕ
+  pub comment : List ℕ
+  pub death : Option ℕ
+  pub confirm : Bool
+  pub rules : List Constraint
+
+-- the identities in order of first addition, the greatest second given, the last number given, and the lifetime
+-- of those that come without one
+pub record TableState : Type 0 where
+  pub identities : List HeldKey
+  pub greatest : ℕ
+  pub last : ℕ
+  pub life : Option ℕ
+
+-- ---- lists of identities
+
+-- the identity with this blob
+unfoldable pub find_identity : List ℕ → List HeldKey → Option HeldKey
+find_identity blob [] = None
+find_identity blob (key ∷ keys) = if bytes_eq key.blob blob then Some key else find_identity blob keys
+
+-- the identity of this addition
+unfoldable pub find_number : ℕ → List HeldKey → Option HeldKey
+find_number number [] = None
+find_number number (key ∷ keys) = if key.number == number then Some key else find_number number keys
+
+-- the identity in place of the one with the same blob, or at the end
+unfoldable pub put_identity : HeldKey → List HeldKey → List HeldKey
+put_identity new [] = new ∷ []
+put_identity new (key ∷ keys) = if bytes_eq key.blob new.blob then new ∷ keys else key ∷ put_identity new keys
+
+-- without the identity with this blob
+unfoldable pub remove_identity : List ℕ → List HeldKey → List HeldKey
+remove_identity blob [] = []
+remove_identity blob (key ∷ keys) = if bytes_eq key.blob blob then keys else key ∷ remove_identity blob keys
+
+-- those whose lifetime has not run out at this second
+unfoldable pub alive_at : ℕ → List HeldKey → List HeldKey
+alive_at second keys = filter (λ key. lives_at second key.death) keys
+
+-- the first second from which one of them is dead, where the clock comes to it
+unfoldable pub next_death : List HeldKey → Option ℕ
+next_death [] = None
+next_death (key ∷ keys) = earlier (on_clock key.death) (next_death keys)
+
+-- ---- the answer that lists them ("Requesting a list of keys")
+
+-- an identity's blob and comment, each a string
+abbrev pub entry_len : HeldKey → ℕ
+entry_len key = 8 + (length key.blob + length key.comment)
+
+-- all of them
+unfoldable pub entries_len : List HeldKey → ℕ
+entries_len [] = 0
+entries_len (key ∷ keys) = entry_len key + entries_len keys
+
+-- the message number, the count, and the identities
+abbrev pub answer_len : List HeldKey → ℕ
+answer_len keys = 5 + entries_len keys
+
+-- the longest reply that OpenSSH's clients take: 256 KiB (authfd.c, MAX_AGENT_REPLY_LEN)
+abbrev pub max_answer : ℕ
+max_answer = 262144
+
+-- ---- what holds of every table
+
+-- no two have one blob
+unfoldable pub HaveOwnBlobs : List HeldKey → Type 0
+HaveOwnBlobs [] = Unit {0}
+HaveOwnBlobs (key ∷ keys) = (find_identity key.blob keys ≡ None) × HaveOwnBlobs keys
+
+-- no two have one number, and none has a later one than the last
+unfoldable pub HaveOwnNumbers : ℕ → List HeldKey → Type 0
+HaveOwnNumbers last [] = Unit {0}
+HaveOwnNumbers last (key ∷ keys) =
+    (key.number ≤ last) × (find_number key.number keys ≡ None) × HaveOwnNumbers last keys
+
+-- each identity has its own blob and its own number, and one message lists them all
+pub record IsSound (keys : List HeldKey) (last : ℕ) : Type 0 where
+  pub blobs : HaveOwnBlobs keys
+  pub numbers : HaveOwnNumbers last keys
+  pub fits : answer_len keys ≤ max_answer
+
+-- ---- additions
+
+-- an identity of these parts
+abbrev pub identity_of : ℕ → AddedKey → List ℕ → Option ℕ → Terms → HeldKey
+identity_of number key comment death terms = record {
+  number = number;
+  blob = key.blob;
+  private = key.private;
+  comment = comment;
+  death = death;
+  confirm = terms.confirm;
+  rules = terms.rules;
+}
+
+-- the identity that an addition at this second makes
+abbrev pub new_identity : TableState → AddedKey → Terms → List ℕ → ℕ → HeldKey
+new_identity table key terms comment now =
+    identity_of (table.last + 1) key comment (death_of now terms.life table.life) terms
+
+-- the identities after it
+abbrev pub identities_with : TableState → AddedKey → Terms → List ℕ → ℕ → List HeldKey
+identities_with table key terms comment now =
+    put_identity (new_identity table key terms comment now) table.identities
+
+-- the table after it
+abbrev pub added : TableState → AddedKey → Terms → List ℕ → ℕ → TableState
+added table key terms comment now = record {
+  identities = identities_with table key terms comment now;
+  greatest = now;
+  last = table.last + 1;
+  life = table.life;
+}

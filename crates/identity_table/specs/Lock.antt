@@ -1,0 +1,15 @@
+-- The lock of an agent (draft-miller-ssh-agent, "Locking and unlocking an agent"): the passphrase that opens it,
+-- or none where it is open.
+use Rattle.std.specs.Prelude.{ℕ, Bool, true, false, List, [], ◌∷◌, Option, Some, None}
+use Rattle.std.specs.Str.{bytes_eq}
+
+-- it is open, and the passphrase isn't empty (ours)
+abbrev pub can_lock : Option (List ℕ) → List ℕ → Bool
+can_lock None [] = false
+can_lock None (byte ∷ bytes) = true
+can_lock (Some held) passphrase = false
+
+-- it is locked with this passphrase
+abbrev pub can_unlock : Option (List ℕ) → List ℕ → Bool
+can_unlock None passphrase = false
+can_unlock (Some held) passphrase = bytes_eq held passphrase

@@ -1,0 +1,18 @@
+//! The identities that an agent holds, in order of their first addition, and the lock of the agent.
+//!
+//! Stands on `key_blob` and `constraint_rec` for what is added, and on `secret_buf` for private bytes; follows OpenSSH's ssh-agent.
+#![tactic(auto)]
+
+mod deadline;
+mod fault;
+mod identity;
+mod list;
+mod lock;
+mod table;
+#[cfg(test)]
+mod tests;
+
+pub use fault::AddFault;
+pub use identity::Identity;
+pub use lock::Lock;
+pub use table::Table;
