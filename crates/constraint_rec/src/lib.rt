@@ -1,0 +1,14 @@
+//! Constraints of a key that is added to an agent: what they are, and their text.
+//!
+//! Stands on `wire_core` for fields and on `plain_lists` for bytes; follows draft-miller-ssh-agent and OpenSSH's PROTOCOL.agent.
+#![tactic(auto)]
+
+mod constraint;
+mod fault;
+mod key_spec;
+mod terms;
+
+pub use constraint::{Constraint, Constraints, Hop};
+pub use fault::TermFault;
+pub use key_spec::{KeySpec, KeySpecs};
+pub use terms::Terms;

@@ -1,0 +1,29 @@
+ghost use Rattle.std.specs.Prelude.{◌≡◌};
+ghost use Rattle.constraint_rec.specs.Constraints.{no_terms};
+
+use crate::constraint::Constraints;
+use std::alloc::Global;
+
+/// What a client asks of an agent about a key that it adds.
+#[derive(Debug, Drop)]
+pub struct Terms {
+    /// For how many seconds the key is held.
+    pub life: Option<u32>,
+    /// Whether each use is to be confirmed.
+    pub confirm: bool,
+    /// Where the key may be used. Empty where it may be used anywhere.
+    pub rules: Constraints,
+}
+
+impl Terms {
+    /// No constraint at all. Takes no memory.
+    pub fn new(alloc: Global) -> Terms
+        ensures { result ≡ no_terms }
+    {
+        Terms {
+            life: None,
+            confirm: false,
+            rules: Constraints::new(alloc),
+        }
+    }
+}
