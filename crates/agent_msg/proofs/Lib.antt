@@ -1,0 +1,6 @@
+pub mod FieldLemmas
+pub mod FoundLemmas
+pub mod MemoryLemmas
+pub mod ReadLemmas
+pub mod ReplyLemmas
+pub mod Theorems
