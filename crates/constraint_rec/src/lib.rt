@@ -6,9 +6,14 @@
 mod constraint;
 mod fault;
 mod key_spec;
+mod kind;
+mod read;
 mod terms;
+#[cfg(test)]
+mod tests;
 
 pub use constraint::{Constraint, Constraints, Hop};
 pub use fault::TermFault;
 pub use key_spec::{KeySpec, KeySpecs};
+pub use read::read_constraints;
 pub use terms::Terms;

@@ -1,0 +1,62 @@
+-- What reading constraints from left to right gives: the terms, or the first fault.
+use Rattle.std.specs.Prelude.{ℕ, zero, suc, Bool, true, List, [], ◌∷◌, length, Some, Result, Ok, Err, is_some, ◌==◌, if◌then◌else◌}
+use Rattle.std.specs.Option.{ok_or}
+use Rattle.wire_core.specs.Fields.{uint32_at}
+use Rattle.constraint_rec.specs.declared.fault.TermFault.{TermFault}
+use Rattle.constraint_rec.specs.declared.fault.TermFault.TheVariants.{Short, Unknown, Twice}
+use Rattle.constraint_rec.specs.declared.kind.Kind.{Kind}
+use Rattle.constraint_rec.specs.declared.kind.Kind.TheVariants.{Lifetime, Confirm}
+use Rattle.constraint_rec.specs.declared.terms.Terms.{Terms}
+use Rattle.constraint_rec.specs.Constraints.{no_terms}
+
+infixl 10 ◌>>=◌
+-- the first fault, or what the second reading gives for the value of the first
+abbrev pub ◌>>=◌ : {A B : Type 0} → Result A TermFault → (A → Result B TermFault) → Result B TermFault
+(Ok x) >>= f = f x
+(Err fault) >>= f = Err fault
+
+-- ---- a row for each kind: its byte, whether terms have it, and its contents
+
+-- the kind that the byte at the front begins, and the bytes that follow
+unfoldable pub kind_at : List ℕ → Result (Kind × List ℕ) TermFault
+kind_at [] = Err Short
+kind_at (byte ∷ rest) =
+    if byte == 1 then Ok (Lifetime, rest)
+    else if byte == 2 then Ok (Confirm, rest)
+    else Err Unknown
+
+-- the terms have a constraint of this kind
+abbrev pub has_kind : Terms → Kind → Bool
+has_kind terms Lifetime = is_some terms.life
+has_kind terms Confirm = terms.confirm
+
+-- the terms with this lifetime, and the bytes that follow
+abbrev pub with_life : Terms → ℕ × List ℕ → Result (Terms × List ℕ) TermFault
+with_life terms seconds = Ok (record terms { life = Some seconds.0 }, seconds.1)
+
+-- the terms with what the contents of this kind say, and the bytes that follow
+unfoldable pub contents_at : Kind → Terms → List ℕ → Result (Terms × List ℕ) TermFault
+contents_at Lifetime terms bytes = ok_or (uint32_at bytes) Short >>= with_life terms
+contents_at Confirm terms bytes = Ok (record terms { confirm = true }, bytes)
+
+-- ---- one after another
+
+-- contents of a kind that the terms don't have
+abbrev pub new_contents_at : Terms → Kind × List ℕ → Result (Terms × List ℕ) TermFault
+new_contents_at terms kind =
+    if has_kind terms kind.0 then Err Twice else contents_at kind.0 terms kind.1
+
+-- the terms with the constraint at the front, and the bytes that follow
+unfoldable pub next_at : Terms → List ℕ → Result (Terms × List ℕ) TermFault
+next_at terms bytes = kind_at bytes >>= new_contents_at terms
+
+-- the terms with the constraints of the bytes, which are at most so many
+unfoldable pub terms_up_to : ℕ → Terms → List ℕ → Result Terms TermFault
+terms_up_to zero terms bytes = Ok terms
+terms_up_to (suc count) terms [] = Ok terms
+terms_up_to (suc count) terms (byte ∷ rest) =
+    next_at terms (byte ∷ rest) >>= λ next. terms_up_to count next.0 next.1
+
+-- the terms that the bytes say: each constraint takes a byte at least
+unfoldable pub terms_of : List ℕ → Result Terms TermFault
+terms_of bytes = terms_up_to (length bytes) no_terms bytes
