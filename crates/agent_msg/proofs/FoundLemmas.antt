@@ -5,15 +5,10 @@ use Rattle.std.proofs.lemmas.List.Elements.{All-cons, All-nil, All-tail}
 use Rattle.wire_text.specs.Wire.{IsBytes, uint32, string}
 use Rattle.wire_core.specs.Fields.{uint32_at, string_at}
 use Rattle.wire_core.proofs.Theorems.{uint32_is_front, string_is_front}
-use Rattle.constraint_rec.proofs.Theorems.{terms_are_found}
-use Rattle.constraint_rec.specs.Constraints.{no_terms}
-use Rattle.constraint_rec.specs.Reading.{terms_of}
-use Rattle.key_blob.proofs.Theorems.{added_is_found}
-use Rattle.key_blob.specs.AddedKeys.{added_key_at}
-use Rattle.key_blob.specs.declared.added.AddedKey.{AddedKey}
-use Rattle.agent_msg.specs.Reading.{field_then, constrained, ended, text_then, text_at_end, sign_at, addition_at, constrained_at, extension_at, request_of, request_of_number}
-use Rattle.agent_msg.specs.Requests.{ClientRequest, ListIdentities, Sign, Add, Remove, RemoveAll, Lock, Unlock, OtherExtension, Unsupported, numbers, IsText, IsRequest}
-use Rattle.agent_msg.proofs.FieldLemmas.{field_then_is, key_then_is, constrained_is, ended_is, text_then_is, last, behind, after_number, bytes_behind}
+use Rattle.agent_msg.specs.Reading.{field_then, ended, text_then, text_at_end, sign_at, extension_at, request_of, request_of_number}
+use Rattle.agent_msg.specs.Requests.{ClientRequest, ListIdentities, Sign, Remove, RemoveAll, Lock, Unlock, OtherExtension, Unsupported, numbers, IsText, IsRequest}
+use Rattle.agent_msg.proofs.AdditionLemmas.{addition_is, constrained_addition_is}
+use Rattle.agent_msg.proofs.FieldLemmas.{field_then_is, ended_is, text_then_is, last, behind, after_number}
 
 -- a request of a number alone that was read
 nothing_is : (number : ℕ) (made request : ClientRequest) (bytes : List ℕ) → IsRequest (number ∷ []) made
@@ -70,49 +65,6 @@ sign_is bytes request each h =
       flags_fit = flags.1;
     }
 
--- the request of an addition without constraints
-abbrev plain : AddedKey → List ℕ → ClientRequest
-plain key comment = Add record { key = key; comment = comment; terms = no_terms }
-
--- ADD_IDENTITY that was read
-addition_is : (bytes : List ℕ) (request : ClientRequest) → IsBytes bytes → addition_at bytes ≡ Ok request → IsRequest (17 ∷ bytes) request
-addition_is bytes request each h =
-    let one = key_then_is (added_key_at bytes) (λ key after_key. field_then (string_at after_key) (λ comment rest. ended (plain key comment) rest)) request h in
-    let key = added_is_found bytes one.key one.rest each one.there in
-    let two = field_then_is (string_at one.rest) (λ comment rest. ended (plain one.key comment) rest) request one.read in
-    let comment = string_is_front one.rest two.field two.rest (bytes_behind bytes one.key.private one.rest each key.1) two.there in
-    let end = ended_is (plain one.key two.field) request two.rest two.read in
-    let b : one.rest ≡ string two.field = last one.rest (string two.field) two.rest comment.0.parts end.0 in
-    let a : bytes ≡ one.key.private ++ string two.field = behind bytes one.key.private one.rest (string two.field) key.1 b in
-    subst (IsRequest (17 ∷ bytes)) {x = plain one.key two.field} end.1 (inl record {
-      key = key.0;
-      comment_fits = comment.1;
-      unconstrained = refl;
-      printed = after_number 17 bytes (one.key.private ++ string two.field) a;
-    })
-
--- ADD_ID_CONSTRAINED that was read
-constrained_addition_is : (bytes : List ℕ) (request : ClientRequest) → IsBytes bytes → constrained_at bytes ≡ Ok request
-    → IsRequest (25 ∷ bytes) request
-constrained_addition_is bytes request each h =
-    let one = key_then_is (added_key_at bytes)
-    (λ key after_key. field_then (string_at after_key) (λ comment rest. constrained key comment (terms_of rest))) request h in
-    let key = added_is_found bytes one.key one.rest each one.there in
-    let two = field_then_is (string_at one.rest) (λ comment rest. constrained one.key comment (terms_of rest)) request one.read in
-    let comment = string_is_front one.rest two.field two.rest (bytes_behind bytes one.key.private one.rest each key.1) two.there in
-    let three = constrained_is one.key two.field (terms_of two.rest) request two.read in
-    let terms = terms_are_found two.rest three.0 comment.0.left three.1 in
-    let made : ClientRequest = Add record { key = one.key; comment = two.field; terms = three.0 } in
-    let a : bytes ≡ one.key.private ++ (string two.field ++ two.rest) =
-    behind bytes one.key.private one.rest (string two.field ++ two.rest) key.1 comment.0.parts in
-    subst (IsRequest (25 ∷ bytes)) {x = made} three.2 (inr record {
-      key = key.0;
-      comment_fits = comment.1;
-      constraints = two.rest;
-      constrained = terms;
-      printed = after_number 25 bytes (one.key.private ++ (string two.field ++ two.rest)) a;
-    })
-
 -- EXTENSION that was read
 extension_is : (bytes : List ℕ) (request : ClientRequest) → IsBytes bytes → extension_at bytes ≡ Ok request → IsRequest (27 ∷ bytes) request
 extension_is bytes request each h =
@@ -154,11 +106,17 @@ other_is number bytes request n11 n13 n17 n18 n19 n22 n23 n25 n27 h =
       ne_eqb number 27 n27,
     ) refl in
     let same : Unsupported number ≡ request = cc in
-    subst (IsRequest (number ∷ bytes)) {x = Unsupported number} same record {
-      contents = bytes;
-      printed = refl;
-      other = All-cons P 11 (drop 1 numbers) n11 (All-cons P 13 (drop 2 numbers) n13 (All-cons P 17 (drop 3 numbers) n17 (All-cons P 18 (drop 4 numbers) n18 (All-cons P 19 (drop 5 numbers) n19 (All-cons P 22 (drop 6 numbers) n22 (All-cons P 23 (drop 7 numbers) n23 (All-cons P 25 (drop 8 numbers) n25 (All-cons P 27 (drop 9 numbers) n27 (All-nil P)))))))));
-    }
+    let none = All-nil P in
+    let from_27 = All-cons P 27 (drop 9 numbers) n27 none in
+    let from_25 = All-cons P 25 (drop 8 numbers) n25 from_27 in
+    let from_23 = All-cons P 23 (drop 7 numbers) n23 from_25 in
+    let from_22 = All-cons P 22 (drop 6 numbers) n22 from_23 in
+    let from_19 = All-cons P 19 (drop 5 numbers) n19 from_22 in
+    let from_18 = All-cons P 18 (drop 4 numbers) n18 from_19 in
+    let from_17 = All-cons P 17 (drop 3 numbers) n17 from_18 in
+    let from_13 = All-cons P 13 (drop 2 numbers) n13 from_17 in
+    let from_11 = All-cons P 11 (drop 1 numbers) n11 from_13 in
+    subst (IsRequest (number ∷ bytes)) {x = Unsupported number} same record { contents = bytes; printed = refl; other = from_11 }
 
 -- what is read is a request
 pub request_is_found : (body : List ℕ) (request : ClientRequest) → IsBytes body → request_of body ≡ Ok request → IsRequest body request

@@ -1,3 +1,4 @@
+pub mod AdditionLemmas
 pub mod FieldLemmas
 pub mod FoundLemmas
 pub mod MemoryLemmas

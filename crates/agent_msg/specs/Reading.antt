@@ -17,13 +17,14 @@ use Rattle.agent_msg.specs.Requests.{ClientRequest, ListIdentities, Sign, Add, R
 -- ---- fields
 
 -- the field at the front, and what the bytes behind it are; Short where the field isn't there
-abbrev pub field_then : {A R : Type 0} → Option (A × List ℕ) → (A → List ℕ → Result R MsgFault) → Result R MsgFault
+abbrev pub field_then : {A R : Type 0} → Option (A × List ℕ) → (A → List ℕ → Result R MsgFault)
+    → Result R MsgFault
 field_then None later = Err Short
 field_then (Some field) later = later field.0 field.1
 
 -- the added key at the front, and what the bytes behind it are, or the key's own fault
-abbrev pub key_then : {R : Type 0} → Result (AddedKey × List ℕ) KeyFault → (AddedKey → List ℕ → Result R MsgFault)
-    → Result R MsgFault
+abbrev pub key_then : {R : Type 0} → Result (AddedKey × List ℕ) KeyFault
+    → (AddedKey → List ℕ → Result R MsgFault) → Result R MsgFault
 key_then (Ok read) later = later read.0 read.1
 key_then (Err fault) later = Err (key_fault fault)
 
@@ -44,7 +45,8 @@ abbrev pub text_at_end : List ℕ → Result (List ℕ) MsgFault
 text_at_end bytes = field_then (string_at bytes) (λ text rest. ended text rest)
 
 -- a request of a string alone
-abbrev pub text_then : (List ℕ → ClientRequest) → Result (List ℕ) MsgFault → Result ClientRequest MsgFault
+abbrev pub text_then : (List ℕ → ClientRequest) → Result (List ℕ) MsgFault
+    → Result ClientRequest MsgFault
 text_then request (Ok text) = Ok (request text)
 text_then request (Err fault) = Err fault
 

@@ -1,5 +1,6 @@
--- Requests of a client of an agent, as plain values and as bodies of messages: a number byte, and the texts of the fields
--- (draft-miller-ssh-agent, "Protocol Messages"). That nothing follows the last field is ours.
+-- Requests of a client of an agent, as plain values and as bodies of messages: a number byte, and
+-- the texts of the fields (draft-miller-ssh-agent, "Protocol Messages"). That nothing follows the
+-- last field is ours.
 use Rattle.std.specs.Prelude.{◌≡◌, ◌≢◌, ℕ, ◌^◌, ◌<◌, List, [], ◌∷◌, ◌++◌, length, All, ◌⊎◌}
 use Rattle.wire_text.specs.Wire.{uint32, string}
 use Rattle.constraint_rec.specs.Constraints.{no_terms, IsConstraints}
@@ -58,7 +59,8 @@ pub record IsText (number : ℕ) (body text : List ℕ) : Type 0 where
 
 -- SIGN_REQUEST: key blob, message, flags
 pub record IsSigning (body : List ℕ) (signing : Signing) : Type 0 where
-  pub printed : body ≡ 13 ∷ (string signing.blob ++ (string signing.message ++ uint32 signing.flags))
+  pub printed : body
+      ≡ 13 ∷ (string signing.blob ++ (string signing.message ++ uint32 signing.flags))
   pub blob_fits : length signing.blob < 2 ^ 32
   pub message_fits : length signing.message < 2 ^ 32
   pub flags_fit : signing.flags < 2 ^ 32

@@ -29,7 +29,8 @@ fn each_request_without_a_key_is_read(rt: HostRuntime) {
     assert!(rt;
         matches!(
         read_request(alloc, b"\x0d\0\0\0\x02bb\0\0\0\x03msg\0\0\x01\x02"),
-        Ok(Request::Sign { blob, message, flags: 258 }) if blob == b"bb".as_slice() && message == b"msg".as_slice()
+        Ok(Request::Sign { blob, message, flags: 258 })
+            if blob == b"bb".as_slice() && message == b"msg".as_slice()
     )
     );
     assert!(rt;
