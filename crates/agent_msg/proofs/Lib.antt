@@ -1,0 +1,7 @@
+pub mod AdditionLemmas
+pub mod FieldLemmas
+pub mod FoundLemmas
+pub mod MemoryLemmas
+pub mod ReadLemmas
+pub mod ReplyLemmas
+pub mod Theorems

@@ -1,0 +1,110 @@
+-- What a body is, field by field: its request, or the first fault.
+use Rattle.std.specs.Prelude.{◌≡◌, ◌==◌, ◌||◌, ℕ, Bool, false, List, [], ◌∷◌, Option, Some, None, Result, Ok, Err, ◌⊎◌, MatchResult, if◌then◌else◌}
+use Rattle.wire_core.specs.Fields.{uint32_at, string_at}
+use Rattle.constraint_rec.specs.Constraints.{no_terms}
+use Rattle.constraint_rec.specs.Reading.{terms_of}
+use Rattle.constraint_rec.specs.declared.fault.TermFault.{TermFault}
+use Rattle.constraint_rec.specs.declared.terms.Terms.{Terms}
+use Rattle.key_blob.specs.AddedKeys.{added_key_at}
+use Rattle.key_blob.specs.declared.added.AddedKey.{AddedKey}
+use Rattle.key_blob.specs.declared.fault.KeyFault.{KeyFault}
+use Rattle.agent_msg.specs.declared.fault.MsgFault.{MsgFault}
+use Rattle.agent_msg.specs.declared.fault.MsgFault.TheVariants.{Empty, Short, Trailing, Memory}
+use Rattle.agent_msg.specs.declared.request.Request.{Request}
+use Rattle.agent_msg.specs.Faults.{key_fault, term_fault}
+use Rattle.agent_msg.specs.Requests.{ClientRequest, ListIdentities, Sign, Add, Remove, RemoveAll, Lock, Unlock, OtherExtension, Unsupported, client_request}
+
+-- ---- fields
+
+-- the field at the front, and what the bytes behind it are; Short where the field isn't there
+abbrev pub field_then : {A R : Type 0} → Option (A × List ℕ) → (A → List ℕ → Result R MsgFault)
+    → Result R MsgFault
+field_then None later = Err Short
+field_then (Some field) later = later field.0 field.1
+
+-- the added key at the front, and what the bytes behind it are, or the key's own fault
+abbrev pub key_then : {R : Type 0} → Result (AddedKey × List ℕ) KeyFault
+    → (AddedKey → List ℕ → Result R MsgFault) → Result R MsgFault
+key_then (Ok read) later = later read.0 read.1
+key_then (Err fault) later = Err (key_fault fault)
+
+-- the addition under the constraints, or the constraints' own fault
+abbrev pub constrained : AddedKey → List ℕ → Result Terms TermFault → Result ClientRequest MsgFault
+constrained key comment (Ok terms) = Ok (Add record { key = key; comment = comment; terms = terms })
+constrained key comment (Err fault) = Err (term_fault fault)
+
+-- the value, where no byte follows
+abbrev pub ended : {R : Type 0} → R → List ℕ → Result R MsgFault
+ended value [] = Ok value
+ended value (_ ∷ _) = Err Trailing
+
+-- ---- what follows a number
+
+-- a string, and then the end
+abbrev pub text_at_end : List ℕ → Result (List ℕ) MsgFault
+text_at_end bytes = field_then (string_at bytes) (λ text rest. ended text rest)
+
+-- a request of a string alone
+abbrev pub text_then : (List ℕ → ClientRequest) → Result (List ℕ) MsgFault
+    → Result ClientRequest MsgFault
+text_then request (Ok text) = Ok (request text)
+text_then request (Err fault) = Err fault
+
+-- SIGN_REQUEST: key blob, message, flags
+abbrev pub sign_at : List ℕ → Result ClientRequest MsgFault
+sign_at bytes = field_then (string_at bytes) (λ blob after_blob.
+    field_then (string_at after_blob) (λ message after_message.
+    field_then (uint32_at after_message) (λ flags rest.
+    ended (Sign record { blob = blob; message = message; flags = flags }) rest)))
+
+-- ADD_IDENTITY: key, comment
+abbrev pub addition_at : List ℕ → Result ClientRequest MsgFault
+addition_at bytes = key_then (added_key_at bytes) (λ key after_key.
+    field_then (string_at after_key) (λ comment rest.
+    ended (Add record { key = key; comment = comment; terms = no_terms }) rest))
+
+-- ADD_ID_CONSTRAINED: key, comment, constraints to the end
+abbrev pub constrained_at : List ℕ → Result ClientRequest MsgFault
+constrained_at bytes = key_then (added_key_at bytes) (λ key after_key.
+    field_then (string_at after_key) (λ comment rest. constrained key comment (terms_of rest)))
+
+-- EXTENSION: a name, and then what is not looked at
+abbrev pub extension_at : List ℕ → Result ClientRequest MsgFault
+extension_at bytes = field_then (string_at bytes) (λ name _. Ok (OtherExtension name))
+
+-- what follows a number
+unfoldable pub request_of_number : ℕ → List ℕ → Result ClientRequest MsgFault
+request_of_number number bytes =
+    if number == 11 then ended ListIdentities bytes
+    else if number == 13 then sign_at bytes
+    else if number == 17 then addition_at bytes
+    else if number == 18 then text_then Remove (text_at_end bytes)
+    else if number == 19 then ended RemoveAll bytes
+    else if number == 22 then text_then Lock (text_at_end bytes)
+    else if number == 23 then text_then Unlock (text_at_end bytes)
+    else if number == 25 then constrained_at bytes
+    else if number == 27 then extension_at bytes
+    else Ok (Unsupported number)
+
+-- the request that the body is, or its first fault
+unfoldable pub request_of : List ℕ → Result ClientRequest MsgFault
+request_of [] = Err Empty
+request_of (number ∷ bytes) = request_of_number number bytes
+
+-- ---- the code's answers
+
+-- the number is that of an addition, which alone takes memory to be read
+unfoldable pub is_addition : List ℕ → Bool
+is_addition [] = false
+is_addition (number ∷ _) = (number == 17) || (number == 25)
+
+-- the code's answer is that of the definition
+abbrev pub IsAnswer : Result Request MsgFault → Result ClientRequest MsgFault → Type 0
+IsAnswer result defined =
+    MatchResult result (λ request. defined ≡ Ok (client_request request)) (λ fault. defined ≡ Err fault)
+
+-- the same, unless memory ran out
+abbrev pub IsAnswerOrMemory : Result Request MsgFault → Result ClientRequest MsgFault → Type 0
+IsAnswerOrMemory result defined =
+    MatchResult result (λ request. defined ≡ Ok (client_request request))
+    (λ fault. (fault ≡ Memory) ⊎ (defined ≡ Err fault))

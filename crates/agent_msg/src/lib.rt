@@ -1,0 +1,19 @@
+//! Requests of a client of an agent, and the replies to them: draft-miller-ssh-agent.
+//!
+//! Stands on `key_blob` and `constraint_rec` for added keys, and on `secret_buf` for replies.
+#![tactic(auto)]
+
+mod fault;
+mod fields;
+mod laws;
+mod read;
+mod reply;
+mod request;
+#[cfg(test)]
+mod tests;
+
+pub use fault::MsgFault;
+pub use laws::a_head_and_its_entries_are_the_list;
+pub use read::read_request;
+pub use reply::{put_list_entry, put_list_head, put_signature, put_status};
+pub use request::Request;
