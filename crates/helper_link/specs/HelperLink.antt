@@ -27,7 +27,15 @@ pub record HelperLink : Type 0 where
 
 -- before the first helper is started
 abbrev pub no_link : HelperLink
-no_link = record { state = states.None; asks = []; last = 0; owed = []; heard = []; failed = []; faults = 0 }
+no_link = record {
+  state = states.None;
+  asks = [];
+  last = 0;
+  owed = [];
+  heard = [];
+  failed = [];
+  faults = 0;
+}
 
 -- a helper is being started
 abbrev pub IsStarting : LinkState → Type 0

@@ -45,7 +45,8 @@ same_kind Verifying Verifying = true
 abbrev pub answer_found : AskKind → ℕ → Answer → Option Ask → List Ask → Verdict
 answer_found kind number answer None asks = Stops (NotPending number)
 answer_found kind number answer (Some ask) asks =
-    if same_kind kind ask.kind then Settles (settled_ask number ask.asker answer) (remove_ask number asks)
+    if same_kind kind ask.kind
+    then Settles (settled_ask number ask.asker answer) (remove_ask number asks)
     else Stops (WrongKind number)
 
 -- an answer for asks of this kind goes to the unanswered ask of its number

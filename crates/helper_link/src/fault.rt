@@ -25,8 +25,8 @@ impl From<AllocError> for AskFault {
 /// Why the helper's stream is faulty: the fault of its first faulty frame.
 #[derive(Clone, Copy, Debug, PartialEq, Eq)]
 pub enum LinkFault {
-    /// The frame announces 0 or more than 262144 bytes, or its body is none of SIGNED, REFUSED, TRUE
-    /// and FALSE.
+    /// The frame announces 0 or more than 262144 bytes, or its body is none of SIGNED, REFUSED,
+    /// TRUE and FALSE.
     BadFrame,
     /// No ask of this number is unanswered.
     NotPending { ask: u64 },

@@ -1,6 +1,6 @@
 //! The agent's link to its helper process, which uses the keys: what was asked, what is to be sent,
 //! and what the helper's stream settles (ours; docs/PROTOCOL.md, "Child frames").
-//! Stands on `child_msg`, for the messages, `frame_core`, and `secret_buf`, for what is sent and read.
+//! Stands on `child_msg` (messages), `frame_core`, `secret_buf` (buffers) and `plain_lists`.
 #![tactic(auto)]
 
 mod answer;

@@ -91,8 +91,8 @@ impl Link {
         self.state = LinkState::Linked { port };
     }
 
-    /// Puts an ask for a signature of `message` by the private key, whose public key blob is `blob`,
-    /// and gives its number.
+    /// Puts an ask for a signature of `message` by the private key, whose public key blob is
+    /// `blob`, and gives its number.
     ///
     /// The private key is in no memory but that of buffers that are wiped.
     pub fn ask_sign(

@@ -4,8 +4,8 @@ use crate::answer::Settled;
 use std::alloc::Global;
 use std::marker::Model;
 
-/// Settled asks in order, seen as the list of them. Made from a `Vec` and given back as one, with no
-/// memory taken.
+/// Settled asks in order, seen as the list of them. Made from a `Vec` and given back as one, with
+/// no memory taken.
 #[derive(Debug, Drop)]
 pub struct SettledList {
     inner: Vec<Settled>,

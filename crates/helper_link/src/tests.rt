@@ -39,7 +39,8 @@ fn verify(link: &mut Link, asker: u64) -> Result<u64, AskFault>
     link.ask_verify(asker, &[7], &[8, 9], &[10])
 }
 
-// What the bytes tell a link at which asker 70 asked for a signature and asker 80 for a verification.
+// What the bytes tell a link at which asker 70 asked for a signature, and asker 80 for a
+// verification.
 fn told_at_once(alloc: Global, bytes: &[u8]) -> Result<Told, AllocError> {
     let mut link = linked(alloc);
     let private = SecretBytes::from_slice(alloc, &[1, 2])?;
