@@ -25,8 +25,8 @@ pub struct Constraint {
     pub to: Hop,
 }
 
-/// Destination constraints in order, seen as the list of them. Made from a `Vec` and given back as one,
-/// with no memory taken.
+/// Destination constraints in order, seen as the list of them. Made from a `Vec` and given back as
+/// one, with no memory taken.
 #[derive(Debug, Drop)]
 pub struct Constraints {
     inner: Vec<Constraint>,

@@ -13,7 +13,8 @@ pub struct KeySpec {
     pub authority: bool,
 }
 
-/// Keys in order, seen as the list of them. Made from a `Vec` and given back as one, with no memory taken.
+/// Keys in order, seen as the list of them. Made from a `Vec` and given back as one, with no memory
+/// taken.
 #[derive(Debug, Drop)]
 pub struct KeySpecs {
     inner: Vec<KeySpec>,

@@ -1,6 +1,7 @@
 //! Constraints of a key that is added to an agent: what they are, and their text.
 //!
-//! Stands on `wire_core` for fields and on `plain_lists` for bytes; follows draft-miller-ssh-agent and OpenSSH's PROTOCOL.agent.
+//! Stands on `wire_core` for fields and on `plain_lists` for bytes; follows draft-miller-ssh-agent and
+//! OpenSSH's PROTOCOL.agent.
 #![tactic(auto)]
 
 mod constraint;

@@ -1,7 +1,8 @@
--- When identities end: a lifetime counts whole seconds from the addition (draft-miller-ssh-agent, "Key Constraints").
+-- When identities end: a lifetime counts seconds from the addition (draft-miller-ssh-agent, "Key
+-- Constraints"). Whole seconds, of a clock of 64 bits that never goes back, are ours.
 use Rattle.std.specs.Prelude.{ℕ, ◌+◌, ◌^◌, Bool, true, Option, Some, None, min, nat_lt, if◌then◌else◌}
 
--- the second from which an identity is dead that was added at this second, by its own lifetime or the default
+-- the second from which an identity is dead that was added at this one, by its lifetime or the default
 abbrev pub death_of : ℕ → Option ℕ → Option ℕ → Option ℕ
 death_of now (Some life) default = Some (now + life)
 death_of now None (Some life) = Some (now + life)

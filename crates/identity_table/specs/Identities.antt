@@ -1,4 +1,5 @@
--- The identities that an agent holds (draft-miller-ssh-agent; OpenSSH's ssh-agent keeps such a list).
+-- The identities that an agent holds (draft-miller-ssh-agent, "Adding keys to the agent"). That they
+-- are a list in order of first addition is as in OpenSSH's ssh-agent.
 use Rattle.std.specs.Prelude.{◌≡◌, ℕ, ◌+◌, ◌≤◌, Bool, List, [], ◌∷◌, length, filter, Option, Some, None, ◌==◌, if◌then◌else◌}
 use Rattle.std.specs.Str.{bytes_eq}
 use Rattle.constraint_rec.specs.declared.constraint.Constraint.{Constraint}
@@ -16,8 +17,8 @@ pub record HeldKey : Type 0 where
   pub confirm : Bool
   pub rules : List Constraint
 
--- the identities in order of first addition, the greatest second given, the last number given, and the lifetime
--- of those that come without one
+-- the identities in order of first addition, the greatest second given, the last number given, and
+-- the lifetime of those that come without one
 pub record TableState : Type 0 where
   pub identities : List HeldKey
   pub greatest : ℕ
@@ -29,7 +30,8 @@ pub record TableState : Type 0 where
 -- the identity with this blob
 unfoldable pub find_identity : List ℕ → List HeldKey → Option HeldKey
 find_identity blob [] = None
-find_identity blob (key ∷ keys) = if bytes_eq key.blob blob then Some key else find_identity blob keys
+find_identity blob (key ∷ keys) =
+    if bytes_eq key.blob blob then Some key else find_identity blob keys
 
 -- the identity of this addition
 unfoldable pub find_number : ℕ → List HeldKey → Option HeldKey
@@ -39,12 +41,14 @@ find_number number (key ∷ keys) = if key.number == number then Some key else f
 -- the identity in place of the one with the same blob, or at the end
 unfoldable pub put_identity : HeldKey → List HeldKey → List HeldKey
 put_identity new [] = new ∷ []
-put_identity new (key ∷ keys) = if bytes_eq key.blob new.blob then new ∷ keys else key ∷ put_identity new keys
+put_identity new (key ∷ keys) =
+    if bytes_eq key.blob new.blob then new ∷ keys else key ∷ put_identity new keys
 
 -- without the identity with this blob
 unfoldable pub remove_identity : List ℕ → List HeldKey → List HeldKey
 remove_identity blob [] = []
-remove_identity blob (key ∷ keys) = if bytes_eq key.blob blob then keys else key ∷ remove_identity blob keys
+remove_identity blob (key ∷ keys) =
+    if bytes_eq key.blob blob then keys else key ∷ remove_identity blob keys
 
 -- those whose lifetime has not run out at this second
 unfoldable pub alive_at : ℕ → List HeldKey → List HeldKey

@@ -1,5 +1,5 @@
--- The lock of an agent (draft-miller-ssh-agent, "Locking and unlocking an agent"): the passphrase that opens it,
--- or none where it is open.
+-- The lock of an agent (draft-miller-ssh-agent, "Locking and unlocking an agent"): the passphrase that
+-- opens it, or none where it is open.
 use Rattle.std.specs.Prelude.{ℕ, Bool, true, false, List, [], ◌∷◌, Option, Some, None}
 use Rattle.std.specs.Str.{bytes_eq}
 

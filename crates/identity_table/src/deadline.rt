@@ -3,7 +3,9 @@ ghost use Rattle.identity_table.specs.Deaths.{death_of, on_clock};
 
 use std::marker::Model;
 
-/// When an identity ends: so many seconds after its addition. Kept as the two, since their sum may pass the clock's end.
+/// When an identity ends: so many seconds after its addition.
+///
+/// Kept as the two, since their sum may pass the clock's end.
 #[derive(Drop)]
 pub struct Deadline {
     added: u64,

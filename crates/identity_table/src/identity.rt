@@ -9,7 +9,9 @@ use plain_lists::Bytes;
 use secret_buf::SecretBytes;
 use std::marker::Model;
 
-/// A key that an agent holds, with its comment and its constraints. Dropping it wipes its private bytes.
+/// A key that an agent holds, with its comment and its constraints.
+///
+/// Dropping it wipes its private bytes.
 #[derive(Drop)]
 pub struct Identity {
     number: u64,
@@ -108,7 +110,7 @@ impl Identity {
     }
 
     /// Whether its lifetime has not run out at second `now`.
-    pub fn is_alive(&self, now: u64) -> bool
+    pub(crate) fn is_alive(&self, now: u64) -> bool
         ensures { result ≡ lives_at now self.now.death }
     {
         match &self.deadline {
@@ -118,7 +120,7 @@ impl Identity {
     }
 
     /// The second from which it is dead, where the clock comes to it.
-    pub fn death(&self) -> Option<u64>
+    pub(crate) fn death(&self) -> Option<u64>
         ensures { result ≡ on_clock self.now.death }
     {
         match &self.deadline {

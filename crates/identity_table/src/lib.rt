@@ -1,6 +1,7 @@
 //! The identities that an agent holds, in order of their first addition, and the lock of the agent.
 //!
-//! Stands on `key_blob` and `constraint_rec` for what is added, and on `secret_buf` for private bytes; follows OpenSSH's ssh-agent.
+//! Stands on `key_blob` and `constraint_rec` for what is added, and on `secret_buf` for private bytes;
+//! follows OpenSSH's ssh-agent.
 #![tactic(auto)]
 
 mod deadline;

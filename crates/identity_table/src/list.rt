@@ -90,7 +90,7 @@ fn keep_alive(identities: &mut Vec<Identity>, now: u64)
     identities.retain(|identity| identity.is_alive(now));
 }
 
-/// Removes those whose lifetime has run out at second `now`, and gives the first death of the others.
+/// Removes those whose lifetime has run out at second `now`, and gives the others' first death.
 /// Looks at none where the first death, which is handed in, is still to come.
 pub fn remove_dead(identities: &mut Vec<Identity>, first: Option<u64>, now: u64) -> Option<u64>
     requires { first ≡ next_death identities.old.items }

@@ -5,7 +5,9 @@ ghost use Rattle.identity_table.specs.Lock.{can_lock, can_unlock};
 use secret_buf::SecretBytes;
 use std::marker::Model;
 
-/// The lock of an agent, seen as the passphrase that opens it. A passphrase that it gives up is wiped.
+/// The lock of an agent, seen as the passphrase that opens it.
+///
+/// A passphrase that it gives up is wiped.
 #[derive(Drop)]
 pub struct Lock {
     passphrase: Option<SecretBytes>,

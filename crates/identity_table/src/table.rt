@@ -44,7 +44,7 @@ impl Model for Table {
 }
 
 impl Table {
-    /// An empty table, whose identities live for `default_life` seconds where they come without a lifetime.
+    /// An empty table. Identities that come without a lifetime live for `default_life` seconds.
     pub fn new(alloc: Global, default_life: Option<u32>) -> Table
         ensures { result ≡ record { identities = []; greatest = 0; last = 0; life = default_life } }
     {
@@ -69,9 +69,10 @@ impl Table {
         self.greatest = now;
     }
 
-    /// Adds a key at second `now`, and gives the number of the addition, which no other addition has.
+    /// Adds a key at second `now`, and gives the addition's number, which no other addition has.
     ///
-    /// A key that is held already is replaced in its place and wiped. What was moved in is wiped on a refusal.
+    /// A key that is held already is replaced in its place and wiped. On a refusal, what was moved
+    /// in is wiped.
     pub fn add(
         &mut self,
         key: AddedKey,
@@ -159,7 +160,7 @@ impl Table {
         self.first_death = None;
     }
 
-    /// The first second from which an identity is dead. `None` where each lives as long as the clock runs.
+    /// The first second from which an identity is dead, or `None` where the clock comes to none.
     pub fn next_death(&self) -> Option<u64>
         ensures { result ≡ next_death self.now.identities }
     {

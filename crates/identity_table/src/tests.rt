@@ -1,4 +1,5 @@
-//! Orders and times as OpenSSH's ssh-agent has them, worked out by hand; each public call once with ample memory.
+//! Orders and times as OpenSSH's ssh-agent has them, worked out by hand; each public call once with
+//! ample memory.
 
 ghost use Rattle.std.specs.Prelude.{◌≡◌};
 
