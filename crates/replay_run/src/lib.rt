@@ -4,6 +4,7 @@
 #![tactic(auto)]
 
 mod feed;
+mod laws;
 mod limits;
 mod replay;
 mod run;
@@ -12,6 +13,7 @@ mod settle;
 mod write;
 
 use feed::Feed;
+pub use laws::nothing_is_owed_after_settling;
 use replay::Replay;
 pub use run::run_replay;
 pub use run_end::RunEnd;
