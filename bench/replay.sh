@@ -1,6 +1,7 @@
 #!/usr/bin/env bash
 # Lines and bytes per second of `agent_prog replay` for schedules of three shapes, beside what sha256sum and wc -l
-# take for the same file in the same run. Needs python3, and bin/agent_prog, which `make` builds.
+# take for the same file in the same run, and the most memory that each held. Needs python3, GNU time, and
+# bin/agent_prog, which `make` builds.
 set -eu
 cd "$(dirname "$0")/.."
 agent=$PWD/bin/agent_prog
@@ -52,6 +53,13 @@ least() {
     echo "$best"
 }
 
+# The most kB that a command held resident while it read the file.
+resident() {
+    local file=$1
+    shift
+    { env time -f %M "$@" < "$file" > /dev/null; } 2>&1
+}
+
 for shape in cut long many; do
     file=$work/$shape
     lines=$(wc -l < "$file")
@@ -62,4 +70,5 @@ for shape in cut long many; do
     awk -v shape="$shape" -v lines="$lines" -v bytes="$bytes" -v ours="$ours" -v hash="$hash" -v count="$count" 'BEGIN {
         printf "%s: %d lines, %d bytes: %.0f lines/s, %.1f MB/s; %.1f times sha256sum, %.1f times wc -l\n",
             shape, lines, bytes, lines / ours, bytes / ours / 1e6, ours / hash, ours / count }'
+    echo "$shape: $(resident "$file" "$agent" replay) kB resident, sha256sum $(resident "$file" sha256sum) kB"
 done
