@@ -76,6 +76,59 @@ fn tell(link: &mut Link, piece: &[u8], all: &mut Vec<Settled>) -> Result<(), All
     Ok(())
 }
 
+// Asks for signatures until no more may be unanswered, for the asker 9.
+fn fill(link: &mut Link, private: &SecretBytes)
+    requires linked { IsLinked link.old.state }
+    requires failed { link.old.failed ≡ [] }
+    requires small { length private.now ≤ 1000 }
+    ensures linked { IsLinked link.new.state }
+    ensures failed { link.new.failed ≡ [] }
+{
+    'asks: for _ in 0..256 {
+        let _ = sign(link, 9, private);
+    }
+}
+
+// Asks as often as it may, and tells the piece.
+fn fill_and_tell(
+    link: &mut Link,
+    private: &SecretBytes,
+    piece: &[u8],
+    all: &mut Vec<Settled>,
+) -> Result<(), AllocError>
+    requires linked { IsLinked link.old.state }
+    requires failed { link.old.failed ≡ [] }
+    requires small { length private.now ≤ 1000 }
+    ensures linked { OnOk result (IsLinked link.new.state) }
+    ensures failed { OnOk result (link.new.failed ≡ []) }
+{
+    fill(link, private);
+    let told = link.told(piece)?;
+    for one in told.settled.into_vec() {
+        all.push(one)?;
+    }
+    Ok(())
+}
+
+// What the stream settles in pieces of this size, where as many asks as may be are unanswered before
+// each.
+fn told_while_asked(
+    alloc: Global,
+    private: &SecretBytes,
+    stream: &[u8],
+    size: usize,
+) -> Result<Vec<Settled>, AllocError>
+    requires size { 0 < size }
+    requires small { length private.now ≤ 1000 }
+{
+    let mut link = linked(alloc);
+    let mut all = Vec::new(alloc);
+    'pieces: for piece in stream.chunks(size) {
+        fill_and_tell(&mut link, private, piece, &mut all)?;
+    }
+    Ok(all)
+}
+
 #[test]
 fn requests_are_sent_once_the_helper_is_there(rt: HostRuntime) -> Result<(), Fail> {
     let mut link = Link::new(rt.alloc());
@@ -233,6 +286,32 @@ fn answers_are_the_same_in_any_pieces(rt: HostRuntime) -> Result<(), Fail> {
                 1255_u64.checked_sub(i as u64),
                 "in pieces of {size}"
             );
+        }
+    }
+    Ok(())
+}
+
+#[test]
+fn a_thousand_answers_are_the_same_in_any_pieces(rt: HostRuntime) -> Result<(), Fail> {
+    let mut stream = Vec::new(rt.alloc());
+    for ask in 1..1001_u64 {
+        stream.extend_from_slice(&[0, 0, 0, 33, 101])?;
+        stream.extend_from_slice(&ask.to_be_bytes())?;
+        stream.extend_from_slice(&[0, 0, 0, 20])?;
+        stream.extend_from_slice(&[5; 12])?;
+        stream.extend_from_slice(&ask.to_be_bytes())?;
+    }
+    let private = SecretBytes::from_slice(rt.alloc(), &[1, 2])?;
+    for size in [1, 7, 4096] {
+        let all = told_while_asked(rt.alloc(), &private, stream.as_slice(), size)?;
+        assert_eq!(rt; all.len(), 1000, "in pieces of {size}");
+        for (i, one) in all.iter().enumerate() {
+            let ask = (i as u64).saturating_add(1);
+            assert_eq!(rt; one.ask, ask, "in pieces of {size}");
+            assert_eq!(rt; one.asker, 9);
+            let mut signature = Vec::from_slice(rt.alloc(), &[5; 12])?;
+            signature.extend_from_slice(&ask.to_be_bytes())?;
+            assert_eq!(rt; one.answer, Answer::Signed(Bytes::from_vec(signature)));
         }
     }
     Ok(())
