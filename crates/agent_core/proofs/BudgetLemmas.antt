@@ -7,7 +7,8 @@ use Rattle.world_ports.specs.declared.plain.Moment.{Moment}
 use Rattle.wire_text.specs.Frames.{Front, front, front_body, after_front, Whole, Bad, More}
 use Rattle.wire_text.proofs.FrontLemmas.{front_says}
 use Rattle.agent_core.specs.State.{Port, State, IsRising, find_port, change_port, remove_port, next_owed, owed_at, owed_by, is_some_bytes}
-use Rattle.agent_core.specs.Dispatch.{Request, RequestIdentities, RemoveAllIdentities, Unserved, request_of, serve, reply_of, reply_text}
+use Rattle.agent_msg.specs.Reading.{request_of}
+use Rattle.agent_core.specs.Dispatch.{serve, reply_of, reply_text}
 use Rattle.agent_core.specs.Step.{step, Took, sent, take_frame, owe, changed, opened, look_front, look_owed, look_port, longest_body}
 use Rattle.agent_core.specs.Budget.{port_budget, ports_budget, budget}
 
@@ -49,12 +50,6 @@ found_owed low high after number (first ∷ ports) rising found =
     owed_by_test low high after number first ports (nat_lt after first.number && is_some_bytes first.owed) refl rising.0 found
     (λ h. found_owed first.number high after number ports rising.1 h)
 
--- no request changes the state
-pub serve-state : (request : Request) (state : State) → (serve request state).state ≡ state
-serve-state RequestIdentities state = refl
-serve-state RemoveAllIdentities state = refl
-serve-state Unserved state = refl
-
 -- a whole frame has four bytes of length
 pub whole_has_length : (max body : ℕ) (bytes : List ℕ) → front max bytes ≡ Whole body → 4 ≤ length bytes
 whole_has_length max body bytes whole = (front_says max bytes (Whole body) whole).0.header
@@ -75,17 +70,12 @@ served_lowers number body text port ports found some =
     let less : length (after_front body port.heard) + 4 ≤ length port.heard = omega arith in
     omega arith
 
--- the same, where the request is served
-concluded_lowers : (number body : ℕ) (request : Request) (text : List ℕ) (port : Port) (state : State) → find_port number state.ports ≡ Some port → 4 ≤ length port.heard → budget (changed number (owe text) (serve request (changed number (take_frame body) state)).state) ≤ ports_budget state.ports
-concluded_lowers number body request text port state found some =
-    rw (serve-state request (changed number (take_frame body) state)) (served_lowers number body text port state.ports found some)
-
 -- by what stands at the front of the bytes of a port
 front_lowers : (number : ℕ) (port : Port) (state : State) (at : Front) → front longest_body port.heard ≡ at → find_port number state.ports ≡ Some port → budget (look_front number port.heard at state).state ≤ ports_budget state.ports
 front_lowers number port state (Whole body) at found =
-    concluded_lowers number body (request_of (front_body body port.heard))
-    (reply_text (reply_of (serve (request_of (front_body body port.heard)) (changed number (take_frame body) state)).verdict))
-    port state found (whole_has_length longest_body body port.heard at)
+    served_lowers number body
+    (reply_text (reply_of (serve (request_of (front_body body port.heard)) state.moment.mono state.keys).verdict))
+    port state.ports found (whole_has_length longest_body body port.heard at)
 front_lowers number port state (Bad announced) at found = omega (arith, budget-remove number state.ports port found)
 front_lowers number port state More at found = omega arith
 

@@ -12,8 +12,9 @@ use Rattle.wire_text.specs.Frames.{Front, front, Whole, Bad, More}
 use Rattle.agent_core.specs.declared.slot.Fate.{Fate}
 use Rattle.agent_core.specs.declared.slot.Fate.TheVariants.{Stays, Owes, Closes}
 use Rattle.agent_core.specs.Step.{longest_body}
-use Rattle.agent_core.specs.PortLook.{port_looked, fate_of, fate_at, found_fate, closes_at, closes_by, found_closes, finished_ports, fated_ports, found_looked, looked_ports, front_fate, front_looked, owed_fate, owed_looked}
+use Rattle.agent_core.specs.PortLook.{port_looked, port_kept, looked_keys, found_kept, fate_of, fate_at, found_fate, closes_at, closes_by, found_closes, finished_ports, fated_ports, found_looked, looked_ports, front_fate, front_looked, owed_fate, owed_looked}
 use Rattle.agent_core.proofs.LookLemmas.{port_looked-number}
+use Rattle.agent_core.specs.KeyStates.{KeyState}
 use Rattle.agent_core.specs.Owing.{IsRisingNumbers, owing_of, inserted, removed, noted}
 use Rattle.agent_core.specs.Places.{IsPlace}
 use Rattle.agent_core.specs.Slots.{IsKept, port_of, ports_of}
@@ -94,10 +95,10 @@ kept-refused slots owing capacity last kept below = record {
 }
 
 -- one port is changed under its number
-pub slots_changed : (slots : List Slot) (number place : ℕ) (slot : Slot) (port : Port) → IsPlace number (ports_of slots) place → find_port number (ports_of slots) ≡ Some port → slot.number ≡ port.number → ports_of (set slots place slot) ≡ change_port number (λ p. record p { heard = slot.heard.live; owed = slot.owed.live }) (ports_of slots)
+pub slots_changed : (slots : List Slot) (number place : ℕ) (slot : Slot) (port : Port) → IsPlace number (ports_of slots) place → find_port number (ports_of slots) ≡ Some port → slot.number ≡ port.number → ports_of (set slots place slot) ≡ change_port number (λ p. record p { heard = slot.heard.live; owed = slot.owed }) (ports_of slots)
 slots_changed slots number place slot port is found same =
-    let changed = is.changed (λ p. record p { heard = slot.heard.live; owed = slot.owed.live }) port found in
-    let here : port_of slot ≡ record port { heard = slot.heard.live; owed = slot.owed.live } = ap (λ n. let q : Port = record { number = n; heard = slot.heard.live; owed = slot.owed.live } in q) same in
+    let changed = is.changed (λ p. record p { heard = slot.heard.live; owed = slot.owed }) port found in
+    let here : port_of slot ≡ record port { heard = slot.heard.live; owed = slot.owed } = ap (λ n. let q : Port = record { number = n; heard = slot.heard.live; owed = slot.owed } in q) same in
     ports_of-set slots place slot ∙ ap (λ q. set (ports_of slots) place q) here ∙ sym changed
 
 -- a port that is found has that number
@@ -116,18 +117,18 @@ listed-changed ports number last heard owed port rising found = elim (cases_Bool
 ]
 
 -- one port is changed, and listed or not
-pub kept-changed : (slots : List Slot) (owing : List ℕ) (capacity last number place more : ℕ) (slot : Slot) (port : Port) → IsKept slots owing capacity last → IsPlace number (ports_of slots) place → find_port number (ports_of slots) ≡ Some port → slot.number ≡ port.number → capacity ≤ more → IsKept (set slots place slot) (noted (is_some_bytes slot.owed.live) number owing) more last
+pub kept-changed : (slots : List Slot) (owing : List ℕ) (capacity last number place more : ℕ) (slot : Slot) (port : Port) → IsKept slots owing capacity last → IsPlace number (ports_of slots) place → find_port number (ports_of slots) ≡ Some port → slot.number ≡ port.number → capacity ≤ more → IsKept (set slots place slot) (noted (is_some_bytes slot.owed) number owing) more last
 kept-changed slots owing capacity last number place more slot port kept is found same roomy =
     let changed = slots_changed slots number place slot port is found same in
     let P : List Port → Type 0 = λ ports. IsRising 0 last ports in
-    let f : Port → Port = λ p. record p { heard = slot.heard.live; owed = slot.owed.live } in
+    let f : Port → Port = λ p. record p { heard = slot.heard.live; owed = slot.owed } in
     let count : client_count (ports_of (set slots place slot)) ≡ client_count (ports_of slots) = ap client_count changed ∙ client_count-change_port number f (ports_of slots) in
     let here : client_count (ports_of slots) ≡ length slots = client_count-ports_of slots in
     let after : client_count (ports_of (set slots place slot)) ≡ length (set slots place slot) = client_count-ports_of (set slots place slot) in
     record {
       rising = subst P (sym changed) (rising-change_port number 0 last f (ports_of slots) (λ p. refl) kept.rising);
       few = omega (arith, kept.few);
-      listed = ap (noted (is_some_bytes slot.owed.live) number) kept.listed ∙ sym (ap owing_of changed ∙ listed-changed (ports_of slots) number last slot.heard.live slot.owed.live port kept.rising found);
+      listed = ap (noted (is_some_bytes slot.owed) number) kept.listed ∙ sym (ap owing_of changed ∙ listed-changed (ports_of slots) number last slot.heard.live slot.owed port kept.rising found);
       room = omega (arith, kept.room);
       fits = kept.fits;
     }
@@ -166,19 +167,19 @@ found_slot slots number place slot is here =
     found_at_place slots number place is ∙ ap (option_map port_of) (got ∙ ap Some (sym here))
 
 -- one port is changed and looked at
-pub slots_looked : (slots : List Slot) (number place : ℕ) (slot : Slot) (port : Port) (f : Port → Port) → IsPlace number (ports_of slots) place → find_port number (ports_of slots) ≡ Some port → ((p : Port) → (f p).number ≡ p.number) → port_of slot ≡ port_looked (f port) → ports_of (set slots place slot) ≡ change_port number port_looked (change_port number f (ports_of slots))
-slots_looked slots number place slot port f is found keeps looked =
-    ports_of-set slots place slot ∙ ap (λ q. set (ports_of slots) place q) looked ∙ sym (is.changed (λ p. port_looked (f p)) port found) ∙ sym (change_port-twice number f port_looked (ports_of slots) keeps)
+pub slots_looked : (reply : List ℕ → List ℕ) (slots : List Slot) (number place : ℕ) (slot : Slot) (port : Port) (f : Port → Port) → IsPlace number (ports_of slots) place → find_port number (ports_of slots) ≡ Some port → ((p : Port) → (f p).number ≡ p.number) → port_of slot ≡ port_looked reply (f port) → ports_of (set slots place slot) ≡ change_port number (port_looked reply) (change_port number f (ports_of slots))
+slots_looked reply slots number place slot port f is found keeps looked =
+    ports_of-set slots place slot ∙ ap (λ q. set (ports_of slots) place q) looked ∙ sym (is.changed (λ p. port_looked reply (f p)) port found) ∙ sym (change_port-twice number f (port_looked reply) (ports_of slots) keeps)
 
 -- what a look at a port that was changed brings
 pub fate_at-change_port : (number : ℕ) (f : Port → Port) (ports : List Port) (port : Port) → find_port number ports ≡ Some port → ((p : Port) → (f p).number ≡ p.number) → fate_at number (change_port number f ports) ≡ fate_of (f port)
 fate_at-change_port number f ports port found keeps = ap found_fate (find_port-change_port number f ports keeps ∙ ap (option_map f) found)
 
 -- the port is still open
-pub open_looked : (slots : List Slot) (number place : ℕ) (slot : Slot) (port : Port) (f : Port → Port) → IsPlace number (ports_of slots) place → find_port number (ports_of slots) ≡ Some port → ((p : Port) → (f p).number ≡ p.number) → port_of slot ≡ port_looked (f port) → IsOpen number (ports_of (set slots place slot))
-open_looked slots number place slot port f is found keeps looked =
-    let same = slots_looked slots number place slot port f is found keeps looked in
-    let here = find_port-change_port number port_looked (change_port number f (ports_of slots)) port_looked-number ∙ ap (option_map port_looked) (find_port-change_port number f (ports_of slots) keeps ∙ ap (option_map f) found) in
+pub open_looked : (reply : List ℕ → List ℕ) (slots : List Slot) (number place : ℕ) (slot : Slot) (port : Port) (f : Port → Port) → IsPlace number (ports_of slots) place → find_port number (ports_of slots) ≡ Some port → ((p : Port) → (f p).number ≡ p.number) → port_of slot ≡ port_looked reply (f port) → IsOpen number (ports_of (set slots place slot))
+open_looked reply slots number place slot port f is found keeps looked =
+    let same = slots_looked reply slots number place slot port f is found keeps looked in
+    let here = find_port-change_port number (port_looked reply) (change_port number f (ports_of slots)) (port_looked-number reply) ∙ ap (option_map (port_looked reply)) (find_port-change_port number f (ports_of slots) keeps ∙ ap (option_map f) found) in
     let P : Option Port → Type 0 = λ o. IsSome o in
     subst P (sym (ap (find_port number) same ∙ here)) (search rules)
 
@@ -186,36 +187,41 @@ pub closes_at-change_port : (number : ℕ) (f : Port → Port) (ports : List Por
 closes_at-change_port number f ports port found keeps = ap found_closes (find_port-change_port number f ports keeps ∙ ap (option_map f) found)
 
 -- a port that stays is as it was
-stays_by_front : (answer : Front) (port : Port) → front_fate answer ≡ Stays → front_looked answer port ≡ port
-stays_by_front (Whole body_len) port stays = absurd (cc)
-stays_by_front (Bad announced) port stays = refl
-stays_by_front More port stays = refl
+stays_by_front : (reply : List ℕ → List ℕ) (answer : Front) (port : Port) → front_fate answer ≡ Stays → front_looked reply answer port ≡ port
+stays_by_front reply (Whole body_len) port stays = absurd (cc)
+stays_by_front reply (Bad announced) port stays = refl
+stays_by_front reply More port stays = refl
 
-stays_by_owed : (owed : List ℕ) (port : Port) → owed_fate owed port.heard ≡ Stays → owed_looked owed port ≡ port
-stays_by_owed [] port stays = stays_by_front (front longest_body port.heard) port stays
-stays_by_owed (byte ∷ bytes) port stays = refl
+stays_by_owed : (reply : List ℕ → List ℕ) (owed : List ℕ) (port : Port) → owed_fate owed port.heard ≡ Stays → owed_looked reply owed port ≡ port
+stays_by_owed reply [] port stays = stays_by_front reply (front longest_body port.heard) port stays
+stays_by_owed reply (byte ∷ bytes) port stays = refl
 
-finished_by : (number : ℕ) (fate : Fate) (port : Port) (ports : List Port) → find_port number ports ≡ Some port → fate_of port ≡ fate → finished_ports number fate (change_port number port_looked ports) ≡ fated_ports number fate ports
-finished_by number Closes port ports found is = remove_port-change_port number port_looked ports port_looked-number
-finished_by number Owes port ports found is = refl
-finished_by number Stays port ports found is = change_port-same number port_looked ports port found (stays_by_owed port.owed port is)
+finished_by : (reply : List ℕ → List ℕ) (number : ℕ) (fate : Fate) (port : Port) (ports : List Port) → find_port number ports ≡ Some port → fate_of port ≡ fate → finished_ports number fate (change_port number (port_looked reply) ports) ≡ fated_ports reply number fate ports
+finished_by reply number Closes port ports found is = remove_port-change_port number (port_looked reply) ports (port_looked-number reply)
+finished_by reply number Owes port ports found is = refl
+finished_by reply number Stays port ports found is = change_port-same number (port_looked reply) ports port found (stays_by_owed reply port.owed port is)
 
 -- a change, a look and what the look says of the port are the look at the changed port
-pub finished_looked : (slots : List Slot) (number place : ℕ) (slot : Slot) (port : Port) (f : Port → Port) (fate : Fate) → IsPlace number (ports_of slots) place → find_port number (ports_of slots) ≡ Some port → ((p : Port) → (f p).number ≡ p.number) → port_of slot ≡ port_looked (f port) → fate ≡ fate_of (f port) → finished_ports number fate (ports_of (set slots place slot)) ≡ looked_ports number (change_port number f (ports_of slots))
-finished_looked slots number place slot port f fate is found keeps looked fated =
+pub finished_looked : (reply : List ℕ → List ℕ) (slots : List Slot) (number place : ℕ) (slot : Slot) (port : Port) (f : Port → Port) (fate : Fate) → IsPlace number (ports_of slots) place → find_port number (ports_of slots) ≡ Some port → ((p : Port) → (f p).number ≡ p.number) → port_of slot ≡ port_looked reply (f port) → fate ≡ fate_of (f port) → finished_ports number fate (ports_of (set slots place slot)) ≡ looked_ports reply number (change_port number f (ports_of slots))
+finished_looked reply slots number place slot port f fate is found keeps looked fated =
     let ports : List Port = change_port number f (ports_of slots) in
     let there : find_port number ports ≡ Some (f port) = find_port-change_port number f (ports_of slots) keeps ∙ ap (option_map f) found in
-    ap (finished_ports number fate) (slots_looked slots number place slot port f is found keeps looked)
-    ∙ finished_by number fate (f port) ports there (sym fated)
-    ∙ ap (λ k. fated_ports number k ports) fated
-    ∙ ap (λ o. found_looked number o ports) (sym there)
+    ap (finished_ports number fate) (slots_looked reply slots number place slot port f is found keeps looked)
+    ∙ finished_by reply number fate (f port) ports there (sym fated)
+    ∙ ap (λ k. fated_ports reply number k ports) fated
+    ∙ ap (λ o. found_looked reply number o ports) (sym there)
 
--- a slot with empty buffers is a new client
-pub joined_port : (last number : ℕ) (heard owed : Buffer) → number ≡ suc last → heard ≡ no_bytes → owed ≡ no_bytes → port_of (record { number = number; heard = heard; owed = owed }) ≡ new_client (suc last)
+-- a slot with an empty buffer, which is owed nothing, is a new client
+pub joined_port : (last number : ℕ) (heard : Buffer) (owed : List ℕ) → number ≡ suc last → heard ≡ no_bytes → owed ≡ [] → port_of (record { number = number; heard = heard; owed = owed }) ≡ new_client (suc last)
 joined_port last number heard owed next silent paid =
-    ap (λ n. let p : Port = record { number = n; heard = heard.live; owed = owed.live } in p) next
-    ∙ ap (λ b. let p : Port = record { number = suc last; heard = b.live; owed = owed.live } in p) silent
-    ∙ ap (λ b. let p : Port = record { number = suc last; heard = []; owed = b.live } in p) paid
+    ap (λ n. let p : Port = record { number = n; heard = heard.live; owed = owed } in p) next
+    ∙ ap (λ b. let p : Port = record { number = suc last; heard = b.live; owed = owed } in p) silent
+    ∙ ap (λ bytes. let p : Port = record { number = suc last; heard = []; owed = bytes } in p) paid
+
+-- what is held after a look at a port that was changed
+pub looked_keys-change_port : (after : List ℕ → KeyState) (keys : KeyState) (number : ℕ) (f : Port → Port) (ports : List Port) (port : Port) → find_port number ports ≡ Some port → ((p : Port) → (f p).number ≡ p.number) → looked_keys after keys number (change_port number f ports) ≡ port_kept after keys (f port)
+looked_keys-change_port after keys number f ports port found keeps =
+    ap (found_kept after keys) (find_port-change_port number f ports keeps ∙ ap (option_map f) found)
 
 -- there is a port at its place
 pub found_port : (slots : List Slot) (number place : ℕ) → IsPlace number (ports_of slots) place → find_port number (ports_of slots) ≡ Some (port_of (get_or slots place no_slot))

@@ -1,5 +1,6 @@
 pub mod OwingLemmas
 pub mod PlaceLemmas
+pub mod HeldLemmas
 pub mod LookLemmas
 pub mod PortsLemmas
 pub mod ClosesLemmas

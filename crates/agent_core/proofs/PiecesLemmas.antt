@@ -9,9 +9,13 @@ use Rattle.wire_text.proofs.FrontLemmas.{front-append_whole, front-append_bad}
 use Rattle.wire_text.proofs.WireLemmas.{length-string}
 use Rattle.agent_core.specs.declared.slot.Fate.{Fate}
 use Rattle.agent_core.specs.declared.slot.Fate.TheVariants.{Stays, Owes, Closes}
-use Rattle.agent_core.specs.Dispatch.{request_of, serve, reply_of, reply_body}
+use Rattle.wire_text.specs.Wire.{uint32}
+use Rattle.agent_msg.specs.Reading.{request_of}
+use Rattle.agent_msg.specs.Replies.{entries}
+use Rattle.agent_core.specs.Dispatch.{Reply, Failure, Success, Identities, serve, reply_of, reply_text}
+use Rattle.agent_core.specs.KeyStates.{KeyState}
 use Rattle.agent_core.specs.PortLook.{answer_to, fate_of, fated_ports, found_looked, front_fate, looked_ports, owed_fate, port_looked, served_port}
-use Rattle.agent_core.specs.State.{Port, IsRising, opening_state, find_port, change_port, remove_port}
+use Rattle.agent_core.specs.State.{Port, IsRising, find_port, change_port, remove_port}
 use Rattle.agent_core.specs.Step.{longest_body, heard}
 use Rattle.agent_core.proofs.LookLemmas.{fate_of-front, port_looked-front, port_looked-number, whole_within}
 use Rattle.agent_core.proofs.PortsLemmas.{change_port-by, change_port-twice, find_port-below, find_port-change_port, remove_port-change_port}
@@ -19,20 +23,27 @@ use Rattle.agent_core.proofs.PortsLemmas.{change_port-by, change_port-twice, fin
 -- ---- one port
 
 -- the port that a look leaves, where it isn't closed
-abbrev pub left_by : Fate → Port → Option Port
-left_by Closes port = None
-left_by Owes port = Some (port_looked port)
-left_by Stays port = Some port
+abbrev pub left_by : (List ℕ → List ℕ) → Fate → Port → Option Port
+left_by reply Closes port = None
+left_by reply Owes port = Some (port_looked reply port)
+left_by reply Stays port = Some port
 
-abbrev pub left : Option Port → Option Port
-left None = None
-left (Some port) = left_by (fate_of port) port
+abbrev pub left : (List ℕ → List ℕ) → Option Port → Option Port
+left reply None = None
+left reply (Some port) = left_by reply (fate_of port) port
 
--- a reply has bytes
-some_answer : (body : List ℕ) → 0 < length (answer_to body)
-some_answer body =
-    let reply = reply_of (serve (request_of body) opening_state).verdict in
-    omega (arith, length-string (reply_body reply))
+-- every reply has bytes
+abbrev pub AreSome : (List ℕ → List ℕ) → Type 0
+AreSome reply = (body : List ℕ) → 0 < length (reply body)
+
+text_is_some : (reply : Reply) → 0 < length (reply_text reply)
+text_is_some Failure = omega (arith, length-string (5 ∷ []))
+text_is_some Success = omega (arith, length-string (6 ∷ []))
+text_is_some (Identities identities) =
+    omega (arith, length-string (12 ∷ (uint32 (length identities) ++ entries identities)))
+
+pub answers_are_some : (now : ℕ) (keys : KeyState) → AreSome (answer_to now keys)
+answers_are_some now keys body = text_is_some (reply_of (serve (request_of body) now keys).verdict)
 
 -- what a port that is owed bytes meets
 pub stays_while_owed : (owed heard : List ℕ) → 0 < length owed → owed_fate owed heard ≡ Stays
@@ -40,16 +51,16 @@ stays_while_owed [] heard some = absurd (omega (arith, some))
 stays_while_owed (byte ∷ bytes) heard some = refl
 
 -- the first frame is the same whatever follows
-served-append : (body_len : ℕ) (port : Port) (piece : List ℕ) → front longest_body port.heard ≡ Whole body_len → served_port body_len (heard piece port) ≡ heard piece (served_port body_len port)
-served-append body_len port piece whole =
+served-append : (reply : List ℕ → List ℕ) (body_len : ℕ) (port : Port) (piece : List ℕ) → front longest_body port.heard ≡ Whole body_len → served_port reply body_len (heard piece port) ≡ heard piece (served_port reply body_len port)
+served-append reply body_len port piece whole =
     let within : 4 + body_len ≤ length port.heard = whole_within port.heard body_len whole in
     let four : drop 4 (port.heard ++ piece) ≡ drop 4 port.heard ++ piece = drop-append-le 4 port.heard piece (omega arith) in
     let long : length (drop 4 port.heard) ≡ length port.heard - 4 = length-drop 4 port.heard in
     let body : front_body body_len (port.heard ++ piece) ≡ front_body body_len port.heard =
     ap (take body_len) four ∙ take-append-le body_len (drop 4 port.heard) piece (omega arith) in
     let rest : after_front body_len (port.heard ++ piece) ≡ after_front body_len port.heard ++ piece = drop-append-le (4 + body_len) port.heard piece within in
-    ap (λ bytes. let q : Port = record { number = port.number; heard = bytes; owed = port.owed ++ answer_to (front_body body_len (port.heard ++ piece)) } in q) rest
-    ∙ ap (λ bytes. let q : Port = record { number = port.number; heard = after_front body_len port.heard ++ piece; owed = port.owed ++ answer_to bytes } in q) body
+    ap (λ bytes. let q : Port = record { number = port.number; heard = bytes; owed = port.owed ++ reply (front_body body_len (port.heard ++ piece)) } in q) rest
+    ∙ ap (λ bytes. let q : Port = record { number = port.number; heard = after_front body_len port.heard ++ piece; owed = port.owed ++ reply bytes } in q) body
 
 -- two parts, one after the other, are heard as one
 pub heard-twice : (a b : List ℕ) (port : Port) → heard b (heard a port) ≡ heard (a ++ b) port
@@ -64,35 +75,35 @@ bad_longer heard a b announced bad =
     ap (front longest_body) (sym (append_assoc heard a b)) ∙ front-append_bad longest_body (heard ++ a) b announced bad
 
 -- a look between the parts leaves what a look after them leaves, where it takes a request
-looked-heard : (a b : List ℕ) (body_len : ℕ) (port : Port) → port.owed ≡ [] → front longest_body (port.heard ++ a) ≡ Whole body_len → heard b (port_looked (heard a port)) ≡ port_looked (heard (a ++ b) port)
-looked-heard a b body_len port empty whole =
-    ap (heard b) (port_looked-front (heard a port) (Whole body_len) empty whole)
-    ∙ sym (served-append body_len (heard a port) b whole)
-    ∙ ap (served_port body_len) (heard-twice a b port)
-    ∙ sym (port_looked-front (heard (a ++ b) port) (Whole body_len) empty (whole_longer port.heard a b body_len whole))
+looked-heard : (reply : List ℕ → List ℕ) (a b : List ℕ) (body_len : ℕ) (port : Port) → port.owed ≡ [] → front longest_body (port.heard ++ a) ≡ Whole body_len → heard b (port_looked reply (heard a port)) ≡ port_looked reply (heard (a ++ b) port)
+looked-heard reply a b body_len port empty whole =
+    ap (heard b) (port_looked-front reply (heard a port) (Whole body_len) empty whole)
+    ∙ sym (served-append reply body_len (heard a port) b whole)
+    ∙ ap (served_port reply body_len) (heard-twice a b port)
+    ∙ sym (port_looked-front reply (heard (a ++ b) port) (Whole body_len) empty (whole_longer port.heard a b body_len whole))
 
 -- and then a reply is owed
-pub owes_reply : (body_len : ℕ) (port : Port) → port.owed ≡ [] → front longest_body port.heard ≡ Whole body_len → 0 < length (port_looked port).owed
-owes_reply body_len port empty whole =
-    let is : length (port_looked port).owed ≡ length (port.owed ++ answer_to (front_body body_len port.heard)) =
-    ap (λ q. length q.owed) (port_looked-front port (Whole body_len) empty whole) in
-    let long = length-append port.owed (answer_to (front_body body_len port.heard)) in
-    omega (arith, is, long, some_answer (front_body body_len port.heard))
+pub owes_reply : (reply : List ℕ → List ℕ) (body_len : ℕ) (port : Port) → AreSome reply → port.owed ≡ [] → front longest_body port.heard ≡ Whole body_len → 0 < length (port_looked reply port).owed
+owes_reply reply body_len port some empty whole =
+    let is : length (port_looked reply port).owed ≡ length (port.owed ++ reply (front_body body_len port.heard)) =
+    ap (λ q. length q.owed) (port_looked-front reply port (Whole body_len) empty whole) in
+    let long = length-append port.owed (reply (front_body body_len port.heard)) in
+    omega (arith, is, long, some (front_body body_len port.heard))
 
 -- ---- all ports
 
 -- the ports after a piece of one of them
-abbrev pub hear_ports : ℕ → List ℕ → List Port → List Port
-hear_ports number piece ports = looked_ports number (change_port number (heard piece) ports)
+abbrev pub hear_ports : (List ℕ → List ℕ) → ℕ → List ℕ → List Port → List Port
+hear_ports reply number piece ports = looked_ports reply number (change_port number (heard piece) ports)
 
-found_heard : (number : ℕ) (piece : List ℕ) (ports : List Port) (port : Port) → find_port number ports ≡ Some port → find_port number (change_port number (heard piece) ports) ≡ Some (heard piece port)
+pub found_heard : (number : ℕ) (piece : List ℕ) (ports : List Port) (port : Port) → find_port number ports ≡ Some port → find_port number (change_port number (heard piece) ports) ≡ Some (heard piece port)
 found_heard number piece ports port found =
     find_port-change_port number (heard piece) ports (λ p. refl) ∙ ap (option_map (heard piece)) found
 
-hear-found : (number : ℕ) (piece : List ℕ) (ports : List Port) (port : Port) (fate : Fate) → find_port number ports ≡ Some port → fate_of (heard piece port) ≡ fate → hear_ports number piece ports ≡ fated_ports number fate (change_port number (heard piece) ports)
-hear-found number piece ports port fate found is =
-    ap (λ q. found_looked number q (change_port number (heard piece) ports)) (found_heard number piece ports port found)
-    ∙ ap (λ f. fated_ports number f (change_port number (heard piece) ports)) is
+pub hear-found : (reply : List ℕ → List ℕ) (number : ℕ) (piece : List ℕ) (ports : List Port) (port : Port) (fate : Fate) → find_port number ports ≡ Some port → fate_of (heard piece port) ≡ fate → hear_ports reply number piece ports ≡ fated_ports reply number fate (change_port number (heard piece) ports)
+hear-found reply number piece ports port fate found is =
+    ap (λ q. found_looked reply number q (change_port number (heard piece) ports)) (found_heard number piece ports port found)
+    ∙ ap (λ f. fated_ports reply number f (change_port number (heard piece) ports)) is
 
 change_port-none : (number : ℕ) (f : Port → Port) (ports : List Port) → find_port number ports ≡ None → change_port number f ports ≡ ports
 change_port-none number f [] absent = refl
@@ -101,10 +112,10 @@ change_port-none number f (port ∷ ports) absent =
     let rest : change_port number f ports ≡ ports = change_port-none number f ports later in
     grind (arith, nat_tests)
 
-hear-none : (number : ℕ) (piece : List ℕ) (ports : List Port) → find_port number ports ≡ None → hear_ports number piece ports ≡ ports
-hear-none number piece ports absent =
-    ap (looked_ports number) (change_port-none number (heard piece) ports absent)
-    ∙ ap (λ q. found_looked number q ports) absent
+pub hear-none : (reply : List ℕ → List ℕ) (number : ℕ) (piece : List ℕ) (ports : List Port) → find_port number ports ≡ None → hear_ports reply number piece ports ≡ ports
+hear-none reply number piece ports absent =
+    ap (looked_ports reply number) (change_port-none number (heard piece) ports absent)
+    ∙ ap (λ q. found_looked reply number q ports) absent
 
 -- a port that is removed isn't there any more
 pub find_port-remove_port : (number low high : ℕ) (ports : List Port) → IsRising low high ports → find_port number (remove_port number ports) ≡ None
@@ -119,57 +130,41 @@ find_port-remove_port number low high (port ∷ ports) rising = elim (cases_eq n
 ]
 
 -- nothing comes of the first part
-hear-stays : (number : ℕ) (a b : List ℕ) (ports : List Port) (port : Port) → find_port number ports ≡ Some port → hear_ports number b (change_port number (heard a) ports) ≡ hear_ports number (a ++ b) ports
-hear-stays number a b ports port found =
-    ap (looked_ports number)
+pub hear-stays : (reply : List ℕ → List ℕ) (number : ℕ) (a b : List ℕ) (ports : List Port) (port : Port) → find_port number ports ≡ Some port → hear_ports reply number b (change_port number (heard a) ports) ≡ hear_ports reply number (a ++ b) ports
+hear-stays reply number a b ports port found =
+    ap (looked_ports reply number)
     (change_port-twice number (heard a) (heard b) ports (λ p. refl)
     ∙ change_port-by number (λ p. heard b (heard a p)) (heard (a ++ b)) ports port found (heard-twice a b port))
 
--- a request is taken
-hear-owes : (number : ℕ) (a b : List ℕ) (body_len : ℕ) (ports : List Port) (port : Port) → find_port number ports ≡ Some port → port.owed ≡ [] → front longest_body (port.heard ++ a) ≡ Whole body_len → hear_ports number b (change_port number port_looked (change_port number (heard a) ports)) ≡ hear_ports number (a ++ b) ports
-hear-owes number a b body_len ports port found empty whole =
+-- a request is taken: the second look, by whatever replies, finds that one is owed
+pub hear-owes : (reply other : List ℕ → List ℕ) (number : ℕ) (a b : List ℕ) (body_len : ℕ) (ports : List Port) (port : Port) → AreSome reply → find_port number ports ≡ Some port → port.owed ≡ [] → front longest_body (port.heard ++ a) ≡ Whole body_len → hear_ports other number b (hear_ports reply number a ports) ≡ hear_ports reply number (a ++ b) ports
+hear-owes reply other number a b body_len ports port some found empty whole =
     let first : List Port = change_port number (heard a) ports in
-    let found_first : find_port number (change_port number port_looked first) ≡ Some (port_looked (heard a port)) =
-    find_port-change_port number port_looked first port_looked-number ∙ ap (option_map port_looked) (found_heard number a ports port found) in
-    let stays : fate_of (heard b (port_looked (heard a port))) ≡ Stays =
-    stays_while_owed (port_looked (heard a port)).owed ((port_looked (heard a port)).heard ++ b) (owes_reply body_len (heard a port) empty whole) in
+    let found_first : find_port number (change_port number (port_looked reply) first) ≡ Some (port_looked reply (heard a port)) =
+    find_port-change_port number (port_looked reply) first (port_looked-number reply) ∙ ap (option_map (port_looked reply)) (found_heard number a ports port found) in
+    let stays : fate_of (heard b (port_looked reply (heard a port))) ≡ Stays =
+    stays_while_owed (port_looked reply (heard a port)).owed ((port_looked reply (heard a port)).heard ++ b) (owes_reply reply body_len (heard a port) some empty whole) in
     let longer : front longest_body (port.heard ++ (a ++ b)) ≡ Whole body_len = whole_longer port.heard a b body_len whole in
-    hear-found number b (change_port number port_looked first) (port_looked (heard a port)) Stays found_first stays
-    ∙ change_port-twice number port_looked (heard b) first port_looked-number
-    ∙ change_port-twice number (heard a) (λ p. heard b (port_looked p)) ports (λ p. refl)
-    ∙ change_port-by number (λ p. heard b (port_looked (heard a p))) (λ p. port_looked (heard (a ++ b) p)) ports port found (looked-heard a b body_len port empty whole)
-    ∙ sym (change_port-twice number (heard (a ++ b)) port_looked ports (λ p. refl))
-    ∙ sym (hear-found number (a ++ b) ports port Owes found (fate_of-front (heard (a ++ b) port) (Whole body_len) empty longer))
+    ap (hear_ports other number b) (hear-found reply number a ports port Owes found (fate_of-front (heard a port) (Whole body_len) empty whole))
+    ∙ hear-found other number b (change_port number (port_looked reply) first) (port_looked reply (heard a port)) Stays found_first stays
+    ∙ change_port-twice number (port_looked reply) (heard b) first (port_looked-number reply)
+    ∙ change_port-twice number (heard a) (λ p. heard b (port_looked reply p)) ports (λ p. refl)
+    ∙ change_port-by number (λ p. heard b (port_looked reply (heard a p))) (λ p. port_looked reply (heard (a ++ b) p)) ports port found (looked-heard reply a b body_len port empty whole)
+    ∙ sym (change_port-twice number (heard (a ++ b)) (port_looked reply) ports (λ p. refl))
+    ∙ sym (hear-found reply number (a ++ b) ports port Owes found (fate_of-front (heard (a ++ b) port) (Whole body_len) empty longer))
 
 -- the port is closed
-hear-closes : (number last : ℕ) (a b : List ℕ) (announced : ℕ) (ports : List Port) (port : Port) → IsRising 0 last ports → find_port number ports ≡ Some port → port.owed ≡ [] → front longest_body (port.heard ++ a) ≡ Bad announced → hear_ports number b (remove_port number (change_port number (heard a) ports)) ≡ hear_ports number (a ++ b) ports
-hear-closes number last a b announced ports port rising found empty bad =
+pub hear-closes : (reply : List ℕ → List ℕ) (number last : ℕ) (a b : List ℕ) (announced : ℕ) (ports : List Port) (port : Port) → IsRising 0 last ports → find_port number ports ≡ Some port → port.owed ≡ [] → front longest_body (port.heard ++ a) ≡ Bad announced → hear_ports reply number b (hear_ports reply number a ports) ≡ hear_ports reply number (a ++ b) ports
+hear-closes reply number last a b announced ports port rising found empty bad =
     let longer : front longest_body (port.heard ++ (a ++ b)) ≡ Bad announced = bad_longer port.heard a b announced bad in
-    ap (hear_ports number b) (remove_port-change_port number (heard a) ports (λ p. refl))
-    ∙ hear-none number b (remove_port number ports) (find_port-remove_port number 0 last ports rising)
+    ap (hear_ports reply number b) (hear-found reply number a ports port Closes found (fate_of-front (heard a port) (Bad announced) empty bad))
+    ∙ ap (hear_ports reply number b) (remove_port-change_port number (heard a) ports (λ p. refl))
+    ∙ hear-none reply number b (remove_port number ports) (find_port-remove_port number 0 last ports rising)
     ∙ sym (remove_port-change_port number (heard (a ++ b)) ports (λ p. refl))
-    ∙ sym (hear-found number (a ++ b) ports port Closes found (fate_of-front (heard (a ++ b) port) (Bad announced) empty longer))
+    ∙ sym (hear-found reply number (a ++ b) ports port Closes found (fate_of-front (heard (a ++ b) port) (Bad announced) empty longer))
 
-hear-by_front : (number last : ℕ) (a b : List ℕ) (ports : List Port) (port : Port) (answer : Front) → IsRising 0 last ports → find_port number ports ≡ Some port → port.owed ≡ [] → front longest_body (port.heard ++ a) ≡ answer → hear_ports number b (fated_ports number (front_fate answer) (change_port number (heard a) ports)) ≡ hear_ports number (a ++ b) ports
-hear-by_front number last a b ports port (Whole body_len) rising found empty is = hear-owes number a b body_len ports port found empty is
-hear-by_front number last a b ports port (Bad announced) rising found empty is = hear-closes number last a b announced ports port rising found empty is
-hear-by_front number last a b ports port More rising found empty is = hear-stays number a b ports port found
-
-hear-by_owed : (number last : ℕ) (a b : List ℕ) (ports : List Port) (port : Port) (owed : List ℕ) → IsRising 0 last ports → find_port number ports ≡ Some port → port.owed ≡ owed → hear_ports number b (hear_ports number a ports) ≡ hear_ports number (a ++ b) ports
-hear-by_owed number last a b ports port [] rising found is =
-    let answer : Front = front longest_body (port.heard ++ a) in
-    ap (hear_ports number b) (hear-found number a ports port (front_fate answer) found (fate_of-front (heard a port) answer is refl))
-    ∙ hear-by_front number last a b ports port answer rising found is refl
-hear-by_owed number last a b ports port (byte ∷ bytes) rising found is =
-    ap (hear_ports number b) (hear-found number a ports port Stays found (ap (λ owed. owed_fate owed (port.heard ++ a)) is))
-    ∙ hear-stays number a b ports port found
-
-hear-by_found : (number last : ℕ) (a b : List ℕ) (ports : List Port) (found : Option Port) → IsRising 0 last ports → find_port number ports ≡ found → hear_ports number b (hear_ports number a ports) ≡ hear_ports number (a ++ b) ports
-hear-by_found number last a b ports None rising is =
-    ap (hear_ports number b) (hear-none number a ports is)
-    ∙ hear-none number b ports is ∙ sym (hear-none number (a ++ b) ports is)
-hear-by_found number last a b ports (Some port) rising is = hear-by_owed number last a b ports port port.owed rising is refl
-
--- a piece in two parts leaves the ports that the whole piece leaves
-pub hear_ports-append : (number last : ℕ) (a b : List ℕ) (ports : List Port) → IsRising 0 last ports → hear_ports number b (hear_ports number a ports) ≡ hear_ports number (a ++ b) ports
-hear_ports-append number last a b ports rising = hear-by_found number last a b ports (find_port number ports) rising refl
+-- nothing comes of the first part
+pub hear-nothing : (reply : List ℕ → List ℕ) (number : ℕ) (a b : List ℕ) (ports : List Port) (port : Port) → find_port number ports ≡ Some port → fate_of (heard a port) ≡ Stays → hear_ports reply number b (hear_ports reply number a ports) ≡ hear_ports reply number (a ++ b) ports
+hear-nothing reply number a b ports port found stays =
+    ap (hear_ports reply number b) (hear-found reply number a ports port Stays found stays)
+    ∙ hear-stays reply number a b ports port found

@@ -87,7 +87,7 @@ numbers-ordered low high (port ∷ ports) (suc i) (suc j) rising order within =
 
 -- a slot of no port
 pub no_slot : Slot
-no_slot = record { number = 0; heard = no_bytes; owed = no_bytes }
+no_slot = record { number = 0; heard = no_bytes; owed = [] }
 
 -- the comparisons with a number rise along the slots, as a binary search asks
 comparisons_rise : (slots : List Slot) (number high : ℕ) → IsRising 0 high (ports_of slots) → IsNonDecreasingBy (λ slot. ordering_index (nat_cmp slot.number number)) slots

@@ -1,5 +1,5 @@
 -- Lemmas on events one after another.
-use Rattle.std.proofs.Common.{◌≡◌, ℕ, suc, ◌^◌, ◌<◌, ◌≤◌, List, [], ◌∷◌, ◌++◌, refl, ap, arith, ◌∙◌, Option, Some, None, Bool, true, false, nat_lt}
+use Rattle.std.proofs.Common.{◌≡◌, ℕ, suc, max, ◌^◌, ◌<◌, ◌≤◌, List, [], ◌∷◌, ◌++◌, refl, ap, arith, ◌∙◌, Option, Some, None, Bool, true, false, nat_lt}
 use Rattle.std.proofs.Math.Nat.{max-eq_left, le-max_right}
 use Rattle.std.proofs.lemmas.Bool.Decides.{nat_tests}
 use Rattle.world_ports.specs.declared.Moment.{Moment}
@@ -11,13 +11,17 @@ use Rattle.agent_core.specs.Runs.{Timed, run, AllFit}
 use Rattle.agent_core.specs.Step.{Happening, Joined, Heard, Ended, Took, Started, StartFailed, Tick, step, heard, sent, changed, admitted, most_clients, opened, looked}
 use Rattle.agent_core.proofs.LookLemmas.{port_looked-number}
 use Rattle.agent_core.proofs.SoundLemmas.{step_keeps-sound, step-last_port, last_after-le, last_after-fits}
-use Rattle.agent_core.proofs.StepLemmas.{looked-state}
+use Rattle.agent_core.specs.KeyStates.{expired}
+use Rattle.agent_core.proofs.StepLemmas.{looked-state, replies}
+use Rattle.agent_core.proofs.HeldLemmas.{expired-twice}
 
 -- a moment that was taken in is not taken in again
 pub opened-twice : (state : State) (moment : Moment) → opened moment (opened moment state) ≡ opened moment state
 opened-twice state moment =
-    ap (λ n. let a : State = record state { moment = record { mono = n; wall = moment.wall } } in a)
-    (max-eq_left (le-max_right state.moment.mono moment.mono))
+    let t = max state.moment.mono moment.mono in
+    let once : max t moment.mono ≡ t = max-eq_left (le-max_right state.moment.mono moment.mono) in
+    ap (λ n. let a : State = record state { moment = record { mono = n; wall = moment.wall }; keys = expired n (expired t state.keys) } in a) once
+    ∙ ap (λ k. let a : State = record state { moment = record { mono = t; wall = moment.wall }; keys = k } in a) (expired-twice t state.keys)
 
 -- events that come one after another keep a sound state sound
 pub run_keeps-sound : (state : State) (events : List Timed) → IsSound state → IsSound (run state events)
@@ -25,8 +29,8 @@ run_keeps-sound state [] sound = sound
 run_keeps-sound state (timed ∷ later) sound =
     run_keeps-sound (step state timed.moment timed.event).state later (step_keeps-sound state timed.moment timed.event sound)
 
-pub opening_is_sound : IsSound opening_state
-opening_is_sound = record { rising = omega arith; few = omega arith }
+pub opening_is_sound : (life : Option ℕ) → IsSound (opening_state life)
+opening_is_sound life = record { rising = omega arith; few = omega arith }
 
 -- the last number fits 64 bits
 pub run-fits : (state : State) (events : List Timed) → AllFit state events → state.last_port < 2 ^ 64 → (run state events).last_port < 2 ^ 64
@@ -65,19 +69,19 @@ find_port-changed number other f (port ∷ ports) keeps absent =
     grind (arith, nat_tests)
 
 -- when one is looked at
-find_port-fated : (number other : ℕ) (fate : Fate) (ports : List Port) → find_port number ports ≡ None → find_port number (fated_ports other fate ports) ≡ None
-find_port-fated number other Closes ports absent = find_port-removed number other ports absent
-find_port-fated number other Owes ports absent = find_port-changed number other port_looked ports port_looked-number absent
-find_port-fated number other Stays ports absent = absent
+find_port-fated : (reply : List ℕ → List ℕ) (number other : ℕ) (fate : Fate) (ports : List Port) → find_port number ports ≡ None → find_port number (fated_ports reply other fate ports) ≡ None
+find_port-fated reply number other Closes ports absent = find_port-removed number other ports absent
+find_port-fated reply number other Owes ports absent = find_port-changed number other (port_looked reply) ports (port_looked-number reply) absent
+find_port-fated reply number other Stays ports absent = absent
 
-find_port-found : (number other : ℕ) (found : Option Port) (ports : List Port) → find_port number ports ≡ None → find_port number (found_looked other found ports) ≡ None
-find_port-found number other None ports absent = absent
-find_port-found number other (Some port) ports absent = find_port-fated number other (fate_of port) ports absent
+find_port-found : (reply : List ℕ → List ℕ) (number other : ℕ) (found : Option Port) (ports : List Port) → find_port number ports ≡ None → find_port number (found_looked reply other found ports) ≡ None
+find_port-found reply number other None ports absent = absent
+find_port-found reply number other (Some port) ports absent = find_port-fated reply number other (fate_of port) ports absent
 
 find_port-looked : (number other : ℕ) (state : State) → find_port number state.ports ≡ None → find_port number (looked other state).state.ports ≡ None
 find_port-looked number other state absent =
     ap (λ s. find_port number s.ports) (looked-state other state)
-    ∙ find_port-found number other (find_port other state.ports) state.ports absent
+    ∙ find_port-found (replies state) number other (find_port other state.ports) state.ports absent
 
 -- and when a client joins under a greater number
 find_port-joined : (number other : ℕ) (ports : List Port) → number < other → find_port number ports ≡ None → find_port number (ports ++ new_client other ∷ []) ≡ None

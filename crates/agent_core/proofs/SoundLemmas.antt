@@ -10,7 +10,7 @@ use Rattle.agent_core.specs.PortLook.{fate_of, fated_ports, found_looked, port_l
 use Rattle.agent_core.specs.Step.{Happening, Joined, Heard, Ended, Took, Started, StartFailed, Tick, Fits, step, heard, sent, changed, admitted, most_clients, opened, looked}
 use Rattle.agent_core.proofs.LookLemmas.{port_looked-number}
 use Rattle.agent_core.proofs.PortsLemmas.{rising_higher, rising-change_port, rising-remove_port, rising-append, client_count-change_port, client_count-remove_port, client_count-append}
-use Rattle.agent_core.proofs.StepLemmas.{looked-state}
+use Rattle.agent_core.proofs.StepLemmas.{looked-state, replies}
 
 -- a fact of the last number and the ports that stays where one goes, is changed under its number, or joins
 pub record StaysByPort (Holds : ℕ → List Port → Type 0) : Type 0 where
@@ -19,19 +19,19 @@ pub record StaysByPort (Holds : ℕ → List Port → Type 0) : Type 0 where
   pub joined : (last : ℕ) (ports : List Port) → Holds last ports → Holds (suc last) (admitted (nat_lt (client_count ports) most_clients) (suc last) ports)
 
 -- stays at a look, whatever it brings
-fated-stays : (Holds : ℕ → List Port → Type 0) → StaysByPort Holds → (number : ℕ) (fate : Fate) (last : ℕ) (ports : List Port) → Holds last ports → Holds last (fated_ports number fate ports)
-fated-stays Holds stays number Closes last ports here = stays.removed number last ports here
-fated-stays Holds stays number Owes last ports here = stays.changed number port_looked last ports port_looked-number here
-fated-stays Holds stays number Stays last ports here = here
+fated-stays : (Holds : ℕ → List Port → Type 0) → StaysByPort Holds → (reply : List ℕ → List ℕ) (number : ℕ) (fate : Fate) (last : ℕ) (ports : List Port) → Holds last ports → Holds last (fated_ports reply number fate ports)
+fated-stays Holds stays reply number Closes last ports here = stays.removed number last ports here
+fated-stays Holds stays reply number Owes last ports here = stays.changed number (port_looked reply) last ports (port_looked-number reply) here
+fated-stays Holds stays reply number Stays last ports here = here
 
-found-stays : (Holds : ℕ → List Port → Type 0) → StaysByPort Holds → (number : ℕ) (found : Option Port) (last : ℕ) (ports : List Port) → Holds last ports → Holds last (found_looked number found ports)
-found-stays Holds stays number None last ports here = here
-found-stays Holds stays number (Some port) last ports here = fated-stays Holds stays number (fate_of port) last ports here
+found-stays : (Holds : ℕ → List Port → Type 0) → StaysByPort Holds → (reply : List ℕ → List ℕ) (number : ℕ) (found : Option Port) (last : ℕ) (ports : List Port) → Holds last ports → Holds last (found_looked reply number found ports)
+found-stays Holds stays reply number None last ports here = here
+found-stays Holds stays reply number (Some port) last ports here = fated-stays Holds stays reply number (fate_of port) last ports here
 
 looked-stays : (Holds : ℕ → List Port → Type 0) → StaysByPort Holds → (number : ℕ) (state : State) → Holds state.last_port state.ports → Holds (looked number state).state.last_port (looked number state).state.ports
 looked-stays Holds stays number state here =
     let P : State → Type 0 = λ s. Holds s.last_port s.ports in
-    subst P (sym (looked-state number state)) (found-stays Holds stays number (find_port number state.ports) state.last_port state.ports here)
+    subst P (sym (looked-state number state)) (found-stays Holds stays (replies state) number (find_port number state.ports) state.last_port state.ports here)
 
 -- and at every event
 pub step-stays : (Holds : ℕ → List Port → Type 0) → StaysByPort Holds → (state : State) (moment : Moment) (event : Happening) → Holds state.last_port state.ports → Holds (step state moment event).state.last_port (step state moment event).state.ports

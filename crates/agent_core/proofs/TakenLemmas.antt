@@ -1,164 +1,331 @@
 -- A piece of a client's bytes, whole and in two parts: the requests that are taken, and the state.
 use Rattle.std.proofs.Common.{◌≡◌, ℕ, ◌+◌, ◌-◌, ◌<◌, ◌≤◌, List, [], ◌∷◌, ◌++◌, length, take, drop, max, refl, ap, arith, sym, ◌∙◌, Option, Some, None}
 use Rattle.std.proofs.Math.Nat.{max-eq_left, le-max_right}
-use Rattle.std.proofs.lemmas.List.{append_assoc, length-drop, take-append-le, drop-append-le}
+use Rattle.std.proofs.lemmas.List.{append_assoc, append-nil, length-drop, take-append-le, drop-append-le}
 use Rattle.std.specs.Option.{option_map}
 use Rattle.world_ports.specs.declared.Moment.{Moment}
 use Rattle.wire_text.specs.Frames.{Front, front, front_body, Whole, Bad, More}
+use Rattle.agent_msg.specs.Reading.{request_of}
 use Rattle.agent_core.specs.declared.slot.Fate.{Fate}
 use Rattle.agent_core.specs.declared.slot.Fate.TheVariants.{Stays, Owes, Closes}
-use Rattle.agent_core.specs.Dispatch.{request_of, serve}
-use Rattle.agent_core.specs.PortLook.{fate_of, fated_ports, found_looked, front_fate, owed_fate, port_looked}
+use Rattle.agent_core.specs.Dispatch.{Verdict, serve}
+use Rattle.agent_core.specs.KeyStates.{KeyState, expired}
+use Rattle.agent_core.specs.PortLook.{answer_to, keys_after, fate_of, fated_ports, found_looked, found_kept, owed_kept, front_kept, port_kept, looked_keys, front_fate, owed_fate, port_looked}
 use Rattle.agent_core.specs.Runs.{forget_closes}
-use Rattle.agent_core.specs.State.{Port, State, IsRising, IsSound, opening_state, find_port, change_port}
+use Rattle.agent_core.specs.State.{Port, State, IsRising, IsSound, find_port, change_port}
 use Rattle.agent_core.specs.Step.{Action, Requested, Heard, longest_body, step, opened, changed, heard, take_frame, look_port, look_owed, look_front}
-use Rattle.agent_core.proofs.LookLemmas.{fate_of-front, port_looked-number, whole_within}
+use Rattle.agent_core.proofs.HeldLemmas.{expired-twice}
+use Rattle.agent_core.proofs.LookLemmas.{fate_of-front, port_kept-front, port_looked-number, whole_within}
 use Rattle.agent_core.proofs.PortsLemmas.{find_port-change_port, rising-change_port}
-use Rattle.agent_core.proofs.StepLemmas.{looked-state, serve-verdict}
-use Rattle.agent_core.proofs.PiecesLemmas.{left, left_by, heard-twice, whole_longer, bad_longer, owes_reply, hear_ports, hear_ports-append, find_port-remove_port}
+use Rattle.agent_core.proofs.StepLemmas.{looked-state}
+use Rattle.agent_core.proofs.PiecesLemmas.{left, left_by, heard-twice, whole_longer, bad_longer, answers_are_some, owes_reply, hear_ports, hear-none, hear-owes, hear-closes, hear-nothing, find_port-remove_port}
 
 -- ---- what is taken
 
-abbrev pub front_acts : ℕ → List ℕ → Front → List Action
-front_acts number heard (Whole body_len) =
+-- the verdict on the request of this body
+abbrev pub verdict_on : ℕ → KeyState → List ℕ → Verdict
+verdict_on now keys body = (serve (request_of body) now keys).verdict
+
+abbrev pub front_acts : (List ℕ → Verdict) → ℕ → List ℕ → Front → List Action
+front_acts verdict number heard (Whole body_len) =
     Requested (record {
       port = number;
       body = front_body body_len heard;
-      verdict = (serve (request_of (front_body body_len heard)) opening_state).verdict;
+      verdict = verdict (front_body body_len heard);
     }) ∷ []
-front_acts number heard (Bad announced) = []
-front_acts number heard More = []
+front_acts verdict number heard (Bad announced) = []
+front_acts verdict number heard More = []
 
-abbrev pub owed_acts : ℕ → List ℕ → List ℕ → List Action
-owed_acts number [] heard = front_acts number heard (front longest_body heard)
-owed_acts number (byte ∷ bytes) heard = []
+abbrev pub owed_acts : (List ℕ → Verdict) → ℕ → List ℕ → List ℕ → List Action
+owed_acts verdict number [] heard = front_acts verdict number heard (front longest_body heard)
+owed_acts verdict number (byte ∷ bytes) heard = []
 
 -- the actions of a look
-abbrev pub acts : ℕ → Option Port → List Action
-acts number None = []
-acts number (Some port) = owed_acts number port.owed port.heard
+abbrev pub acts : (List ℕ → Verdict) → ℕ → Option Port → List Action
+acts verdict number None = []
+acts verdict number (Some port) = owed_acts verdict number port.owed port.heard
 
-look_front-acts : (number : ℕ) (heard : List ℕ) (answer : Front) (state : State) → (look_front number heard answer state).actions ≡ front_acts number heard answer
-look_front-acts number heard (Whole body_len) state =
-    let body = front_body body_len heard in
-    ap (λ v. Requested (record { port = number; body = body; verdict = v }) ∷ [])
-    (serve-verdict (request_of body) (changed number (take_frame body_len) state))
+look_front-acts : (number : ℕ) (heard : List ℕ) (answer : Front) (state : State) → (look_front number heard answer state).actions ≡ front_acts (verdict_on state.moment.mono state.keys) number heard answer
+look_front-acts number heard (Whole body_len) state = refl
 look_front-acts number heard (Bad announced) state = refl
 look_front-acts number heard More state = refl
 
-look_owed-acts : (number : ℕ) (owed heard : List ℕ) (state : State) → (look_owed number owed heard state).actions ≡ owed_acts number owed heard
+look_owed-acts : (number : ℕ) (owed heard : List ℕ) (state : State) → (look_owed number owed heard state).actions ≡ owed_acts (verdict_on state.moment.mono state.keys) number owed heard
 look_owed-acts number [] heard state = look_front-acts number heard (front longest_body heard) state
 look_owed-acts number (byte ∷ bytes) heard state = refl
 
-look_port-acts : (number : ℕ) (found : Option Port) (state : State) → (look_port number found state).actions ≡ acts number found
+look_port-acts : (number : ℕ) (found : Option Port) (state : State) → (look_port number found state).actions ≡ acts (verdict_on state.moment.mono state.keys) number found
 look_port-acts number None state = refl
 look_port-acts number (Some port) state = look_owed-acts number port.owed port.heard state
 
-acts-owed : (number : ℕ) (owed heard : List ℕ) → 0 < length owed → owed_acts number owed heard ≡ []
-acts-owed number [] heard some = absurd (omega (arith, some))
-acts-owed number (byte ∷ bytes) heard some = refl
+acts-owed : (verdict : List ℕ → Verdict) (number : ℕ) (owed heard : List ℕ) → 0 < length owed → owed_acts verdict number owed heard ≡ []
+acts-owed verdict number [] heard some = absurd (omega (arith, some))
+acts-owed verdict number (byte ∷ bytes) heard some = refl
 
-acts-by_front : (number : ℕ) (a b : List ℕ) (port : Port) (answer : Front) → port.owed ≡ [] → front longest_body (port.heard ++ a) ≡ answer → acts number (Some (heard (a ++ b) port)) ≡ front_acts number (port.heard ++ a) answer ++ acts number (option_map (heard b) (left_by (front_fate answer) (heard a port)))
-acts-by_front number a b port (Whole body_len) empty is =
-    let longer : front longest_body (port.heard ++ (a ++ b)) ≡ Whole body_len = whole_longer port.heard a b body_len is in
-    let within : 4 + body_len ≤ length (port.heard ++ a) = whole_within (port.heard ++ a) body_len is in
-    let long : length (drop 4 (port.heard ++ a)) ≡ length (port.heard ++ a) - 4 = length-drop 4 (port.heard ++ a) in
-    let body : front_body body_len (port.heard ++ (a ++ b)) ≡ front_body body_len (port.heard ++ a) =
-    ap (front_body body_len) (sym (append_assoc port.heard a b))
-    ∙ ap (take body_len) (drop-append-le 4 (port.heard ++ a) b (omega arith))
-    ∙ take-append-le body_len (drop 4 (port.heard ++ a)) b (omega arith) in
-    let after : Port = heard b (port_looked (heard a port)) in
-    let rest : acts number (Some after) ≡ [] = acts-owed number after.owed after.heard (owes_reply body_len (heard a port) empty is) in
-    ap (λ owed. owed_acts number owed (port.heard ++ (a ++ b))) empty
-    ∙ ap (front_acts number (port.heard ++ (a ++ b))) longer
-    ∙ ap (λ bytes. Requested (record { port = number; body = bytes; verdict = (serve (request_of bytes) opening_state).verdict }) ∷ []) body
-    ∙ ap (λ later. front_acts number (port.heard ++ a) (Whole body_len) ++ later) (sym rest)
-acts-by_front number a b port (Bad announced) empty is =
-    let longer : front longest_body (port.heard ++ (a ++ b)) ≡ Bad announced = bad_longer port.heard a b announced is in
-    ap (λ owed. owed_acts number owed (port.heard ++ (a ++ b))) empty ∙ ap (front_acts number (port.heard ++ (a ++ b))) longer
-acts-by_front number a b port More empty is =
-    ap (λ p. acts number (Some p)) (sym (heard-twice a b port))
+kept-owed : (after : List ℕ → KeyState) (keys : KeyState) (owed heard : List ℕ) → 0 < length owed → owed_kept after keys owed heard ≡ keys
+kept-owed after keys [] heard some = absurd (omega (arith, some))
+kept-owed after keys (byte ∷ bytes) heard some = refl
 
-acts-by_owed : (number : ℕ) (a b : List ℕ) (port : Port) (owed : List ℕ) → port.owed ≡ owed → acts number (Some (heard (a ++ b) port)) ≡ acts number (Some (heard a port)) ++ acts number (option_map (heard b) (left (Some (heard a port))))
-acts-by_owed number a b port [] is =
-    let answer : Front = front longest_body (port.heard ++ a) in
-    let first : acts number (Some (heard a port)) ≡ front_acts number (port.heard ++ a) answer = ap (λ owed. owed_acts number owed (port.heard ++ a)) is in
-    let fate : fate_of (heard a port) ≡ front_fate answer = fate_of-front (heard a port) answer is refl in
-    acts-by_front number a b port answer is refl
-    ∙ ap (λ xs. xs ++ acts number (option_map (heard b) (left_by (front_fate answer) (heard a port)))) (sym first)
-    ∙ ap (λ f. acts number (Some (heard a port)) ++ acts number (option_map (heard b) (left_by f (heard a port)))) (sym fate)
-acts-by_owed number a b port (byte ∷ bytes) is =
-    let first : acts number (Some (heard a port)) ≡ [] = ap (λ owed. owed_acts number owed (port.heard ++ a)) is in
-    let stays : fate_of (heard a port) ≡ Stays = ap (λ owed. owed_fate owed (port.heard ++ a)) is in
-    ap (λ p. acts number (Some p)) (sym (heard-twice a b port))
-    ∙ ap (λ f. acts number (option_map (heard b) (left_by f (heard a port)))) (sym stays)
-    ∙ ap (λ xs. xs ++ acts number (option_map (heard b) (left (Some (heard a port))))) (sym first)
+-- the first body is the same whatever follows
+body_longer : (heard a b : List ℕ) (body_len : ℕ) → front longest_body (heard ++ a) ≡ Whole body_len → front_body body_len (heard ++ (a ++ b)) ≡ front_body body_len (heard ++ a)
+body_longer heard a b body_len is =
+    let within : 4 + body_len ≤ length (heard ++ a) = whole_within (heard ++ a) body_len is in
+    let long : length (drop 4 (heard ++ a)) ≡ length (heard ++ a) - 4 = length-drop 4 (heard ++ a) in
+    ap (front_body body_len) (sym (append_assoc heard a b))
+    ∙ ap (take body_len) (drop-append-le 4 (heard ++ a) b (omega arith))
+    ∙ take-append-le body_len (drop 4 (heard ++ a)) b (omega arith)
 
--- the requests of a piece are those of its parts
-acts-append : (number : ℕ) (a b : List ℕ) (found : Option Port) → acts number (option_map (heard (a ++ b)) found) ≡ acts number (option_map (heard a) found) ++ acts number (option_map (heard b) (left (option_map (heard a) found)))
-acts-append number a b None = refl
-acts-append number a b (Some port) = acts-by_owed number a b port port.owed refl
+-- ---- a port that hears two parts
+
+-- what is held after a port heard a piece
+abbrev pub kept_by : ℕ → KeyState → List ℕ → Option Port → KeyState
+kept_by now keys piece found = found_kept (keys_after now keys) keys (option_map (heard piece) found)
+
+-- the port after it heard a piece
+abbrev pub left_after : ℕ → KeyState → List ℕ → Option Port → Option Port
+left_after now keys piece found = left (answer_to now keys) (option_map (heard piece) found)
+
+-- what two parts lead to is what the whole leads to, where the second comes to those that are held next
+record PortParts (now : ℕ) (keys next : KeyState) (number : ℕ) (a b : List ℕ) (found : Option Port) : Type 0 where
+  pub kept : expired now (kept_by now next b (left_after now keys a found)) ≡ expired now (kept_by now keys (a ++ b) found)
+  pub taken : acts (verdict_on now keys) number (option_map (heard (a ++ b)) found) ≡ acts (verdict_on now keys) number (option_map (heard a) found) ++ acts (verdict_on now next) number (option_map (heard b) (left_after now keys a found))
+
+-- a port of which nothing came
+parts-nothing : (now : ℕ) (keys next : KeyState) (number : ℕ) (a b : List ℕ) (port : Port) → next ≡ keys → fate_of (heard a port) ≡ Stays → acts (verdict_on now keys) number (Some (heard a port)) ≡ [] → PortParts now keys next number a b (Some port)
+parts-nothing now keys next number a b port same stays none =
+    let there : left_after now keys a (Some port) ≡ Some (heard a port) = ap (λ f. left_by (answer_to now keys) f (heard a port)) stays in
+    record {
+      kept = ap (λ o. expired now (kept_by now next b o)) there
+          ∙ ap (λ k. expired now (kept_by now k b (Some (heard a port)))) same
+          ∙ ap (λ p. expired now (found_kept (keys_after now keys) keys (Some p))) (heard-twice a b port);
+      taken = ap (λ p. acts (verdict_on now keys) number (Some p)) (sym (heard-twice a b port))
+          ∙ ap (λ k. acts (verdict_on now k) number (Some (heard b (heard a port)))) (sym same)
+          ∙ ap (λ o. acts (verdict_on now next) number (option_map (heard b) o)) (sym there)
+          ∙ ap (λ xs. xs ++ acts (verdict_on now next) number (option_map (heard b) (left_after now keys a (Some port)))) (sym none);
+    }
+
+parts-by_front : (now : ℕ) (keys next : KeyState) (number : ℕ) (a b : List ℕ) (port : Port) (answer : Front) → expired now keys ≡ keys → next ≡ expired now (front_kept (keys_after now keys) keys (port.heard ++ a) answer) → port.owed ≡ [] → front longest_body (port.heard ++ a) ≡ answer → PortParts now keys next number a b (Some port)
+parts-by_front now keys next number a b port (Whole body_len) settled is empty whole =
+    let longer : front longest_body (port.heard ++ (a ++ b)) ≡ Whole body_len = whole_longer port.heard a b body_len whole in
+    let body : front_body body_len (port.heard ++ (a ++ b)) ≡ front_body body_len (port.heard ++ a) = body_longer port.heard a b body_len whole in
+    let some = owes_reply (answer_to now keys) body_len (heard a port) (answers_are_some now keys) empty whole in
+    let after : Port = heard b (port_looked (answer_to now keys) (heard a port)) in
+    let there : left_after now keys a (Some port) ≡ Some (port_looked (answer_to now keys) (heard a port)) =
+    ap (λ f. left_by (answer_to now keys) f (heard a port)) (fate_of-front (heard a port) (Whole body_len) empty whole) in
+    let all : kept_by now keys (a ++ b) (Some port) ≡ keys_after now keys (front_body body_len (port.heard ++ a)) =
+    port_kept-front (keys_after now keys) keys (heard (a ++ b) port) (Whole body_len) empty longer ∙ ap (keys_after now keys) body in
+    let first : acts (verdict_on now keys) number (Some (heard a port)) ≡ front_acts (verdict_on now keys) number (port.heard ++ a) (Whole body_len) =
+    ap (λ owed. owed_acts (verdict_on now keys) number owed (port.heard ++ a)) empty
+    ∙ ap (front_acts (verdict_on now keys) number (port.heard ++ a)) whole in
+    let second : acts (verdict_on now next) number (option_map (heard b) (left_after now keys a (Some port))) ≡ [] =
+    ap (λ o. acts (verdict_on now next) number (option_map (heard b) o)) there
+    ∙ acts-owed (verdict_on now next) number after.owed after.heard some in
+    record {
+      kept = ap (λ o. expired now (kept_by now next b o)) there
+          ∙ ap (expired now) (kept-owed (keys_after now next) next after.owed after.heard some)
+          ∙ ap (expired now) is
+          ∙ expired-twice now (keys_after now keys (front_body body_len (port.heard ++ a)))
+          ∙ ap (expired now) (sym all);
+      taken = ap (λ owed. owed_acts (verdict_on now keys) number owed (port.heard ++ (a ++ b))) empty
+          ∙ ap (front_acts (verdict_on now keys) number (port.heard ++ (a ++ b))) longer
+          ∙ ap (λ bytes. Requested (record { port = number; body = bytes; verdict = verdict_on now keys bytes }) ∷ []) body
+          ∙ sym first
+          ∙ sym (ap (λ xs. acts (verdict_on now keys) number (Some (heard a port)) ++ xs) second ∙ append-nil (acts (verdict_on now keys) number (Some (heard a port))));
+    }
+parts-by_front now keys next number a b port (Bad announced) settled is empty bad =
+    let longer : front longest_body (port.heard ++ (a ++ b)) ≡ Bad announced = bad_longer port.heard a b announced bad in
+    let there : left_after now keys a (Some port) ≡ None =
+    ap (λ f. left_by (answer_to now keys) f (heard a port)) (fate_of-front (heard a port) (Bad announced) empty bad) in
+    let all : kept_by now keys (a ++ b) (Some port) ≡ keys = port_kept-front (keys_after now keys) keys (heard (a ++ b) port) (Bad announced) empty longer in
+    let first : acts (verdict_on now keys) number (Some (heard a port)) ≡ [] =
+    ap (λ owed. owed_acts (verdict_on now keys) number owed (port.heard ++ a)) empty
+    ∙ ap (front_acts (verdict_on now keys) number (port.heard ++ a)) bad in
+    let whole : acts (verdict_on now keys) number (Some (heard (a ++ b) port)) ≡ [] =
+    ap (λ owed. owed_acts (verdict_on now keys) number owed (port.heard ++ (a ++ b))) empty
+    ∙ ap (front_acts (verdict_on now keys) number (port.heard ++ (a ++ b))) longer in
+    let second : acts (verdict_on now next) number (option_map (heard b) (left_after now keys a (Some port))) ≡ [] =
+    ap (λ o. acts (verdict_on now next) number (option_map (heard b) o)) there in
+    record {
+      kept = ap (λ o. expired now (kept_by now next b o)) there
+          ∙ ap (expired now) is ∙ expired-twice now keys ∙ ap (expired now) (sym all);
+      taken = whole ∙ sym (ap (λ xs. xs ++ acts (verdict_on now next) number (option_map (heard b) (left_after now keys a (Some port)))) first ∙ second);
+    }
+parts-by_front now keys next number a b port More settled is empty more =
+    parts-nothing now keys next number a b port (is ∙ settled) (fate_of-front (heard a port) More empty more)
+    (ap (λ owed. owed_acts (verdict_on now keys) number owed (port.heard ++ a)) empty
+    ∙ ap (front_acts (verdict_on now keys) number (port.heard ++ a)) more)
+
+parts-by_owed : (now : ℕ) (keys next : KeyState) (number : ℕ) (a b : List ℕ) (port : Port) (owed : List ℕ) → expired now keys ≡ keys → next ≡ expired now (owed_kept (keys_after now keys) keys owed (port.heard ++ a)) → port.owed ≡ owed → PortParts now keys next number a b (Some port)
+parts-by_owed now keys next number a b port [] settled is empty =
+    parts-by_front now keys next number a b port (front longest_body (port.heard ++ a)) settled is empty refl
+parts-by_owed now keys next number a b port (byte ∷ bytes) settled is owes =
+    parts-nothing now keys next number a b port (is ∙ settled)
+    (ap (λ owed. owed_fate owed (port.heard ++ a)) owes)
+    (ap (λ owed. owed_acts (verdict_on now keys) number owed (port.heard ++ a)) owes)
+
+parts-by_port : (now : ℕ) (keys next : KeyState) (number : ℕ) (a b : List ℕ) (found : Option Port) → expired now keys ≡ keys → next ≡ expired now (kept_by now keys a found) → PortParts now keys next number a b found
+parts-by_port now keys next number a b None settled is = record {
+  kept = ap (expired now) (is ∙ settled);
+  taken = refl;
+}
+parts-by_port now keys next number a b (Some port) settled is = parts-by_owed now keys next number a b port port.owed settled is refl
+
+-- ---- all ports
+
+-- the ports that two parts lead to
+ports-by_front : (now : ℕ) (keys next : KeyState) (number last : ℕ) (a b : List ℕ) (ports : List Port) (port : Port) (answer : Front) → expired now keys ≡ keys → next ≡ expired now (front_kept (keys_after now keys) keys (port.heard ++ a) answer) → IsRising 0 last ports → find_port number ports ≡ Some port → port.owed ≡ [] → front longest_body (port.heard ++ a) ≡ answer → hear_ports (answer_to now next) number b (hear_ports (answer_to now keys) number a ports) ≡ hear_ports (answer_to now keys) number (a ++ b) ports
+ports-by_front now keys next number last a b ports port (Whole body_len) settled is rising found empty whole =
+    hear-owes (answer_to now keys) (answer_to now next) number a b body_len ports port (answers_are_some now keys) found empty whole
+ports-by_front now keys next number last a b ports port (Bad announced) settled is rising found empty bad =
+    ap (λ k. hear_ports (answer_to now k) number b (hear_ports (answer_to now keys) number a ports)) (is ∙ settled)
+    ∙ hear-closes (answer_to now keys) number last a b announced ports port rising found empty bad
+ports-by_front now keys next number last a b ports port More settled is rising found empty more =
+    ap (λ k. hear_ports (answer_to now k) number b (hear_ports (answer_to now keys) number a ports)) (is ∙ settled)
+    ∙ hear-nothing (answer_to now keys) number a b ports port found (fate_of-front (heard a port) More empty more)
+
+ports-by_owed : (now : ℕ) (keys next : KeyState) (number last : ℕ) (a b : List ℕ) (ports : List Port) (port : Port) (owed : List ℕ) → expired now keys ≡ keys → next ≡ expired now (owed_kept (keys_after now keys) keys owed (port.heard ++ a)) → IsRising 0 last ports → find_port number ports ≡ Some port → port.owed ≡ owed → hear_ports (answer_to now next) number b (hear_ports (answer_to now keys) number a ports) ≡ hear_ports (answer_to now keys) number (a ++ b) ports
+ports-by_owed now keys next number last a b ports port [] settled is rising found empty =
+    ports-by_front now keys next number last a b ports port (front longest_body (port.heard ++ a)) settled is rising found empty refl
+ports-by_owed now keys next number last a b ports port (byte ∷ bytes) settled is rising found owes =
+    ap (λ k. hear_ports (answer_to now k) number b (hear_ports (answer_to now keys) number a ports)) (is ∙ settled)
+    ∙ hear-nothing (answer_to now keys) number a b ports port found (ap (λ owed. owed_fate owed (port.heard ++ a)) owes)
+
+ports-by_port : (now : ℕ) (keys next : KeyState) (number last : ℕ) (a b : List ℕ) (ports : List Port) (found : Option Port) → expired now keys ≡ keys → next ≡ expired now (kept_by now keys a found) → IsRising 0 last ports → find_port number ports ≡ found → hear_ports (answer_to now next) number b (hear_ports (answer_to now keys) number a ports) ≡ hear_ports (answer_to now keys) number (a ++ b) ports
+ports-by_port now keys next number last a b ports None settled is rising absent =
+    ap (hear_ports (answer_to now next) number b) (hear-none (answer_to now keys) number a ports absent)
+    ∙ hear-none (answer_to now next) number b ports absent
+    ∙ sym (hear-none (answer_to now keys) number (a ++ b) ports absent)
+ports-by_port now keys next number last a b ports (Some port) settled is rising found =
+    ports-by_owed now keys next number last a b ports port port.owed settled is rising found refl
 
 -- the port after a look
-find-fated : (number last : ℕ) (port : Port) (fate : Fate) (ports : List Port) → IsRising 0 last ports → find_port number ports ≡ Some port → find_port number (fated_ports number fate ports) ≡ left_by fate port
-find-fated number last port Closes ports rising found = find_port-remove_port number 0 last ports rising
-find-fated number last port Owes ports rising found = find_port-change_port number port_looked ports port_looked-number ∙ ap (option_map port_looked) found
-find-fated number last port Stays ports rising found = found
+find-fated : (reply : List ℕ → List ℕ) (number last : ℕ) (port : Port) (fate : Fate) (ports : List Port) → IsRising 0 last ports → find_port number ports ≡ Some port → find_port number (fated_ports reply number fate ports) ≡ left_by reply fate port
+find-fated reply number last port Closes ports rising found = find_port-remove_port number 0 last ports rising
+find-fated reply number last port Owes ports rising found = find_port-change_port number (port_looked reply) ports (port_looked-number reply) ∙ ap (option_map (port_looked reply)) found
+find-fated reply number last port Stays ports rising found = found
 
-find-found : (number last : ℕ) (found : Option Port) (ports : List Port) → IsRising 0 last ports → find_port number ports ≡ found → find_port number (found_looked number found ports) ≡ left found
-find-found number last None ports rising is = is
-find-found number last (Some port) ports rising is = find-fated number last port (fate_of port) ports rising is
+find-found : (reply : List ℕ → List ℕ) (number last : ℕ) (found : Option Port) (ports : List Port) → IsRising 0 last ports → find_port number ports ≡ found → find_port number (found_looked reply number found ports) ≡ left reply found
+find-found reply number last None ports rising is = is
+find-found reply number last (Some port) ports rising is = find-fated reply number last port (fate_of port) ports rising is
 
 -- ---- the state
 
--- the state after a piece, but for what was closed
-abbrev pub hear_state : Moment → ℕ → List ℕ → State → State
-hear_state moment port piece state = record {
-  moment = record { mono = max state.moment.mono moment.mono; wall = moment.wall };
-  ports = hear_ports port piece state.ports;
+-- what is held after a piece of one of the ports
+abbrev pub hear_keys : ℕ → KeyState → ℕ → List ℕ → List Port → KeyState
+hear_keys now keys number piece ports = looked_keys (keys_after now keys) keys number (change_port number (heard piece) ports)
+
+hear_keys-by : (now : ℕ) (keys : KeyState) (number : ℕ) (piece : List ℕ) (ports : List Port) → hear_keys now keys number piece ports ≡ kept_by now keys piece (find_port number ports)
+hear_keys-by now keys number piece ports =
+    ap (found_kept (keys_after now keys) keys) (find_port-change_port number (heard piece) ports (λ p. refl))
+
+-- the port after a piece
+find-heard : (now : ℕ) (keys : KeyState) (number last : ℕ) (piece : List ℕ) (ports : List Port) → IsRising 0 last ports → find_port number (hear_ports (answer_to now keys) number piece ports) ≡ left_after now keys piece (find_port number ports)
+find-heard now keys number last piece ports rising =
+    find-found (answer_to now keys) number last (find_port number (change_port number (heard piece) ports)) (change_port number (heard piece) ports)
+    (rising-change_port number 0 last (heard piece) ports (λ p. refl) rising) refl
+    ∙ ap (left (answer_to now keys)) (find_port-change_port number (heard piece) ports (λ p. refl))
+
+-- what is held and the ports after a piece, from what was held at that second
+abbrev pub piece_state : Moment → ℕ → KeyState → ℕ → List ℕ → State → State
+piece_state moment now keys port piece state = record {
+  moment = record { mono = now; wall = moment.wall };
+  keys = hear_keys now keys port piece state.ports;
+  ports = hear_ports (answer_to now keys) port piece state.ports;
   last_port = state.last_port;
   closes = [];
 }
 
-step-heard : (state : State) (moment : Moment) (port : ℕ) (piece : List ℕ) → forget_closes (step state moment (Heard port piece)).state ≡ hear_state moment port piece state
+-- the second of a moment, and what is held as it is taken in
+abbrev pub second_of : Moment → State → ℕ
+second_of moment state = max state.moment.mono moment.mono
+
+step-heard : (state : State) (moment : Moment) (port : ℕ) (piece : List ℕ) → forget_closes (step state moment (Heard port piece)).state ≡ piece_state moment (second_of moment state) (expired (second_of moment state) state.keys) port piece state
 step-heard state moment port piece =
     ap forget_closes (looked-state port (changed port (heard piece) (opened moment state)))
 
-ports-heard : (state : State) (moment : Moment) (port : ℕ) (piece : List ℕ) → (step state moment (Heard port piece)).state.ports ≡ hear_ports port piece state.ports
-ports-heard state moment port piece = ap (λ s. s.ports) (looked-state port (changed port (heard piece) (opened moment state)))
-
-actions-heard : (state : State) (moment : Moment) (port : ℕ) (piece : List ℕ) → (step state moment (Heard port piece)).actions ≡ acts port (option_map (heard piece) (find_port port state.ports))
+actions-heard : (state : State) (moment : Moment) (port : ℕ) (piece : List ℕ) → (step state moment (Heard port piece)).actions ≡ acts (verdict_on (second_of moment state) (expired (second_of moment state) state.keys)) port (option_map (heard piece) (find_port port state.ports))
 actions-heard state moment port piece =
     look_port-acts port (find_port port (change_port port (heard piece) state.ports)) (changed port (heard piece) (opened moment state))
-    ∙ ap (acts port) (find_port-change_port port (heard piece) state.ports (λ p. refl))
+    ∙ ap (acts (verdict_on (second_of moment state) (expired (second_of moment state) state.keys)) port) (find_port-change_port port (heard piece) state.ports (λ p. refl))
 
-hear_state-append : (moment : Moment) (port : ℕ) (a b : List ℕ) (state : State) → IsSound state → hear_state moment port b (hear_state moment port a state) ≡ hear_state moment port (a ++ b) state
-hear_state-append moment port a b state sound =
-    ap (λ n. let s : State = record { moment = record { mono = n; wall = moment.wall }; ports = hear_ports port b (hear_ports port a state.ports); last_port = state.last_port; closes = [] } in s)
-    (max-eq_left (le-max_right state.moment.mono moment.mono))
-    ∙ ap (λ ports. let s : State = record { moment = record { mono = max state.moment.mono moment.mono; wall = moment.wall }; ports = ports; last_port = state.last_port; closes = [] } in s)
-    (hear_ports-append port state.last_port a b state.ports sound.rising)
+-- the state as the next event at the same moment begins
+abbrev pub settled_state : Moment → ℕ → State → State
+settled_state moment now state = record {
+  moment = record { mono = now; wall = moment.wall };
+  keys = expired now state.keys;
+  ports = state.ports;
+  last_port = state.last_port;
+  closes = [];
+}
+
+opened-piece : (moment : Moment) (now : ℕ) (keys : KeyState) (port : ℕ) (piece : List ℕ) (state : State) → moment.mono ≤ now → forget_closes (opened moment (piece_state moment now keys port piece state)) ≡ settled_state moment now (piece_state moment now keys port piece state)
+opened-piece moment now keys port piece state below =
+    ap (λ n. settled_state moment n (piece_state moment now keys port piece state)) (max-eq_left below)
+
+opened-forgets : (moment : Moment) (state : State) → forget_closes (opened moment state) ≡ forget_closes (opened moment (forget_closes state))
+opened-forgets moment state = refl
+
+step-forgets : (state : State) (moment : Moment) (port : ℕ) (piece : List ℕ) → forget_closes (step state moment (Heard port piece)).state ≡ forget_closes (step (forget_closes state) moment (Heard port piece)).state
+step-forgets state moment port piece = step-heard state moment port piece ∙ sym (step-heard (forget_closes state) moment port piece)
+
+-- the second part, after the first
+second-part : (moment : Moment) (now : ℕ) (keys : KeyState) (port : ℕ) (a b : List ℕ) (state : State) → moment.mono ≤ now → forget_closes (step (piece_state moment now keys port a state) moment (Heard port b)).state ≡ piece_state moment now (expired now (hear_keys now keys port a state.ports)) port b (piece_state moment now keys port a state)
+second-part moment now keys port a b state below =
+    step-heard (piece_state moment now keys port a state) moment port b
+    ∙ ap (λ n. piece_state moment n (expired n (hear_keys now keys port a state.ports)) port b (piece_state moment now keys port a state)) (max-eq_left below)
 
 -- two parts lead where the whole piece leads
-pub pieces-state : (state : State) (moment : Moment) (port : ℕ) (a b : List ℕ) → IsSound state → forget_closes (step state moment (Heard port (a ++ b))).state ≡ forget_closes (step (step state moment (Heard port a)).state moment (Heard port b)).state
+pub pieces-state : (state : State) (moment : Moment) (port : ℕ) (a b : List ℕ) → IsSound state → forget_closes (opened moment (step state moment (Heard port (a ++ b))).state) ≡ forget_closes (opened moment (step (step state moment (Heard port a)).state moment (Heard port b)).state)
 pieces-state state moment port a b sound =
-    step-heard state moment port (a ++ b)
-    ∙ sym (hear_state-append moment port a b state sound)
-    ∙ ap (hear_state moment port b) (sym (step-heard state moment port a))
-    ∙ sym (step-heard (step state moment (Heard port a)).state moment port b)
+    let now = second_of moment state in
+    let keys = expired now state.keys in
+    let next = expired now (hear_keys now keys port a state.ports) in
+    let below : moment.mono ≤ now = le-max_right state.moment.mono moment.mono in
+    let settled : expired now keys ≡ keys = expired-twice now state.keys in
+    let found = find_port port state.ports in
+    let is : next ≡ expired now (kept_by now keys a found) = ap (expired now) (hear_keys-by now keys port a state.ports) in
+    let parts : PortParts now keys next port a b found = parts-by_port now keys next port a b found settled is in
+    let first = piece_state moment now keys port a state in
+    let same_ports : hear_ports (answer_to now next) port b first.ports ≡ hear_ports (answer_to now keys) port (a ++ b) state.ports =
+    ports-by_port now keys next port state.last_port a b state.ports found settled is sound.rising refl in
+    let there : find_port port first.ports ≡ left_after now keys a found = find-heard now keys port state.last_port a state.ports sound.rising in
+    let same_keys : expired now (hear_keys now next port b first.ports) ≡ expired now (hear_keys now keys port (a ++ b) state.ports) =
+    ap (expired now) (hear_keys-by now next port b first.ports)
+    ∙ ap (λ o. expired now (kept_by now next b o)) there
+    ∙ parts.kept
+    ∙ ap (expired now) (sym (hear_keys-by now keys port (a ++ b) state.ports)) in
+    let left_side : forget_closes (opened moment (step state moment (Heard port (a ++ b))).state) ≡ settled_state moment now (piece_state moment now keys port (a ++ b) state) =
+    ap (λ s. forget_closes (opened moment s)) (step-heard state moment port (a ++ b)) ∙ opened-piece moment now keys port (a ++ b) state below in
+    let right_side : forget_closes (opened moment (step (step state moment (Heard port a)).state moment (Heard port b)).state) ≡ settled_state moment now (piece_state moment now next port b first) =
+    ap (λ s. forget_closes (opened moment s)) (step-forgets (step state moment (Heard port a)).state moment port b)
+    ∙ ap (λ s. forget_closes (opened moment (step s moment (Heard port b)).state)) (step-heard state moment port a)
+    ∙ ap (λ s. forget_closes (opened moment s)) (second-part moment now keys port a b state below)
+    ∙ opened-piece moment now next port b first below in
+    left_side
+    ∙ ap (λ k. let s : State = record { moment = record { mono = now; wall = moment.wall }; keys = k; ports = hear_ports (answer_to now keys) port (a ++ b) state.ports; last_port = state.last_port; closes = [] } in s) (sym same_keys)
+    ∙ ap (λ ps. let s : State = record { moment = record { mono = now; wall = moment.wall }; keys = expired now (hear_keys now next port b first.ports); ports = ps; last_port = state.last_port; closes = [] } in s) (sym same_ports)
+    ∙ sym right_side
 
--- and the requests are the same
+-- and the same requests are taken
 pub pieces-actions : (state : State) (moment : Moment) (port : ℕ) (a b : List ℕ) → IsSound state → (step state moment (Heard port (a ++ b))).actions ≡ (step state moment (Heard port a)).actions ++ (step (step state moment (Heard port a)).state moment (Heard port b)).actions
 pieces-actions state moment port a b sound =
-    let first : List Port = change_port port (heard a) state.ports in
-    let rising : IsRising 0 state.last_port first = rising-change_port port 0 state.last_port (heard a) state.ports (λ p. refl) sound.rising in
-    let there : find_port port (step state moment (Heard port a)).state.ports ≡ left (option_map (heard a) (find_port port state.ports)) =
-    ap (find_port port) (ports-heard state moment port a)
-    ∙ find-found port state.last_port (find_port port first) first rising refl
-    ∙ ap left (find_port-change_port port (heard a) state.ports (λ p. refl)) in
-    let later : (step (step state moment (Heard port a)).state moment (Heard port b)).actions ≡ acts port (option_map (heard b) (left (option_map (heard a) (find_port port state.ports)))) =
-    actions-heard (step state moment (Heard port a)).state moment port b ∙ ap (λ q. acts port (option_map (heard b) q)) there in
+    let now = second_of moment state in
+    let keys = expired now state.keys in
+    let next = expired now (hear_keys now keys port a state.ports) in
+    let below : moment.mono ≤ now = le-max_right state.moment.mono moment.mono in
+    let settled : expired now keys ≡ keys = expired-twice now state.keys in
+    let found = find_port port state.ports in
+    let is : next ≡ expired now (kept_by now keys a found) = ap (expired now) (hear_keys-by now keys port a state.ports) in
+    let parts : PortParts now keys next port a b found = parts-by_port now keys next port a b found settled is in
+    let first = piece_state moment now keys port a state in
+    let there : find_port port first.ports ≡ left_after now keys a found = find-heard now keys port state.last_port a state.ports sound.rising in
+    let after : forget_closes (step state moment (Heard port a)).state ≡ first = step-heard state moment port a in
+    let second : (step (step state moment (Heard port a)).state moment (Heard port b)).actions ≡ acts (verdict_on now next) port (option_map (heard b) (left_after now keys a found)) =
+    actions-heard (step state moment (Heard port a)).state moment port b
+    ∙ ap (λ (s : State). acts (verdict_on (second_of moment s) (expired (second_of moment s) s.keys)) port (option_map (heard b) (find_port port s.ports))) after
+    ∙ ap (λ n. acts (verdict_on n (expired n (hear_keys now keys port a state.ports))) port (option_map (heard b) (find_port port first.ports))) (max-eq_left below)
+    ∙ ap (λ o. acts (verdict_on now next) port (option_map (heard b) o)) there in
     actions-heard state moment port (a ++ b)
-    ∙ acts-append port a b (find_port port state.ports)
-    ∙ ap (λ xs. xs ++ acts port (option_map (heard b) (left (option_map (heard a) (find_port port state.ports))))) (sym (actions-heard state moment port a))
-    ∙ ap (λ xs. (step state moment (Heard port a)).actions ++ xs) (sym later)
+    ∙ parts.taken
+    ∙ ap (λ xs. xs ++ acts (verdict_on now next) port (option_map (heard b) (left_after now keys a found))) (sym (actions-heard state moment port a))
+    ∙ ap (λ xs. (step state moment (Heard port a)).actions ++ xs) (sym second)

@@ -1,3 +1,4 @@
+pub mod KeyStates
 pub mod State
 pub mod Dispatch
 pub mod Step

@@ -2,13 +2,14 @@
 use Rattle.std.specs.Option.{option_to_list}
 use Rattle.std.specs.Prelude.{Option, ◌≡◌, ℕ, ◌^◌, ◌<◌, ◌≤◌, List, length, map}
 use Rattle.agent_core.specs.declared.slot.Slot.{Slot}
+use Rattle.agent_core.specs.KeyStates.{KeyState}
 use Rattle.agent_core.specs.State.{Port, State, IsRising, client_count}
 use Rattle.agent_core.specs.Step.{FitsAt, Happening, gone, handle}
 use Rattle.agent_core.specs.Owing.{owing_of}
 
 -- a port without its storage
 abbrev pub port_of : Slot → Port
-port_of slot = record { number = slot.number; heard = slot.heard.live; owed = slot.owed.live }
+port_of slot = record { number = slot.number; heard = slot.heard.live; owed = slot.owed }
 
 -- the ports, in the order in which they are kept
 abbrev pub ports_of : List Slot → List Port
@@ -32,7 +33,14 @@ pub record IsKept (slots : List Slot) (owing : List ℕ) (capacity last : ℕ) :
 abbrev pub FitsPorts : Happening → OpenPorts → Type 0
 FitsPorts event old = FitsAt event old.last old.ports
 
--- the ports after an event, and the one that it closed
-pub record Takes (event : Happening) (old new : OpenPorts) (closed : Option ℕ) : Type 0 where
-  pub handled : (state : State) → state.ports ≡ old.ports → state.last_port ≡ old.last → (handle event state).state ≡ record state { ports = new.ports; last_port = new.last }
+-- a state in which these ports are open, these keys are held and this is the second
+pub record IsAt (state : State) (now : ℕ) (held : KeyState) (open_ports : OpenPorts) : Type 0 where
+  pub second : state.moment.mono ≡ now
+  pub keys : state.keys ≡ held
+  pub ports : state.ports ≡ open_ports.ports
+  pub last : state.last_port ≡ open_ports.last
+
+-- the ports and what is held after an event at this second, and the port that it closed
+pub record Takes (event : Happening) (now : ℕ) (keys kept : KeyState) (old new : OpenPorts) (closed : Option ℕ) : Type 0 where
+  pub handled : (state : State) → IsAt state now keys old → (handle event state).state ≡ record state { keys = kept; ports = new.ports; last_port = new.last }
   pub closes : gone old.last old.ports new.last new.ports ≡ option_to_list closed

@@ -1,6 +1,7 @@
 -- The state of the abstract agent (ours: docs/DEFINITIONS.md), in plain lists: no buffers, slots or indexes.
 use Rattle.std.specs.Prelude.{ℕ, suc, ◌<◌, ◌≤◌, List, [], ◌∷◌, length, Option, Some, None, Bool, nat_lt, ◌==◌, ◌&&◌, if◌then◌else◌, IsSome}
 use Rattle.world_ports.specs.declared.Moment.{Moment}
+use Rattle.agent_core.specs.KeyStates.{KeyState, no_keys}
 
 -- an open port of a client: the bytes that it sent and that no request has taken yet, and those that it is owed
 pub record Port : Type 0 where
@@ -8,17 +9,24 @@ pub record Port : Type 0 where
   pub heard : List ℕ
   pub owed : List ℕ
 
--- the greatest monotonic second so far and the last wall clock, the open ports, the number of the last port
--- that joined, and the ports that the last event closed
+-- the greatest monotonic second so far and the last wall clock, the identities and the lock, the open ports, the
+-- number of the last port that joined, and the ports that the last event closed
 pub record State : Type 0 where
   pub moment : Moment
+  pub keys : KeyState
   pub ports : List Port
   pub last_port : ℕ
   pub closes : List ℕ
 
--- the agent before its first event
-abbrev pub opening_state : State
-opening_state = record { moment = record { mono = 0; wall = 0 }; ports = []; last_port = 0; closes = [] }
+-- the agent before its first event; identities that come without a lifetime live for so many seconds
+abbrev pub opening_state : Option ℕ → State
+opening_state life = record {
+  moment = record { mono = 0; wall = 0 };
+  keys = no_keys life;
+  ports = [];
+  last_port = 0;
+  closes = [];
+}
 
 -- a client that has sent nothing yet
 abbrev pub new_client : ℕ → Port

@@ -5,7 +5,9 @@ use Rattle.world_ports.specs.declared.Door.{Door}
 use Rattle.world_ports.specs.declared.Door.TheVariants.{Clients, Children}
 use Rattle.wire_text.specs.Frames.{Front, front, front_body, after_front, Whole, Bad, More}
 use Rattle.agent_core.specs.State.{State, Port, new_client, find_port, change_port, remove_port, numbers, client_count, owed_at, IsOpen}
-use Rattle.agent_core.specs.Dispatch.{request_of, Verdict, Served, serve, reply_of, reply_text}
+use Rattle.agent_msg.specs.Reading.{request_of}
+use Rattle.agent_core.specs.Dispatch.{Verdict, Served, serve, reply_of, reply_text}
+use Rattle.agent_core.specs.KeyStates.{KeyState, expired}
 
 -- an event, with its bytes as a plain list
 pub data Happening : Type 0 where
@@ -96,11 +98,15 @@ joined state =
       last_port = suc state.last_port;
     }
 
+-- what is held, as a request leaves it
+abbrev pub holding : KeyState → State → State
+holding keys state = record state { keys = keys }
+
 -- the client is owed the reply to its request
-abbrev pub concluded : ℕ → List ℕ → Served → Outcome
-concluded number body served =
+abbrev pub concluded : ℕ → List ℕ → Served → State → Outcome
+concluded number body served state =
     record {
-      state = changed number (owe (reply_text (reply_of served.verdict))) served.state;
+      state = changed number (owe (reply_text (reply_of served.verdict))) (holding served.keys state);
       actions = Requested (record { port = number; body = body; verdict = served.verdict }) ∷ [];
     }
 
@@ -108,7 +114,8 @@ concluded number body served =
 abbrev pub taken : ℕ → ℕ → List ℕ → State → Outcome
 taken number body_len heard state =
     let body = front_body body_len heard in
-    concluded number body (serve (request_of body) (changed number (take_frame body_len) state))
+    concluded number body (serve (request_of body) state.moment.mono state.keys)
+    (changed number (take_frame body_len) state)
 
 -- by what stands at the front of the client's bytes
 abbrev pub look_front : ℕ → List ℕ → Front → State → Outcome
@@ -150,9 +157,13 @@ handle (Started job ticket) state = stay state
 handle (StartFailed job) state = stay state
 handle Tick state = stay state
 
--- the moment is taken in: the monotonic clock never falls, and the wall clock is the one given
+-- the moment is taken in: the monotonic clock never falls, the wall clock is the one given, and identities whose
+-- lifetime has run out leave
 abbrev pub opened : Moment → State → State
-opened moment state = record state { moment = record { mono = max state.moment.mono moment.mono; wall = moment.wall } }
+opened moment state = record state {
+  moment = record { mono = max state.moment.mono moment.mono; wall = moment.wall };
+  keys = expired (max state.moment.mono moment.mono) state.keys;
+}
 
 -- whether a number stands in a list
 abbrev pub has : ℕ → List ℕ → Bool

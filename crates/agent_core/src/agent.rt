@@ -1,11 +1,13 @@
 //! The agent.
 
-ghost use Rattle.std.specs.Prelude.{◌≡◌, ◌↔◌, [], IfOk, IsTrue, OnOk};
+ghost use Rattle.std.specs.Prelude.{◌≡◌, ◌↔◌, ◌≤◌, [], IfOk, IsTrue, OnOk, length};
+ghost use Rattle.identity_table.specs.Identities.{next_death};
 ghost use Rattle.agent_core.specs.Happenings.{happening};
 ghost use Rattle.agent_core.specs.Slots.{FitsPorts, Takes};
 ghost use Rattle.agent_core.specs.State.{IsOpen, IsRising, client_count, next_owed, opening_state, owed_at};
 ghost use Rattle.agent_core.specs.Step.{Fits, Wants, step};
 
+use crate::keys::Keys;
 use crate::ports::Ports;
 use crate::{CoreMemory, Event, Settings};
 use std::alloc::Global;
@@ -19,30 +21,36 @@ use world_ports::{Door, Job, Moment};
 #[derive(Drop)]
 pub struct Agent {
     moment: Moment,
+    keys: Keys,
     ports: Ports,
     closes: Vec<u64>,
 }
 
 impl Model for Agent {
+    ghost use Rattle.std.specs.Prelude.{◌≤◌};
     ghost use Rattle.agent_core.specs.State.{State};
 
     ghost Value = { State };
 
     ghost view = { λ a. record {
       moment = a.moment;
+      keys = a.keys;
       ports = a.ports.ports;
       last_port = a.ports.last;
       closes = a.closes.items;
     } };
+
+    ghost invariant = { λ a. a.keys.table.greatest ≤ a.moment.mono };
 }
 
 impl Agent {
     /// An agent that holds nothing and to which nobody is connected. Takes no memory.
-    pub fn new(alloc: Global, _settings: Settings) -> Agent
-        ensures { result ≡ opening_state }
+    pub fn new(alloc: Global, settings: Settings) -> Agent
+        ensures { result ≡ opening_state settings.default_life }
     {
         Agent {
             moment: Moment { mono: 0, wall: 0 },
+            keys: Keys::new(alloc, settings.default_life),
             ports: Ports::new(alloc),
             closes: Vec::new(alloc),
         }
@@ -64,6 +72,7 @@ impl Agent {
     }
 
     /// Takes one event at a moment. The monotonic clock counts as never falling, and the wall clock as it is given.
+    /// First the identities whose lifetime has run out leave.
     pub fn step(&mut self, moment: Moment, event: &Event<'_>) -> Result<(), CoreMemory>
         requires { Fits (happening event.now) self.old }
         ensures { OnOk result (self.new ≡ (step self.old moment (happening event.now)).state) }
@@ -72,8 +81,10 @@ impl Agent {
             mono: self.moment.mono.max(moment.mono),
             wall: moment.wall,
         };
+        self.keys.expire(self.moment.mono);
         self.closes.clear();
-        if let Some(port) = take_event(&mut self.ports, event)? {
+        let now = self.moment.mono;
+        if let Some(port) = take_event(&mut self.ports, &mut self.keys, now, event)? {
             self.closes.push(port)?;
         }
         Ok(())
@@ -121,6 +132,20 @@ impl Agent {
         &self.closes
     }
 
+    /// The first second from which an identity is dead, or `None` where the clock comes to none.
+    pub fn next_due(&self) -> Option<u64>
+        ensures { result ≡ next_death self.now.keys.table.identities }
+    {
+        self.keys.next_death()
+    }
+
+    /// How many identities are held.
+    pub fn held(&self) -> usize
+        ensures { result ≡ length self.now.keys.table.identities }
+    {
+        self.keys.len()
+    }
+
     /// How many clients are connected.
     pub fn clients(&self) -> usize
         ensures { result ≡ client_count self.now.ports }
@@ -137,9 +162,17 @@ impl Agent {
 }
 
 // Takes one event at the ports, and tells the port that it closed.
-fn take_event(ports: &mut Ports, event: &Event<'_>) -> Result<Option<u64>, CoreMemory>
-    requires { FitsPorts (happening event.now) ports.old }
-    ensures { IfOk result (Takes (happening event.now) ports.old ports.new) }
+fn take_event(
+    ports: &mut Ports,
+    keys: &mut Keys,
+    now: u64,
+    event: &Event<'_>,
+) -> Result<Option<u64>, CoreMemory>
+    requires fits { FitsPorts (happening event.now) ports.old }
+    requires clock { keys.old.table.greatest ≤ now }
+    ensures takes { IfOk result
+        (Takes (happening event.now) now keys.old keys.new ports.old ports.new) }
+    ensures clock { keys.new.table.greatest ≤ now }
 {
     match *event {
         Event::Joined(_) => {
@@ -150,7 +183,7 @@ fn take_event(ports: &mut Ports, event: &Event<'_>) -> Result<Option<u64>, CoreM
             }
         }
         Event::Heard { port, piece } => {
-            if ports.hear(port, piece)? {
+            if ports.hear(keys, now, port, piece)? {
                 Ok(Some(port))
             } else {
                 Ok(None)
@@ -161,7 +194,7 @@ fn take_event(ports: &mut Ports, event: &Event<'_>) -> Result<Option<u64>, CoreM
             Ok(Some(port))
         }
         Event::Took { port, count } => {
-            if ports.send(port, count)? {
+            if ports.send(keys, now, port, count)? {
                 Ok(Some(port))
             } else {
                 Ok(None)

@@ -6,7 +6,7 @@ use world_ports::Door;
 /// What an agent is started with.
 #[derive(Clone, Copy, Debug, PartialEq, Eq)]
 pub struct Settings {
-    /// The lifetime, in seconds, of identities that are added without one. No request adds any.
+    /// The lifetime, in seconds, of identities that are added without one.
     pub default_life: Option<u32>,
 }
 

@@ -1,6 +1,6 @@
 //! Laws of the steps of specs/Step.antt.
 
-ghost use Rattle.std.specs.Prelude.{◌≡◌, ℕ, ◌^◌, ◌<◌, ◌≤◌, List, ◌++◌, None};
+ghost use Rattle.std.specs.Prelude.{◌≡◌, ℕ, ◌^◌, ◌<◌, ◌≤◌, List, ◌++◌, Option, None};
 ghost use Rattle.world_ports.specs.declared.Moment.{Moment};
 ghost use Rattle.agent_core.specs.Runs.{AllFit, Timed, forget_closes, run};
 ghost use Rattle.agent_core.specs.State.{IsSound, State, find_port, opening_state};
@@ -14,11 +14,13 @@ pub fn opening_twice_is_once()
 
 /// Where a client's bytes are cut does not matter: a piece in two parts leads to the state of the
 /// whole piece, and the same requests are taken. Only the list of ports that the last event closed
-/// may differ, since it tells of one event alone.
+/// may differ, since it tells of one event alone; and an identity that was added with no lifetime left
+/// leaves as the next event begins, so that the states are compared as one begins.
 pub fn a_piece_in_two_parts()
     ensures state { (state : State) (moment : Moment) (port : ℕ) (a b : List ℕ) → IsSound state
-        → forget_closes (step state moment (Heard port (a ++ b))).state
-        ≡ forget_closes (step (step state moment (Heard port a)).state moment (Heard port b)).state }
+        → forget_closes (opened moment (step state moment (Heard port (a ++ b))).state)
+        ≡ forget_closes (opened moment
+        (step (step state moment (Heard port a)).state moment (Heard port b)).state) }
     ensures actions { (state : State) (moment : Moment) (port : ℕ) (a b : List ℕ) → IsSound state
         → (step state moment (Heard port (a ++ b))).actions
         ≡ (step state moment (Heard port a)).actions
@@ -28,11 +30,11 @@ pub fn a_piece_in_two_parts()
 /// Whatever happens, the numbers of the ports rise, so that they differ, none is above that of the
 /// last port that joined, and no more than 128 clients are open.
 pub fn ports_rise_and_are_few()
-    ensures sound { (events : List Timed) → IsSound (run opening_state events) }
+    ensures sound { (life : Option ℕ) (events : List Timed) → IsSound (run (opening_state life) events) }
     ensures step { (state : State) (moment : Moment) (event : Happening) → IsSound state
         → IsSound (step state moment event).state }
-    ensures fits { (events : List Timed) → AllFit opening_state events
-        → (run opening_state events).last_port < 2 ^ 64 }
+    ensures fits { (life : Option ℕ) (events : List Timed) → AllFit (opening_state life) events
+        → (run (opening_state life) events).last_port < 2 ^ 64 }
 {}
 
 /// The number of a port that was closed, or never let in, is not used again.

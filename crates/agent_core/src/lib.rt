@@ -5,7 +5,9 @@
 
 mod agent;
 mod event;
+mod keys;
 mod laws;
+mod owed;
 mod owing;
 mod places;
 mod ports;

@@ -2,11 +2,13 @@
 
 ghost use Rattle.std.specs.Prelude.{◌≡◌, ◌↔◌, ◌+◌, ◌-◌, ◌^◌, ◌<◌, ◌≤◌, [], ◌∷◌, if◌then◌else◌, suc, None, Some, IfOk, IsTrue, MatchOption, OnOk, length, nat_lt, vec_capacity};
 ghost use Rattle.agent_core.specs.Owing.{IsRisingNumbers, inserted, noted};
-ghost use Rattle.agent_core.specs.PortLook.{closes_at, closes_by, fate_at, fate_of, finished_ports, looked_ports, port_looked};
+ghost use Rattle.agent_core.specs.PortLook.{answer_to, closes_at, closes_by, fate_at, fate_of, finished_ports, keys_after, looked_keys, looked_ports, port_kept, port_looked};
 ghost use Rattle.agent_core.specs.Slots.{port_of};
 ghost use Rattle.agent_core.specs.State.{IsOpen, IsRising, change_port, client_count, find_port, is_some_bytes, next_owed, owed_at, remove_port};
 ghost use Rattle.agent_core.specs.Step.{Wants, admitted, gone, heard, most_clients, sent};
 
+use crate::keys::Keys;
+use crate::owed::Owed;
 use crate::places::place_of;
 use crate::slot::{self, Fate, Slot};
 use crate::{CoreMemory, owing};
@@ -70,7 +72,7 @@ impl Ports {
         ensures { result.now ≡ owed_at number self.now.ports }
     {
         match self.find(number) {
-            Some(slot) => slot.owed.live(),
+            Some(slot) => slot.owed.bytes(),
             None => &[],
         }
     }
@@ -107,48 +109,71 @@ impl Ports {
             return Ok(false);
         }
         let alloc = *self.slots.allocator();
+        let owed = Owed::new(alloc)?;
         self.owing.reserve(MOST_CLIENTS)?;
         self.slots.push(Slot {
             number: self.last + 1,
             heard: ScrubBuf::new(alloc),
-            owed: ScrubBuf::new(alloc),
+            owed,
         })?;
         self.last += 1;
         Ok(true)
     }
 
     /// Appends the piece to what was heard of an open port, and looks. Answers whether the port was closed.
-    pub fn hear(&mut self, number: u64, piece: &[u8]) -> Result<bool, CoreMemory>
-        requires { IsOpen number self.old.ports }
+    pub fn hear(
+        &mut self,
+        keys: &mut Keys,
+        now: u64,
+        number: u64,
+        piece: &[u8],
+    ) -> Result<bool, CoreMemory>
+        requires is_open { IsOpen number self.old.ports }
+        requires clock { keys.old.table.greatest ≤ now }
         ensures closes { IfOk result (λ closes. closes ≡ closes_at number (change_port number (heard piece.now) self.old.ports)) }
         ensures ports { OnOk result (self.new ≡ record self.old {
-          ports = looked_ports number (change_port number (heard piece.now) self.old.ports);
+          ports = looked_ports (answer_to now keys.old) number
+              (change_port number (heard piece.now) self.old.ports);
         }) }
+        ensures keys { OnOk result (keys.new ≡ looked_keys (keys_after now keys.old) keys.old number
+            (change_port number (heard piece.now) self.old.ports)) }
+        ensures clock { keys.new.table.greatest ≤ now }
         ensures closed { IfOk result (λ closes. gone self.old.last self.old.ports self.new.last self.new.ports
             ≡ (if closes then number ∷ [] else [])) }
     {
         let Some(place) = place_of(&self.slots, number) else {
             unreachable!()
         };
-        let fate = hear_at(&mut self.slots[place], &mut self.owing, piece)?;
+        let fate = hear_at(&mut self.slots[place], &mut self.owing, keys, now, piece)?;
         Ok(self.finish(number, fate))
     }
 
     /// Drops the first `count` bytes that an open port is owed, and looks. Answers whether the port was closed.
-    pub fn send(&mut self, number: u64, count: usize) -> Result<bool, CoreMemory>
+    pub fn send(
+        &mut self,
+        keys: &mut Keys,
+        now: u64,
+        number: u64,
+        count: usize,
+    ) -> Result<bool, CoreMemory>
         requires is_open { IsOpen number self.old.ports }
+        requires clock { keys.old.table.greatest ≤ now }
         requires count { count ≤ length (owed_at number self.old.ports) }
         ensures closes { IfOk result (λ closes. closes ≡ closes_at number (change_port number (sent count) self.old.ports)) }
         ensures ports { OnOk result (self.new ≡ record self.old {
-          ports = looked_ports number (change_port number (sent count) self.old.ports);
+          ports = looked_ports (answer_to now keys.old) number
+              (change_port number (sent count) self.old.ports);
         }) }
+        ensures keys { OnOk result (keys.new ≡ looked_keys (keys_after now keys.old) keys.old number
+            (change_port number (sent count) self.old.ports)) }
+        ensures clock { keys.new.table.greatest ≤ now }
         ensures closed { IfOk result (λ closes. gone self.old.last self.old.ports self.new.last self.new.ports
             ≡ (if closes then number ∷ [] else [])) }
     {
         let Some(place) = place_of(&self.slots, number) else {
             unreachable!()
         };
-        let fate = send_at(&mut self.slots[place], &mut self.owing, count)?;
+        let fate = send_at(&mut self.slots[place], &mut self.owing, keys, now, count)?;
         Ok(self.finish(number, fate))
     }
 
@@ -195,10 +220,10 @@ impl Ports {
 fn note_owed(slot: &Slot, owing: &mut Vec<u64>)
     requires rising { IsRisingNumbers 0 owing.old.items }
     requires room { length (inserted slot.now.number owing.old.items) ≤ vec_capacity owing.old }
-    ensures items { owing.new.items ≡ noted (is_some_bytes slot.now.owed.live) slot.now.number owing.old.items }
+    ensures items { owing.new.items ≡ noted (is_some_bytes slot.now.owed) slot.now.number owing.old.items }
     ensures room { vec_capacity owing.old ≤ vec_capacity owing.new }
 {
-    if slot.owed.live().is_empty() {
+    if slot.owed.bytes().is_empty() {
         owing::take_out(owing, slot.number);
     } else {
         owing::put_in(owing, slot.number);
@@ -206,32 +231,54 @@ fn note_owed(slot: &Slot, owing: &mut Vec<u64>)
 }
 
 // Appends the piece to what was heard of a port, and looks.
-fn hear_at(slot: &mut Slot, owing: &mut Vec<u64>, piece: &[u8]) -> Result<Fate, CoreMemory>
+fn hear_at(
+    slot: &mut Slot,
+    owing: &mut Vec<u64>,
+    keys: &mut Keys,
+    now: u64,
+    piece: &[u8],
+) -> Result<Fate, CoreMemory>
+    requires clock { keys.old.table.greatest ≤ now }
     requires rising { IsRisingNumbers 0 owing.old.items }
     requires room { length (inserted slot.old.number owing.old.items) ≤ vec_capacity owing.old }
     ensures fate { IfOk result (λ fate. fate ≡ fate_of (heard piece.now (port_of slot.old))) }
-    ensures port { OnOk result (port_of slot.new ≡ port_looked (heard piece.now (port_of slot.old))) }
+    ensures port { OnOk result (port_of slot.new
+        ≡ port_looked (answer_to now keys.old) (heard piece.now (port_of slot.old))) }
+    ensures keys { OnOk result (keys.new
+        ≡ port_kept (keys_after now keys.old) keys.old (heard piece.now (port_of slot.old))) }
+    ensures clock { keys.new.table.greatest ≤ now }
     ensures number { slot.new.number ≡ slot.old.number }
-    ensures items { owing.new.items ≡ noted (is_some_bytes slot.new.owed.live) slot.old.number owing.old.items }
+    ensures items { owing.new.items ≡ noted (is_some_bytes slot.new.owed) slot.old.number owing.old.items }
     ensures room { vec_capacity owing.old ≤ vec_capacity owing.new }
 {
-    let looked = slot::hear(slot, piece);
+    let looked = slot::hear(slot, keys, now, piece);
     note_owed(slot, owing);
     looked
 }
 
 // Drops the first `count` bytes that a port is owed, and looks.
-fn send_at(slot: &mut Slot, owing: &mut Vec<u64>, count: usize) -> Result<Fate, CoreMemory>
-    requires count { count ≤ length slot.old.owed.live }
+fn send_at(
+    slot: &mut Slot,
+    owing: &mut Vec<u64>,
+    keys: &mut Keys,
+    now: u64,
+    count: usize,
+) -> Result<Fate, CoreMemory>
+    requires clock { keys.old.table.greatest ≤ now }
+    requires count { count ≤ length slot.old.owed }
     requires rising { IsRisingNumbers 0 owing.old.items }
     requires room { length (inserted slot.old.number owing.old.items) ≤ vec_capacity owing.old }
     ensures fate { IfOk result (λ fate. fate ≡ fate_of (sent count (port_of slot.old))) }
-    ensures port { OnOk result (port_of slot.new ≡ port_looked (sent count (port_of slot.old))) }
+    ensures port { OnOk result (port_of slot.new
+        ≡ port_looked (answer_to now keys.old) (sent count (port_of slot.old))) }
+    ensures keys { OnOk result (keys.new
+        ≡ port_kept (keys_after now keys.old) keys.old (sent count (port_of slot.old))) }
+    ensures clock { keys.new.table.greatest ≤ now }
     ensures number { slot.new.number ≡ slot.old.number }
-    ensures items { owing.new.items ≡ noted (is_some_bytes slot.new.owed.live) slot.old.number owing.old.items }
+    ensures items { owing.new.items ≡ noted (is_some_bytes slot.new.owed) slot.old.number owing.old.items }
     ensures room { vec_capacity owing.old ≤ vec_capacity owing.new }
 {
-    let looked = slot::send(slot, count);
+    let looked = slot::send(slot, keys, now, count);
     note_owed(slot, owing);
     looked
 }

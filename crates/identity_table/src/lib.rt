@@ -15,5 +15,6 @@ mod tests;
 
 pub use fault::AddFault;
 pub use identity::Identity;
+pub use list::listed_len;
 pub use lock::Lock;
 pub use table::Table;

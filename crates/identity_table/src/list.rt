@@ -114,8 +114,8 @@ fn entry_len_of(identity: &Identity) -> usize
     8 + identity.blob().len() + identity.comment().len()
 }
 
-// How long the answer is that lists them.
-fn listed_len(identities: &[Identity]) -> usize
+/// How many bytes the body of the answer has that lists these identities.
+pub fn listed_len(identities: &[Identity]) -> usize
     requires { answer_len identities.now ≤ max_answer }
     ensures { result ≡ answer_len identities.now }
 {

@@ -132,6 +132,14 @@ impl Table {
         self.identities.get(place)
     }
 
+    /// The identities, lent. One message lists them all.
+    pub fn as_slice(&self) -> &[Identity]
+        ensures value { result.now ≡ self.now.identities }
+        ensures sound { IsSound self.now.identities self.now.last }
+    {
+        self.identities.as_slice()
+    }
+
     /// How many identities there are.
     pub fn len(&self) -> usize
         ensures value { result ≡ length self.now.identities }

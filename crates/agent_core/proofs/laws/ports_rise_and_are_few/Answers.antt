@@ -5,10 +5,10 @@ use Rattle.agent_core.proofs.SoundLemmas.{step_keeps-sound}
 use Rattle.agent_core.proofs.laws.ports_rise_and_are_few.Goals as goal
 
 pub returns-clause-sound : goal.returns-clause-sound
-returns-clause-sound c = λ events. run_keeps-sound opening_state events opening_is_sound
+returns-clause-sound c = λ life events. run_keeps-sound (opening_state life) events (opening_is_sound life)
 
 pub returns-clause-step : goal.returns-clause-step
 returns-clause-step c = step_keeps-sound
 
 pub returns-clause-fits : goal.returns-clause-fits
-returns-clause-fits c = λ events fit. run-fits opening_state events fit (omega arith)
+returns-clause-fits c = λ life events fit. run-fits (opening_state life) events fit (omega arith)

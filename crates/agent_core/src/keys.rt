@@ -1,0 +1,196 @@
+//! What the agent holds, and its answers to requests.
+
+ghost use Rattle.std.specs.Prelude.{◌≡◌, ◌≢◌, ◌≤◌, [], ℕ, IsSome, OnOk, IfOk, length};
+ghost use Rattle.agent_msg.specs.Replies.{status};
+ghost use Rattle.agent_msg.specs.Requests.{ListIdentities, client_request};
+ghost use Rattle.identity_table.specs.Identities.{find_identity, next_death};
+ghost use Rattle.agent_core.specs.Dispatch.{add_under, remove_by, reply_of, reply_text, serve_by};
+ghost use Rattle.agent_core.specs.KeyStates.{expired, no_keys};
+ghost use Rattle.agent_core.specs.PortLook.{answer_to, keys_after};
+
+use crate::CoreMemory;
+use crate::owed::Owed;
+use agent_msg::{MsgFault, Request, read_request};
+use constraint_rec::Terms;
+use identity_table::{AddFault, Lock, Table};
+use key_blob::AddedKey;
+use secret_buf::SecretBytes;
+use std::alloc::Global;
+use std::marker::Model;
+
+/// The identities and the lock.
+#[derive(Drop)]
+pub struct Keys {
+    alloc: Global,
+    table: Table,
+    lock: Lock,
+}
+
+impl Model for Keys {
+    ghost use Rattle.agent_core.specs.KeyStates.{KeyState};
+
+    ghost Value = { KeyState };
+
+    ghost view = { λ keys. record { table = keys.table; lock = keys.lock } };
+}
+
+impl Keys {
+    /// No identities, in an agent that isn't locked. Takes no memory.
+    pub fn new(alloc: Global, default_life: Option<u32>) -> Keys
+        ensures { result ≡ no_keys default_life }
+    {
+        Keys {
+            alloc,
+            table: Table::new(alloc, default_life),
+            lock: Lock::new(),
+        }
+    }
+
+    /// How many identities are held.
+    pub fn len(&self) -> usize
+        ensures { result ≡ length self.now.table.identities }
+    {
+        self.table.len()
+    }
+
+    /// The first second from which an identity is dead.
+    pub fn next_death(&self) -> Option<u64>
+        ensures { result ≡ next_death self.now.table.identities }
+    {
+        self.table.next_death()
+    }
+
+    /// Removes and wipes the identities whose lifetime has run out.
+    pub fn expire(&mut self, now: u64)
+        requires { self.old.table.greatest ≤ now }
+        ensures { self.new ≡ expired now self.old }
+    {
+        self.table.expire(now);
+    }
+
+    /// Does what the request of this body asks, and owes the reply.
+    pub fn serve(&mut self, now: u64, body: &[u8], owed: &mut Owed) -> Result<(), CoreMemory>
+        requires clock { self.old.table.greatest ≤ now }
+        requires nothing { owed.old ≡ [] }
+        ensures keys { OnOk result (self.new ≡ keys_after now self.old body.now) }
+        ensures reply { OnOk result (owed.new ≡ answer_to now self.old body.now) }
+        ensures clock { self.new.table.greatest ≤ now }
+    {
+        match read_request(self.alloc, body) {
+            Ok(Request::List) => self.list(owed),
+            Ok(request) => {
+                let done = self.take(now, request)?;
+                owed.put_status(done);
+                Ok(())
+            }
+            Err(MsgFault::Memory) => Err(CoreMemory),
+            Err(_) => {
+                owed.put_status(false);
+                Ok(())
+            }
+        }
+    }
+}
+
+impl Keys {
+    #[tactic(auto, unfolding(identity_table::specs::Identities::entries_len))]
+    // Owes the list of the identities, which is empty while the agent is locked.
+    fn list(&self, owed: &mut Owed) -> Result<(), CoreMemory>
+        requires { owed.old ≡ [] }
+        ensures { (now : ℕ) → OnOk result (owed.new
+            ≡ reply_text (reply_of (serve_by self.now.lock ListIdentities now self.now).verdict)) }
+    {
+        if self.lock.is_locked() {
+            owed.put_list(&[])?;
+        } else {
+            owed.put_list(self.table.as_slice())?;
+        }
+        Ok(())
+    }
+
+    // Does what any other request asks, and tells whether it succeeded.
+    fn take(&mut self, now: u64, request: Request<'_>) -> Result<bool, CoreMemory>
+        requires clock { self.old.table.greatest ≤ now }
+        requires other { client_request request ≢ ListIdentities }
+        ensures keys { OnOk result (self.new
+            ≡ (serve_by self.old.lock (client_request request.entry) now self.old).keys) }
+        ensures reply { IfOk result (λ done. status done ≡ reply_text
+            (reply_of (serve_by self.old.lock (client_request request.entry) now self.old).verdict)) }
+        ensures clock { self.new.table.greatest ≤ now }
+    {
+        if self.lock.is_locked() {
+            return Ok(self.take_locked(request));
+        }
+        match request {
+            Request::Add {
+                key,
+                comment,
+                terms,
+            } => self.add(now, key, comment, terms),
+            Request::Remove { blob } => Ok(self.remove(blob)),
+            Request::RemoveAll => {
+                self.table.remove_all();
+                Ok(true)
+            }
+            Request::Lock { passphrase } => {
+                let passphrase = SecretBytes::from_slice(self.alloc, passphrase)?;
+                Ok(self.lock.lock(passphrase))
+            }
+            _ => Ok(false),
+        }
+    }
+
+    // The same of an agent that is locked: only its passphrase succeeds.
+    fn take_locked(&mut self, request: Request<'_>) -> bool
+        requires locked { IsSome self.old.lock }
+        requires other { client_request request ≢ ListIdentities }
+        ensures keys { (now : ℕ) → self.new
+            ≡ (serve_by self.old.lock (client_request request.entry) now self.old).keys }
+        ensures reply { (now : ℕ) → status result ≡ reply_text
+            (reply_of (serve_by self.old.lock (client_request request.entry) now self.old).verdict) }
+        ensures table { self.new.table ≡ self.old.table }
+    {
+        match request {
+            Request::Unlock { passphrase } => self.lock.unlock(passphrase),
+            _ => false,
+        }
+    }
+
+    // Removes the key of this blob, where it is held.
+    fn remove(&mut self, blob: &[u8]) -> bool
+        ensures keys { self.new ≡ (remove_by (find_identity blob.now self.old.table.identities)
+            blob.now self.old).keys }
+        ensures reply { status result ≡ reply_text (reply_of
+            (remove_by (find_identity blob.now self.old.table.identities) blob.now
+            self.old).verdict) }
+        ensures clock { self.new.table.greatest ≡ self.old.table.greatest }
+    {
+        self.table.remove(blob)
+    }
+
+    // Adds a key, which may not have destination constraints.
+    fn add(
+        &mut self,
+        now: u64,
+        key: AddedKey,
+        comment: &[u8],
+        terms: Terms,
+    ) -> Result<bool, CoreMemory>
+        requires clock { self.old.table.greatest ≤ now }
+        ensures keys { OnOk result (self.new ≡ (add_under terms.rules
+            record { key = key; comment = comment.now; terms = terms } now self.old).keys) }
+        ensures reply { IfOk result (λ done. status done ≡ reply_text (reply_of
+            (add_under terms.rules record { key = key; comment = comment.now; terms = terms } now
+            self.old).verdict)) }
+        ensures clock { self.new.table.greatest ≤ now }
+    {
+        if !terms.rules.is_empty() {
+            return Ok(false);
+        }
+        match self.table.add(key, terms, comment, now) {
+            Ok(_) => Ok(true),
+            Err(AddFault::Memory) => Err(CoreMemory),
+            Err(AddFault::ListFull | AddFault::NumbersSpent) => Ok(false),
+        }
+    }
+}
