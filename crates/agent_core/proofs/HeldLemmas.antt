@@ -1,9 +1,8 @@
 -- Lemmas on what is held.
-use Rattle.std.proofs.Common.{◌≡◌, ℕ, ◌+◌, ◌<◌, ◌≤◌, List, [], ◌∷◌, ◌++◌, length, map, drop, get_or, refl, ap, sym, arith, ◌∙◌, Bool, true, false, Option, Some, None}
-use Rattle.std.proofs.lemmas.List.{length-map, drop_more}
+use Rattle.std.proofs.Common.{◌≡◌, ℕ, ◌+◌, ◌<◌, ◌≤◌, List, [], ◌∷◌, ◌++◌, length, map, drop, get_or, refl, ap, sym, arith, ◌∙◌, Option, Some, None}
+use Rattle.std.proofs.lemmas.List.{drop_more}
 use Rattle.std.proofs.lemmas.Bool.Decides.{nat_tests}
-use Rattle.identity_table.specs.Deaths.{lives_at}
-use Rattle.identity_table.specs.Identities.{HeldKey, TableState, alive_at}
+use Rattle.identity_table.specs.Identities.{HeldKey, alive_at}
 use Rattle.identity_table.specs.Identities.{answer_len, entries_len, find_identity, remove_identity}
 use Rattle.identity_table.proofs.PlaceLemmas.{remove_identity-none}
 use Rattle.agent_core.specs.Dispatch.{remove_by}

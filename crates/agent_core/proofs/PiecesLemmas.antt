@@ -4,7 +4,7 @@ use Rattle.std.proofs.lemmas.Bool.{cases_eq}
 use Rattle.std.proofs.lemmas.Bool.Decides.{nat_tests}
 use Rattle.std.proofs.lemmas.List.{append_assoc, length-append, length-drop, take-append-le, drop-append-le}
 use Rattle.std.specs.Option.{option_map}
-use Rattle.wire_text.specs.Frames.{Front, front, front_body, after_front, Whole, Bad, More}
+use Rattle.wire_text.specs.Frames.{front, front_body, after_front, Whole, Bad}
 use Rattle.wire_text.proofs.FrontLemmas.{front-append_whole, front-append_bad}
 use Rattle.wire_text.proofs.WireLemmas.{length-string}
 use Rattle.agent_core.specs.declared.slot.Fate.{Fate}
@@ -14,7 +14,7 @@ use Rattle.agent_msg.specs.Reading.{request_of}
 use Rattle.agent_msg.specs.Replies.{entries}
 use Rattle.agent_core.specs.Dispatch.{Reply, Failure, Success, Identities, serve, reply_of, reply_text}
 use Rattle.agent_core.specs.KeyStates.{KeyState}
-use Rattle.agent_core.specs.PortLook.{answer_to, fate_of, fated_ports, found_looked, front_fate, looked_ports, owed_fate, port_looked, served_port}
+use Rattle.agent_core.specs.PortLook.{answer_to, fate_of, fated_ports, found_looked, looked_ports, owed_fate, port_looked, served_port}
 use Rattle.agent_core.specs.State.{Port, IsRising, find_port, change_port, remove_port}
 use Rattle.agent_core.specs.Step.{longest_body, heard}
 use Rattle.agent_core.proofs.LookLemmas.{fate_of-front, port_looked-front, port_looked-number, whole_within}

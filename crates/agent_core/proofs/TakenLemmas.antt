@@ -10,10 +10,10 @@ use Rattle.agent_core.specs.declared.slot.Fate.{Fate}
 use Rattle.agent_core.specs.declared.slot.Fate.TheVariants.{Stays, Owes, Closes}
 use Rattle.agent_core.specs.Dispatch.{Verdict, serve}
 use Rattle.agent_core.specs.KeyStates.{KeyState, expired}
-use Rattle.agent_core.specs.PortLook.{answer_to, keys_after, fate_of, fated_ports, found_looked, found_kept, owed_kept, front_kept, port_kept, looked_keys, front_fate, owed_fate, port_looked}
+use Rattle.agent_core.specs.PortLook.{answer_to, keys_after, fate_of, fated_ports, found_looked, found_kept, owed_kept, front_kept, looked_keys, owed_fate, port_looked}
 use Rattle.agent_core.specs.Runs.{forget_closes}
 use Rattle.agent_core.specs.State.{Port, State, IsRising, IsSound, find_port, change_port}
-use Rattle.agent_core.specs.Step.{Action, Requested, Heard, longest_body, step, opened, changed, heard, take_frame, look_port, look_owed, look_front}
+use Rattle.agent_core.specs.Step.{Action, Requested, Heard, longest_body, step, opened, changed, heard, look_port, look_owed, look_front}
 use Rattle.agent_core.proofs.HeldLemmas.{expired-twice}
 use Rattle.agent_core.proofs.LookLemmas.{fate_of-front, port_kept-front, port_looked-number, whole_within}
 use Rattle.agent_core.proofs.PortsLemmas.{find_port-change_port, rising-change_port}

@@ -4,7 +4,7 @@ use Rattle.wire_text.specs.Frames.{Front, front, front_body, Whole, Bad, More}
 use Rattle.agent_core.specs.declared.slot.Fate.{Fate}
 use Rattle.agent_core.specs.declared.slot.Fate.TheVariants.{Stays, Owes, Closes}
 use Rattle.agent_msg.specs.Reading.{request_of}
-use Rattle.agent_core.specs.Dispatch.{Served, serve, reply_of, reply_text}
+use Rattle.agent_core.specs.Dispatch.{serve, reply_of, reply_text}
 use Rattle.agent_core.specs.KeyStates.{KeyState}
 use Rattle.agent_core.specs.State.{Port, find_port, remove_port, change_port}
 use Rattle.agent_core.specs.Step.{longest_body, owe, take_frame}

@@ -1,6 +1,6 @@
 //! The agent.
 
-ghost use Rattle.std.specs.Prelude.{◌≡◌, ◌↔◌, ◌≤◌, [], IfOk, IsTrue, OnOk, length};
+ghost use Rattle.std.specs.Prelude.{◌≡◌, ◌↔◌, ◌≤◌, [], IfOk, IsTrue, OnErr, OnOk, length};
 ghost use Rattle.identity_table.specs.Identities.{next_death};
 ghost use Rattle.agent_core.specs.Happenings.{happening};
 ghost use Rattle.agent_core.specs.Slots.{FitsPorts, Takes};
@@ -20,6 +20,7 @@ use world_ports::{Door, Job, Moment};
 /// memory leaves an agent that can only be dropped.
 #[derive(Drop)]
 pub struct Agent {
+    alloc: Global,
     moment: Moment,
     keys: Keys,
     ports: Ports,
@@ -49,6 +50,7 @@ impl Agent {
         ensures { result ≡ opening_state settings.default_life }
     {
         Agent {
+            alloc,
             moment: Moment { mono: 0, wall: 0 },
             keys: Keys::new(alloc, settings.default_life),
             ports: Ports::new(alloc),
@@ -73,21 +75,21 @@ impl Agent {
 
     /// Takes one event at a moment. The monotonic clock counts as never falling, and the wall clock as it is given.
     /// First the identities whose lifetime has run out leave.
+    ///
+    /// Where memory runs out, all that was held and owed is wiped, and the agent is as a new one: the run is over,
+    /// and it is to be dropped.
     pub fn step(&mut self, moment: Moment, event: &Event<'_>) -> Result<(), CoreMemory>
         requires { Fits (happening event.now) self.old }
-        ensures { OnOk result (self.new ≡ (step self.old moment (happening event.now)).state) }
+        ensures stepped { OnOk result
+            (self.new ≡ (step self.old moment (happening event.now)).state) }
+        ensures wiped { OnErr result (self.new ≡ opening_state self.old.keys.table.life) }
     {
-        self.moment = Moment {
-            mono: self.moment.mono.max(moment.mono),
-            wall: moment.wall,
-        };
-        self.keys.expire(self.moment.mono);
-        self.closes.clear();
-        let now = self.moment.mono;
-        if let Some(port) = take_event(&mut self.ports, &mut self.keys, now, event)? {
-            self.closes.push(port)?;
+        let default_life = self.keys.default_life();
+        let stepped = self.take(moment, event);
+        if stepped.is_err() {
+            *self = Agent::new(self.alloc, Settings { default_life });
         }
-        Ok(())
+        stepped
     }
 
     /// What the port is owed: nothing where it isn't open.
@@ -158,6 +160,26 @@ impl Agent {
         ensures { result ≡ self.now.last_port }
     {
         self.ports.last()
+    }
+}
+
+impl Agent {
+    // The same, but for what want of memory leaves.
+    fn take(&mut self, moment: Moment, event: &Event<'_>) -> Result<(), CoreMemory>
+        requires { Fits (happening event.now) self.old }
+        ensures { OnOk result (self.new ≡ (step self.old moment (happening event.now)).state) }
+    {
+        self.moment = Moment {
+            mono: self.moment.mono.max(moment.mono),
+            wall: moment.wall,
+        };
+        let now = self.moment.mono;
+        self.keys.expire(now);
+        self.closes.clear();
+        if let Some(port) = take_event(&mut self.ports, &mut self.keys, now, event)? {
+            self.closes.push(port)?;
+        }
+        Ok(())
     }
 }
 

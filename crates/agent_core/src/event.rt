@@ -29,7 +29,7 @@ pub enum Event<'a> {
     Tick,
 }
 
-/// Memory ran out in a step. The agent can only be dropped; its buffers are wiped as it is.
+/// Memory ran out in a step, which wiped all that the agent held. It can only be dropped.
 #[derive(Clone, Copy, Debug, PartialEq, Eq)]
 pub struct CoreMemory;
 

@@ -69,12 +69,7 @@ fn look_at(slot: &mut Slot, keys: &mut Keys, now: u64) -> Result<Fate, CoreMemor
 }
 
 // Appends the piece to what was heard, and looks.
-pub fn hear(
-    slot: &mut Slot,
-    keys: &mut Keys,
-    now: u64,
-    piece: &[u8],
-) -> Result<Fate, CoreMemory>
+pub fn hear(slot: &mut Slot, keys: &mut Keys, now: u64, piece: &[u8]) -> Result<Fate, CoreMemory>
     requires { keys.old.table.greatest ≤ now }
     ensures fate { IfOk result (λ fate. fate ≡ fate_of (heard piece.now (port_of slot.old))) }
     ensures port { OnOk result (port_of slot.new

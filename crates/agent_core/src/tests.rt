@@ -82,6 +82,103 @@ fn requests_have_the_replies_of_the_draft(rt: HostRuntime) -> Result<(), Fail> {
     Ok(())
 }
 
+// A key of the type keyed-sha256@example.com with tag 11.. and secret 21.., and the comment "one":
+// SSH_AGENTC_ADD_IDENTITY, 17, and SSH_AGENTC_ADD_ID_CONSTRAINED, 25, with a lifetime of 10 seconds.
+const ADD: &[u8] = b"\0\0\0\x6c\x11\
+    \0\0\0\x18keyed-sha256@example.com\
+    \0\0\0\x20\x11\x11\x11\x11\x11\x11\x11\x11\x11\x11\x11\x11\x11\x11\x11\x11\
+    \x11\x11\x11\x11\x11\x11\x11\x11\x11\x11\x11\x11\x11\x11\x11\x11\
+    \0\0\0\x20\x21\x21\x21\x21\x21\x21\x21\x21\x21\x21\x21\x21\x21\x21\x21\x21\
+    \x21\x21\x21\x21\x21\x21\x21\x21\x21\x21\x21\x21\x21\x21\x21\x21\
+    \0\0\0\x03one";
+
+const ADD_FOR_TEN_SECONDS: &[u8] = b"\0\0\0\x71\x19\
+    \0\0\0\x18keyed-sha256@example.com\
+    \0\0\0\x20\x11\x11\x11\x11\x11\x11\x11\x11\x11\x11\x11\x11\x11\x11\x11\x11\
+    \x11\x11\x11\x11\x11\x11\x11\x11\x11\x11\x11\x11\x11\x11\x11\x11\
+    \0\0\0\x20\x21\x21\x21\x21\x21\x21\x21\x21\x21\x21\x21\x21\x21\x21\x21\x21\
+    \x21\x21\x21\x21\x21\x21\x21\x21\x21\x21\x21\x21\x21\x21\x21\x21\
+    \0\0\0\x03one\x01\0\0\0\x0a";
+/// SSH_AGENT_IDENTITIES_ANSWER with that key.
+const LISTED: &[u8] = b"\0\0\0\x50\x0c\0\0\0\x01\0\0\0\x40\
+    \0\0\0\x18keyed-sha256@example.com\
+    \0\0\0\x20\x11\x11\x11\x11\x11\x11\x11\x11\x11\x11\x11\x11\x11\x11\x11\x11\
+    \x11\x11\x11\x11\x11\x11\x11\x11\x11\x11\x11\x11\x11\x11\x11\x11\
+    \0\0\0\x03one";
+
+// The client of port 1 sends a request and takes the reply.
+fn ask(
+    rt: &impl Abort,
+    agent: &mut Agent,
+    mono: u64,
+    request: &[u8],
+    reply: &[u8],
+) -> Result<(), Fail> {
+    let moment = Moment { mono, wall: 0 };
+    let heard = Event::Heard {
+        port: 1,
+        piece: request,
+    };
+    assert!(rt; agent.fits(&heard));
+    agent.step(moment, &heard)?;
+    assert_eq!(rt; agent.owed(1), reply, "at {request:?}");
+    let took = Event::Took {
+        port: 1,
+        count: reply.len(),
+    };
+    assert!(rt; agent.fits(&took));
+    agent.step(moment, &took)?;
+    Ok(())
+}
+
+#[test]
+fn an_identity_lives_for_its_lifetime(rt: HostRuntime) -> Result<(), Fail> {
+    let mut agent = Agent::new(rt.alloc(), Settings { default_life: None });
+    tell(&rt, &mut agent, &JOINED)?;
+    ask(&rt, &mut agent, 10, ADD_FOR_TEN_SECONDS, &SUCCESS)?;
+    assert_eq!(rt; agent.held(), 1);
+    assert_eq!(rt; agent.next_due(), Some(20));
+    ask(&rt, &mut agent, 19, &LIST, LISTED)?;
+    // A moment that falls back counts as the greatest one.
+    ask(&rt, &mut agent, 3, &LIST, LISTED)?;
+    ask(&rt, &mut agent, 20, &LIST, &NO_IDENTITIES)?;
+    assert_eq!(rt; agent.held(), 0);
+    assert_eq!(rt; agent.next_due(), None);
+    Ok(())
+}
+
+#[test]
+fn the_default_lifetime_is_for_keys_without_one(rt: HostRuntime) -> Result<(), Fail> {
+    let settings = Settings {
+        default_life: Some(5),
+    };
+    let mut agent = Agent::new(rt.alloc(), settings);
+    tell(&rt, &mut agent, &JOINED)?;
+    ask(&rt, &mut agent, 10, ADD, &SUCCESS)?;
+    assert_eq!(rt; agent.next_due(), Some(15));
+    ask(&rt, &mut agent, 11, ADD_FOR_TEN_SECONDS, &SUCCESS)?;
+    assert_eq!(rt; agent.next_due(), Some(21));
+    Ok(())
+}
+
+#[test]
+fn a_locked_agent_hides_its_identities(rt: HostRuntime) -> Result<(), Fail> {
+    let mut agent = Agent::new(rt.alloc(), Settings { default_life: None });
+    tell(&rt, &mut agent, &JOINED)?;
+    ask(&rt, &mut agent, 7, ADD, &SUCCESS)?;
+    // SSH_AGENTC_LOCK, 22, with "pw", and SSH_AGENTC_UNLOCK, 23, with "no" and with "pw".
+    ask(&rt, &mut agent, 7, b"\0\0\0\x07\x16\0\0\0\x02pw", &SUCCESS)?;
+    ask(&rt, &mut agent, 7, &LIST, &NO_IDENTITIES)?;
+    ask(&rt, &mut agent, 7, &REMOVE_ALL, &FAILURE)?;
+    ask(&rt, &mut agent, 7, b"\0\0\0\x07\x17\0\0\0\x02no", &FAILURE)?;
+    ask(&rt, &mut agent, 7, b"\0\0\0\x07\x17\0\0\0\x02pw", &SUCCESS)?;
+    ask(&rt, &mut agent, 7, b"\0\0\0\x07\x17\0\0\0\x02pw", &FAILURE)?;
+    ask(&rt, &mut agent, 7, &LIST, LISTED)?;
+    ask(&rt, &mut agent, 7, &REMOVE_ALL, &SUCCESS)?;
+    ask(&rt, &mut agent, 7, &LIST, &NO_IDENTITIES)?;
+    Ok(())
+}
+
 #[test]
 fn a_request_comes_in_five_pieces(rt: HostRuntime) -> Result<(), Fail> {
     let mut agent = Agent::new(rt.alloc(), Settings { default_life: None });

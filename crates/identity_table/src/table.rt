@@ -132,6 +132,13 @@ impl Table {
         self.identities.get(place)
     }
 
+    /// How many seconds identities live that come without a lifetime.
+    pub fn default_life(&self) -> Option<u32>
+        ensures { result ≡ self.now.life }
+    {
+        self.life
+    }
+
     /// The identities, lent. One message lists them all.
     pub fn as_slice(&self) -> &[Identity]
         ensures value { result.now ≡ self.now.identities }
