@@ -22,7 +22,7 @@ pub record Run : Type 0 where
 
 -- the run before the first line
 abbrev pub start_run : Run
-start_run = record { agent = opening_state; line = 0; read = 0; refused = None }
+start_run = record { agent = opening_state None; line = 0; read = 0; refused = None }
 
 -- the run after a line, and what the line printed
 pub record Turned : Type 0 where
