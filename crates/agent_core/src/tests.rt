@@ -144,6 +144,10 @@ fn an_identity_lives_for_its_lifetime(rt: HostRuntime) -> Result<(), Fail> {
     ask(&rt, &mut agent, 20, &LIST, &NO_IDENTITIES)?;
     assert_eq!(rt; agent.held(), 0);
     assert_eq!(rt; agent.next_due(), None);
+    // The clock never comes to this death.
+    ask(&rt, &mut agent, u64::MAX, ADD_FOR_TEN_SECONDS, &SUCCESS)?;
+    assert_eq!(rt; agent.next_due(), None);
+    ask(&rt, &mut agent, u64::MAX, &LIST, LISTED)?;
     Ok(())
 }
 
