@@ -4,7 +4,6 @@
 #![tactic(auto)]
 
 mod fault;
-mod fields;
 mod laws;
 mod read;
 mod reply;

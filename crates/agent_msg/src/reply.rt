@@ -4,7 +4,7 @@ ghost use Rattle.std.specs.Prelude.{◌≡◌, ◌+◌, ◌^◌, ◌<◌, ◌≤
 ghost use Rattle.secret_buf.specs.Buffers.{KeepsRoom};
 ghost use Rattle.agent_msg.specs.Replies.{status, entry, list_head, sign_response};
 
-use crate::fields::{push_string, push_u32};
+use frame_core::{push_string, push_u32};
 use secret_buf::ScrubBuf;
 use std::alloc::AllocError;
 

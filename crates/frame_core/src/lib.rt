@@ -2,6 +2,7 @@
 //! Stands on wire_text, which has the definitions and the laws of streams, and secret_buf.
 #![tactic(auto)]
 
+mod fields;
 mod laws;
 mod outcome;
 mod put;
@@ -9,6 +10,7 @@ mod scan;
 #[cfg(test)]
 mod tests;
 
+pub use fields::{push_string, push_u32};
 pub use laws::{a_put_frame_is_found_whole, looks_in_turn_split_the_stream};
 pub use outcome::Look;
 pub use put::put_frame;

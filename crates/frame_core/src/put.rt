@@ -4,13 +4,13 @@ ghost use Rattle.std.specs.Prelude.{◌≡◌, ◌+◌, ◌^◌, ◌<◌, ◌≤
 ghost use Rattle.wire_text.specs.Wire.{string};
 ghost use Rattle.secret_buf.specs.Buffers.{KeepsRoom};
 
+use crate::fields::push_string;
 use secret_buf::ScrubBuf;
 use std::alloc::AllocError;
 
 /// Appends the frame of `body`: its length in four bytes, and then the body.
 ///
 /// An empty body may be put, though a look calls its frame bad.
-#[tactic(auto, unfolding(wire_text::specs::Wire::string, wire_text::specs::Wire::uint32))]
 pub fn put_frame(out: &mut ScrubBuf, body: &[u8]) -> Result<(), AllocError>
     requires { length body.now < 2 ^ 32 }
     ensures ok { OnOk result (out.new.live ≡ out.old.live ++ string body.now) }
@@ -19,7 +19,6 @@ pub fn put_frame(out: &mut ScrubBuf, body: &[u8]) -> Result<(), AllocError>
     ensures keeps_room { KeepsRoom out.old out.new }
 {
     out.reserve(4 + body.len())?;
-    out.push_reserved(&(body.len() as u32).to_be_bytes());
-    out.push_reserved(body);
+    push_string(out, body);
     Ok(())
 }

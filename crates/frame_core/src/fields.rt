@@ -6,7 +6,7 @@ ghost use Rattle.wire_text.specs.Wire.{uint32, string};
 
 use secret_buf::ScrubBuf;
 
-/// Appends a uint32.
+/// Appends a uint32 of RFC 4251, section 5.
 #[tactic(auto, unfolding(wire_text::specs::Wire::uint32))]
 pub fn push_u32(out: &mut ScrubBuf, value: u32)
     requires { 4 ≤ out.old.spare }
@@ -17,7 +17,7 @@ pub fn push_u32(out: &mut ScrubBuf, value: u32)
     out.push_reserved(&value.to_be_bytes());
 }
 
-/// Appends a string.
+/// Appends a string of RFC 4251, section 5.
 #[tactic(auto, unfolding(wire_text::specs::Wire::string))]
 pub fn push_string(out: &mut ScrubBuf, text: &[u8])
     requires fits { length text.now < 2 ^ 32 }
