@@ -100,8 +100,8 @@ impl Keys {
 }
 
 impl Keys {
-    #[tactic(auto, unfolding(identity_table::specs::Identities::entries_len))]
     // Owes the list of the identities, which is empty while the agent is locked.
+    #[tactic(auto, unfolding(identity_table::specs::Identities::entries_len))]
     fn list(&self, owed: &mut Owed) -> Result<(), CoreMemory>
         requires { owed.old ≡ [] }
         ensures { (now : ℕ) → OnOk result (owed.new
@@ -143,7 +143,13 @@ impl Keys {
                 let passphrase = SecretBytes::from_slice(self.alloc, passphrase)?;
                 Ok(self.lock.lock(passphrase))
             }
-            _ => Ok(false),
+            // No signature is waited for, the agent isn't locked, and no extension is served.
+            Request::Sign { .. }
+            | Request::Unlock { .. }
+            | Request::OtherExtension { .. }
+            | Request::Unsupported { .. } => Ok(false),
+            // `serve` owes the list.
+            Request::List => unreachable!(),
         }
     }
 
