@@ -119,7 +119,7 @@ holder_is_front bytes x small read =
       serial = serial.value;
       key_id = key_id.text;
       text = behind (uint64 serial.value) serial.front.parts (behind (uint32 cert_type.value) cert_type.front.parts
-      (behind (string key_id.text) key_id.front.parts principals.front.parts));
+          (behind (string key_id.text) key_id.front.parts principals.front.parts));
       names = principals.are;
       fit = (serial.small, cert_type.small, key_id.small, principals.small);
       left = principals.front.left;
@@ -165,7 +165,7 @@ signer_is_front bytes x small read =
       reserved = reserved.text;
       signature = signature.text;
       text = behind (string critical.text) critical.front.parts (behind (string extensions.text) extensions.front.parts
-      (behind (string reserved.text) reserved.front.parts (behind (string signer.text) signer.front.parts signature.front.parts)));
+          (behind (string reserved.text) reserved.front.parts (behind (string signer.text) signer.front.parts signature.front.parts)));
       fit = (critical.small, signer.small);
       passed_fit = (extensions.small, reserved.small, signature.small);
       left = signature.front.left;
@@ -175,16 +175,21 @@ signer_is_front bytes x small read =
 
 -- what follows the times, and what follows the holder
 abbrev pub then_signer : ℕ × List ℕ → ℕ × ℕ → (List ℕ × List ℕ) × List ℕ → Result (CertificateParts × List ℕ) KeyFault
-then_signer holder times signed = Ok (record {
-  cert_type = holder.0;
-  principals = holder.1;
-  after = times.0;
-  before = times.1;
-  critical = signed.0.0;
-  signer = signed.0.1;
-}, signed.1)
+then_signer holder times signed = Ok (
+  record {
+    cert_type = holder.0;
+    principals = holder.1;
+    after = times.0;
+    before = times.1;
+    critical = signed.0.0;
+    signer = signed.0.1;
+  },
+  signed.1,
+)
+
 abbrev pub then_times : ℕ × List ℕ → (ℕ × ℕ) × List ℕ → Result (CertificateParts × List ℕ) KeyFault
 then_times holder times = signer_at times.1 >>= then_signer holder times.0
+
 abbrev pub then_holder : (ℕ × List ℕ) × List ℕ → Result (CertificateParts × List ℕ) KeyFault
 then_holder holder = times_at holder.1 >>= then_times holder.0
 
@@ -199,28 +204,34 @@ certificate_is_front bytes x small read =
     let t = times_are_front a.0.1 b.0 h.left b.1 in
     let c = bind_ok (signer_at b.0.1) (then_signer a.0.0 b.0.0) x b.2 in
     let s = signer_is_front b.0.1 c.0 t.left c.1 in
-    let made : CertificateParts × List ℕ = (record {
-      cert_type = a.0.0.0;
-      principals = a.0.0.1;
-      after = b.0.0.0;
-      before = b.0.0.1;
-      critical = c.0.0.0;
-      signer = c.0.0.1;
-    }, c.0.1) in
+    let made : CertificateParts × List ℕ = (
+      record {
+        cert_type = a.0.0.0;
+        principals = a.0.0.1;
+        after = b.0.0.0;
+        before = b.0.0.1;
+        critical = c.0.0.0;
+        signer = c.0.0.1;
+      },
+      c.0.1,
+    ) in
     let later = λ (left : List ℕ). uint64 h.serial ++ (uint32 a.0.0.0 ++ (string h.key_id ++ (string a.0.0.1 ++ left))) in
     let times = λ (left : List ℕ). uint64 b.0.0.0 ++ (uint64 b.0.0.1 ++ left) in
-    subst (λ (y : CertificateParts × List ℕ). IsCertificateFront bytes y.0 y.1 × IsBytes y.1) (ok_is made x c.2) (record {
-      serial = h.serial;
-      key_id = h.key_id;
-      extensions = s.extensions;
-      reserved = s.reserved;
-      signature = s.signature;
-      text = h.text ∙ ap later (t.text ∙ ap times s.text);
-      names = h.names;
-      numbers = (h.fit.0, h.fit.1, t.fit.0, t.fit.1);
-      read_fit = (h.fit.3, s.fit.0, s.fit.1);
-      passed_fit = (h.fit.2, s.passed_fit.0, s.passed_fit.1, s.passed_fit.2);
-    }, s.left)
+    subst (λ (y : CertificateParts × List ℕ). IsCertificateFront bytes y.0 y.1 × IsBytes y.1) (ok_is made x c.2) (
+      record {
+        serial = h.serial;
+        key_id = h.key_id;
+        extensions = s.extensions;
+        reserved = s.reserved;
+        signature = s.signature;
+        text = h.text ∙ ap later (t.text ∙ ap times s.text);
+        names = h.names;
+        numbers = (h.fit.0, h.fit.1, t.fit.0, t.fit.1);
+        read_fit = (h.fit.3, s.fit.0, s.fit.1);
+        passed_fit = (h.fit.2, s.passed_fit.0, s.passed_fit.1, s.passed_fit.2);
+      },
+      s.left,
+    )
 
 -- a certificate is read, whatever follows it
 pub certificate_again : (bytes : List ℕ) (parts : CertificateParts) (rest : List ℕ) → IsCertificateFront bytes parts rest →
@@ -240,5 +251,5 @@ certificate_again bytes parts rest is =
       string_at-string is.extensions _ is.passed_fit.1,
       string_at-string is.reserved _ is.passed_fit.2,
       string_at-string parts.signer _ is.read_fit.2,
-      string_at-string is.signature _ is.passed_fit.3
+      string_at-string is.signature _ is.passed_fit.3,
     ) refl

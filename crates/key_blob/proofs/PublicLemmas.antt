@@ -82,7 +82,7 @@ certificate_is_found bytes after_name key kind listed name read =
       front = subst (IsCertificateFront b.0 d.0.0) end.0 front.0;
       certified = refl;
       text = name.parts ∙ ap (λ (left : List ℕ). string (type_of form).name ++ left)
-      (n.front.parts ∙ ap (λ (left : List ℕ). string n.text ++ left) (start ∙ f.front.parts));
+          (n.front.parts ∙ ap (λ (left : List ℕ). string n.text ++ left) (start ∙ f.front.parts));
     })
 
 by_form : (bytes after_name : List ℕ) (key : KeyParts) (form : Form) → IsListed form → IsFront bytes (string (type_of form).name) after_name →
@@ -134,7 +134,7 @@ certified_again kind nonce contents certificate after_key listed small fit read 
       form_again (Certified kind) (string nonce ++ start) listed,
       string_at-string nonce start small,
       passed_again (key_type kind).public contents after_key fit,
-      read
+      read,
     ) (ap answer whole)
 
 certified_is_read : (bytes : List ℕ) (key : KeyParts) → IsCertifiedKey bytes key → public_key_of bytes ≡ Ok key

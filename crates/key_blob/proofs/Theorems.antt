@@ -93,7 +93,7 @@ blob_again (Certified kind) text blob rest is =
     ∙ rw (
       string_at-string blob rest is.small,
       public_is_read blob is.key is.readable,
-      (bytes_eq-Decides is.key.type_name (certified_type kind).name).1 is.of_type
+      (bytes_eq-Decides is.key.type_name (certified_type kind).name).1 is.of_type,
     ) refl
 
 -- ---- additions
@@ -107,10 +107,13 @@ regrouped name text again private rest =
 -- what follows the name, the blob, and the public fields that are repeated
 abbrev then_made : List ℕ → List ℕ → List ℕ → Result (AddedKey × List ℕ) KeyFault
 then_made bytes blob rest = Ok (record { blob = blob; private = taken bytes rest }, rest)
+
 abbrev then_private : List ℕ → Form → List ℕ → List ℕ → Result (AddedKey × List ℕ) KeyFault
 then_private bytes form blob private = after_fields (type_of form).private private >>= then_made bytes blob
+
 abbrev then_again : List ℕ → Form → List ℕ × List ℕ → Result (AddedKey × List ℕ) KeyFault
 then_again bytes form blob = after_fields (type_of form).again blob.1 >>= then_private bytes form blob.0
+
 abbrev then_blob : List ℕ → Form × List ℕ → Result (AddedKey × List ℕ) KeyFault
 then_blob bytes form = blob_at form.0 form.1 >>= then_again bytes form.0
 

@@ -1,5 +1,6 @@
 -- Keys that are added to an agent: the type's name, its public and its private fields, or a
--- certificate in the place of the public fields (draft-miller-ssh-agent, "Adding keys to the agent").
+-- certificate in the place of the public fields (draft-miller-ssh-agent, "Adding keys to the
+-- agent"; certificates as OpenSSH's ssh-add sends them).
 use Rattle.std.specs.Prelude.{◌≡◌, ℕ, ◌-◌, ◌^◌, ◌<◌, List, ◌++◌, length, Result, Ok, Err, if◌then◌else◌}
 use Rattle.std.specs.Str.{bytes_eq}
 use Rattle.wire_text.specs.Wire.{string}
@@ -49,7 +50,8 @@ pub record IsAddedKey (key : AddedKey) : Type 0 where
   pub blob_fit : IsBlobText form blob_text key.blob
   pub again_fit : AreContents (type_of form).again again
   pub private_fit : AreContents (type_of form).private private
-  pub text : key.private ≡ string (type_of form).name ++ (blob_text ++ (strings again ++ strings private))
+  pub text : key.private ≡ string (type_of form).name
+      ++ (blob_text ++ (strings again ++ strings private))
 
 -- ---- reading from left to right
 

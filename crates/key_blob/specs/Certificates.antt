@@ -33,7 +33,8 @@ certificate_of certificate = record {
 -- ---- the grammar
 
 -- the text of a certificate behind the key's fields: what is read, and what is passed over
-abbrev pub certificate_text : CertificateParts → ℕ → List ℕ → List ℕ → List ℕ → List ℕ → List ℕ → List ℕ
+abbrev pub certificate_text : CertificateParts → ℕ → (key_id extensions reserved signature : List ℕ)
+    → List ℕ → List ℕ
 certificate_text parts serial key_id extensions reserved signature rest =
     uint64 serial ++ (uint32 parts.cert_type ++ (string key_id ++ (string parts.principals
     ++ (uint64 parts.after ++ (uint64 parts.before ++ (string parts.critical
@@ -41,7 +42,8 @@ certificate_text parts serial key_id extensions reserved signature rest =
     ++ (string signature ++ rest))))))))))
 
 -- the certificate stands at the front of the bytes, and the rest follows it
-pub record IsCertificateFront (bytes : List ℕ) (parts : CertificateParts) (rest : List ℕ) : Type 0 where
+pub record IsCertificateFront (bytes : List ℕ) (parts : CertificateParts) (rest : List ℕ)
+    : Type 0 where
   pub serial : ℕ
   pub key_id : List ℕ
   pub extensions : List ℕ
@@ -49,17 +51,22 @@ pub record IsCertificateFront (bytes : List ℕ) (parts : CertificateParts) (res
   pub signature : List ℕ
   pub text : bytes ≡ certificate_text parts serial key_id extensions reserved signature rest
   pub names : AreStrings parts.principals
-  pub numbers : (serial < 2 ^ 64) × (parts.cert_type < 2 ^ 32) × (parts.after < 2 ^ 64) × (parts.before < 2 ^ 64)
-  pub read_fit : (length parts.principals < 2 ^ 32) × (length parts.critical < 2 ^ 32) × (length parts.signer < 2 ^ 32)
-  pub passed_fit : (length key_id < 2 ^ 32) × (length extensions < 2 ^ 32) × (length reserved < 2 ^ 32) × (length signature < 2 ^ 32)
+  pub numbers : (serial < 2 ^ 64) × (parts.cert_type < 2 ^ 32)
+      × (parts.after < 2 ^ 64) × (parts.before < 2 ^ 64)
+  pub read_fit : (length parts.principals < 2 ^ 32)
+      × (length parts.critical < 2 ^ 32) × (length parts.signer < 2 ^ 32)
+  pub passed_fit : (length key_id < 2 ^ 32) × (length extensions < 2 ^ 32)
+      × (length reserved < 2 ^ 32) × (length signature < 2 ^ 32)
 
 -- ---- reading from left to right
 
 -- a string, or a uint32, or a uint64
 abbrev pub text_at : List ℕ → Result (List ℕ × List ℕ) KeyFault
 text_at bytes = ok_or (string_at bytes) Short
+
 abbrev pub u32_at : List ℕ → Result (ℕ × List ℕ) KeyFault
 u32_at bytes = ok_or (uint32_at bytes) Short
+
 abbrev pub u64_at : List ℕ → Result (ℕ × List ℕ) KeyFault
 u64_at bytes = ok_or (uint64_at bytes) Short
 
@@ -99,14 +106,17 @@ certificate_at bytes = do
   holder ← holder_at bytes
   times ← times_at holder.1
   signed ← signer_at times.1
-  Ok (record {
-    cert_type = holder.0.0;
-    principals = holder.0.1;
-    after = times.0.0;
-    before = times.0.1;
-    critical = signed.0.0;
-    signer = signed.0.1;
-  }, signed.1)
+  Ok (
+    record {
+      cert_type = holder.0.0;
+      principals = holder.0.1;
+      after = times.0.0;
+      before = times.0.1;
+      critical = signed.0.0;
+      signer = signed.0.1;
+    },
+    signed.1,
+  )
 
 -- ---- validity
 

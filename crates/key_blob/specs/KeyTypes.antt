@@ -119,7 +119,8 @@ kind_of (Certified kind) = kind
 abbrev pub forms : List Form
 forms =
     Plain Ed25519 ∷ Plain Rsa ∷ Plain Nistp256 ∷ Plain Nistp384 ∷ Plain Nistp521 ∷ Plain StandIn
-    ∷ Certified Ed25519 ∷ Certified Rsa ∷ Certified Nistp256 ∷ Certified Nistp384 ∷ Certified Nistp521 ∷ []
+    ∷ Certified Ed25519 ∷ Certified Rsa ∷ Certified Nistp256 ∷ Certified Nistp384
+    ∷ Certified Nistp521 ∷ []
 
 -- the type is one of them
 abbrev pub IsListed : Form → Type 0

@@ -7,12 +7,15 @@ use Rattle.wire_text.specs.Wire.{string}
 -- the bytes are strings to their end
 pub data AreStrings : List ℕ → Type 0 where
   no_more : AreStrings []
-  one_more : (text rest : List ℕ) → length text < 2 ^ 32 → AreStrings rest → AreStrings (string text ++ rest)
+  one_more : (text rest : List ℕ) → length text < 2 ^ 32 → AreStrings rest
+      → AreStrings (string text ++ rest)
 
 -- one of the strings that the bytes begin with is a pattern that matches the host
 pub data NamesHost : List ℕ → List ℕ → Type 0 where
-  this : (host pattern rest : List ℕ) → length pattern < 2 ^ 32 → Matches host pattern → NamesHost host (string pattern ++ rest)
-  later : (host text rest : List ℕ) → length text < 2 ^ 32 → NamesHost host rest → NamesHost host (string text ++ rest)
+  this : (host pattern rest : List ℕ) → length pattern < 2 ^ 32 → Matches host pattern
+      → NamesHost host (string pattern ++ rest)
+  later : (host text rest : List ℕ) → length text < 2 ^ 32 → NamesHost host rest
+      → NamesHost host (string text ++ rest)
 
 -- what follows a string that stands at the front passes the test, or nothing is left
 abbrev pub passed_over : Option (List ℕ × List ℕ) → (List ℕ → Bool) → List ℕ → Bool

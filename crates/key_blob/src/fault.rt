@@ -13,8 +13,8 @@ pub enum KeyFault {
     UnknownType,
     /// A field whose length the table gives has another length.
     BadLength,
-    /// The name of the curve is not the one that the type names, or the type of the certificate in an
-    /// addition is not the one that stands before it.
+    /// The name of the curve is not the one that the type names, or the type of the certificate in
+    /// an addition is not the one that stands before it.
     Mismatch,
     /// Bytes stand after the last field of a blob.
     Trailing,

@@ -1,8 +1,8 @@
 //! Public keys and certificates in the blobs of the SSH protocols, and keys as they are added to an
 //! agent.
 //!
-//! Stands on `wire_core` for fields, on `secret_buf` for private bytes and on `pattern_core` for the
-//! principals of certificates. The types are those of docs/PROTOCOL.md, "Keys".
+//! Stands on `wire_core` for fields, on `secret_buf` for private bytes and on `pattern_core` for
+//! the principals of certificates. The types are those of docs/PROTOCOL.md, "Keys".
 #![tactic(auto)]
 
 mod added;

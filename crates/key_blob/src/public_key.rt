@@ -65,7 +65,7 @@ fn take_certificate_for<'a>(
 ) -> Result<Option<Certificate<'a>>, KeyFault>
     ensures { MatchResult result
         (λ certificate.
-            certificate_for form from.old ≡ Ok (option_map certificate_of certificate, from.new))
+        certificate_for form from.old ≡ Ok (option_map certificate_of certificate, from.new))
         (λ fault. certificate_for form from.old ≡ Err fault) }
 {
     match form {
