@@ -73,28 +73,32 @@ fn an_rsa_certificate_fits_three_algorithms(rt: HostRuntime) -> Result<(), Fail>
 
 #[test]
 fn a_certificate_is_good_for_hosts_at_a_time(rt: HostRuntime) -> Result<(), Fail> {
-    // The place of the certificate, the host, the time and the answer.
+    let named = HOSTS[0].blob;
+    let critical = HOSTS[1].blob;
+    let any = HOSTS[2].blob;
+    let pattern = HOSTS[4].blob;
+    // The certificate, the host, the time and the answer.
     let cases = [
         // For `*.example.org` and `web`, from 1577836800 to 1893456000.
-        (0, b"a.example.org".as_slice(), 1577836800, true),
-        (0, b"web", 1893455999, true),
-        (0, b"web", 1893456000, false),
-        (0, b"web", 1577836799, false),
-        (0, b"example.org", 1600000000, false),
-        (0, b"WEB", 1600000000, false),
-        (0, b"*.example.org", 1600000000, true),
+        (named, b"a.example.org".as_slice(), 1577836800, true),
+        (named, b"web", 1893455999, true),
+        (named, b"web", 1893456000, false),
+        (named, b"web", 1577836799, false),
+        (named, b"example.org", 1600000000, false),
+        (named, b"WEB", 1600000000, false),
+        (named, b"*.example.org", 1600000000, true),
         // With a critical option.
-        (1, b"web", 1600000000, false),
+        (critical, b"web", 1600000000, false),
         // For any host, at any time but the last second.
-        (2, b"any.example", 0, true),
-        (2, b"any.example", u64::MAX - 1, true),
-        (2, b"any.example", u64::MAX, false),
+        (any, b"any.example", 0, true),
+        (any, b"any.example", u64::MAX - 1, true),
+        (any, b"any.example", u64::MAX, false),
         // For `a?.example.org`.
-        (4, b"ab.example.org", 1577836800, true),
-        (4, b"a.example.org", 1577836800, false),
+        (pattern, b"ab.example.org", 1577836800, true),
+        (pattern, b"a.example.org", 1577836800, false),
     ];
-    for (place, host, wall, good) in cases {
-        let blob = STANDARD.decode(rt.alloc(), HOSTS[place].blob.as_bytes())?;
+    for (blob, host, wall, good) in cases {
+        let blob = STANDARD.decode(rt.alloc(), blob.as_bytes())?;
         let key = read_public(&blob).ok().ok_or("the blob is a certificate")?;
         let certificate = key.certificate.ok_or("the key has a certificate")?;
         assert_eq!(rt;
