@@ -1,20 +1,22 @@
 -- The two directions for fields and names: what is read is what the table says, and what the table says is read.
-use Rattle.std.proofs.Common.{◌≡◌, ℕ, ◌^◌, ◌<◌, Bool, true, false, cond, eqb, List, [], ◌∷◌, ◌++◌, length, Option, Some, None, Result, Ok, Err, refl, sym, ap, subst, ◌∙◌, append_assoc}
+use Rattle.std.proofs.Common.{◌≡◌, ℕ, ◌-◌, ◌^◌, ◌<◌, ◌≤◌, Bool, true, false, cond, eqb, List, [], ◌∷◌, ◌++◌, length, take, Option, Some, None, Result, Ok, Err, refl, sym, ap, subst, ◌∙◌, append_assoc, arith}
 use Rattle.std.specs.Prelude.{find}
 use Rattle.std.specs.Option.{ok_or}
 use Rattle.std.specs.Str.{bytes_eq}
 use Rattle.std.proofs.lemmas.Bool.Decides.{Decides-eqb}
+use Rattle.std.proofs.lemmas.List.{length-append, take_at}
 use Rattle.std.proofs.lemmas.Slice.Eq.{bytes_eq-Decides}
 use Rattle.wire_text.specs.Wire.{IsBytes, string}
 use Rattle.wire_core.specs.Fields.{string_at}
 use Rattle.wire_core.proofs.Theorems.{IsFront, string_is_front, string_at-string}
 use Rattle.key_blob.specs.declared.fault.KeyFault.{KeyFault}
 use Rattle.key_blob.specs.declared.fault.KeyFault.TheVariants.{Short, UnknownType, BadLength, Mismatch}
-use Rattle.key_blob.specs.declared.kind.KeyKind.{KeyKind}
+use Rattle.key_blob.specs.declared.form.Form.{Form}
+use Rattle.key_blob.specs.declared.form.Form.TheVariants.{Plain, Certified}
 use Rattle.key_blob.specs.declared.kind.KeyKind.TheVariants.{Ed25519, Rsa, Nistp256, Nistp384, Nistp521, StandIn}
-use Rattle.key_blob.specs.KeyTypes.{Field, any, sized, text, key_type, kinds, kind_named}
-use Rattle.key_blob.specs.Reading.{◌>>=◌, IsContent, AreContents, strings, checked, field_at, fields_at, kind_at}
-use Rattle.key_blob.proofs.ReadingLemmas.{with_content}
+use Rattle.key_blob.specs.KeyTypes.{Field, any, sized, text, IsListed, type_of, forms, form_named}
+use Rattle.key_blob.specs.Reading.{◌>>=◌, IsContent, AreContents, strings, checked, field_at, fields_at, after_fields, form_at, taken}
+use Rattle.key_blob.proofs.ReadingLemmas.{with_content, rest_of}
 use Rattle.key_blob.proofs.TypeLemmas.{name_is_short}
 
 -- ---- steps that did not fail
@@ -111,46 +113,102 @@ fields_again (field ∷ fields) (content ∷ contents) rest fits =
     ap (fields_at (field ∷ fields)) (append_assoc (string content) (strings contents) rest)
     ∙ rw (field_again field content (strings contents ++ rest) fits.0 fits.1, fields_again fields contents rest fits.2) refl
 
+-- the bytes in front of a rest
+pub taken-append : (bytes front rest : List ℕ) → bytes ≡ front ++ rest → taken bytes rest ≡ front
+taken-append bytes front rest parts =
+    let size : length front ≡ length bytes - length rest = omega (arith, ap length parts, length-append front rest) in
+    ap (take (length bytes - length rest)) parts ∙ take_at front rest (length bytes - length rest) size
+
+-- contents that the fields may hold, at the front of bytes
+pub record AreFieldsFront (fields : List Field) (bytes rest : List ℕ) : Type 0 where
+  pub contents : List (List ℕ)
+  pub fit : AreContents fields contents
+  pub front : IsFront bytes (strings contents) rest
+  pub whole : taken bytes rest ≡ strings contents
+
+pub passed_are_front : (fields : List Field) (bytes rest : List ℕ) → IsBytes bytes → after_fields fields bytes ≡ Ok rest → AreFieldsFront fields bytes rest
+unfolding after_fields
+passed_are_front fields bytes rest small read =
+    let a = bind_ok (fields_at fields bytes) rest_of rest read in
+    let f = fields_are_front fields bytes a.0 small a.1 in
+    let same : a.0.1 ≡ rest = cc in
+    let front = subst (λ (r : List ℕ). IsFront bytes (strings a.0.0) r) same f.0 in
+    record { contents = a.0.0; fit = f.1; front = front; whole = taken-append bytes (strings a.0.0) rest front.parts }
+
+pub passed_again : (fields : List Field) (contents : List (List ℕ)) (rest : List ℕ) → AreContents fields contents →
+    after_fields fields (strings contents ++ rest) ≡ Ok rest
+unfolding after_fields
+passed_again fields contents rest fits = rw (fields_again fields contents rest fits) refl
+
+-- what is left behind fields is no longer than all
+pub rest_is_within : (fields : List Field) (bytes start rest : List ℕ) → IsBytes bytes → bytes ≡ start → after_fields fields start ≡ Ok rest → length rest ≤ length bytes
+rest_is_within fields bytes start rest small start_is read =
+    let passed = passed_are_front fields bytes rest small (ap (after_fields fields) start_is ∙ read) in
+    omega (arith, ap length passed.front.parts, length-append (strings passed.contents) rest)
+
 -- ---- the name of a type
 
-named_by : (b : Bool) (k kind : KeyKind) (name : List ℕ) (others : Option KeyKind) → bytes_eq (key_type k).name name ≡ b →
-    (others ≡ Some kind → bytes_eq (key_type kind).name name ≡ true) → cond b (Some k) others ≡ Some kind → bytes_eq (key_type kind).name name ≡ true
-named_by true k kind name others is later found =
-    let same : k ≡ kind = cc in
-    subst (λ (q : KeyKind). bytes_eq (key_type q).name name ≡ true) same is
-named_by false k kind name others is later found = later found
+-- the type is one of the table, and has the name
+abbrev IsNamed : List ℕ → Form → Type 0
+IsNamed name form = IsListed form × (bytes_eq (type_of form).name name ≡ true)
 
-named_in : (ks : List KeyKind) (name : List ℕ) (kind : KeyKind) → find (λ k. bytes_eq (key_type k).name name) ks ≡ Some kind →
-    bytes_eq (key_type kind).name name ≡ true
-named_in [] name kind e = absurd cc
-named_in (k ∷ ks) name kind e =
-    named_by (bytes_eq (key_type k).name name) k kind name (find (λ q. bytes_eq (key_type q).name name) ks) refl (named_in ks name kind) e
+abbrev AreListed : List Form → Type 0
+AreListed [] = Unit {0}
+AreListed (form ∷ forms) = IsListed form × AreListed forms
 
-kind_named_is : (name : List ℕ) (kind : KeyKind) → kind_named name ≡ Some kind → (key_type kind).name ≡ name
-unfolding kind_named
-kind_named_is name kind e = (bytes_eq-Decides (key_type kind).name name).0 (named_in kinds name kind e)
+named_by : (b : Bool) (first form : Form) (name : List ℕ) (others : Option Form) → IsListed first → bytes_eq (type_of first).name name ≡ b →
+    (others ≡ Some form → IsNamed name form) → cond b (Some first) others ≡ Some form → IsNamed name form
+named_by true first form name others listed is later found =
+    let same : first ≡ form = cc in
+    subst (IsNamed name) same (listed, is)
+named_by false first form name others listed is later found = later found
 
-pub kind_named-name : (kind : KeyKind) → kind_named (key_type kind).name ≡ Some kind
-unfolding kind_named
-kind_named-name Ed25519 = refl
-kind_named-name Rsa = refl
-kind_named-name Nistp256 = refl
-kind_named-name Nistp384 = refl
-kind_named-name Nistp521 = refl
-kind_named-name StandIn = refl
+named_in : (all : List Form) (name : List ℕ) (form : Form) → AreListed all → find (λ f. bytes_eq (type_of f).name name) all ≡ Some form → IsNamed name form
+named_in [] name form listed e = absurd cc
+named_in (first ∷ all) name form listed e =
+    named_by (bytes_eq (type_of first).name name) first form name (find (λ f. bytes_eq (type_of f).name name) all) listed.0 refl (named_in all name form listed.1) e
 
-pub kind_is_front : (bytes : List ℕ) (x : KeyKind × List ℕ) → IsBytes bytes → kind_at bytes ≡ Ok x → IsFront bytes (string (key_type x.0).name) x.1
-unfolding kind_at
-kind_is_front bytes x small read =
-    let a = bind_ok (ok_or (string_at bytes) Short) (λ name. ok_or (kind_named name.0) UnknownType >>= λ kind. Ok (kind, name.1)) x read in
-    let b = bind_ok (ok_or (kind_named a.0.0) UnknownType) (λ kind. Ok (kind, a.0.1)) x a.2 in
+all_listed : AreListed forms
+all_listed = (tt, (tt, (tt, (tt, (tt, (tt, (tt, (tt, (tt, (tt, (tt, tt)))))))))))
+
+form_named_is : (name : List ℕ) (form : Form) → form_named name ≡ Some form → IsListed form × ((type_of form).name ≡ name)
+unfolding form_named
+form_named_is name form e =
+    let named = named_in forms name form all_listed e in
+    (named.0, (bytes_eq-Decides (type_of form).name name).0 named.1)
+
+pub form_named-name : (form : Form) → IsListed form → form_named (type_of form).name ≡ Some form
+unfolding form_named
+form_named-name (Plain Ed25519) listed = refl
+form_named-name (Plain Rsa) listed = refl
+form_named-name (Plain Nistp256) listed = refl
+form_named-name (Plain Nistp384) listed = refl
+form_named-name (Plain Nistp521) listed = refl
+form_named-name (Plain StandIn) listed = refl
+form_named-name (Certified Ed25519) listed = refl
+form_named-name (Certified Rsa) listed = refl
+form_named-name (Certified Nistp256) listed = refl
+form_named-name (Certified Nistp384) listed = refl
+form_named-name (Certified Nistp521) listed = refl
+form_named-name (Certified StandIn) listed = absurd listed
+
+-- the name of a type of the table, at the front of bytes
+pub record IsNameFront (bytes : List ℕ) (form : Form) (rest : List ℕ) : Type 0 where
+  pub listed : IsListed form
+  pub front : IsFront bytes (string (type_of form).name) rest
+
+pub form_is_front : (bytes : List ℕ) (x : Form × List ℕ) → IsBytes bytes → form_at bytes ≡ Ok x → IsNameFront bytes x.0 x.1
+unfolding form_at
+form_is_front bytes x small read =
+    let a = bind_ok (ok_or (string_at bytes) Short) (λ name. ok_or (form_named name.0) UnknownType >>= λ form. Ok (form, name.1)) x read in
+    let b = bind_ok (ok_or (form_named a.0.0) UnknownType) (λ form. Ok (form, a.0.1)) x a.2 in
     let front = string_is_front bytes a.0.0 a.0.1 small (ok_or_ok (string_at bytes) Short a.0 a.1) in
-    let name : (key_type b.0).name ≡ a.0.0 = kind_named_is a.0.0 b.0 (ok_or_ok (kind_named a.0.0) UnknownType b.0 b.1) in
-    let made : KeyKind × List ℕ = (b.0, a.0.1) in
+    let named = form_named_is a.0.0 b.0 (ok_or_ok (form_named a.0.0) UnknownType b.0 b.1) in
+    let made : Form × List ℕ = (b.0, a.0.1) in
     let same : made ≡ x = cc in
-    subst (λ (y : KeyKind × List ℕ). IsFront bytes (string (key_type y.0).name) y.1) same
-    (subst (λ (n : List ℕ). IsFront bytes (string n) a.0.1) (sym name) front.0)
+    subst (λ (y : Form × List ℕ). IsNameFront bytes y.0 y.1) same
+    (record { listed = named.0; front = subst (λ (n : List ℕ). IsFront bytes (string n) a.0.1) (sym named.1) front.0 })
 
-pub kind_again : (kind : KeyKind) (rest : List ℕ) → kind_at (string (key_type kind).name ++ rest) ≡ Ok (kind, rest)
-unfolding kind_at
-kind_again kind rest = rw (string_at-string (key_type kind).name rest (name_is_short kind), kind_named-name kind) refl
+pub form_again : (form : Form) (rest : List ℕ) → IsListed form → form_at (string (type_of form).name ++ rest) ≡ Ok (form, rest)
+unfolding form_at
+form_again form rest listed = rw (string_at-string (type_of form).name rest (name_is_short form), form_named-name form listed) refl

@@ -2,6 +2,9 @@ pub mod ReadingLemmas
 pub mod BlobLemmas
 pub mod TypeLemmas
 pub mod GrammarLemmas
+pub mod PrincipalLemmas
+pub mod CertificateLemmas
+pub mod PublicLemmas
 pub mod FaultLemmas
 pub mod Theorems
 pub mod SizeLemmas

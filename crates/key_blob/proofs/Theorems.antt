@@ -1,190 +1,193 @@
--- The grammar of keys and their reading are one: what is read is in the grammar, and what is in the grammar is read.
-use Rattle.std.proofs.Common.{◌≡◌, ℕ, ◌-◌, ◌≤◌, Bool, true, false, List, [], ◌∷◌, ◌++◌, length, take, Result, Ok, Err, refl, sym, ap, subst, ◌∙◌, append_assoc, arith, inl, inr}
+-- The grammar of additions and their reading are one: what is read is in the grammar, and what is in the grammar is read.
+use Rattle.std.proofs.Common.{◌≡◌, ℕ, ◌+◌, ◌-◌, ◌≤◌, Bool, true, false, cond, List, [], ◌∷◌, ◌++◌, length, drop, Result, Ok, Err, refl, sym, ap, subst, ◌∙◌, append_assoc, arith, inl, inr}
 use Rattle.std.specs.Prelude.{reverse, ◌⊎◌, if◌then◌else◌}
-use Rattle.std.proofs.lemmas.List.{append-nil, length-append, take_at}
+use Rattle.std.specs.Str.{bytes_eq}
+use Rattle.std.proofs.lemmas.List.{append-nil, length-append, drop_at}
 use Rattle.std.proofs.lemmas.List.Concat.{flat_map-append}
 use Rattle.std.proofs.lemmas.Grind.{reverse_onto}
+use Rattle.std.proofs.lemmas.Slice.Eq.{bytes_eq-Decides}
 use Rattle.wire_text.specs.Wire.{IsBytes, string}
-use Rattle.wire_core.proofs.Theorems.{IsFront}
+use Rattle.wire_text.proofs.WireLemmas.{length-string}
+use Rattle.wire_core.proofs.Theorems.{IsFront, string_at-string}
 use Rattle.key_blob.specs.declared.added.AddedKey.{AddedKey}
 use Rattle.key_blob.specs.declared.fault.KeyFault.{KeyFault}
-use Rattle.key_blob.specs.declared.fault.KeyFault.TheVariants.{Memory}
+use Rattle.key_blob.specs.declared.fault.KeyFault.TheVariants.{Memory, Mismatch}
+use Rattle.key_blob.specs.declared.form.Form.{Form}
+use Rattle.key_blob.specs.declared.form.Form.TheVariants.{Plain, Certified}
 use Rattle.key_blob.specs.declared.kind.KeyKind.{KeyKind}
 use Rattle.key_blob.specs.declared.kind.KeyKind.TheVariants.{Ed25519, Rsa, Nistp256, Nistp384, Nistp521, StandIn}
-use Rattle.key_blob.specs.KeyTypes.{KeyType, key_type, blob_order}
-use Rattle.key_blob.specs.Reading.{◌>>=◌, AreContents, strings, fields_at, after_fields, kind_at}
-use Rattle.key_blob.specs.PublicKeys.{KeyParts, plain_key, IsPublicKey, ended, public_key_of}
-use Rattle.key_blob.specs.AddedKeys.{IsAddedKey, blob_fields, blob_fields_at, taken, added_key_at}
-use Rattle.key_blob.proofs.ReadingLemmas.{rest_of}
-use Rattle.key_blob.proofs.GrammarLemmas.{bind_ok, fields_are_front, fields_again, kind_is_front, kind_again}
+use Rattle.key_blob.specs.KeyTypes.{KeyType, key_type, certified_type, type_of, blob_order}
+use Rattle.key_blob.specs.Reading.{◌>>=◌, AreContents, strings, fields_at, after_fields, form_at, taken}
+use Rattle.key_blob.specs.PublicKeys.{KeyParts, plain_key, IsPublicKey, public_key_of}
+use Rattle.key_blob.specs.AddedKeys.{IsPlainText, IsCertificateText, IsBlobText, IsAddedKey, blob_fields, blob_fields_at, certificate_blob_at, blob_at, added_key_at, private_at, bytes_before, private_from}
+use Rattle.key_blob.proofs.CertificateLemmas.{ok_is, text_step, content_is_bytes}
+use Rattle.key_blob.proofs.GrammarLemmas.{bind_ok, taken-append, fields_are_front, fields_again, passed_are_front, passed_again, form_is_front, form_again}
+use Rattle.key_blob.proofs.PublicLemmas.{public_is_found, public_is_read}
 
--- ---- blobs
+-- ---- the blob of an addition, read
 
-ended_is : (key read : KeyParts) (rest : List ℕ) → ended key rest ≡ Ok read → (rest ≡ []) × (key ≡ read)
-ended_is key read [] e = (refl, cc)
-ended_is key read (byte ∷ rest) e = absurd cc
+-- what stands behind the type's name is at the front of the bytes, and has this blob
+record IsBlobFront (form : Form) (bytes blob rest : List ℕ) : Type 0 where
+  text : List ℕ
+  is : IsBlobText form text blob
+  front : IsFront bytes text rest
 
--- what is read is a public key
-pub public_is_found : (bytes : List ℕ) (key : KeyParts) → IsBytes bytes → public_key_of bytes ≡ Ok key → IsPublicKey bytes key
-unfolding public_key_of after_fields
-public_is_found bytes key small read =
-    let a = bind_ok (kind_at bytes) (λ kind. after_fields (key_type kind.0).public kind.1 >>= ended (plain_key kind.0 kind.1)) key read in
-    let kind = a.0.0 in
-    let fields = a.0.1 in
-    let b = bind_ok (after_fields (key_type kind).public fields) (ended (plain_key kind fields)) key a.2 in
-    let end = ended_is (plain_key kind fields) key b.0 b.2 in
-    let c = bind_ok (fields_at (key_type kind).public fields) rest_of b.0 b.1 in
-    let name = kind_is_front bytes a.0 small a.1 in
-    let f = fields_are_front (key_type kind).public fields c.0 name.left c.1 in
-    let same : c.0.1 ≡ b.0 = cc in
-    let whole : fields ≡ strings c.0.0 =
-    f.0.parts ∙ ap (λ (rest : List ℕ). strings c.0.0 ++ rest) (same ∙ end.0) ∙ append-nil (strings c.0.0) in
-    subst (IsPublicKey bytes) end.1 (record { contents = c.0.0; fit = f.1; plain = ap (plain_key kind) whole; text = name.parts })
+abbrev named : KeyKind → List ℕ × List ℕ → List ℕ × List ℕ
+named kind public = (string (key_type kind).name ++ public.0, public.1)
 
--- the blob of a type's name and its fields is read
-public_again : (kind : KeyKind) (contents : List (List ℕ)) → AreContents (key_type kind).public contents →
-    public_key_of (string (key_type kind).name ++ strings contents) ≡ Ok (plain_key kind (strings contents))
-unfolding public_key_of after_fields
-public_again kind contents fit =
-    let fields : fields_at (key_type kind).public (strings contents) ≡ Ok (contents, []) =
-    ap (fields_at (key_type kind).public) (sym (append-nil (strings contents))) ∙ fields_again (key_type kind).public contents [] fit in
-    rw (kind_again kind (strings contents), fields) refl
+plain_is_front : (kind : KeyKind) (bytes : List ℕ) (x : List ℕ × List ℕ) → IsBytes bytes → blob_at (Plain kind) bytes ≡ Ok x → IsBlobFront (Plain kind) bytes x.0 x.1
+unfolding blob_at blob_fields_at
+plain_is_front kind bytes x small read =
+    let type = key_type kind in
+    let a = bind_ok (blob_fields_at type bytes) (λ public. Ok (named kind public)) x read in
+    let b = bind_ok (fields_at type.public bytes) (λ read. Ok (blob_fields type read.0, read.1)) a.0 a.1 in
+    let f = fields_are_front type.public bytes b.0 small b.1 in
+    let same : named kind (blob_fields type b.0.0, b.0.1) ≡ x =
+    ap (named kind) (ok_is (blob_fields type b.0.0, b.0.1) a.0 b.2) ∙ ok_is (named kind a.0) x a.2 in
+    subst (λ (y : List ℕ × List ℕ). IsBlobFront (Plain kind) bytes y.0 y.1) same (record {
+      text = strings b.0.0;
+      is = record { public = b.0.0; fit = f.1; fields = refl; named = refl };
+      front = f.0;
+    })
 
--- a public key is read
-pub public_is_read : (bytes : List ℕ) (key : KeyParts) → IsPublicKey bytes key → public_key_of bytes ≡ Ok key
-public_is_read bytes key is =
-    let name : key.type_name ≡ (key_type key.kind).name = ap (λ (k : KeyParts). k.type_name) is.plain in
-    let fields : key.fields ≡ strings is.contents = ap (λ (k : KeyParts). k.fields) is.plain in
-    let text : bytes ≡ string (key_type key.kind).name ++ strings is.contents =
-    is.text ∙ ap (λ (n : List ℕ). string n ++ key.fields) name ∙ ap (λ (f : List ℕ). string (key_type key.kind).name ++ f) fields in
-    let answer : KeyParts → Result KeyParts KeyFault = λ k. Ok k in
-    ap public_key_of text ∙ public_again key.kind is.contents is.fit ∙ ap answer (sym is.plain)
+matched : (b : Bool) (found x : List ℕ × List ℕ) → cond b (Ok found) (Err Mismatch) ≡ Ok x → (b ≡ true) × (found ≡ x)
+matched true found x e = (refl, cc)
+matched false found x e = absurd cc
 
--- a blob is that of one key
-pub public_is_unique : (bytes : List ℕ) (a b : KeyParts) → IsPublicKey bytes a → IsPublicKey bytes b → a ≡ b
-public_is_unique bytes a b is_a is_b =
-    let read_a = public_is_read bytes a is_a in
-    let read_b = public_is_read bytes b is_b in
-    cc
+-- the certificate, where its key is of the type
+abbrev then_match : KeyType → List ℕ × List ℕ → KeyParts → Result (List ℕ × List ℕ) KeyFault
+then_match type blob key = cond (bytes_eq key.type_name type.name) (Ok blob) (Err Mismatch)
+
+certified_is_front : (kind : KeyKind) (bytes : List ℕ) (x : List ℕ × List ℕ) → IsBytes bytes → blob_at (Certified kind) bytes ≡ Ok x →
+    IsBlobFront (Certified kind) bytes x.0 x.1
+unfolding blob_at certificate_blob_at
+certified_is_front kind bytes x small read =
+    let type = certified_type kind in
+    let t = text_step bytes (λ blob. public_key_of blob.0 >>= then_match type blob) x small read in
+    let k = bind_ok (public_key_of t.text) (then_match type (t.text, t.rest)) x t.next in
+    let g = matched (bytes_eq k.0.type_name type.name) (t.text, t.rest) x k.2 in
+    subst (λ (y : List ℕ × List ℕ). IsBlobFront (Certified kind) bytes y.0 y.1) g.1 (record {
+      text = string t.text;
+      is = record {
+        key = k.0;
+        readable = public_is_found t.text k.0 (content_is_bytes bytes t.text t.rest small t.front.parts) k.1;
+        of_type = (bytes_eq-Decides k.0.type_name type.name).0 g.0;
+        small = t.small;
+        whole = refl;
+      };
+      front = t.front;
+    })
+
+blob_is_front : (form : Form) (bytes : List ℕ) (x : List ℕ × List ℕ) → IsBytes bytes → blob_at form bytes ≡ Ok x → IsBlobFront form bytes x.0 x.1
+blob_is_front (Plain kind) bytes x small read = plain_is_front kind bytes x small read
+blob_is_front (Certified kind) bytes x small read = certified_is_front kind bytes x small read
+
+blob_again : (form : Form) (text blob rest : List ℕ) → IsBlobText form text blob → blob_at form (text ++ rest) ≡ Ok (blob, rest)
+unfolding blob_at blob_fields_at certificate_blob_at
+blob_again (Plain kind) text blob rest is =
+    let answer : List ℕ → Result (List ℕ × List ℕ) KeyFault = λ found. Ok (found, rest) in
+    ap (λ (front : List ℕ). blob_at (Plain kind) (front ++ rest)) is.fields
+    ∙ rw (fields_again (key_type kind).public is.public rest is.fit) (ap answer (sym is.named))
+blob_again (Certified kind) text blob rest is =
+    ap (λ (front : List ℕ). blob_at (Certified kind) (front ++ rest)) is.whole
+    ∙ rw (
+      string_at-string blob rest is.small,
+      public_is_read blob is.key is.readable,
+      (bytes_eq-Decides is.key.type_name (certified_type kind).name).1 is.of_type,
+    ) refl
 
 -- ---- additions
 
--- the bytes in front of a rest
-taken-append : (bytes front rest : List ℕ) → bytes ≡ front ++ rest → taken bytes rest ≡ front
-taken-append bytes front rest parts =
-    let size : length front ≡ length bytes - length rest = omega (arith, ap length parts, length-append front rest) in
-    ap (take (length bytes - length rest)) parts ∙ take_at front rest (length bytes - length rest) size
+-- the parts of an addition, and what follows them
+regrouped : (name text again private rest : List ℕ) → (name ++ (text ++ (again ++ private))) ++ rest ≡ name ++ (text ++ (again ++ (private ++ rest)))
+regrouped name text again private rest =
+    append_assoc name (text ++ (again ++ private)) rest
+    ∙ ap (λ (left : List ℕ). name ++ left) (append_assoc text (again ++ private) rest ∙ ap (λ (left : List ℕ). text ++ left) (append_assoc again private rest))
 
--- a name, public fields and private fields, and what follows them
-regrouped : (name public private rest : List ℕ) → (name ++ (public ++ private)) ++ rest ≡ name ++ (public ++ (private ++ rest))
-regrouped name public private rest =
-    append_assoc name (public ++ private) rest ∙ ap (λ (left : List ℕ). name ++ left) (append_assoc public private rest)
+-- what follows the name, the blob, and the public fields that are repeated
+abbrev then_made : List ℕ → List ℕ → List ℕ → Result (AddedKey × List ℕ) KeyFault
+then_made bytes blob rest = Ok (record { blob = blob; private = taken bytes rest }, rest)
 
--- the key of this kind with these public contents and these bytes
-abbrev added_key : KeyKind → List (List ℕ) → List ℕ → AddedKey
-added_key kind public private = record { blob = string (key_type kind).name ++ blob_fields (key_type kind) public; private = private }
+abbrev then_private : List ℕ → Form → List ℕ → List ℕ → Result (AddedKey × List ℕ) KeyFault
+then_private bytes form blob private = after_fields (type_of form).private private >>= then_made bytes blob
 
--- a name, public fields and private fields, one after another, are an addition in front of a rest
-parts_are_added : (bytes : List ℕ) (kind : KeyKind) (public private : List (List ℕ)) (after_name after_public rest : List ℕ) →
-    AreContents (key_type kind).public public → AreContents (key_type kind).private private →
-    bytes ≡ string (key_type kind).name ++ after_name → after_name ≡ strings public ++ after_public → after_public ≡ strings private ++ rest →
-    IsAddedKey (added_key kind public (taken bytes rest)) × (bytes ≡ taken bytes rest ++ rest)
-parts_are_added bytes kind public private after_name after_public rest public_fit private_fit name_is public_is private_is =
-    let name = string (key_type kind).name in
-    let front = name ++ (strings public ++ strings private) in
-    let parts : bytes ≡ front ++ rest =
-    name_is ∙ ap (λ (left : List ℕ). name ++ left) (public_is ∙ ap (λ (left : List ℕ). strings public ++ left) private_is)
-    ∙ sym (regrouped name (strings public) (strings private) rest) in
-    let text : taken bytes rest ≡ front = taken-append bytes front rest parts in (
-      record { kind = kind; public = public; private = private; public_fit = public_fit; private_fit = private_fit; text = text; blob = refl },
-      parts ∙ ap (λ (left : List ℕ). left ++ rest) (sym text),
-    )
+abbrev then_again : List ℕ → Form → List ℕ × List ℕ → Result (AddedKey × List ℕ) KeyFault
+then_again bytes form blob = after_fields (type_of form).again blob.1 >>= then_private bytes form blob.0
 
--- the key of these public fields, and the bytes that follow
-abbrev made : List ℕ → KeyKind → List (List ℕ) → List ℕ → Result (AddedKey × List ℕ) KeyFault
-made bytes kind public rest = Ok (added_key kind public (taken bytes rest), rest)
-
-abbrev done : {A : Type 0} → A → Result A KeyFault
-done x = Ok x
-
-ok_is : {A : Type 0} (x y : A) → done x ≡ done y → x ≡ y
-ok_is x y e = cc
+abbrev then_blob : List ℕ → Form × List ℕ → Result (AddedKey × List ℕ) KeyFault
+then_blob bytes form = blob_at form.0 form.1 >>= then_again bytes form.0
 
 -- the key is an addition in front of the rest
 abbrev IsAddedFront : List ℕ → AddedKey × List ℕ → Type 0
 IsAddedFront bytes read = IsAddedKey read.0 × (bytes ≡ read.0.private ++ read.1)
 
-by_private : (bytes : List ℕ) (kind : KeyKind) (public : List (List ℕ)) (after_name after_public : List ℕ) (answer : AddedKey × List ℕ) →
-    bytes ≡ string (key_type kind).name ++ after_name → AreContents (key_type kind).public public → IsFront after_name (strings public) after_public →
-    (r : Result (List (List ℕ) × List ℕ) KeyFault) → fields_at (key_type kind).private after_public ≡ r → (r >>= rest_of >>= made bytes kind public) ≡ Ok answer →
-    IsAddedFront bytes answer
-by_private bytes kind public after_name after_public answer name_is fit front (Ok read) is e =
-    let f = fields_are_front (key_type kind).private after_public read front.left is in
-    let same = ok_is (added_key kind public (taken bytes read.1), read.1) answer e in
-    subst (IsAddedFront bytes) same (parts_are_added bytes kind public read.0 after_name after_public read.1 fit f.1 name_is front.parts f.0.parts)
-by_private bytes kind public after_name after_public answer name_is fit front (Err fault) is e = absurd cc
-
--- the public fields of a blob, of the contents that were read
-abbrev public_of : KeyKind → List (List ℕ) × List ℕ → Result (List ℕ × List ℕ) KeyFault
-public_of kind read = Ok (blob_fields (key_type kind) read.0, read.1)
-
--- what is left to be read behind the public fields
-abbrev then_private : List ℕ → KeyKind → List ℕ × List ℕ → Result (AddedKey × List ℕ) KeyFault
-then_private bytes kind public =
-    after_fields (key_type kind).private public.1
-    >>= λ rest. Ok (record { blob = string (key_type kind).name ++ public.0; private = taken bytes rest }, rest)
-
-by_public : (bytes : List ℕ) (kind : KeyKind) (after_name : List ℕ) (answer : AddedKey × List ℕ) → IsFront bytes (string (key_type kind).name) after_name →
-    (r : Result (List (List ℕ) × List ℕ) KeyFault) → fields_at (key_type kind).public after_name ≡ r → (r >>= public_of kind >>= then_private bytes kind) ≡ Ok answer →
-    IsAddedFront bytes answer
-unfolding after_fields
-by_public bytes kind after_name answer front (Ok read) is e =
-    let f = fields_are_front (key_type kind).public after_name read front.left is in
-    by_private bytes kind read.0 after_name read.1 answer front.parts f.1 f.0 (fields_at (key_type kind).private read.1) refl e
-by_public bytes kind after_name answer front (Err fault) is e = absurd cc
-
-by_kind : (bytes : List ℕ) (answer : AddedKey × List ℕ) → IsBytes bytes → (r : Result (KeyKind × List ℕ) KeyFault) → kind_at bytes ≡ r →
-    (r >>= λ kind. blob_fields_at (key_type kind.0) kind.1 >>= then_private bytes kind.0) ≡ Ok answer → IsAddedFront bytes answer
-unfolding blob_fields_at
-by_kind bytes answer small (Ok kind) is e =
-    by_public bytes kind.0 kind.1 answer (kind_is_front bytes kind small is) (fields_at (key_type kind.0).public kind.1) refl e
-by_kind bytes answer small (Err fault) is e = absurd cc
-
 -- what is read is an addition, in front of what is left
 pub added_is_found : (bytes : List ℕ) (key : AddedKey) (rest : List ℕ) → IsBytes bytes → added_key_at bytes ≡ Ok (key, rest) →
     IsAddedKey key × (bytes ≡ key.private ++ rest)
 unfolding added_key_at
-added_is_found bytes key rest small read = by_kind bytes (key, rest) small (kind_at bytes) refl read
+added_is_found bytes key rest small read =
+    let x : AddedKey × List ℕ = (key, rest) in
+    let a = bind_ok (form_at bytes) (then_blob bytes) x read in
+    let form = a.0.0 in
+    let name = form_is_front bytes a.0 small a.1 in
+    let b = bind_ok (blob_at form a.0.1) (then_again bytes form) x a.2 in
+    let blob = blob_is_front form a.0.1 b.0 name.front.left b.1 in
+    let c = bind_ok (after_fields (type_of form).again b.0.1) (then_private bytes form b.0.0) x b.2 in
+    let again = passed_are_front (type_of form).again b.0.1 c.0 blob.front.left c.1 in
+    let d = bind_ok (after_fields (type_of form).private c.0) (then_made bytes b.0.0) x c.2 in
+    let private = passed_are_front (type_of form).private c.0 d.0 again.front.left d.1 in
+    let front = string (type_of form).name ++ (blob.text ++ (strings again.contents ++ strings private.contents)) in
+    let parts : bytes ≡ front ++ d.0 =
+    name.front.parts ∙ ap (λ (left : List ℕ). string (type_of form).name ++ left) (blob.front.parts ∙ ap (λ (left : List ℕ). blob.text ++ left)
+    (again.front.parts ∙ ap (λ (left : List ℕ). strings again.contents ++ left) private.front.parts))
+    ∙ sym (regrouped (string (type_of form).name) blob.text (strings again.contents) (strings private.contents) d.0) in
+    let text : taken bytes d.0 ≡ front = taken-append bytes front d.0 parts in
+    let made : AddedKey × List ℕ = (record { blob = b.0.0; private = taken bytes d.0 }, d.0) in
+    subst (IsAddedFront bytes) (ok_is made x d.2) (
+      record {
+        form = form;
+        listed = name.listed;
+        blob_text = blob.text;
+        again = again.contents;
+        private = private.contents;
+        blob_fit = blob.is;
+        again_fit = again.fit;
+        private_fit = private.fit;
+        text = text;
+      },
+      parts ∙ ap (λ (left : List ℕ). left ++ d.0) (sym text),
+    )
 
 -- what is left behind an addition is no longer than all
-pub rest_is_within : (bytes start : List ℕ) (type : KeyType) (kind : KeyKind) (after_name fields after_public rest : List ℕ) → IsBytes bytes → start ≡ bytes →
-    type ≡ key_type kind → kind_at start ≡ Ok (kind, after_name) → blob_fields_at type after_name ≡ Ok (fields, after_public) →
-    after_fields type.private after_public ≡ Ok rest → length rest ≤ length bytes
+pub rest_is_shorter : (bytes start : List ℕ) (type : KeyType) (form : Form) (after_name blob after_blob private rest : List ℕ) → IsBytes bytes → start ≡ bytes →
+    type ≡ type_of form → form_at start ≡ Ok (form, after_name) → blob_at form after_name ≡ Ok (blob, after_blob) →
+    after_fields type.again after_blob ≡ Ok private → after_fields type.private private ≡ Ok rest → length rest ≤ length bytes
 unfolding added_key_at
-rest_is_within bytes start type kind after_name fields after_public rest small start_is type_is name public private =
-    let key : AddedKey = record { blob = string (key_type kind).name ++ fields; private = taken bytes rest } in
-    let named : kind_at bytes ≡ Ok (kind, after_name) = ap kind_at (sym start_is) ∙ name in
-    let opened : blob_fields_at (key_type kind) after_name ≡ Ok (fields, after_public) = ap (λ (t : KeyType). blob_fields_at t after_name) (sym type_is) ∙ public in
-    let closed : after_fields (key_type kind).private after_public ≡ Ok rest = ap (λ (t : KeyType). after_fields t.private after_public) (sym type_is) ∙ private in
-    let read : added_key_at bytes ≡ Ok (key, rest) = rw (named, opened, closed) refl in
+rest_is_shorter bytes start type form after_name blob after_blob private rest small start_is type_is name blob_is again last =
+    let key : AddedKey = record { blob = blob; private = taken bytes rest } in
+    let named : form_at bytes ≡ Ok (form, after_name) = ap form_at (sym start_is) ∙ name in
+    let repeated : after_fields (type_of form).again after_blob ≡ Ok private = ap (λ (t : KeyType). after_fields t.again after_blob) (sym type_is) ∙ again in
+    let closed : after_fields (type_of form).private private ≡ Ok rest = ap (λ (t : KeyType). after_fields t.private private) (sym type_is) ∙ last in
+    let read : added_key_at bytes ≡ Ok (key, rest) = rw (named, blob_is, repeated, closed) refl in
     let found = added_is_found bytes key rest small read in
     omega (arith, ap length found.1, length-append key.private rest)
 
 -- an addition is read, whatever follows it
 pub added_is_read : (key : AddedKey) (rest : List ℕ) → IsAddedKey key → added_key_at (key.private ++ rest) ≡ Ok (key, rest)
-unfolding added_key_at blob_fields_at after_fields
+unfolding added_key_at
 added_is_read key rest is =
-    let type = key_type is.kind in
+    let type = type_of is.form in
     let bytes = key.private ++ rest in
-    let text : bytes ≡ string type.name ++ (strings is.public ++ (strings is.private ++ rest)) =
-    ap (λ (front : List ℕ). front ++ rest) is.text ∙ regrouped (string type.name) (strings is.public) (strings is.private) rest in
-    let name : kind_at bytes ≡ Ok (is.kind, strings is.public ++ (strings is.private ++ rest)) =
-    ap kind_at text ∙ kind_again is.kind (strings is.public ++ (strings is.private ++ rest)) in
-    let public = fields_again type.public is.public (strings is.private ++ rest) is.public_fit in
-    let private = fields_again type.private is.private rest is.private_fit in
-    let made : List ℕ → List ℕ → Result (AddedKey × List ℕ) KeyFault = λ blob taken_bytes. Ok (record { blob = blob; private = taken_bytes }, rest) in
-    rw (name, public, private) (ap (made (string type.name ++ blob_fields type is.public)) (taken-append bytes key.private rest refl)
-    ∙ ap (λ (blob : List ℕ). made blob key.private) (sym is.blob))
+    let after_again = strings is.private ++ rest in
+    let after_blob = strings is.again ++ after_again in
+    let text : bytes ≡ string type.name ++ (is.blob_text ++ after_blob) =
+    ap (λ (front : List ℕ). front ++ rest) is.text ∙ regrouped (string type.name) is.blob_text (strings is.again) (strings is.private) rest in
+    let name : form_at bytes ≡ Ok (is.form, is.blob_text ++ after_blob) = ap form_at text ∙ form_again is.form (is.blob_text ++ after_blob) is.listed in
+    let blob = blob_again is.form is.blob_text key.blob after_blob is.blob_fit in
+    let again = passed_again type.again is.again after_again is.again_fit in
+    let private = passed_again type.private is.private rest is.private_fit in
+    let made : List ℕ → Result (AddedKey × List ℕ) KeyFault = λ front. Ok (record { blob = key.blob; private = front }, rest) in
+    rw (name, blob, again, private) (ap made (taken-append bytes key.private rest refl))
 
 -- no addition begins another, and each is that of one key
 pub addition_is_unique : (a b : AddedKey) (s t : List ℕ) → IsAddedKey a → IsAddedKey b → a.private ++ s ≡ b.private ++ t → (a ≡ b) × (s ≡ t)
@@ -207,7 +210,7 @@ only_memory_fails bytes fault key rest answer is parts =
       | inl memory ↦ memory
       | inr refused ↦
           let expected : added_key_at bytes ≡ Ok (key, rest) = ap added_key_at parts ∙ added_is_read key rest is in
-          absurd (let wrong : Err fault ≡ done (key, rest) = sym refused ∙ expected in cc)
+          absurd (let wrong : Err fault ≡ Ok (key, rest) = sym refused ∙ expected in cc)
     ]
 
 -- ---- the blob of an addition
@@ -234,19 +237,28 @@ by_order false contents = refl
 length-blob_fields : (type : KeyType) (contents : List (List ℕ)) → length (blob_fields type contents) ≡ length (strings contents)
 length-blob_fields type contents = by_order type.is_reversed contents
 
+blob_within : (form : Form) (text blob : List ℕ) → IsBlobText form text blob → length blob ≤ length (string (type_of form).name) + length text
+blob_within (Plain kind) text blob is =
+    omega (
+      arith,
+      ap length is.named,
+      ap length is.fields,
+      length-blob_fields (key_type kind) is.public,
+      length-append (string (key_type kind).name) (blob_fields (key_type kind) is.public),
+    )
+blob_within (Certified kind) text blob is = omega (arith, ap length is.whole, length-string blob)
+
 -- a blob is no longer than the addition that it comes from
 pub blob_is_no_longer : (key : AddedKey) → IsAddedKey key → length key.blob ≤ length key.private
 blob_is_no_longer key is =
-    let name = string (key_type is.kind).name in
-    let fields = length-blob_fields (key_type is.kind) is.public in
+    let name = string (type_of is.form).name in
+    let fields = strings is.again ++ strings is.private in
     omega (
       arith,
-      ap length is.blob,
       ap length is.text,
-      fields,
-      length-append name (blob_fields (key_type is.kind) is.public),
-      length-append name (strings is.public ++ strings is.private),
-      length-append (strings is.public) (strings is.private),
+      blob_within is.form is.blob_text key.blob is.blob_fit,
+      length-append name (is.blob_text ++ fields),
+      length-append is.blob_text fields,
     )
 
 -- the public contents of an addition, in the order of a blob, are those of a blob
@@ -262,11 +274,59 @@ in_order Nistp384 contents fit = fit
 in_order Nistp521 contents fit = fit
 in_order StandIn contents fit = fit
 
--- the blob of an addition is a public key
-pub blob_is_public : (key : AddedKey) (is : IsAddedKey key) → IsPublicKey key.blob (plain_key is.kind (blob_fields (key_type is.kind) is.public))
-blob_is_public key is = record {
-  contents = blob_order (key_type is.kind) is.public;
-  fit = in_order is.kind is.public is.public_fit;
-  plain = refl;
-  text = is.blob;
+-- the blob is that of a public key of the type
+record IsBlobOf (form : Form) (blob : List ℕ) : Type 0 where
+  key : KeyParts
+  readable : IsPublicKey blob key
+  of_type : key.type_name ≡ (type_of form).name
+
+by_text : (form : Form) (text blob : List ℕ) → IsBlobText form text blob → IsBlobOf form blob
+by_text (Plain kind) text blob is = record {
+  key = plain_key kind (blob_fields (key_type kind) is.public);
+  readable = inl (record {
+    contents = blob_order (key_type kind) is.public;
+    fit = in_order kind is.public is.fit;
+    plain = refl;
+    text = is.named;
+  });
+  of_type = refl;
 }
+by_text (Certified kind) text blob is = record { key = is.key; readable = is.readable; of_type = is.of_type }
+
+-- the blob of an addition is that of a public key of its type
+pub blob_is_public : (key : AddedKey) (is : IsAddedKey key) → (parts : KeyParts) × IsPublicKey key.blob parts × (parts.type_name ≡ (type_of is.form).name)
+blob_is_public key is =
+    let blob = by_text is.form is.blob_text key.blob is.blob_fit in
+    (blob.key, blob.readable, blob.of_type)
+
+-- ---- where private fields stand
+
+within_by : (bytes : List ℕ) (private : Result (List ℕ) KeyFault) → bytes_before bytes private ≤ length bytes
+within_by bytes (Ok private) = omega arith
+within_by bytes (Err fault) = omega arith
+
+-- the first private field stands within the bytes
+pub private_from_is_within : (bytes : List ℕ) → private_from bytes ≤ length bytes
+private_from_is_within bytes = within_by bytes (private_at bytes)
+
+private_at-addition : (key : AddedKey) (is : IsAddedKey key) → private_at key.private ≡ Ok (strings is.private)
+unfolding private_at
+private_at-addition key is =
+    let type = type_of is.form in
+    let after_blob = strings is.again ++ strings is.private in
+    let name : form_at key.private ≡ Ok (is.form, is.blob_text ++ after_blob) = ap form_at is.text ∙ form_again is.form (is.blob_text ++ after_blob) is.listed in
+    let blob = blob_again is.form is.blob_text key.blob after_blob is.blob_fit in
+    let again = passed_again type.again is.again (strings is.private) is.again_fit in
+    rw (name, blob, again) refl
+
+-- from the first private field on only private fields stand
+pub private_fields_are_last : (key : AddedKey) (is : IsAddedKey key) → drop (private_from key.private) key.private ≡ strings is.private
+private_fields_are_last key is =
+    let name = string (type_of is.form).name in
+    let front = name ++ (is.blob_text ++ strings is.again) in
+    let parts : key.private ≡ front ++ strings is.private =
+    is.text ∙ ap (λ (left : List ℕ). name ++ left) (sym (append_assoc is.blob_text (strings is.again) (strings is.private)))
+    ∙ sym (append_assoc name (is.blob_text ++ strings is.again) (strings is.private)) in
+    let place : private_from key.private ≡ length key.private - length (strings is.private) = ap (bytes_before key.private) (private_at-addition key is) in
+    let cut : length front ≡ private_from key.private = omega (arith, place, ap length parts, length-append front (strings is.private)) in
+    ap (drop (private_from key.private)) parts ∙ drop_at front (strings is.private) (private_from key.private) cut

@@ -11,18 +11,25 @@ use Rattle.std.proofs.lemmas.List.Folds.{Any-from_list_any, list_any-from_Any}
 use Rattle.std.proofs.lemmas.Nat.{leading_le}
 use Rattle.std.proofs.lemmas.Slice.Eq.{bytes_eq-Decides}
 use Rattle.key_blob.specs.KeySizes.{digits_of}
-use Rattle.key_blob.specs.declared.kind.KeyKind.{KeyKind}
+use Rattle.key_blob.specs.declared.form.Form.{Form}
+use Rattle.key_blob.specs.declared.form.Form.TheVariants.{Plain, Certified}
 use Rattle.key_blob.specs.declared.kind.KeyKind.TheVariants.{Ed25519, Rsa, Nistp256, Nistp384, Nistp521, StandIn}
-use Rattle.key_blob.specs.KeyTypes.{key_type}
+use Rattle.key_blob.specs.KeyTypes.{type_of}
 
 -- a name is short enough for a string
-pub name_is_short : (kind : KeyKind) → length (key_type kind).name < 2 ^ 32
-name_is_short Ed25519 = lit< tt
-name_is_short Rsa = lit< tt
-name_is_short Nistp256 = lit< tt
-name_is_short Nistp384 = lit< tt
-name_is_short Nistp521 = lit< tt
-name_is_short StandIn = lit< tt
+pub name_is_short : (form : Form) → length (type_of form).name < 2 ^ 32
+name_is_short (Plain Ed25519) = lit< tt
+name_is_short (Plain Rsa) = lit< tt
+name_is_short (Plain Nistp256) = lit< tt
+name_is_short (Plain Nistp384) = lit< tt
+name_is_short (Plain Nistp521) = lit< tt
+name_is_short (Plain StandIn) = lit< tt
+name_is_short (Certified Ed25519) = lit< tt
+name_is_short (Certified Rsa) = lit< tt
+name_is_short (Certified Nistp256) = lit< tt
+name_is_short (Certified Nistp384) = lit< tt
+name_is_short (Certified Nistp521) = lit< tt
+name_is_short (Certified StandIn) = lit< tt
 
 -- ---- whether a name is in a list
 

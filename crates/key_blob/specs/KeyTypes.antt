@@ -1,9 +1,12 @@
 -- The types of keys that are read. A blob is the type's name and then its public fields; an addition
 -- is the name, the public and the private fields. Each field is carried as a string.
 -- RFC 8709, section 4 (Ed25519), RFC 4253, section 6.6 (RSA), RFC 5656, section 3.1 (ECDSA),
--- draft-miller-ssh-agent, "Adding keys to the agent" (additions), "The stand-in key type" (ours).
-use Rattle.std.specs.Prelude.{ℕ, Bool, true, false, List, [], ◌∷◌, reverse, find, Option, Some, None, codes, if◌then◌else◌}
+-- draft-miller-ssh-agent, "Adding keys to the agent" (additions), OpenSSH's PROTOCOL.certkeys
+-- (certificates), "The stand-in key type" (ours).
+use Rattle.std.specs.Prelude.{ℕ, Bool, true, false, List, [], ◌∷◌, ◌++◌, map, reverse, find, Option, Some, None, codes, if◌then◌else◌}
 use Rattle.std.specs.Str.{bytes_eq}
+use Rattle.key_blob.specs.declared.form.Form.{Form}
+use Rattle.key_blob.specs.declared.form.Form.TheVariants.{Plain, Certified}
 use Rattle.key_blob.specs.declared.kind.KeyKind.{KeyKind}
 use Rattle.key_blob.specs.declared.kind.KeyKind.TheVariants.{Ed25519, Rsa, Nistp256, Nistp384, Nistp521, StandIn}
 
@@ -21,7 +24,9 @@ pub record KeyType : Type 0 where
   pub public : List Field
   -- whether an addition has the public fields in the opposite order of a blob
   pub is_reversed : Bool
-  -- the fields of an addition that no blob holds
+  -- the public fields that an addition has behind a certificate
+  pub again : List Field
+  -- the private fields of an addition
   pub private : List Field
   -- the signature algorithms beside the one of the type's own name
   pub other_algorithms : List (List ℕ)
@@ -36,6 +41,7 @@ sized_type name private_len word = record {
   name = name;
   public = sized 32 ∷ [];
   is_reversed = false;
+  again = [];
   private = sized private_len ∷ [];
   other_algorithms = [];
   word = word;
@@ -48,6 +54,7 @@ ecdsa_type name curve bits = record {
   name = name;
   public = text curve ∷ any ∷ [];
   is_reversed = false;
+  again = [];
   private = any ∷ [];
   other_algorithms = [];
   word = codes "ECDSA";
@@ -60,13 +67,14 @@ rsa_type = record {
   name = codes "ssh-rsa";
   public = any ∷ any ∷ [];
   is_reversed = true;
+  again = [];
   private = any ∷ any ∷ any ∷ any ∷ [];
   other_algorithms = codes "rsa-sha2-256" ∷ codes "rsa-sha2-512" ∷ [];
   word = codes "RSA";
   bits = None;
 }
 
--- the table
+-- the table of plain types
 abbrev pub key_type : KeyKind → KeyType
 key_type Ed25519 = sized_type (codes "ssh-ed25519") 64 (codes "ED25519")
 key_type Rsa = rsa_type
@@ -75,13 +83,58 @@ key_type Nistp384 = ecdsa_type (codes "ecdsa-sha2-nistp384") (codes "nistp384") 
 key_type Nistp521 = ecdsa_type (codes "ecdsa-sha2-nistp521") (codes "nistp521") 521
 key_type StandIn = sized_type (codes "keyed-sha256@example.com") 32 (codes "KEYED-SHA256")
 
--- all kinds
-abbrev pub kinds : List KeyKind
-kinds = Ed25519 ∷ Rsa ∷ Nistp256 ∷ Nistp384 ∷ Nistp521 ∷ StandIn ∷ []
+-- a name with the ending of certificates
+abbrev pub certified_name : List ℕ → List ℕ
+certified_name name = name ++ codes "-cert-v01@openssh.com"
 
--- the kind whose type has this name
-unfoldable pub kind_named : List ℕ → Option KeyKind
-kind_named name = find (λ kind. bytes_eq (key_type kind).name name) kinds
+-- the line of the certificates that carry keys of a plain type
+abbrev pub certified_line : KeyType → List Field → KeyType
+certified_line type again = record type {
+  name = certified_name type.name;
+  again = again;
+  other_algorithms = map certified_name type.other_algorithms;
+  word = type.word ++ codes "-CERT";
+}
+
+-- the table of certificates' types; the stand-in type has none, and keeps its line
+abbrev pub certified_type : KeyKind → KeyType
+certified_type Ed25519 = certified_line (key_type Ed25519) (key_type Ed25519).public
+certified_type Rsa = certified_line (key_type Rsa) []
+certified_type Nistp256 = certified_line (key_type Nistp256) []
+certified_type Nistp384 = certified_line (key_type Nistp384) []
+certified_type Nistp521 = certified_line (key_type Nistp521) []
+certified_type StandIn = key_type StandIn
+
+-- the line of a type
+abbrev pub type_of : Form → KeyType
+type_of (Plain kind) = key_type kind
+type_of (Certified kind) = certified_type kind
+
+-- the kind of a type's keys
+abbrev pub kind_of : Form → KeyKind
+kind_of (Plain kind) = kind
+kind_of (Certified kind) = kind
+
+-- all types
+abbrev pub forms : List Form
+forms =
+    Plain Ed25519 ∷ Plain Rsa ∷ Plain Nistp256 ∷ Plain Nistp384 ∷ Plain Nistp521 ∷ Plain StandIn
+    ∷ Certified Ed25519 ∷ Certified Rsa ∷ Certified Nistp256 ∷ Certified Nistp384
+    ∷ Certified Nistp521 ∷ []
+
+-- the type is one of them
+abbrev pub IsListed : Form → Type 0
+IsListed (Plain kind) = Unit {0}
+IsListed (Certified Ed25519) = Unit {0}
+IsListed (Certified Rsa) = Unit {0}
+IsListed (Certified Nistp256) = Unit {0}
+IsListed (Certified Nistp384) = Unit {0}
+IsListed (Certified Nistp521) = Unit {0}
+IsListed (Certified StandIn) = ⊥
+
+-- the type that has this name
+unfoldable pub form_named : List ℕ → Option Form
+form_named name = find (λ form. bytes_eq (type_of form).name name) forms
 
 -- what stands in the order of an addition, in the order of a blob
 abbrev pub blob_order : {A : Type 0} → KeyType → List A → List A

@@ -1,6 +1,8 @@
 pub mod KeyTypes
 pub mod Rows
 pub mod Reading
+pub mod Principals
+pub mod Certificates
 pub mod PublicKeys
 pub mod AddedKeys
 pub mod Fingerprints

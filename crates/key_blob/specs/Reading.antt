@@ -1,6 +1,6 @@
 -- Fields, as the table has them, and what reading them from left to right gives: their contents and
 -- the bytes that follow, or the first fault.
-use Rattle.std.specs.Prelude.{◌≡◌, ℕ, ◌^◌, ◌<◌, List, [], ◌∷◌, length, Result, Ok, Err, ◌==◌, if◌then◌else◌}
+use Rattle.std.specs.Prelude.{◌≡◌, ℕ, ◌^◌, ◌<◌, ◌-◌, List, [], ◌∷◌, length, take, Result, Ok, Err, ◌==◌, if◌then◌else◌}
 use Rattle.std.specs.List.{flat_map}
 use Rattle.std.specs.Option.{ok_or}
 use Rattle.std.specs.Str.{bytes_eq}
@@ -8,8 +8,8 @@ use Rattle.wire_text.specs.Wire.{string}
 use Rattle.wire_core.specs.Fields.{string_at}
 use Rattle.key_blob.specs.declared.fault.KeyFault.{KeyFault}
 use Rattle.key_blob.specs.declared.fault.KeyFault.TheVariants.{Short, UnknownType, BadLength, Mismatch}
-use Rattle.key_blob.specs.declared.kind.KeyKind.{KeyKind}
-use Rattle.key_blob.specs.KeyTypes.{Field, any, sized, text, kind_named}
+use Rattle.key_blob.specs.declared.form.Form.{Form}
+use Rattle.key_blob.specs.KeyTypes.{Field, any, sized, text, form_named}
 
 -- ---- what fields are
 
@@ -61,9 +61,13 @@ fields_at (field ∷ fields) bytes = do
 unfoldable pub after_fields : List Field → List ℕ → Result (List ℕ) KeyFault
 after_fields fields bytes = fields_at fields bytes >>= λ read. Ok read.1
 
--- the kind whose name is at the front, and the bytes that follow
-unfoldable pub kind_at : List ℕ → Result (KeyKind × List ℕ) KeyFault
-kind_at bytes = do
+-- the type whose name is at the front, and the bytes that follow
+unfoldable pub form_at : List ℕ → Result (Form × List ℕ) KeyFault
+form_at bytes = do
   name ← ok_or (string_at bytes) Short
-  kind ← ok_or (kind_named name.0) UnknownType
-  Ok (kind, name.1)
+  form ← ok_or (form_named name.0) UnknownType
+  Ok (form, name.1)
+
+-- the bytes in front of those that are left
+abbrev pub taken : List ℕ → List ℕ → List ℕ
+taken bytes rest = take (length bytes - length rest) bytes

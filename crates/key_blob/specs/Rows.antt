@@ -21,6 +21,7 @@ line_of row = record {
   name = row.name.now;
   public = fields_of row.public.now;
   is_reversed = row.is_reversed;
+  again = fields_of row.again.now;
   private = fields_of row.private.now;
   other_algorithms = map (λ name. name.now) row.other_algorithms.now;
   word = row.word.now;

@@ -1,13 +1,16 @@
 ghost use Rattle.std.specs.Prelude.{◌≡◌, ◌^◌, ◌<◌, ◌++◌, List, ℕ, length, IfOk, OnOk, OnErr, MatchResult, Ok, Err, if◌then◌else◌, ◌⊎◌};
 ghost use Rattle.wire_text.specs.Wire.{string};
 ghost use Rattle.key_blob.specs.declared.fault.KeyFault.TheVariants.{Memory};
+ghost use Rattle.key_blob.specs.KeyTypes.{key_type};
 ghost use Rattle.key_blob.specs.Rows.{line_of};
 ghost use Rattle.key_blob.specs.declared.added.AddedKey.{AddedKey};
-ghost use Rattle.key_blob.specs.AddedKeys.{IsAddedKey, blob_fields_at, added_key_at};
+ghost use Rattle.key_blob.specs.AddedKeys.{IsAddedKey, blob_fields_at, certificate_blob_at, blob_at, added_key_at};
 
 use crate::fault::KeyFault;
-use crate::fields::{skip_fields, take_field, take_kind};
+use crate::fields::{skip_fields, take_field, take_form};
+use crate::form::Form;
 use crate::key_type::{KeyType, row};
+use crate::public_key::read_public;
 use plain_lists::Bytes;
 use secret_buf::SecretBytes;
 use std::alloc::{AllocError, Global};
@@ -16,7 +19,7 @@ use wire_core::{Cursor, put_string};
 /// A key that is added to an agent.
 #[derive(Drop)]
 pub struct AddedKey {
-    /// The blob of its public key.
+    /// The blob of its public key, or its certificate.
     pub blob: Bytes,
     /// The key type and the fields as they came, the private ones with them.
     pub private: SecretBytes,
@@ -67,6 +70,44 @@ fn blob(alloc: Global, name: &[u8], fields: &[u8]) -> Result<Vec<u8>, AllocError
     Ok(blob)
 }
 
+/// Takes a certificate of the type as a string, and gives its bytes.
+///
+/// A refused call may have moved the cursor.
+#[tactic(auto, unfolding(crate::specs::AddedKeys::certificate_blob_at))]
+fn take_certified<'a>(from: &mut Cursor<'a>, key_type: &KeyType) -> Result<&'a [u8], KeyFault>
+    ensures { MatchResult result
+        (λ blob. certificate_blob_at (line_of key_type.now) from.old ≡ Ok (blob.now, from.new))
+        (λ fault. certificate_blob_at (line_of key_type.now) from.old ≡ Err fault) }
+{
+    let blob = from.take_string()?;
+    let key = read_public(blob)?;
+    if key.type_name != key_type.name {
+        return Err(KeyFault::Mismatch);
+    }
+    Ok(blob)
+}
+
+/// Takes the public fields or the certificate, and gives the blob.
+///
+/// A refused call may have moved the cursor.
+#[tactic(auto, unfolding(crate::specs::AddedKeys::blob_at))]
+fn take_blob(alloc: Global, from: &mut Cursor<'_>, form: Form) -> Result<Vec<u8>, KeyFault>
+    ensures { MatchResult result (λ blob. blob_at form from.old ≡ Ok (blob.items, from.new))
+        (λ fault. (fault ≡ Memory) ⊎ (blob_at form from.old ≡ Err fault)) }
+{
+    let key_type = row(form);
+    match form {
+        Form::Plain(_) => {
+            let public = take_public(alloc, from, &key_type)?;
+            Ok(blob(alloc, key_type.name, &public)?)
+        }
+        Form::Certified(_) => {
+            let certificate = take_certified(from, &key_type)?;
+            Ok(Vec::from_slice(alloc, certificate)?)
+        }
+    }
+}
+
 /// Reads an addition at the front of `bytes`, and gives what follows it too.
 #[tactic(auto, unfolding(crate::specs::AddedKeys::added_key_at))]
 fn key_at(alloc: Global, bytes: &[u8]) -> Result<(AddedKey, &[u8]), KeyFault>
@@ -74,12 +115,13 @@ fn key_at(alloc: Global, bytes: &[u8]) -> Result<(AddedKey, &[u8]), KeyFault>
         (λ fault. (fault ≡ Memory) ⊎ (added_key_at bytes.now ≡ Err fault)) }
 {
     let mut from = Cursor::new(bytes);
-    let key_type = row(take_kind(&mut from)?);
-    let public = take_public(alloc, &mut from, &key_type)?;
+    let form = take_form(&mut from)?;
+    let blob = Bytes::from_vec(take_blob(alloc, &mut from, form)?);
+    let key_type = row(form);
+    skip_fields(&mut from, key_type.again)?;
     skip_fields(&mut from, key_type.private)?;
     let rest = from.rest();
     let private = SecretBytes::from_slice(alloc, &bytes[..bytes.len() - rest.len()])?;
-    let blob = Bytes::from_vec(blob(alloc, key_type.name, &public)?);
     Ok((AddedKey { blob, private }, rest))
 }
 

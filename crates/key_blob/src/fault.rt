@@ -7,13 +7,14 @@ use wire_core::Short;
 /// Why a key was refused: the first fault in the order of its fields.
 #[derive(Clone, Copy, Debug, PartialEq, Eq)]
 pub enum KeyFault {
-    /// A field passes the end of the bytes.
+    /// A field passes the end of the bytes, or a principal that of the string of principals.
     Short,
     /// The type is none of the table in docs/PROTOCOL.md, "Keys".
     UnknownType,
     /// A field whose length the table gives has another length.
     BadLength,
-    /// The name of the curve is not the one that the type names.
+    /// The name of the curve is not the one that the type names, or the type of the certificate in
+    /// an addition is not the one that stands before it.
     Mismatch,
     /// Bytes stand after the last field of a blob.
     Trailing,

@@ -1,19 +1,19 @@
 ghost use Rattle.std.specs.Prelude.{◌≡◌, ◌^◌, ◌<◌, length, IfOk, OnErr, MatchResult, Ok, Err};
 ghost use Rattle.key_blob.specs.Rows.{field_of, fields_of};
-ghost use Rattle.key_blob.specs.Reading.{field_at, after_fields, kind_at};
+ghost use Rattle.key_blob.specs.Reading.{field_at, after_fields, form_at, taken};
 
 use crate::fault::KeyFault;
-use crate::key_type::{Field, kind_of};
-use crate::kind::KeyKind;
+use crate::form::Form;
+use crate::key_type::{Field, form_of_name};
 use wire_core::Cursor;
 
 /// Takes the name of a type. A refused call may have moved the cursor.
-#[tactic(auto, unfolding(crate::specs::Reading::kind_at))]
-pub fn take_kind(from: &mut Cursor<'_>) -> Result<KeyKind, KeyFault>
-    ensures { MatchResult result (λ kind. kind_at from.old ≡ Ok (kind, from.new))
-        (λ fault. kind_at from.old ≡ Err fault) }
+#[tactic(auto, unfolding(crate::specs::Reading::form_at))]
+pub fn take_form(from: &mut Cursor<'_>) -> Result<Form, KeyFault>
+    ensures { MatchResult result (λ form. form_at from.old ≡ Ok (form, from.new))
+        (λ fault. form_at from.old ≡ Err fault) }
 {
-    kind_of(from.take_string()?).ok_or(KeyFault::UnknownType)
+    form_of_name(from.take_string()?).ok_or(KeyFault::UnknownType)
 }
 
 /// Takes a field. A refused call may have moved the cursor.
@@ -43,4 +43,19 @@ pub fn skip_fields(from: &mut Cursor<'_>, fields: &[Field]) -> Result<(), KeyFau
         take_field(from, field)?;
     }
     Ok(())
+}
+
+/// Takes the fields, and gives the bytes that they stand in.
+///
+/// A refused call may have moved the cursor.
+pub fn take_fields<'a>(from: &mut Cursor<'a>, fields: &[Field]) -> Result<&'a [u8], KeyFault>
+    ensures rest { MatchResult result
+        (λ _. after_fields (fields_of fields.now) from.old ≡ Ok from.new)
+        (λ fault. after_fields (fields_of fields.now) from.old ≡ Err fault) }
+    ensures value { IfOk result (λ bytes. bytes.now ≡ taken from.old from.new) }
+{
+    let bytes = from.rest();
+    skip_fields(from, fields)?;
+    let rest = from.rest();
+    Ok(&bytes[..bytes.len() - rest.len()])
 }

@@ -2,7 +2,7 @@ ghost use Rattle.std.specs.Prelude.{◌≡◌, string_bytes, IfOk};
 ghost use Rattle.key_blob.specs.PublicKeys.{parts_of};
 ghost use Rattle.key_blob.specs.Fingerprints.{fingerprint_of};
 
-use crate::key_type::row;
+use crate::key_type::plain_row;
 use crate::public_key::PublicKey;
 use base64::engine::general_purpose::STANDARD_NO_PAD;
 use sha2::{Digest, Sha256};
@@ -13,7 +13,7 @@ use std::alloc::{AllocError, Global};
 pub fn fingerprint(alloc: Global, key: &PublicKey<'_>) -> Result<String, AllocError>
     ensures { IfOk result (λ text. string_bytes text ≡ fingerprint_of (parts_of key.now)) }
 {
-    let name = row(key.kind).name;
+    let name = plain_row(key.kind).name;
     let mut hasher = Sha256::new();
     hasher.update((name.len() as u32).to_be_bytes());
     hasher.update(name);

@@ -1,7 +1,8 @@
 ghost use Rattle.std.specs.Prelude.{◌≡◌, []};
-ghost use Rattle.key_blob.specs.KeyTypes.{key_type, sized_type, ecdsa_type, kind_named};
+ghost use Rattle.key_blob.specs.KeyTypes.{key_type, certified_type, type_of, sized_type, ecdsa_type, form_named};
 ghost use Rattle.key_blob.specs.Rows.{line_of, fields_of};
 
+use crate::form::Form;
 use crate::kind::KeyKind;
 
 /// What a field may hold.
@@ -20,23 +21,40 @@ pub struct KeyType {
     pub public: &'static [Field],
     /// Whether an addition has the public fields in the opposite order of a blob.
     pub is_reversed: bool,
+    /// The public fields that an addition has behind a certificate.
+    pub again: &'static [Field],
     pub private: &'static [Field],
     pub other_algorithms: &'static [&'static [u8]],
     pub word: &'static str,
     pub bits: Option<u64>,
 }
 
-const KINDS: [KeyKind; 6] = [
-    KeyKind::Ed25519,
-    KeyKind::Rsa,
-    KeyKind::Nistp256,
-    KeyKind::Nistp384,
-    KeyKind::Nistp521,
-    KeyKind::StandIn,
+const FORMS: [Form; 11] = [
+    Form::Plain(KeyKind::Ed25519),
+    Form::Plain(KeyKind::Rsa),
+    Form::Plain(KeyKind::Nistp256),
+    Form::Plain(KeyKind::Nistp384),
+    Form::Plain(KeyKind::Nistp521),
+    Form::Plain(KeyKind::StandIn),
+    Form::Certified(KeyKind::Ed25519),
+    Form::Certified(KeyKind::Rsa),
+    Form::Certified(KeyKind::Nistp256),
+    Form::Certified(KeyKind::Nistp384),
+    Form::Certified(KeyKind::Nistp521),
 ];
 
-/// The line of a kind.
-pub fn row(kind: KeyKind) -> KeyType
+/// The line of a type.
+pub fn row(form: Form) -> KeyType
+    ensures { line_of result ≡ type_of form }
+{
+    match form {
+        Form::Plain(kind) => plain_row(kind),
+        Form::Certified(kind) => certified_row(kind),
+    }
+}
+
+/// The line of a kind's own type.
+pub fn plain_row(kind: KeyKind) -> KeyType
     ensures { line_of result ≡ key_type kind }
 {
     match kind {
@@ -45,6 +63,7 @@ pub fn row(kind: KeyKind) -> KeyType
             name: b"ssh-rsa",
             public: &[Field::Any, Field::Any],
             is_reversed: true,
+            again: &[],
             private: &[Field::Any, Field::Any, Field::Any, Field::Any],
             other_algorithms: &[b"rsa-sha2-256", b"rsa-sha2-512"],
             word: "RSA",
@@ -81,6 +100,7 @@ fn sized(name: &'static [u8], private: &'static [Field], word: &'static str) -> 
         name,
         public: &[Field::Sized(32)],
         is_reversed: false,
+        again: &[],
         private,
         other_algorithms: &[],
         word,
@@ -96,6 +116,7 @@ fn ecdsa(name: &'static [u8], public: &'static [Field], bits: u64) -> KeyType
         name,
         public,
         is_reversed: false,
+        again: &[],
         private: &[Field::Any],
         other_algorithms: &[],
         word: "ECDSA",
@@ -103,10 +124,50 @@ fn ecdsa(name: &'static [u8], public: &'static [Field], bits: u64) -> KeyType
     }
 }
 
-/// The kind whose type has this name.
-#[tactic(auto, unfolding(crate::specs::KeyTypes::kind_named))]
-pub fn kind_of(name: &[u8]) -> Option<KeyKind>
-    ensures { result ≡ kind_named name.now }
+/// The line of the certificates that carry keys of a kind. The stand-in kind has its own.
+fn certified_row(kind: KeyKind) -> KeyType
+    ensures { line_of result ≡ certified_type kind }
 {
-    KINDS.iter().copied().find(|kind| row(*kind).name == name)
+    let plain = plain_row(kind);
+    match kind {
+        KeyKind::Ed25519 => KeyType {
+            name: b"ssh-ed25519-cert-v01@openssh.com",
+            again: &[Field::Sized(32)],
+            word: "ED25519-CERT",
+            ..plain
+        },
+        KeyKind::Rsa => KeyType {
+            name: b"ssh-rsa-cert-v01@openssh.com",
+            other_algorithms: &[
+                b"rsa-sha2-256-cert-v01@openssh.com",
+                b"rsa-sha2-512-cert-v01@openssh.com",
+            ],
+            word: "RSA-CERT",
+            ..plain
+        },
+        KeyKind::Nistp256 => KeyType {
+            name: b"ecdsa-sha2-nistp256-cert-v01@openssh.com",
+            word: "ECDSA-CERT",
+            ..plain
+        },
+        KeyKind::Nistp384 => KeyType {
+            name: b"ecdsa-sha2-nistp384-cert-v01@openssh.com",
+            word: "ECDSA-CERT",
+            ..plain
+        },
+        KeyKind::Nistp521 => KeyType {
+            name: b"ecdsa-sha2-nistp521-cert-v01@openssh.com",
+            word: "ECDSA-CERT",
+            ..plain
+        },
+        KeyKind::StandIn => plain,
+    }
+}
+
+/// The type that has this name.
+#[tactic(auto, unfolding(crate::specs::KeyTypes::form_named))]
+pub fn form_of_name(name: &[u8]) -> Option<Form>
+    ensures { result ≡ form_named name.now }
+{
+    FORMS.iter().copied().find(|form| row(*form).name == name)
 }

@@ -1,19 +1,23 @@
-//! Public keys in the blobs of the SSH protocols, and keys as they are added to an agent.
+//! Public keys and certificates in the blobs of the SSH protocols, and keys as they are added to an
+//! agent.
 //!
-//! Stands on `wire_core` for fields and on `secret_buf` for private bytes. The types are those of
-//! docs/PROTOCOL.md, "Keys".
+//! Stands on `wire_core` for fields, on `secret_buf` for private bytes and on `pattern_core` for
+//! the principals of certificates. The types are those of docs/PROTOCOL.md, "Keys".
 #![tactic(auto)]
 
 mod added;
+mod certificate;
 mod fault;
 mod fields;
 mod fingerprints;
+mod form;
 mod key_type;
 mod kind;
 mod public_key;
 mod size;
 
 pub use added::{AddedKey, read_added};
+pub use certificate::valid_for;
 pub use fault::KeyFault;
 pub use fingerprints::fingerprint;
 pub use kind::KeyKind;

@@ -2,7 +2,7 @@ ghost use Rattle.std.specs.Prelude.{◌≡◌, ◌^◌, ◌<◌, length};
 ghost use Rattle.key_blob.specs.PublicKeys.{parts_of};
 ghost use Rattle.key_blob.specs.KeySizes.{digits_of, modulus_of, bits_of};
 
-use crate::key_type::row;
+use crate::key_type::plain_row;
 use crate::public_key::PublicKey;
 use wire_core::Cursor;
 
@@ -10,7 +10,7 @@ use wire_core::Cursor;
 pub fn bits(key: &PublicKey<'_>) -> u64
     ensures { result ≡ bits_of (parts_of key.now) }
 {
-    match row(key.kind).bits {
+    match plain_row(key.kind).bits {
         Some(bits) => bits,
         None => digits(modulus(key.fields)),
     }

@@ -1,5 +1,10 @@
 //! Keys of OpenSSH, and a text for each fault, some with a second fault behind the first.
 
+mod additions;
+mod certificates;
+mod certified;
+mod hosts;
+mod users;
 mod vectors;
 
 use super::*;

@@ -7,7 +7,7 @@ use Rattle.key_blob.specs.declared.fault.KeyFault.TheVariants.{Memory}
 use Rattle.key_blob.specs.declared.public_key.PublicKey.{PublicKey}
 use Rattle.key_blob.specs.PublicKeys.{KeyParts, parts_of, IsPublicKey, public_key_of}
 use Rattle.key_blob.proofs.FaultLemmas.{public_needs_none}
-use Rattle.key_blob.proofs.Theorems.{public_is_found, public_is_read}
+use Rattle.key_blob.proofs.PublicLemmas.{public_is_found, public_is_read}
 use Rattle.key_blob.proofs.public_key.read_public.Goals as goal
 
 -- the answer is what the reading gives

@@ -1,0 +1,285 @@
+//! Certificates of OpenSSH, a text for each fault, and for which hosts certificates are good.
+
+use super::additions::ADDITIONS;
+use super::certified::SIGNER;
+use super::hosts::HOSTS;
+use super::users::USERS;
+use super::*;
+use std::alloc::{AllocError, Global};
+
+/// The pieces, one after another.
+fn joined(alloc: Global, pieces: &[&[u8]]) -> Result<Vec<u8>, AllocError> {
+    let mut all = Vec::new(alloc);
+    for piece in pieces {
+        all.extend_from_slice(piece)?;
+    }
+    Ok(all)
+}
+
+#[test]
+fn certificates_are_read_as_openssh_shows_them(rt: HostRuntime) -> Result<(), Fail> {
+    let signer = STANDARD.decode(rt.alloc(), SIGNER.as_bytes())?;
+    for vector in HOSTS.iter().chain(USERS.iter()) {
+        let blob = STANDARD.decode(rt.alloc(), vector.blob.as_bytes())?;
+        let key = read_public(&blob).ok().ok_or("the blob is a certificate")?;
+        let certificate = key.certificate.ok_or("the key has a certificate")?;
+        assert_eq!(rt;
+            certificate.cert_type,
+            vector.cert_type,
+            "of {}",
+            vector.made
+        );
+        assert_eq!(rt; certificate.principals, vector.principals);
+        assert_eq!(rt; certificate.after, vector.after);
+        assert_eq!(rt; certificate.before, vector.before);
+        assert_eq!(rt; certificate.critical, vector.critical);
+        assert_eq!(rt; certificate.signer, signer.as_slice());
+        assert_eq!(rt; fingerprint(rt.alloc(), &key)?.as_str(), vector.shown);
+        assert_eq!(rt; bits(&key), vector.bits);
+        assert_eq!(rt; type_word(&key), vector.word);
+        assert!(rt; algorithm_fits(&key, key.type_name));
+    }
+    Ok(())
+}
+
+#[test]
+fn the_fields_are_those_of_the_plain_key(rt: HostRuntime) -> Result<(), Fail> {
+    for vector in HOSTS.iter().chain(USERS.iter()) {
+        let blob = STANDARD.decode(rt.alloc(), vector.blob.as_bytes())?;
+        let key = read_public(&blob).ok().ok_or("the blob is a certificate")?;
+        let plain_blob = STANDARD.decode(rt.alloc(), vector.plain.as_bytes())?;
+        let plain = read_public(&plain_blob).ok().ok_or("the blob is a key")?;
+        assert_eq!(rt; key.kind, plain.kind, "of {}", vector.made);
+        assert_eq!(rt; key.fields, plain.fields);
+        assert!(rt; plain.certificate.is_none());
+        assert!(rt; !algorithm_fits(&plain, key.type_name));
+        assert!(rt; !algorithm_fits(&key, plain.type_name));
+    }
+    Ok(())
+}
+
+#[test]
+fn an_rsa_certificate_fits_three_algorithms(rt: HostRuntime) -> Result<(), Fail> {
+    let blob = STANDARD.decode(rt.alloc(), HOSTS[2].blob.as_bytes())?;
+    let key = read_public(&blob).ok().ok_or("the blob is a certificate")?;
+    assert_eq!(rt; type_word(&key), "RSA-CERT");
+    assert!(rt; algorithm_fits(&key, b"ssh-rsa-cert-v01@openssh.com"));
+    assert!(rt; algorithm_fits(&key, b"rsa-sha2-256-cert-v01@openssh.com"));
+    assert!(rt; algorithm_fits(&key, b"rsa-sha2-512-cert-v01@openssh.com"));
+    assert!(rt; !algorithm_fits(&key, b"rsa-sha2-512"));
+    assert!(rt; !algorithm_fits(&key, b"ssh-ed25519-cert-v01@openssh.com"));
+    Ok(())
+}
+
+#[test]
+fn a_certificate_is_good_for_hosts_at_a_time(rt: HostRuntime) -> Result<(), Fail> {
+    let named = HOSTS[0].blob;
+    let critical = HOSTS[1].blob;
+    let any = HOSTS[2].blob;
+    let pattern = HOSTS[4].blob;
+    // The certificate, the host, the time and the answer.
+    let cases = [
+        // For `*.example.org` and `web`, from 1577836800 to 1893456000.
+        (named, b"a.example.org".as_slice(), 1577836800, true),
+        (named, b"web", 1893455999, true),
+        (named, b"web", 1893456000, false),
+        (named, b"web", 1577836799, false),
+        (named, b"example.org", 1600000000, false),
+        (named, b"WEB", 1600000000, false),
+        (named, b"*.example.org", 1600000000, true),
+        // With a critical option.
+        (critical, b"web", 1600000000, false),
+        // For any host, at any time but the last second.
+        (any, b"any.example", 0, true),
+        (any, b"any.example", u64::MAX - 1, true),
+        (any, b"any.example", u64::MAX, false),
+        // For `a?.example.org`.
+        (pattern, b"ab.example.org", 1577836800, true),
+        (pattern, b"a.example.org", 1577836800, false),
+    ];
+    for (blob, host, wall, good) in cases {
+        let blob = STANDARD.decode(rt.alloc(), blob.as_bytes())?;
+        let key = read_public(&blob).ok().ok_or("the blob is a certificate")?;
+        let certificate = key.certificate.ok_or("the key has a certificate")?;
+        assert_eq!(rt;
+            valid_for(&certificate, host, wall),
+            good,
+            "{host:?} at {wall}"
+        );
+    }
+    Ok(())
+}
+
+#[test]
+fn a_user_certificate_is_good_for_no_host(rt: HostRuntime) -> Result<(), Fail> {
+    for vector in &USERS {
+        let blob = STANDARD.decode(rt.alloc(), vector.blob.as_bytes())?;
+        let key = read_public(&blob).ok().ok_or("the blob is a certificate")?;
+        let certificate = key.certificate.ok_or("the key has a certificate")?;
+        assert!(rt; !valid_for(&certificate, b"alice", 1600000000));
+    }
+    Ok(())
+}
+
+const NAME: &[u8] = b"\0\0\0\x20ssh-ed25519-cert-v01@openssh.com";
+
+const NONCE: &[u8] = b"\0\0\0\x0512345";
+
+const PK: &[u8] = b"\0\0\0\x2011111111111111111111111111111111";
+
+const SHORT_PK: &[u8] = b"\0\0\0\x1f1111111111111111111111111111111";
+/// The serial number 1, type 2 and the key id `id`.
+const HOST: &[u8] = b"\0\0\0\0\0\0\0\x01\0\0\0\x02\0\0\0\x02id";
+
+const PRINCIPALS: &[u8] = b"\0\0\0\x11\0\0\0\x0d*.example.org";
+/// The second principal passes the end of the string.
+const BAD_PRINCIPALS: &[u8] = b"\0\0\0\x0b\0\0\0\x03web\0\0\0\x01";
+/// From 100 to 200, and no options.
+const TIMES: &[u8] = b"\0\0\0\0\0\0\0\x64\0\0\0\0\0\0\0\xc8\0\0\0\0\0\0\0\0\0\0\0\0";
+
+const SIGNED: &[u8] = b"\0\0\0\x06signer\0\0\0\x01x";
+
+#[test]
+fn each_part_of_a_certificate_is_short(rt: HostRuntime) -> Result<(), Fail> {
+    let whole = joined(
+        rt.alloc(),
+        &[NAME, NONCE, PK, HOST, PRINCIPALS, TIMES, SIGNED],
+    )?;
+    let key = read_public(&whole).ok().ok_or("the text is a certificate")?;
+    let certificate = key.certificate.ok_or("the key has a certificate")?;
+    assert_eq!(rt; certificate.signer, b"signer".as_slice());
+    assert!(rt; valid_for(&certificate, b"a.example.org", 199));
+    for len in 0..whole.len() {
+        assert_eq!(rt;
+            read_public(&whole[..len]).err(),
+            Some(KeyFault::Short),
+            "to {len}"
+        );
+    }
+    Ok(())
+}
+
+#[test]
+fn the_first_fault_of_a_certificate_is_answered(rt: HostRuntime) -> Result<(), Fail> {
+    let cases: [(&[&[u8]], KeyFault); 8] = [
+        (
+            &[NAME, NONCE, PK, HOST, PRINCIPALS, TIMES, SIGNED, b"\0"],
+            KeyFault::Trailing,
+        ),
+        (
+            &[NAME, NONCE, PK, HOST, BAD_PRINCIPALS, TIMES, SIGNED],
+            KeyFault::Short,
+        ),
+        (
+            &[NAME, NONCE, PK, HOST, BAD_PRINCIPALS, TIMES, SIGNED, b"\0"],
+            KeyFault::Short,
+        ),
+        (
+            &[NAME, NONCE, SHORT_PK, HOST, BAD_PRINCIPALS],
+            KeyFault::BadLength,
+        ),
+        (&[NAME, PK, NONCE, HOST], KeyFault::BadLength),
+        (
+            &[
+                b"\0\0\0\x28ecdsa-sha2-nistp256-cert-v01@openssh.com",
+                NONCE,
+                b"\0\0\0\x08nistp384",
+            ],
+            KeyFault::Mismatch,
+        ),
+        (
+            &[b"\0\0\0\x1cssh-dss-cert-v01@openssh.com", NONCE, PK],
+            KeyFault::UnknownType,
+        ),
+        (
+            &[
+                b"\0\0\0\x2dkeyed-sha256@example.com-cert-v01@openssh.com",
+                NONCE,
+            ],
+            KeyFault::UnknownType,
+        ),
+    ];
+    for (pieces, fault) in cases {
+        let text = joined(rt.alloc(), pieces)?;
+        assert_eq!(rt; read_public(&text).err(), Some(fault), "at {text:?}");
+    }
+    Ok(())
+}
+
+#[test]
+fn an_addition_gives_its_certificate(rt: HostRuntime) -> Result<(), Fail> {
+    for vector in &ADDITIONS {
+        let added = STANDARD.decode(rt.alloc(), vector.added.as_bytes())?;
+        let mut parts = Cursor::new(&added);
+        assert_eq!(rt; parts.take_string(), Ok(vector.key_type));
+        let blob = parts.take_string().ok().ok_or("a certificate follows")?;
+        let mut text = added.clone()?;
+        text.extend_from_slice(b"\0\0\0\x03one")?;
+        let mut from = Cursor::new(&text);
+        let key = read_added(rt.alloc(), &mut from)
+            .ok()
+            .ok_or("the text is an addition")?;
+        assert_eq!(rt; key.blob.as_slice(), blob);
+        assert!(rt; key.private.same(&added));
+        assert_eq!(rt; from.rest(), b"\0\0\0\x03one".as_slice());
+    }
+    Ok(())
+}
+
+/// The lengths of the texts below, as strings carry them.
+const WHOLE_LEN: &[u8] = b"\0\0\0\xa3";
+
+const LONG_LEN: &[u8] = b"\0\0\0\xa4";
+
+const RSA: &[u8] = b"\0\0\0\x1cssh-rsa-cert-v01@openssh.com";
+
+const PLAIN: &[u8] = b"\0\0\0\x0bssh-ed25519";
+
+const PLAIN_LEN: &[u8] = b"\0\0\0\x33";
+
+const SK: &[u8] = b"\0\0\0\x402222222222222222222222222222222222222222222222222222222222222222";
+
+#[test]
+fn the_first_fault_of_an_added_certificate_is_answered(rt: HostRuntime) -> Result<(), Fail> {
+    let whole = joined(
+        rt.alloc(),
+        &[NAME, NONCE, PK, HOST, PRINCIPALS, TIMES, SIGNED],
+    )?;
+    let cases: [(&[&[u8]], Option<KeyFault>); 9] = [
+        (&[NAME, WHOLE_LEN, &whole, PK, SK], None),
+        (&[NAME, WHOLE_LEN, &whole, PK], Some(KeyFault::Short)),
+        (
+            &[NAME, WHOLE_LEN, &whole, SHORT_PK, SK],
+            Some(KeyFault::BadLength),
+        ),
+        (
+            &[NAME, WHOLE_LEN, &whole, PK, PK],
+            Some(KeyFault::BadLength),
+        ),
+        (&[RSA, WHOLE_LEN, &whole], Some(KeyFault::Mismatch)),
+        (
+            &[NAME, PLAIN_LEN, PLAIN, PK, PK, SK],
+            Some(KeyFault::Mismatch),
+        ),
+        (
+            &[NAME, LONG_LEN, &whole, b"\0", PK],
+            Some(KeyFault::Trailing),
+        ),
+        (
+            &[RSA, LONG_LEN, &whole, b"\0", PK],
+            Some(KeyFault::Trailing),
+        ),
+        (&[NAME, LONG_LEN, &whole], Some(KeyFault::Short)),
+    ];
+    for (pieces, fault) in cases {
+        let text = joined(rt.alloc(), pieces)?;
+        let mut from = Cursor::new(&text);
+        assert_eq!(rt;
+            read_added(rt.alloc(), &mut from).err(),
+            fault,
+            "at {text:?}"
+        );
+        assert_eq!(rt; from.at_end(), fault.is_none());
+    }
+    Ok(())
+}
