@@ -12,7 +12,8 @@ use Rattle.constraint_rec.specs.declared.kind.Kind.{Kind}
 use Rattle.constraint_rec.specs.declared.kind.Kind.TheVariants.{Lifetime, Confirm}
 use Rattle.constraint_rec.specs.declared.terms.Terms.{Terms}
 use Rattle.constraint_rec.specs.Constraints.{Item, Life, Confirmation, item_text, IsItem, with_item}
-use Rattle.constraint_rec.specs.Reading.{◌>>=◌, kind_at, has_kind, with_life, contents_at, new_contents_at, next_at}
+use Rattle.constraint_rec.specs.HopReading.{◌>>=◌}
+use Rattle.constraint_rec.specs.Reading.{kind_at, has_kind, with_life, contents_at, new_contents_at, next_at}
 
 -- the kind of a constraint
 abbrev pub kind_of : Item → Kind

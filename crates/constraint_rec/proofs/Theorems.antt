@@ -1,12 +1,14 @@
 -- The bytes that are read are those of the grammar, and the terms are theirs.
-use Rattle.std.proofs.Common.{◌≡◌, ◌≢◌, ℕ, zero, suc, ◌+◌, ◌<◌, ◌≤◌, Bool, true, false, cond, ◌||◌, List, [], ◌∷◌, ◌++◌, length, filter, All, Result, Ok, Err, refl, sym, ap, subst, ◌∙◌, arith, length-append}
+use Rattle.std.proofs.Common.{◌≡◌, ◌≢◌, ℕ, zero, suc, ◌+◌, ◌<◌, ◌≤◌, ◌⊎◌, inl, inr, Bool, true, false, cond, ◌||◌, List, [], ◌∷◌, ◌++◌, length, filter, All, Result, Ok, Err, refl, sym, ap, subst, ◌∙◌, arith, length-append}
 use Rattle.std.specs.List.{flat_map}
 use Rattle.std.proofs.lemmas.List.Elements.{All-head, All-tail, All-cons}
 use Rattle.wire_text.specs.Wire.{IsBytes}
 use Rattle.constraint_rec.specs.declared.fault.TermFault.{TermFault}
+use Rattle.constraint_rec.specs.declared.fault.TermFault.TheVariants.{Memory}
 use Rattle.constraint_rec.specs.declared.terms.Terms.{Terms}
 use Rattle.constraint_rec.specs.Constraints.{no_terms, Item, Life, Confirmation, item_text, IsItem, is_alike, with_item, with_items, IsConstraints}
-use Rattle.constraint_rec.specs.Reading.{◌>>=◌, has_kind, next_at, terms_up_to, terms_of}
+use Rattle.constraint_rec.specs.HopReading.{◌>>=◌}
+use Rattle.constraint_rec.specs.Reading.{has_kind, next_at, terms_up_to, terms_of}
 use Rattle.constraint_rec.proofs.ReadingLemmas.{kind_of, next_is, next_at-item}
 
 -- each constraint is of a kind that the terms don't have when it is read
@@ -47,9 +49,10 @@ goes_on-next whole terms left after rest so_far some shorter read =
 
 -- its fault is the whole's
 pub goes_on-fault : (whole : Result Terms TermFault) (terms : Terms) (left : List ℕ) (fault : TermFault) →
-    GoesOn whole terms left → left ≢ [] → next_at terms left ≡ Err fault → whole ≡ Err fault
-goes_on-fault whole terms left fault so_far some read =
-    (one_more so_far.count whole terms left (Err fault) so_far.enough some so_far.same read).2
+    GoesOn whole terms left → left ≢ [] → (fault ≡ Memory) ⊎ (next_at terms left ≡ Err fault) → (fault ≡ Memory) ⊎ (whole ≡ Err fault)
+goes_on-fault whole terms left fault so_far some (inl memory) = inl memory
+goes_on-fault whole terms left fault so_far some (inr read) =
+    inr (one_more so_far.count whole terms left (Err fault) so_far.enough some so_far.same read).2
 
 -- no bytes are no constraints
 none_left : (count : ℕ) (terms : Terms) → terms_up_to count terms [] ≡ Ok terms

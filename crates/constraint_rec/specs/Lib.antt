@@ -1,2 +1,4 @@
 pub mod Constraints
+pub mod HopReading
+pub mod Hops
 pub mod Reading

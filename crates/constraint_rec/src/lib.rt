@@ -5,6 +5,7 @@
 #![tactic(auto)]
 
 mod constraint;
+mod destination;
 mod fault;
 mod key_spec;
 mod kind;
