@@ -1,3 +1,6 @@
+pub mod DestinationLemmas
 pub mod ElementLemmas
+pub mod FieldLemmas
+pub mod HopLemmas
 pub mod ReadingLemmas
 pub mod Theorems

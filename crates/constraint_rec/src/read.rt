@@ -24,11 +24,7 @@ fn has(terms: &Terms, kind: Kind) -> bool
 
 /// Takes a constraint and adds it to the terms. A refused call may have moved the cursor.
 #[tactic(auto, unfolding(crate::specs::Reading::next_at, crate::specs::Reading::contents_at))]
-fn take_constraint(
-    alloc: Global,
-    from: &mut Cursor<'_>,
-    terms: &mut Terms,
-) -> Result<(), TermFault>
+fn take_constraint(alloc: Global, from: &mut Cursor<'_>, terms: &mut Terms) -> Result<(), TermFault>
     ensures exact { MatchResult result (λ _. next_at terms.old from.old ≡ Ok (terms.new, from.new))
         (λ fault. (fault ≡ Memory) ⊎ (next_at terms.old from.old ≡ Err fault)) }
     ensures shorter { OnOk result (length from.new < length from.old) }

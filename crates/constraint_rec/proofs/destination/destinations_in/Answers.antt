@@ -13,7 +13,7 @@ rules-preserved c =
     let shorter = c.in_ok-take_destination.ensures.shorter in
     let some : c.rules.from ≢ [] = λ e. omega (arith, ap length e, shorter) in
     rw c.in_ok-push.ensures.items (elements-next constraint_at _ c.rules.rules.items c.rules.from c.in_ok-take_destination.field-0 c.take_destination.new.from
-        c.rules.invariant some shorter c.in_ok-take_destination.ensures.exact)
+    c.rules.invariant some shorter c.in_ok-take_destination.ensures.exact)
 
 pub returns-in_err-take_destination : goal.returns-in_err-take_destination
 returns-in_err-take_destination c =

@@ -13,7 +13,7 @@ keys-preserved c =
     let shorter = c.in_ok-take_key.ensures.shorter in
     let some : c.keys.from ≢ [] = λ e. omega (arith, ap length e, shorter) in
     rw c.in_ok-push.ensures.items (elements-next key_at _ c.keys.keys.items c.keys.from c.in_ok-take_key.field-0 c.take_key.new.from
-        c.keys.invariant some shorter c.in_ok-take_key.ensures.exact)
+    c.keys.invariant some shorter c.in_ok-take_key.ensures.exact)
 
 pub returns-in_err-take_key : goal.returns-in_err-take_key
 returns-in_err-take_key c =
