@@ -4,3 +4,4 @@ pub mod FieldLemmas
 pub mod HopLemmas
 pub mod ReadingLemmas
 pub mod Theorems
+pub mod WritingLemmas

@@ -137,7 +137,7 @@ next_is terms (byte ∷ bytes) after rest small read =
     next_by_byte terms byte bytes after rest (eqb byte 1) (eqb byte 2) (eqb byte 255) refl refl refl (All-tail (λ b. b < 256) byte bytes small) read
 
 -- the name is short
-name_is_short : length restrict_destination < 2 ^ 32
+pub name_is_short : length restrict_destination < 2 ^ 32
 unfolding restrict_destination
 name_is_short = lit< tt
 

@@ -2,3 +2,4 @@ pub mod Constraints
 pub mod HopReading
 pub mod Hops
 pub mod Reading
+pub mod Writing

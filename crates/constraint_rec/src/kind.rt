@@ -13,9 +13,9 @@ pub enum Kind {
     Destinations,
 }
 
-// The name of the extension that holds destination constraints.
+/// The name of the extension that holds destination constraints.
 #[tactic(auto, unfolding(crate::specs::Constraints::restrict_destination))]
-fn restrict_destination() -> &'static [u8]
+pub fn restrict_destination() -> &'static [u8]
     ensures { result.now ≡ restrict_destination }
 {
     b"restrict-destination-v00@openssh.com".as_slice()
