@@ -12,6 +12,7 @@ use Rattle.constraint_rec.specs.declared.constraint.Constraint.{Constraint}
 use Rattle.constraint_rec.specs.Hops.{SpeltHop, SpeltConstraint, hop_text, constraint_text, list_text, hop_of, constraint_of, IsReadable, IsFromHop, IsToHop, IsDestination}
 use Rattle.constraint_rec.specs.HopReading.{◌>>=◌, is_empty, field_at, all_of, after_reserved, hop_in, as_from, as_to, hop_at, constraint_in, constraint_at, some_rules, rules_in}
 use Rattle.constraint_rec.proofs.FieldLemmas.{bind_ok, guarded, empty_is, IsField, field_is, field_again, reserved_is, reserved_last, behind_string}
+use Rattle.constraint_rec.proofs.SizeLemmas.{constraint_fits}
 use Rattle.constraint_rec.proofs.ElementLemmas.{IsElement, AreElements, elements_are, elements_again}
 use Rattle.constraint_rec.proofs.HopLemmas.{IsHop, hop_is, hop_again, from_is, from_again, to_is, to_again}
 
@@ -91,12 +92,9 @@ constraint_again : (constraint : SpeltConstraint) → IsDestination (constraint_
     constraint_in (constraint_text constraint) ≡ Ok (constraint_of constraint)
 unfolding constraint_in
 constraint_again constraint is short =
-    let from_text : List ℕ = hop_text constraint.from in
-    let to_text : List ℕ = hop_text constraint.to in
-    let a : length (constraint_text constraint) ≡ length (string from_text) + length (string to_text ++ string []) = length-append (string from_text) (string to_text ++ string []) in
-    let b : length (string to_text ++ string []) ≡ length (string to_text) + length (string []) = length-append (string to_text) (string []) in
-    let from = judged_again as_from constraint.from (string to_text ++ string []) (from_again (hop_of constraint.from) is.from) is.from.readable (omega (arith, length-string from_text)) in
-    let to = judged_again as_to constraint.to (string []) (to_again (hop_of constraint.to) is.to) is.to.readable (omega (arith, length-string to_text)) in
+    let fits = constraint_fits constraint short in
+    let from = judged_again as_from constraint.from (string (hop_text constraint.to) ++ string []) (from_again (hop_of constraint.from) is.from) is.from.readable fits.from in
+    let to = judged_again as_to constraint.to (string []) (to_again (hop_of constraint.to) is.to) is.to.readable fits.to in
     ap (λ (r : Result (Hop × List ℕ) TermFault). r >>= λ f. hop_at as_to f.1 >>= λ t. after_reserved t.1 >>= λ rest. cond (is_empty rest) (Ok (record { from = f.0; to = t.0 })) (Err Short)) from
     ∙ ap (λ (r : Result (Hop × List ℕ) TermFault). r >>= λ t. after_reserved t.1 >>= λ rest. cond (is_empty rest) (Ok (record { from = hop_of constraint.from; to = t.0 })) (Err Short)) to
     ∙ ap (λ (r : Result (List ℕ) TermFault). r >>= λ rest. cond (is_empty rest) (Ok (constraint_of constraint)) (Err Short)) reserved_last

@@ -15,6 +15,7 @@ use Rattle.constraint_rec.specs.declared.constraint.Hop.{Hop}
 use Rattle.constraint_rec.specs.Hops.{SpeltKey, SpeltHop, key_text, hop_text, key_of, hop_of, IsReadable, IsFromHop, IsToHop}
 use Rattle.constraint_rec.specs.HopReading.{◌>>=◌, is_empty, field_at, all_of, readable, key_at, after_reserved, hop_in, as_from, as_to}
 use Rattle.constraint_rec.proofs.FieldLemmas.{bind_ok, unguarded, guarded, ok_or_some, empty_is, nonempty_is, nonempty_test, field_is, field_again, reserved_is, reserved_again}
+use Rattle.constraint_rec.proofs.SizeLemmas.{hop_fits}
 use Rattle.constraint_rec.proofs.ElementLemmas.{IsElement, AreElements, elements_are, elements_again}
 
 -- ---- a key
@@ -109,18 +110,9 @@ pub hop_again : (hop : SpeltHop) → All IsReadable (map key_of hop.keys) → le
 unfolding hop_in
 hop_again hop is short =
     let keys : List ℕ = flat_map key_text hop.keys in
-    let a : length (hop_text hop) ≡ length (string hop.user) + length (string hop.host ++ (string [] ++ keys)) = length-append (string hop.user) (string hop.host ++ (string [] ++ keys)) in
-    let b : length (string hop.host ++ (string [] ++ keys)) ≡ length (string hop.host) + length (string [] ++ keys) = length-append (string hop.host) (string [] ++ keys) in
-    let c : length (string [] ++ keys) ≡ length (string []) + length keys = length-append (string []) keys in
-    let user : length hop.user < 2 ^ 32 = omega (arith, length-string hop.user) in
-    let host : length hop.host < 2 ^ 32 = omega (arith, length-string hop.host) in
-    let list : length keys < 2 ^ 32 = omega arith in
-    rw (
-      string_at-string hop.user (string hop.host ++ (string [] ++ keys)) user,
-      string_at-string hop.host (string [] ++ keys) host,
-      reserved_again keys,
-      elements_again key_at key_text key_of IsReadable some_key key_again hop.keys is list,
-    ) refl
+    let fits = hop_fits hop short in
+    rw (string_at-string hop.user (string hop.host ++ (string [] ++ keys)) fits.user, string_at-string hop.host (string [] ++ keys) fits.host, reserved_again keys,
+        elements_again key_at key_text key_of IsReadable some_key key_again hop.keys is fits.keys) refl
 
 -- ---- the rules of a hop
 

@@ -3,5 +3,6 @@ pub mod ElementLemmas
 pub mod FieldLemmas
 pub mod HopLemmas
 pub mod ReadingLemmas
+pub mod SizeLemmas
 pub mod Theorems
 pub mod WritingLemmas

@@ -1,8 +1,7 @@
--- What is written: its sizes, and that it is in the grammar and says the terms.
+-- What is written is in the grammar and says the terms, and what is read can be written.
 use Rattle.std.proofs.Common.{◌≡◌, ◌≢◌, ℕ, ◌+◌, ◌^◌, ◌<◌, ◌≤◌, Bool, true, false, not, cond, List, [], ◌∷◌, ◌++◌, map, length, filter, get_or, take, All, Option, Some, None, IfSome, Result, Ok, Err, refl, sym, ap, subst, ◌∙◌, arith, length-append, append_assoc}
 use Rattle.std.specs.List.{flat_map}
-use Rattle.std.proofs.lemmas.List.Folds.{length-flat_map-take, flat_map-map}
-use Rattle.std.proofs.lemmas.List.Elements.{All-nil, All-cons}
+use Rattle.std.proofs.lemmas.List.Elements.{All-nil, All-cons, All-head, All-tail}
 use Rattle.std.proofs.lemmas.Grind.{flat_map-append}
 use Rattle.wire_text.specs.Wire.{string, boolean_of}
 use Rattle.wire_text.proofs.WireLemmas.{length-string}
@@ -11,44 +10,9 @@ use Rattle.constraint_rec.specs.declared.constraint.Hop.{Hop}
 use Rattle.constraint_rec.specs.declared.constraint.Constraint.{Constraint}
 use Rattle.constraint_rec.specs.declared.terms.Terms.{Terms}
 use Rattle.constraint_rec.specs.Hops.{SpeltHop, SpeltConstraint, key_text, hop_text, constraint_text, list_text, key_of, hop_of, constraint_of, IsDestination}
-use Rattle.constraint_rec.specs.Constraints.{no_terms, Item, Life, Confirmation, Rules, AreRules, item_text, IsItem, is_alike, with_items, IsConstraints}
+use Rattle.constraint_rec.specs.Constraints.{no_terms, Item, Life, Confirmation, Rules, AreRules, item_text, IsItem, is_alike, with_item, with_items, IsConstraints}
+use Rattle.constraint_rec.proofs.SizeLemmas.{list_len}
 use Rattle.constraint_rec.specs.Writing.{is_ca_byte, spelt_key, spelt_hop, spelt_constraint, life_items, confirm_items, rule_items, items_of, constraints_bytes, IsWritable}
-
--- ---- sizes
-
--- a piece is no longer than all pieces
-pub piece_fits : {X : Type 0} (f : X → List ℕ) (xs : List X) (i : ℕ) (x : X) → i < length xs → x ≡ get_or xs i x → length (f x) ≤ length (flat_map f xs)
-piece_fits f xs i x inside is =
-    let size = length-flat_map-take f xs i x inside in
-    let same : length (f x) ≡ length (f (get_or xs i x)) = ap (λ y. length (f y)) is in
-    omega (arith, size, same)
-
--- the texts in a hop are shorter than the hop
-pub record HopFits (hop : SpeltHop) : Type 0 where
-  pub user : length hop.user < 2 ^ 32
-  pub host : length hop.host < 2 ^ 32
-  pub keys : length (flat_map key_text hop.keys) < 2 ^ 32
-
-pub hop_fits : (hop : SpeltHop) → length (hop_text hop) < 2 ^ 32 → HopFits hop
-hop_fits hop short =
-    let keys : List ℕ = flat_map key_text hop.keys in
-    let a : length (hop_text hop) ≡ length (string hop.user) + length (string hop.host ++ (string [] ++ keys)) = length-append (string hop.user) (string hop.host ++ (string [] ++ keys)) in
-    let b : length (string hop.host ++ (string [] ++ keys)) ≡ length (string hop.host) + length (string [] ++ keys) = length-append (string hop.host) (string [] ++ keys) in
-    let c : length (string [] ++ keys) ≡ length (string []) + length keys = length-append (string []) keys in
-    record { user = omega (arith, length-string hop.user); host = omega (arith, length-string hop.host); keys = omega arith }
-
--- the hops in a constraint are shorter than the constraint
-pub record ConstraintFits (constraint : SpeltConstraint) : Type 0 where
-  pub from : length (hop_text constraint.from) < 2 ^ 32
-  pub to : length (hop_text constraint.to) < 2 ^ 32
-
-pub constraint_fits : (constraint : SpeltConstraint) → length (constraint_text constraint) < 2 ^ 32 → ConstraintFits constraint
-constraint_fits constraint short =
-    let from_text : List ℕ = hop_text constraint.from in
-    let to_text : List ℕ = hop_text constraint.to in
-    let a : length (constraint_text constraint) ≡ length (string from_text) + length (string to_text ++ string []) = length-append (string from_text) (string to_text ++ string []) in
-    let b : length (string to_text ++ string []) ≡ length (string to_text) + length (string []) = length-append (string to_text) (string []) in
-    record { from = omega (arith, length-string from_text); to = omega (arith, length-string to_text) }
 
 -- ---- what is spelled says what was to be said
 
@@ -161,17 +125,20 @@ written_are_constraints terms is short =
       values = items_say terms.life terms.confirm terms.rules;
     }
 
--- ---- one appended after another
+-- ---- what was read can be written
 
--- three parts
-pub three_parts : (start first second third a b c : List ℕ) → start ≡ [] → first ≡ start ++ a → second ≡ first ++ b → third ≡ second ++ c →
-    third ≡ a ++ (b ++ c)
-three_parts start first second third a b c none one two three =
-    three ∙ ap (λ (s : List ℕ). s ++ c) (two ∙ ap (λ (s : List ℕ). s ++ b) (one ∙ ap (λ (s : List ℕ). s ++ a) none)) ∙ append_assoc a b c
+with_item_writable : (terms : Terms) (item : Item) → IsItem item → IsWritable terms → IsWritable (with_item terms item)
+with_item_writable terms (Life seconds) fit is = record { rules = is.rules; short = is.short }
+with_item_writable terms Confirmation fit is = record { rules = is.rules; short = is.short }
+with_item_writable terms (Rules rules) fit is = record { rules = fit.each; short = omega (arith, fit.short, list_len rules) }
 
--- four parts
-pub four_parts : (start first second third fourth a b c d : List ℕ) → start ≡ [] → first ≡ start ++ a → second ≡ first ++ b → third ≡ second ++ c →
-    fourth ≡ third ++ d → fourth ≡ a ++ (b ++ (c ++ d))
-four_parts start first second third fourth a b c d none one two three four =
-    four ∙ ap (λ (s : List ℕ). s ++ d) (three_parts start first second third a b c none one two three)
-    ∙ append_assoc a (b ++ c) d ∙ ap (λ (s : List ℕ). a ++ s) (append_assoc b c d)
+with_items_writable : (items : List Item) (terms : Terms) → All IsItem items → IsWritable terms → IsWritable (with_items terms items)
+with_items_writable [] terms fit is = is
+with_items_writable (item ∷ items) terms fit is =
+    with_items_writable items (with_item terms item) (All-tail IsItem item items fit)
+        (with_item_writable terms item (All-head IsItem item items fit) is)
+
+-- constraints can be written
+pub constraints_are_writable : (bytes : List ℕ) (terms : Terms) → IsConstraints bytes terms → IsWritable terms
+constraints_are_writable bytes terms is =
+    subst IsWritable (sym is.values) (with_items_writable is.items no_terms is.fit (record { rules = All-nil IsDestination; short = omega arith }))

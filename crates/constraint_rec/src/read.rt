@@ -3,6 +3,7 @@ ghost use Rattle.constraint_rec.specs.declared.fault.TermFault.TheVariants.{Memo
 ghost use Rattle.constraint_rec.specs.declared.terms.Terms.{Terms};
 ghost use Rattle.constraint_rec.specs.Constraints.{IsConstraints};
 ghost use Rattle.constraint_rec.specs.Reading.{has_kind, next_at, terms_of};
+ghost use Rattle.constraint_rec.specs.Writing.{IsWritable};
 
 use crate::destination::read_destinations;
 use crate::fault::TermFault;
@@ -67,6 +68,9 @@ pub fn read_constraints(alloc: Global, from: &mut Cursor<'_>) -> Result<Terms, T
     ensures exact { MatchResult result (λ terms. terms_of from.old ≡ Ok terms)
         (λ fault. (fault ≡ Memory) ⊎ (terms_of from.old ≡ Err fault)) }
     ensures unchanged { OnErr result (from.new ≡ from.old) }
+
+    // What is read can be written.
+    ensures writable { IfOk result (λ terms. IsWritable terms) }
 {
     let bytes = from.rest();
     let terms = terms_at(alloc, bytes)?;

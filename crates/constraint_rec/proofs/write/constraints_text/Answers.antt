@@ -3,7 +3,8 @@ use Rattle.std.specs.List.{flat_map}
 use Rattle.constraint_rec.specs.declared.constraint.Constraint.{Constraint}
 use Rattle.constraint_rec.specs.Constraints.{item_text}
 use Rattle.constraint_rec.specs.Writing.{life_items, confirm_items, rule_items}
-use Rattle.constraint_rec.proofs.WritingLemmas.{constraints_in_parts, three_parts}
+use Rattle.constraint_rec.proofs.SizeLemmas.{three_parts}
+use Rattle.constraint_rec.proofs.WritingLemmas.{constraints_in_parts}
 use Rattle.constraint_rec.proofs.write.constraints_text.Goals as goal
 
 pub returns-clause-ok : goal.returns-clause-ok

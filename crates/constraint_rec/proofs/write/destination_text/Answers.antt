@@ -1,5 +1,5 @@
 use Rattle.constraint_rec.specs.Writing.{spelt_constraint}
-use Rattle.constraint_rec.proofs.WritingLemmas.{constraint_fits}
+use Rattle.constraint_rec.proofs.SizeLemmas.{constraint_fits}
 use Rattle.constraint_rec.proofs.write.destination_text.Goals as goal
 
 pub hop_text-requires : goal.hop_text-requires

@@ -7,7 +7,7 @@ use Rattle.wire_text.proofs.WireLemmas.{length-string}
 use Rattle.constraint_rec.specs.declared.constraint.Constraint.{Constraint}
 use Rattle.constraint_rec.specs.Hops.{SpeltConstraint, constraint_text}
 use Rattle.constraint_rec.specs.Writing.{spelt_constraint}
-use Rattle.constraint_rec.proofs.WritingLemmas.{piece_fits}
+use Rattle.constraint_rec.proofs.SizeLemmas.{piece_fits}
 use Rattle.constraint_rec.proofs.write.destinations_text.Goals as goal
 
 -- a constraint as a string

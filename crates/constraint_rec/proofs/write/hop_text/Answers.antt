@@ -4,7 +4,7 @@ use Rattle.std.proofs.lemmas.List.Folds.{flat_map-map}
 use Rattle.wire_text.specs.Wire.{string}
 use Rattle.constraint_rec.specs.Hops.{key_text}
 use Rattle.constraint_rec.specs.Writing.{spelt_key, spelt_hop}
-use Rattle.constraint_rec.proofs.WritingLemmas.{hop_fits, four_parts}
+use Rattle.constraint_rec.proofs.SizeLemmas.{hop_fits, four_parts}
 use Rattle.constraint_rec.proofs.write.hop_text.Goals as goal
 
 pub put_string-requires : goal.put_string-requires

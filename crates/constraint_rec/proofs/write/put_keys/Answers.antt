@@ -3,7 +3,7 @@ use Rattle.wire_text.specs.Wire.{string}
 use Rattle.wire_text.proofs.WireLemmas.{length-string}
 use Rattle.constraint_rec.specs.Hops.{key_text}
 use Rattle.constraint_rec.specs.Writing.{is_ca_byte, spelt_key}
-use Rattle.constraint_rec.proofs.WritingLemmas.{piece_fits}
+use Rattle.constraint_rec.proofs.SizeLemmas.{piece_fits}
 use Rattle.constraint_rec.proofs.write.put_keys.Goals as goal
 
 pub put_key-requires : goal.put_key-requires
