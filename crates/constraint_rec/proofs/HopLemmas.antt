@@ -111,8 +111,12 @@ unfolding hop_in
 hop_again hop is short =
     let keys : List ℕ = flat_map key_text hop.keys in
     let fits = hop_fits hop short in
-    rw (string_at-string hop.user (string hop.host ++ (string [] ++ keys)) fits.user, string_at-string hop.host (string [] ++ keys) fits.host, reserved_again keys,
-        elements_again key_at key_text key_of IsReadable some_key key_again hop.keys is fits.keys) refl
+    rw (
+      string_at-string hop.user (string hop.host ++ (string [] ++ keys)) fits.user,
+      string_at-string hop.host (string [] ++ keys) fits.host,
+      reserved_again keys,
+      elements_again key_at key_text key_of IsReadable some_key key_again hop.keys is fits.keys,
+    ) refl
 
 -- ---- the rules of a hop
 

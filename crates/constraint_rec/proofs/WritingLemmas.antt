@@ -136,7 +136,7 @@ with_items_writable : (items : List Item) (terms : Terms) → All IsItem items �
 with_items_writable [] terms fit is = is
 with_items_writable (item ∷ items) terms fit is =
     with_items_writable items (with_item terms item) (All-tail IsItem item items fit)
-        (with_item_writable terms item (All-head IsItem item items fit) is)
+    (with_item_writable terms item (All-head IsItem item items fit) is)
 
 -- constraints can be written
 pub constraints_are_writable : (bytes : List ℕ) (terms : Terms) → IsConstraints bytes terms → IsWritable terms

@@ -25,4 +25,4 @@ returns-clause-only c = λ terms is.
 pub returns-clause-writable : goal.returns-clause-writable
 returns-clause-writable c =
     constraints_are_writable c.rest-bytes.result.now c.in_ok-terms.terms
-        (terms_are_found c.rest-bytes.result.now c.in_ok-terms.terms c.rest-bytes.ensures.bytes c.in_ok-terms.ensures)
+    (terms_are_found c.rest-bytes.result.now c.in_ok-terms.terms c.rest-bytes.ensures.bytes c.in_ok-terms.ensures)
