@@ -1,13 +1,17 @@
 -- The bytes that are read are those of the grammar, and the terms are theirs.
-use Rattle.std.proofs.Common.{◌≡◌, ◌≢◌, ℕ, zero, suc, ◌+◌, ◌<◌, ◌≤◌, Bool, true, false, cond, ◌||◌, List, [], ◌∷◌, ◌++◌, length, filter, All, Result, Ok, Err, refl, sym, ap, subst, ◌∙◌, arith, length-append}
+use Rattle.std.proofs.Common.{◌≡◌, ◌≢◌, ℕ, zero, suc, ◌+◌, ◌<◌, ◌≤◌, ◌⊎◌, inl, inr, Bool, true, false, cond, ◌||◌, List, [], ◌∷◌, ◌++◌, map, length, filter, All, Result, Ok, Err, refl, sym, ap, subst, ◌∙◌, arith, length-append}
 use Rattle.std.specs.List.{flat_map}
 use Rattle.std.proofs.lemmas.List.Elements.{All-head, All-tail, All-cons}
 use Rattle.wire_text.specs.Wire.{IsBytes}
 use Rattle.constraint_rec.specs.declared.fault.TermFault.{TermFault}
+use Rattle.constraint_rec.specs.declared.fault.TermFault.TheVariants.{Memory}
 use Rattle.constraint_rec.specs.declared.terms.Terms.{Terms}
-use Rattle.constraint_rec.specs.Constraints.{no_terms, Item, Life, Confirmation, item_text, IsItem, is_alike, with_item, with_items, IsConstraints}
-use Rattle.constraint_rec.specs.Reading.{◌>>=◌, has_kind, next_at, terms_up_to, terms_of}
-use Rattle.constraint_rec.proofs.ReadingLemmas.{kind_of, next_is, next_at-item}
+use Rattle.constraint_rec.specs.Hops.{constraint_of}
+use Rattle.constraint_rec.specs.Constraints.{no_terms, Item, Life, Confirmation, Rules, item_text, IsItem, is_alike, with_item, with_items, IsConstraints}
+use Rattle.constraint_rec.specs.HopReading.{◌>>=◌}
+use Rattle.constraint_rec.specs.Reading.{has_kind, next_at, terms_up_to, terms_of}
+use Rattle.constraint_rec.proofs.FieldLemmas.{nonempty_test}
+use Rattle.constraint_rec.proofs.ReadingLemmas.{kind_of, unmapped, next_is, next_at-item}
 
 -- each constraint is of a kind that the terms don't have when it is read
 abbrev pub AreReadable : Terms → List Item → Type 0
@@ -47,9 +51,10 @@ goes_on-next whole terms left after rest so_far some shorter read =
 
 -- its fault is the whole's
 pub goes_on-fault : (whole : Result Terms TermFault) (terms : Terms) (left : List ℕ) (fault : TermFault) →
-    GoesOn whole terms left → left ≢ [] → next_at terms left ≡ Err fault → whole ≡ Err fault
-goes_on-fault whole terms left fault so_far some read =
-    (one_more so_far.count whole terms left (Err fault) so_far.enough some so_far.same read).2
+    GoesOn whole terms left → left ≢ [] → (fault ≡ Memory) ⊎ (next_at terms left ≡ Err fault) → (fault ≡ Memory) ⊎ (whole ≡ Err fault)
+goes_on-fault whole terms left fault so_far some (inl memory) = inl memory
+goes_on-fault whole terms left fault so_far some (inr read) =
+    inr (one_more so_far.count whole terms left (Err fault) so_far.enough some so_far.same read).2
 
 -- no bytes are no constraints
 none_left : (count : ℕ) (terms : Terms) → terms_up_to count terms [] ≡ Ok terms
@@ -82,6 +87,7 @@ read_is (Err fault) count after all = absurd cc
 some_text : (item : Item) → 1 ≤ length (item_text item)
 some_text (Life seconds) = omega arith
 some_text Confirmation = omega arith
+some_text (Rules rules) = omega arith
 
 -- by the number of constraints
 are_read : (count : ℕ) (terms : Terms) (bytes : List ℕ) (after : Terms) → IsBytes bytes → length bytes ≤ count →
@@ -114,37 +120,49 @@ abbrev pub alike : Item → List Item → ℕ
 alike item items = length (filter (is_alike item) items)
 
 -- the terms have the kinds that they had, and the kind of what was added
-has_kind-with : (terms : Terms) (item added : Item) →
+has_kind-with : (terms : Terms) (item added : Item) → IsItem added →
     has_kind (with_item terms added) (kind_of item) ≡ (is_alike item added || has_kind terms (kind_of item))
-has_kind-with terms (Life seconds) (Life others) = refl
-has_kind-with terms (Life seconds) Confirmation = refl
-has_kind-with terms Confirmation (Life others) = refl
-has_kind-with terms Confirmation Confirmation = refl
+has_kind-with terms (Life seconds) (Life others) fit = refl
+has_kind-with terms (Life seconds) Confirmation fit = refl
+has_kind-with terms (Life seconds) (Rules rules) fit = refl
+has_kind-with terms Confirmation (Life others) fit = refl
+has_kind-with terms Confirmation Confirmation fit = refl
+has_kind-with terms Confirmation (Rules rules) fit = refl
+has_kind-with terms (Rules rules) (Life others) fit = refl
+has_kind-with terms (Rules rules) Confirmation fit = refl
+has_kind-with terms (Rules rules) (Rules others) fit =
+    rw (nonempty_test (map constraint_of others) (λ none. fit.some (unmapped others none))) refl
 
 -- constraints that are alike have one kind
 alike_kinds : (item other : Item) → is_alike item other ≡ true → kind_of item ≡ kind_of other
 alike_kinds (Life seconds) (Life others) same = refl
 alike_kinds (Life seconds) Confirmation same = absurd cc
+alike_kinds (Life seconds) (Rules rules) same = absurd cc
 alike_kinds Confirmation (Life others) same = absurd cc
 alike_kinds Confirmation Confirmation same = refl
+alike_kinds Confirmation (Rules rules) same = absurd cc
+alike_kinds (Rules rules) (Life others) same = absurd cc
+alike_kinds (Rules rules) Confirmation same = absurd cc
+alike_kinds (Rules rules) (Rules others) same = refl
 
 -- a constraint is like itself
 alike_itself : (item : Item) → is_alike item item ≡ true
 alike_itself (Life seconds) = refl
 alike_itself Confirmation = refl
+alike_itself (Rules rules) = refl
 
 -- one more constraint of a new kind counts once
-counted : (terms : Terms) (first item : Item) (items : List Item) (is : Bool) → is_alike item first ≡ is →
+counted : (terms : Terms) (first item : Item) (items : List Item) (is : Bool) → IsItem first → is_alike item first ≡ is →
     has_kind terms (kind_of first) ≡ false → had (with_item terms first) item + alike item items ≤ 1 →
     had terms item + alike item (first ∷ items) ≤ 1
-counted terms first item items true same is_new once =
-    let both = has_kind-with terms item first in
+counted terms first item items true fit same is_new once =
+    let both = has_kind-with terms item first fit in
     let kinds : has_kind terms (kind_of item) ≡ false = ap (has_kind terms) (alike_kinds item first same) ∙ is_new in
     let now : has_kind (with_item terms first) (kind_of item) ≡ true = both ∙ ap (λ (b : Bool). b || has_kind terms (kind_of item)) same in
     rw (same, kinds) (omega (arith, rw now at once))
-counted terms first item items false same is_new once =
+counted terms first item items false fit same is_new once =
     let both : has_kind (with_item terms first) (kind_of item) ≡ has_kind terms (kind_of item) =
-    has_kind-with terms item first ∙ ap (λ (b : Bool). b || has_kind terms (kind_of item)) same in
+    has_kind-with terms item first fit ∙ ap (λ (b : Bool). b || has_kind terms (kind_of item)) same in
     rw same (rw both at once)
 
 -- each kind counts once
@@ -155,7 +173,7 @@ once_each [] terms readable item = at_most (has_kind terms (kind_of item))
     at_most true = omega arith
     at_most false = omega arith
 once_each (first ∷ items) terms readable item =
-    counted terms first item items (is_alike item first) refl readable.1 (once_each items (with_item terms first) readable.2 item)
+    counted terms first item items (is_alike item first) readable.0 refl readable.1 (once_each items (with_item terms first) readable.2 item)
 
 -- each constraint fits its fields
 fit_each : (items : List Item) (terms : Terms) → AreReadable terms items → All IsItem items
@@ -178,16 +196,16 @@ terms_are_found bytes terms small read =
 -- ---- constraints are read
 
 -- without the first one, each kind still counts once
-counted_back : (terms : Terms) (first item : Item) (items : List Item) (is has : Bool) → is_alike item first ≡ is →
+counted_back : (terms : Terms) (first item : Item) (items : List Item) (is has : Bool) → IsItem first → is_alike item first ≡ is →
     has_kind terms (kind_of item) ≡ has →
     had terms item + alike item (first ∷ items) ≤ 1 → had (with_item terms first) item + alike item items ≤ 1
-counted_back terms first item items true has same had_it once =
+counted_back terms first item items true has fit same had_it once =
     let now : has_kind (with_item terms first) (kind_of item) ≡ true =
-    has_kind-with terms item first ∙ ap (λ (b : Bool). b || has_kind terms (kind_of item)) same in
+    has_kind-with terms item first fit ∙ ap (λ (b : Bool). b || has_kind terms (kind_of item)) same in
     rw now (omega (arith, rw same at once))
-counted_back terms first item items false has same had_it once =
+counted_back terms first item items false has fit same had_it once =
     let both : has_kind (with_item terms first) (kind_of item) ≡ has_kind terms (kind_of item) =
-    has_kind-with terms item first ∙ ap (λ (b : Bool). b || has_kind terms (kind_of item)) same in
+    has_kind-with terms item first fit ∙ ap (λ (b : Bool). b || has_kind terms (kind_of item)) same in
     rw both (rw same at once)
 
 -- the terms have no kind that is still to be read
@@ -203,7 +221,8 @@ readable_each (first ∷ items) terms fit once = (
   All-head IsItem first items fit,
   is_first terms first items (has_kind terms (kind_of first)) refl (once first),
   readable_each items (with_item terms first) (All-tail IsItem first items fit)
-      (λ item. counted_back terms first item items (is_alike item first) (has_kind terms (kind_of item)) refl refl (once item)),
+      (λ item. counted_back terms first item items (is_alike item first) (has_kind terms (kind_of item))
+      (All-head IsItem first items fit) refl refl (once item)),
 )
 
 -- constraints that can be read are read
@@ -229,3 +248,4 @@ terms_are_read bytes terms is =
     none_had : (item : Item) → alike item is.items ≤ 1 → had no_terms item + alike item is.items ≤ 1
     none_had (Life seconds) once = omega arith
     none_had Confirmation once = omega arith
+    none_had (Rules rules) once = omega arith

@@ -1,9 +1,10 @@
 -- Constraints of an added key as bytes (draft-miller-ssh-agent, "Key Constraints"; OpenSSH's PROTOCOL.agent,
 -- "restrict-destination-v00@openssh.com key constraint extension"). That none comes twice is OpenSSH's rule.
-use Rattle.std.specs.Prelude.{◌≡◌, ℕ, ◌^◌, ◌<◌, ◌≤◌, Bool, true, false, List, [], ◌∷◌, length, filter, All, Some, None}
+use Rattle.std.specs.Prelude.{◌≡◌, ◌≢◌, ℕ, ◌^◌, ◌<◌, ◌≤◌, Bool, true, false, List, [], ◌∷◌, ◌++◌, map, codes, length, filter, All, Some, None}
 use Rattle.std.specs.List.{flat_map}
-use Rattle.wire_text.specs.Wire.{uint32}
+use Rattle.wire_text.specs.Wire.{uint32, string}
 use Rattle.constraint_rec.specs.declared.terms.Terms.{Terms}
+use Rattle.constraint_rec.specs.Hops.{SpeltConstraint, list_text, constraint_of, IsDestination}
 
 -- no lifetime, no confirmation, no destination constraint
 abbrev pub no_terms : Terms
@@ -15,28 +16,42 @@ no_terms = record { life = None; confirm = false; rules = [] }
 pub data Item : Type 0 where
   Life : (seconds : ℕ) → Item
   Confirmation : Item
+  Rules : (rules : List SpeltConstraint) → Item
+
+-- the name of the extension that holds destination constraints
+unfoldable pub restrict_destination : List ℕ
+restrict_destination = codes "restrict-destination-v00@openssh.com"
 
 -- its byte, and its contents
 abbrev pub item_text : Item → List ℕ
 item_text (Life seconds) = 1 ∷ uint32 seconds
 item_text Confirmation = 2 ∷ []
+item_text (Rules rules) = 255 ∷ (string restrict_destination ++ string (list_text rules))
+
+-- the contents are some destination constraints, which fit into their field
+pub record AreRules (rules : List SpeltConstraint) : Type 0 where
+  pub some : rules ≢ []
+  pub each : All IsDestination (map constraint_of rules)
+  pub short : length (list_text rules) < 2 ^ 32
 
 -- the contents fit into their fields
 abbrev pub IsItem : Item → Type 0
 IsItem (Life seconds) = seconds < 2 ^ 32
 IsItem Confirmation = Unit {0}
+IsItem (Rules rules) = AreRules rules
 
 -- two constraints are of one kind
 abbrev pub is_alike : Item → Item → Bool
 is_alike (Life seconds) (Life others) = true
-is_alike (Life seconds) Confirmation = false
-is_alike Confirmation (Life others) = false
 is_alike Confirmation Confirmation = true
+is_alike (Rules rules) (Rules others) = true
+is_alike item other = false
 
 -- terms that the constraint is added to
 abbrev pub with_item : Terms → Item → Terms
 with_item terms (Life seconds) = record terms { life = Some seconds }
 with_item terms Confirmation = record terms { confirm = true }
+with_item terms (Rules rules) = record terms { rules = map constraint_of rules }
 
 -- terms that all of the constraints are added to
 abbrev pub with_items : Terms → List Item → Terms

@@ -1,2 +1,5 @@
 pub mod Constraints
+pub mod HopReading
+pub mod Hops
 pub mod Reading
+pub mod Writing

@@ -1,21 +1,27 @@
 -- What reading constraints from left to right gives: the terms, or the first fault.
-use Rattle.std.specs.Prelude.{ℕ, zero, suc, Bool, true, List, [], ◌∷◌, length, Some, Result, Ok, Err, is_some, ◌==◌, if◌then◌else◌}
+use Rattle.std.specs.Prelude.{ℕ, zero, suc, Bool, true, not, List, [], ◌∷◌, length, Some, Result, Ok, Err, is_some, ◌==◌, if◌then◌else◌}
 use Rattle.std.specs.Option.{ok_or}
+use Rattle.std.specs.Str.{bytes_eq}
 use Rattle.wire_core.specs.Fields.{uint32_at}
 use Rattle.constraint_rec.specs.declared.fault.TermFault.{TermFault}
 use Rattle.constraint_rec.specs.declared.fault.TermFault.TheVariants.{Short, Unknown, Twice}
 use Rattle.constraint_rec.specs.declared.kind.Kind.{Kind}
-use Rattle.constraint_rec.specs.declared.kind.Kind.TheVariants.{Lifetime, Confirm}
+use Rattle.constraint_rec.specs.declared.kind.Kind.TheVariants.{Lifetime, Confirm, Destinations}
 use Rattle.constraint_rec.specs.declared.terms.Terms.{Terms}
-use Rattle.constraint_rec.specs.Constraints.{no_terms}
-
-infixl 10 ◌>>=◌
--- the first fault, or what the second reading gives for the value of the first
-abbrev pub ◌>>=◌ : {A B : Type 0} → Result A TermFault → (A → Result B TermFault) → Result B TermFault
-(Ok x) >>= f = f x
-(Err fault) >>= f = Err fault
+use Rattle.constraint_rec.specs.Constraints.{no_terms, restrict_destination}
+use Rattle.constraint_rec.specs.HopReading.{◌>>=◌, is_empty, field_at, rules_in}
 
 -- ---- a row for each kind: its byte, whether terms have it, and its contents
+
+-- the kind of the extension of this name, and the bytes that follow
+abbrev pub kind_named : List ℕ × List ℕ → Result (Kind × List ℕ) TermFault
+kind_named name =
+    if bytes_eq name.0 restrict_destination then Ok (Destinations, name.1)
+    else Err Unknown
+
+-- the kind of the extension whose name is at the front, and the bytes that follow
+abbrev pub extension_at : List ℕ → Result (Kind × List ℕ) TermFault
+extension_at bytes = field_at bytes >>= kind_named
 
 -- the kind that the byte at the front begins, and the bytes that follow
 unfoldable pub kind_at : List ℕ → Result (Kind × List ℕ) TermFault
@@ -23,21 +29,28 @@ kind_at [] = Err Short
 kind_at (byte ∷ rest) =
     if byte == 1 then Ok (Lifetime, rest)
     else if byte == 2 then Ok (Confirm, rest)
+    else if byte == 255 then extension_at rest
     else Err Unknown
 
 -- the terms have a constraint of this kind
 abbrev pub has_kind : Terms → Kind → Bool
 has_kind terms Lifetime = is_some terms.life
 has_kind terms Confirm = terms.confirm
+has_kind terms Destinations = not (is_empty terms.rules)
 
 -- the terms with this lifetime, and the bytes that follow
 abbrev pub with_life : Terms → ℕ × List ℕ → Result (Terms × List ℕ) TermFault
 with_life terms seconds = Ok (record terms { life = Some seconds.0 }, seconds.1)
 
+-- the terms with the destination constraints that the contents are, and the bytes that follow
+abbrev pub with_rules : Terms → List ℕ × List ℕ → Result (Terms × List ℕ) TermFault
+with_rules terms contents = rules_in contents.0 >>= λ rules. Ok (record terms { rules = rules }, contents.1)
+
 -- the terms with what the contents of this kind say, and the bytes that follow
 unfoldable pub contents_at : Kind → Terms → List ℕ → Result (Terms × List ℕ) TermFault
 contents_at Lifetime terms bytes = ok_or (uint32_at bytes) Short >>= with_life terms
 contents_at Confirm terms bytes = Ok (record terms { confirm = true }, bytes)
+contents_at Destinations terms bytes = field_at bytes >>= with_rules terms
 
 -- ---- one after another
 

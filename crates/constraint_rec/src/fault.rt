@@ -1,32 +1,32 @@
 ghost use Rattle.std.specs.Prelude.{◌≡◌};
 ghost use Rattle.constraint_rec.specs.declared.fault.TermFault.TheVariants.{Short as TooShort, Memory};
 
-use std::alloc::AllocError;
+use std::alloc::{AllocError, AllocFailed};
 use wire_core::Short;
 
 /// Why constraints were refused: the first fault in the order of the bytes.
 #[derive(Clone, Copy, Debug, PartialEq, Eq)]
 pub enum TermFault {
     /// Too few bytes for a field, or bytes behind a destination constraint's reserved string.
-    Short,
+    Short = 1,
     /// A byte that begins no constraint, or an extension of another name.
-    Unknown,
+    Unknown = 2,
     /// A constraint of one kind comes again. Found before its contents are read.
-    Twice,
+    Twice = 3,
     /// A reserved string is not empty.
-    Reserved,
+    Reserved = 4,
     /// The hop that is left names a user.
-    FromUser,
+    FromUser = 5,
     /// The hop that is left has a hostname and no keys, or keys and no hostname.
-    FromHalf,
+    FromHalf = 6,
     /// The hop that is entered has no hostname or no keys.
-    ToHalf,
+    ToHalf = 7,
     /// The list of destination constraints is empty.
-    NoRules,
+    NoRules = 8,
     /// A blob is no key that is read.
-    Key,
+    Key = 9,
     /// Memory ran out. Says nothing of the bytes.
-    Memory,
+    Memory = 10,
 }
 
 impl From<Short> for TermFault {
@@ -41,6 +41,14 @@ impl From<AllocError> for TermFault {
     ghost from_gives = { λ _ fault. fault ≡ Memory };
 
     fn from(_error: AllocError) -> TermFault {
+        TermFault::Memory
+    }
+}
+
+impl<T: Drop> From<AllocFailed<T>> for TermFault {
+    ghost from_gives = { λ _ fault. fault ≡ Memory };
+
+    fn from(_error: AllocFailed<T>) -> TermFault {
         TermFault::Memory
     }
 }

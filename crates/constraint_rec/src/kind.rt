@@ -1,5 +1,6 @@
 ghost use Rattle.std.specs.Prelude.{◌≡◌, ◌<◌, length, OnOk, MatchResult, Ok, Err};
-ghost use Rattle.constraint_rec.specs.Reading.{kind_at};
+ghost use Rattle.constraint_rec.specs.Constraints.{restrict_destination};
+ghost use Rattle.constraint_rec.specs.Reading.{extension_at, kind_at};
 
 use crate::fault::TermFault;
 use wire_core::Cursor;
@@ -9,6 +10,28 @@ use wire_core::Cursor;
 pub enum Kind {
     Lifetime,
     Confirm,
+    Destinations,
+}
+
+/// The name of the extension that holds destination constraints.
+#[tactic(auto, unfolding(crate::specs::Constraints::restrict_destination))]
+pub fn restrict_destination() -> &'static [u8]
+    ensures { result.now ≡ restrict_destination }
+{
+    b"restrict-destination-v00@openssh.com".as_slice()
+}
+
+/// Takes the name of an extension. A refused call may have moved the cursor.
+fn take_extension(from: &mut Cursor<'_>) -> Result<Kind, TermFault>
+    ensures exact { MatchResult result (λ kind. extension_at from.old ≡ Ok (kind, from.new))
+        (λ fault. extension_at from.old ≡ Err fault) }
+    ensures shorter { OnOk result (length from.new < length from.old) }
+{
+    if from.take_string()? == restrict_destination() {
+        Ok(Kind::Destinations)
+    } else {
+        Err(TermFault::Unknown)
+    }
 }
 
 /// Takes the byte that begins a constraint. A refused call may have moved the cursor.
@@ -21,6 +44,7 @@ pub fn take_kind(from: &mut Cursor<'_>) -> Result<Kind, TermFault>
     match from.take_u8()? {
         1 => Ok(Kind::Lifetime),
         2 => Ok(Kind::Confirm),
+        255 => take_extension(from),
         _ => Err(TermFault::Unknown),
     }
 }

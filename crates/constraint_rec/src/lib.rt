@@ -5,6 +5,7 @@
 #![tactic(auto)]
 
 mod constraint;
+mod destination;
 mod fault;
 mod key_spec;
 mod kind;
@@ -12,9 +13,11 @@ mod read;
 mod terms;
 #[cfg(test)]
 mod tests;
+mod write;
 
 pub use constraint::{Constraint, Constraints, Hop};
 pub use fault::TermFault;
 pub use key_spec::{KeySpec, KeySpecs};
 pub use read::read_constraints;
 pub use terms::Terms;
+pub use write::write_constraints;

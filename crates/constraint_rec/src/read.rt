@@ -3,7 +3,9 @@ ghost use Rattle.constraint_rec.specs.declared.fault.TermFault.TheVariants.{Memo
 ghost use Rattle.constraint_rec.specs.declared.terms.Terms.{Terms};
 ghost use Rattle.constraint_rec.specs.Constraints.{IsConstraints};
 ghost use Rattle.constraint_rec.specs.Reading.{has_kind, next_at, terms_of};
+ghost use Rattle.constraint_rec.specs.Writing.{IsWritable};
 
+use crate::destination::read_destinations;
 use crate::fault::TermFault;
 use crate::kind::{Kind, take_kind};
 use crate::terms::Terms;
@@ -17,14 +19,15 @@ fn has(terms: &Terms, kind: Kind) -> bool
     match kind {
         Kind::Lifetime => terms.life.is_some(),
         Kind::Confirm => terms.confirm,
+        Kind::Destinations => !terms.rules.is_empty(),
     }
 }
 
 /// Takes a constraint and adds it to the terms. A refused call may have moved the cursor.
 #[tactic(auto, unfolding(crate::specs::Reading::next_at, crate::specs::Reading::contents_at))]
-fn take_constraint(from: &mut Cursor<'_>, terms: &mut Terms) -> Result<(), TermFault>
+fn take_constraint(alloc: Global, from: &mut Cursor<'_>, terms: &mut Terms) -> Result<(), TermFault>
     ensures exact { MatchResult result (λ _. next_at terms.old from.old ≡ Ok (terms.new, from.new))
-        (λ fault. next_at terms.old from.old ≡ Err fault) }
+        (λ fault. (fault ≡ Memory) ⊎ (next_at terms.old from.old ≡ Err fault)) }
     ensures shorter { OnOk result (length from.new < length from.old) }
 {
     let kind = take_kind(from)?;
@@ -34,6 +37,7 @@ fn take_constraint(from: &mut Cursor<'_>, terms: &mut Terms) -> Result<(), TermF
     match kind {
         Kind::Lifetime => terms.life = Some(from.take_u32()?),
         Kind::Confirm => terms.confirm = true,
+        Kind::Destinations => terms.rules = read_destinations(alloc, from.take_string()?)?,
     }
     Ok(())
 }
@@ -46,7 +50,7 @@ fn terms_at(alloc: Global, bytes: &[u8]) -> Result<Terms, TermFault>
     let mut terms = Terms::new(alloc);
     let mut from = Cursor::new(bytes);
     'constraints: while !from.at_end() {
-        take_constraint(&mut from, &mut terms)?;
+        take_constraint(alloc, &mut from, &mut terms)?;
     }
     Ok(terms)
 }
@@ -64,6 +68,9 @@ pub fn read_constraints(alloc: Global, from: &mut Cursor<'_>) -> Result<Terms, T
     ensures exact { MatchResult result (λ terms. terms_of from.old ≡ Ok terms)
         (λ fault. (fault ≡ Memory) ⊎ (terms_of from.old ≡ Err fault)) }
     ensures unchanged { OnErr result (from.new ≡ from.old) }
+
+    // What is read can be written.
+    ensures writable { IfOk result (λ terms. IsWritable terms) }
 {
     let bytes = from.rest();
     let terms = terms_at(alloc, bytes)?;

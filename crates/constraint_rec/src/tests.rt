@@ -1,8 +1,10 @@
-//! Texts written out from draft-miller-ssh-agent, "Key Constraints": each fault that can come, some with a
-//! second fault behind the first; and the lists of destination constraints, which contracts see but no text has.
+//! What OpenSSH's tools send, and texts written out from draft-miller-ssh-agent, "Key Constraints",
+//! and OpenSSH's PROTOCOL.agent: each fault, some with a second fault behind the first.
+
+mod destinations;
+mod openssh;
 
 use super::*;
-use plain_lists::Bytes;
 use std::alloc::Global;
 use std::test::Fail;
 use wire_core::Cursor;
@@ -55,42 +57,51 @@ fn the_first_fault_is_answered_and_nothing_taken(rt: HostRuntime) {
     }
 }
 
-fn hop(alloc: Global, user: &[u8], host: &[u8]) -> Result<Hop, Fail> {
-    let mut keys = KeySpecs::new(alloc).into_vec();
-    keys.push(KeySpec {
-        blob: Bytes::from_vec(Vec::from_slice(alloc, host)?),
-        authority: user.is_empty(),
-    })?;
-    Ok(Hop {
-        user: Bytes::from_vec(Vec::from_slice(alloc, user)?),
-        host: Bytes::from_vec(Vec::from_slice(alloc, host)?),
-        keys: KeySpecs::from_vec(keys),
-    })
+#[test]
+fn what_ssh_add_sends_is_read(rt: HostRuntime) -> Result<(), Fail> {
+    let Ok(terms) = read_constraints(rt.alloc(), &mut Cursor::new(openssh::CHAIN)) else {
+        return Err("the text is of ssh-add".into());
+    };
+    assert_eq!(rt; terms.life, Some(3600));
+    assert!(rt; terms.confirm);
+    let [first, second] = terms.rules.as_slice() else {
+        return Err("the chain has two constraints".into());
+    };
+    assert!(rt; first.from.user.is_empty() && first.from.host.is_empty());
+    assert!(rt; first.from.keys.is_empty());
+    let any = b"".as_slice();
+    let a = b"a.example.com".as_slice();
+    let b = b"b.example.com".as_slice();
+    let a_keys = [(openssh::HOST_A, false), (openssh::AUTHORITY, true)];
+    let b_keys = [
+        (openssh::HOST_B, false),
+        (openssh::HOST_B_ECDSA, false),
+        (openssh::AUTHORITY, true),
+    ];
+    assert!(rt; is_hop(&first.to, any, a, &a_keys));
+    assert!(rt; is_hop(&second.from, any, a, &a_keys));
+    assert!(rt; is_hop(&second.to, b"root", b, &b_keys));
+    Ok(())
+}
+
+fn is_hop(hop: &Hop, user: &[u8], host: &[u8], keys: &[(&[u8], bool)]) -> bool {
+    hop.user.as_slice() == user
+        && hop.host.as_slice() == host
+        && hop.keys.len() == keys.len()
+        && hop.keys.as_slice().iter().zip(keys).all(|(key, (blob, authority))| {
+            key.blob.as_slice() == *blob && key.authority == *authority
+        })
 }
 
 #[test]
-fn destination_constraints_are_kept_in_order(rt: HostRuntime) -> Result<(), Fail> {
-    let mut terms = Terms::new(rt.alloc());
-    assert!(rt; terms.rules.is_empty());
-    assert!(rt; KeySpecs::new(rt.alloc()).is_empty());
-    let mut rules = terms.rules.into_vec();
-    for user in [b"root".as_slice(), b"git".as_slice()] {
-        rules.push(Constraint {
-            from: hop(rt.alloc(), b"", b"a.example.com")?,
-            to: hop(rt.alloc(), user, b"b.example.com")?,
-        })?;
+fn what_ssh_add_sends_is_written_again(rt: HostRuntime) -> Result<(), Fail> {
+    for text in [b"".as_slice(), openssh::ONE_HOST, openssh::CHAIN] {
+        let Ok(terms) = read_constraints(rt.alloc(), &mut Cursor::new(text)) else {
+            return Err("the text is of ssh-add".into());
+        };
+        let mut out = Vec::from_slice(rt.alloc(), b"before")?;
+        write_constraints(&mut out, &terms)?;
+        assert_eq!(rt; out.as_slice().strip_prefix(b"before"), Some(text));
     }
-    terms.rules = Constraints::from_vec(rules);
-    assert_eq!(rt; terms.rules.len(), 2);
-    let [first, second] = terms.rules.as_slice() else {
-        return Err("two constraints are kept".into());
-    };
-    assert_eq!(rt; first.to.user.as_slice(), b"root".as_slice());
-    assert_eq!(rt; second.to.user.as_slice(), b"git".as_slice());
-    let [authority] = second.from.keys.as_slice() else {
-        return Err("a hop keeps its key".into());
-    };
-    assert!(rt; authority.authority);
-    assert_eq!(rt; second.to.keys.len(), 1);
     Ok(())
 }

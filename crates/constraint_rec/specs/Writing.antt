@@ -1,0 +1,52 @@
+-- Constraints as they are written: lifetime, confirmation, destination constraints, each where it is there.
+use Rattle.std.specs.Prelude.{◌≡◌, ℕ, ◌^◌, ◌<◌, Bool, true, false, List, [], ◌∷◌, ◌++◌, map, length, All, Option, Some, None}
+use Rattle.std.specs.List.{flat_map}
+use Rattle.constraint_rec.specs.declared.key_spec.KeySpec.{KeySpec}
+use Rattle.constraint_rec.specs.declared.constraint.Hop.{Hop}
+use Rattle.constraint_rec.specs.declared.constraint.Constraint.{Constraint}
+use Rattle.constraint_rec.specs.declared.terms.Terms.{Terms}
+use Rattle.constraint_rec.specs.Hops.{SpeltKey, SpeltHop, SpeltConstraint, list_text, IsDestination}
+use Rattle.constraint_rec.specs.Constraints.{Item, Life, Confirmation, Rules, item_text}
+
+-- ---- how they are spelled
+
+-- 1 for an authority, and 0 for a host key
+abbrev pub is_ca_byte : Bool → ℕ
+is_ca_byte true = 1
+is_ca_byte false = 0
+
+abbrev pub spelt_key : KeySpec → SpeltKey
+spelt_key key = record { blob = key.blob; is_ca = is_ca_byte key.authority }
+
+abbrev pub spelt_hop : Hop → SpeltHop
+spelt_hop hop = record { user = hop.user; host = hop.host; keys = map spelt_key hop.keys }
+
+abbrev pub spelt_constraint : Constraint → SpeltConstraint
+spelt_constraint constraint =
+    record { from = spelt_hop constraint.from; to = spelt_hop constraint.to }
+
+-- ---- the constraints of terms, in order
+
+abbrev pub life_items : Option ℕ → List Item
+life_items None = []
+life_items (Some seconds) = Life seconds ∷ []
+
+abbrev pub confirm_items : Bool → List Item
+confirm_items true = Confirmation ∷ []
+confirm_items false = []
+
+abbrev pub rule_items : List Constraint → List Item
+rule_items [] = []
+rule_items (rule ∷ rules) = Rules (map spelt_constraint (rule ∷ rules)) ∷ []
+
+abbrev pub items_of : Terms → List Item
+items_of terms = life_items terms.life ++ (confirm_items terms.confirm ++ rule_items terms.rules)
+
+-- the text of the terms
+unfoldable pub constraints_bytes : Terms → List ℕ
+constraints_bytes terms = flat_map item_text (items_of terms)
+
+-- each destination constraint meets the rules of the format, and their text fits its field, so that each text in it does
+pub record IsWritable (terms : Terms) : Type 0 where
+  pub rules : All IsDestination terms.rules
+  pub short : length (list_text (map spelt_constraint terms.rules)) < 2 ^ 32
