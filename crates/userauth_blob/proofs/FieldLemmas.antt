@@ -1,5 +1,5 @@
 -- Keys and algorithms, and steps that didn't fail.
-use Rattle.std.proofs.Common.{◌≡◌, ◌≢◌, ℕ, ◌<◌, Bool, true, false, cond, List, [], ◌++◌, length, Option, Some, None, Result, Ok, Err, refl, sym, ap, subst, ◌∙◌}
+use Rattle.std.proofs.Common.{◌≡◌, ◌≢◌, ℕ, ◌<◌, Bool, true, false, cond, List, [], ◌∷◌, ◌++◌, length, Option, Some, None, Result, Ok, Err, refl, sym, ap, subst, ◌∙◌}
 use Rattle.std.specs.Prelude.{◌↔◌, IsTrue, Contains, is_ok}
 use Rattle.std.specs.List.{list_any}
 use Rattle.std.specs.Option.{ok_or}
@@ -16,8 +16,9 @@ use Rattle.key_blob.specs.PublicKeys.{KeyParts, algorithms_of, IsPublicKey, publ
 use Rattle.key_blob.specs.declared.fault.KeyFault.{KeyFault}
 use Rattle.key_blob.proofs.Theorems.{public_is_found, public_is_read}
 use Rattle.userauth_blob.specs.declared.fault.AuthFault.{AuthFault}
-use Rattle.userauth_blob.specs.UserAuths.{Fits}
-use Rattle.userauth_blob.specs.Reading.{◌>>=◌, fits}
+use Rattle.userauth_blob.specs.declared.fault.AuthFault.TheVariants.{Trailing}
+use Rattle.userauth_blob.specs.UserAuths.{Login, Fits}
+use Rattle.userauth_blob.specs.Reading.{◌>>=◌, fits, ended}
 
 -- ---- steps that didn't fail
 
@@ -32,6 +33,11 @@ ok_or_ok None fault x e = absurd cc
 pub guard_ok : {A : Type 0} (b : Bool) (fault : AuthFault) (x y : A) → cond b (Ok x) (Err fault) ≡ Ok y → (b ≡ true) × (x ≡ y)
 guard_ok true fault x y e = (refl, cc)
 guard_ok false fault x y e = absurd cc
+
+-- bytes that are left are the fault
+pub ended-left : (auth : Login) (rest : List ℕ) → rest ≢ [] → ended auth rest ≡ Err Trailing
+ended-left auth [] some = absurd (some refl)
+ended-left auth (byte ∷ rest) some = refl
 
 -- ---- bytes
 

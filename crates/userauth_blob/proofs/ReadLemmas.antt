@@ -15,7 +15,7 @@ use Rattle.userauth_blob.specs.Reading.{◌>>=◌, text_at, after_byte, after_te
 use Rattle.userauth_blob.proofs.FieldLemmas.{fits_again, key_again}
 
 -- the method of a login with such a host key
-pub method_of : Option (List ℕ) → AuthMethod
+abbrev pub method_of : Option (List ℕ) → AuthMethod
 method_of None = PublicKey
 method_of (Some host_key) = HostBound
 

@@ -22,7 +22,10 @@ same_host_key (Some a) (Some b) is_a is_b name field =
     ap (λ (key : List ℕ). Some key) (same_string a b [] [] is_a.0 is_b.0 (ap (λ (bytes : List ℕ). bytes ++ []) field)).0
 
 same_login : (a b : Login) → a.session ≡ b.session → a.user ≡ b.user → a.host_key ≡ b.host_key → a ≡ b
-same_login a b session user host_key = cc
+same_login a b session user host_key =
+    ap (λ (x : List ℕ). record { session = x; user = a.user; host_key = a.host_key }) session
+    ∙ ap (λ (x : List ℕ). record { session = b.session; user = x; host_key = a.host_key }) user
+    ∙ ap (λ (x : Option (List ℕ)). record { session = b.session; user = b.user; host_key = x }) host_key
 
 pub signed_once : (message blob other_blob : List ℕ) (auth other : Login) → IsUserAuth message blob auth → IsUserAuth message other_blob other →
     (blob ≡ other_blob) × (auth ≡ other)

@@ -7,6 +7,8 @@ mod fault;
 mod fields;
 mod laws;
 mod method;
+#[cfg(test)]
+mod tests;
 mod userauth;
 
 pub use fault::AuthFault;
