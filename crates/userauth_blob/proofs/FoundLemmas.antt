@@ -1,5 +1,5 @@
 -- What is read is signed for the login.
-use Rattle.std.proofs.Common.{◌≡◌, ◌≢◌, ℕ, ◌^◌, ◌<◌, Bool, true, false, cond, eqb, List, [], ◌∷◌, ◌++◌, length, Option, Some, None, Result, Ok, Err, refl, sym, ap, subst, ◌∙◌, arith}
+use Rattle.std.proofs.Common.{◌≡◌, ◌≢◌, ℕ, ◌^◌, ◌<◌, Bool, true, false, cond, eqb, List, [], ◌∷◌, ◌++◌, length, Option, Some, None, Ok, Err, refl, ap, subst, ◌∙◌}
 use Rattle.std.specs.Prelude.{codes, is_ok}
 use Rattle.std.specs.Option.{ok_or}
 use Rattle.std.specs.Str.{bytes_eq}
@@ -9,13 +9,13 @@ use Rattle.std.proofs.lemmas.List.Elements.{All-tail}
 use Rattle.std.proofs.lemmas.Slice.Eq.{bytes_eq-Decides}
 use Rattle.wire_text.specs.Wire.{IsBytes, string}
 use Rattle.wire_core.specs.Fields.{string_at}
-use Rattle.wire_core.proofs.Theorems.{IsFront, string_is_front}
+use Rattle.wire_core.proofs.Theorems.{string_is_front}
 use Rattle.key_blob.specs.PublicKeys.{public_key_of}
 use Rattle.userauth_blob.specs.declared.fault.AuthFault.{AuthFault}
 use Rattle.userauth_blob.specs.declared.fault.AuthFault.TheVariants.{Short, NotRequest, Service, Method, NoSignatureFlag, OtherKey, Algorithm, HostKey}
 use Rattle.userauth_blob.specs.declared.method.AuthMethod.{AuthMethod}
 use Rattle.userauth_blob.specs.declared.method.AuthMethod.TheVariants.{PublicKey, HostBound}
-use Rattle.userauth_blob.specs.UserAuths.{Login, connection, method_name, host_field, signed_text, Fits, IsHostKey, IsUserAuth}
+use Rattle.userauth_blob.specs.UserAuths.{Login, connection, method_name, host_field, Fits, IsHostKey, IsUserAuth}
 use Rattle.userauth_blob.specs.Reading.{◌>>=◌, text_at, after_byte, if_text, after_text, if_some, session_at, method_named, method_at, fits, after_key, if_key, host_key_at, ended, auth_of}
 use Rattle.userauth_blob.proofs.FieldLemmas.{bind_ok, ok_or_ok, guard_ok, bytes_inside, fits_is, key_is}
 

@@ -1,5 +1,5 @@
 -- What is signed for a login is read.
-use Rattle.std.proofs.Common.{◌≡◌, ◌≢◌, ℕ, ◌^◌, ◌<◌, List, [], ◌∷◌, ◌++◌, length, Option, Some, None, Result, Ok, Err, refl, sym, ap, subst, ◌∙◌, lit<}
+use Rattle.std.proofs.Common.{◌≡◌, ◌≢◌, ℕ, ◌^◌, ◌<◌, List, [], ◌∷◌, ◌++◌, length, Option, Some, None, Ok, refl, sym, ap, ◌∙◌, lit<}
 use Rattle.std.specs.Prelude.{codes}
 use Rattle.std.proofs.lemmas.Bool.{eq-eqb}
 use Rattle.std.proofs.lemmas.List.{append-nil}
@@ -10,8 +10,8 @@ use Rattle.userauth_blob.specs.declared.fault.AuthFault.{AuthFault}
 use Rattle.userauth_blob.specs.declared.fault.AuthFault.TheVariants.{OtherKey, Service}
 use Rattle.userauth_blob.specs.declared.method.AuthMethod.{AuthMethod}
 use Rattle.userauth_blob.specs.declared.method.AuthMethod.TheVariants.{PublicKey, HostBound}
-use Rattle.userauth_blob.specs.UserAuths.{Login, connection, method_name, host_field, signed_text, Fits, IsHostKey, IsUserAuth}
-use Rattle.userauth_blob.specs.Reading.{◌>>=◌, text_at, after_byte, after_text, session_at, method_named, method_at, after_key, host_key_at, auth_of}
+use Rattle.userauth_blob.specs.UserAuths.{Login, connection, method_name, host_field, Fits, IsHostKey, IsUserAuth}
+use Rattle.userauth_blob.specs.Reading.{text_at, after_byte, after_text, session_at, method_named, method_at, after_key, host_key_at, auth_of}
 use Rattle.userauth_blob.proofs.FieldLemmas.{fits_again, key_again}
 
 -- the method of a login with such a host key

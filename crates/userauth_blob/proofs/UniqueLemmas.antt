@@ -1,7 +1,5 @@
 -- A message is signed by one key and for one login at most.
-use Rattle.std.proofs.Common.{◌≡◌, ℕ, ◌^◌, ◌<◌, List, [], ◌∷◌, ◌++◌, length, Option, Some, None, refl, sym, ap, subst, ◌∙◌, lit<, arith}
-use Rattle.std.proofs.lemmas.List.{append-nil}
-use Rattle.wire_text.specs.Wire.{string}
+use Rattle.std.proofs.Common.{◌≡◌, ℕ, ◌^◌, ◌<◌, List, [], ◌∷◌, ◌++◌, length, Option, Some, None, refl, sym, ap, ◌∙◌, lit<, arith}
 use Rattle.wire_text.proofs.WireLemmas.{same_string}
 use Rattle.userauth_blob.specs.UserAuths.{Login, connection, method_name, host_field, IsHostKey, IsUserAuth}
 

@@ -1,4 +1,4 @@
-use Rattle.std.proofs.Common.{◌≡◌, ◌∙◌, sym, ap, Ok, Result}
+use Rattle.std.proofs.Common.{◌∙◌, sym, ap, Result}
 use Rattle.key_blob.specs.PublicKeys.{KeyParts, parts_of, algorithms_of}
 use Rattle.key_blob.specs.declared.fault.KeyFault.{KeyFault}
 use Rattle.userauth_blob.specs.Reading.{fits}

@@ -1,4 +1,4 @@
-use Rattle.std.proofs.Common.{◌≡◌, ◌∙◌, [], sym, ap, refl, Ok, Err, rules}
+use Rattle.std.proofs.Common.{◌≡◌, [], sym, refl, Err, rules}
 use Rattle.userauth_blob.specs.declared.fault.AuthFault.TheVariants.{Short}
 use Rattle.userauth_blob.specs.Reading.{auth_of}
 use Rattle.userauth_blob.proofs.FieldLemmas.{ended-left}
