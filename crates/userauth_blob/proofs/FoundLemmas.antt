@@ -141,6 +141,10 @@ ended_is made auth (byte ∷ rest) e = absurd cc
 
 -- ---- the whole
 
+-- the field of a host key that nothing follows
+host_ends : (bytes rest : List ℕ) (host_key : Option (List ℕ)) → bytes ≡ host_field host_key ++ rest → rest ≡ [] → bytes ≡ host_field host_key
+host_ends bytes rest host_key parts none = parts ∙ ap (λ (left : List ℕ). host_field host_key ++ left) none ∙ append-nil (host_field host_key)
+
 -- parts one after another
 joined : (message session user method algorithm blob host a b c d e f g h : List ℕ) → message ≡ string session ++ a → a ≡ 50 ∷ b →
     b ≡ string user ++ c → c ≡ string connection ++ d → d ≡ string method ++ e → e ≡ 1 ∷ f → f ≡ string algorithm ++ g → g ≡ string blob ++ h →
@@ -173,8 +177,7 @@ auth_is_found message blob auth small read =
     let algorithm = text_is f.0 g.0 flag.left g.1 in
     let key = key_blob_is blob g.0.0 g.0.1 h.0 algorithm.left h.1 in
     let host = host_key_is e.0.0 h.0 i.0 key.0.left i.1 in
-    let host_is_last : h.0 ≡ host_field i.0.0 =
-    host.parts ∙ ap (λ (rest : List ℕ). host_field i.0.0 ++ rest) end.0 ∙ append-nil (host_field i.0.0) in
+    let host_is_last = host_ends h.0 i.0.1 i.0.0 host.parts end.0 in
     let named = subst (λ (name : List ℕ). IsText d.0 name e.0.1) host.name method in
     subst (λ (made_auth : Login). IsUserAuth message blob made_auth) end.1 (record {
       algorithm = g.0.0;

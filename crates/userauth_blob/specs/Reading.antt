@@ -15,7 +15,8 @@ use Rattle.userauth_blob.specs.UserAuths.{Login, login, connection}
 
 infixl 10 ◌>>=◌
 -- the first fault, or what the second reading gives for the value of the first
-abbrev pub ◌>>=◌ : {A B : Type 0} → Result A AuthFault → (A → Result B AuthFault) → Result B AuthFault
+abbrev pub ◌>>=◌ : {A B : Type 0} → Result A AuthFault → (A → Result B AuthFault)
+    → Result B AuthFault
 (Ok x) >>= f = f x
 (Err fault) >>= f = Err fault
 

@@ -1,6 +1,7 @@
 -- What user authentication by a public key signs: RFC 4252, section 7, for the method "publickey",
 -- and OpenSSH's PROTOCOL, "publickey-hostbound-v00@openssh.com", for the one that ends in the
--- server's host key. That the session identifier isn't empty and the service is a connection are ours.
+-- server's host key. That the session identifier isn't empty, that the service is a connection and
+-- that the key and the host key are read are ours.
 use Rattle.std.specs.Prelude.{◌≡◌, ◌≢◌, ℕ, ◌^◌, ◌<◌, List, [], ◌∷◌, ◌++◌, length, Option, Some, None, codes, Contains, ⊤}
 use Rattle.std.specs.Option.{option_map}
 use Rattle.wire_text.specs.Wire.{string}
@@ -38,12 +39,13 @@ abbrev pub host_field : Option (List ℕ) → List ℕ
 host_field None = []
 host_field (Some host_key) = string host_key
 
--- what the key of this blob signs by this algorithm: 50 is SSH_MSG_USERAUTH_REQUEST, and 1 says that
--- a signature follows
+-- what the key of this blob signs by this algorithm: 50 is SSH_MSG_USERAUTH_REQUEST, and 1 says
+-- that a signature follows
 abbrev pub signed_text : Login → List ℕ → List ℕ → List ℕ
 signed_text auth algorithm blob =
-    string auth.session ++ 50 ∷ (string auth.user ++ (string connection ++ (string (method_name auth.host_key)
-    ++ 1 ∷ (string algorithm ++ (string blob ++ host_field auth.host_key)))))
+    string auth.session ++ 50 ∷ (string auth.user ++ (string connection
+    ++ (string (method_name auth.host_key) ++ 1 ∷ (string algorithm ++ (string blob
+    ++ host_field auth.host_key)))))
 
 -- the blob is a public key's that can be used with the algorithm
 pub record Fits (blob algorithm : List ℕ) : Type 0 where
@@ -54,7 +56,8 @@ pub record Fits (blob algorithm : List ℕ) : Type 0 where
 -- a host key, where there is one, is a public key that is short enough for a string
 abbrev pub IsHostKey : Option (List ℕ) → Type 0
 IsHostKey None = ⊤
-IsHostKey (Some host_key) = (length host_key < 2 ^ 32) × ((key : KeyParts) × IsPublicKey host_key key)
+IsHostKey (Some host_key) =
+    (length host_key < 2 ^ 32) × ((key : KeyParts) × IsPublicKey host_key key)
 
 -- the message is what the key of this blob signs for the login
 pub record IsUserAuth (message blob : List ℕ) (auth : Login) : Type 0 where

@@ -5,7 +5,7 @@ ghost use Rattle.wire_text.specs.Wire.{IsBytes};
 ghost use Rattle.userauth_blob.specs.UserAuths.{Login, IsUserAuth};
 ghost use Rattle.userauth_blob.specs.Reading.{auth_of};
 
-/// What the reading of bytes gives is a login that they are signed for, and each such login is given.
+/// What the reading of bytes gives is a login that they are signed for, and each such is given.
 pub fn a_reading_is_a_login()
     ensures { (message blob : List ℕ) (auth : Login) → IsBytes message
         → (auth_of message blob ≡ Ok auth) ↔ IsUserAuth message blob auth }

@@ -1,5 +1,6 @@
-//! What `ssh` of OpenSSH 9.2 gave its agent to sign in four logins to an `sshd` on the same machine,
-//! taken down between the two, the key and the option `PubkeyAuthentication` being changed.
+//! What `ssh` of OpenSSH 9.2 gave its agent to sign in four logins to an `sshd` on the same
+//! machine, taken down by a relay between `ssh` and `ssh-agent`: the data of each
+//! SSH_AGENTC_SIGN_REQUEST. They differ in the key and in the option `PubkeyAuthentication`.
 //!
 //! `session` is what `ssh` told the agent by `session-bind@openssh.com` before, and the keys are
 //! those of the public files of `ssh-keygen`.
