@@ -1,0 +1,5 @@
+pub mod FieldLemmas
+pub mod FoundLemmas
+pub mod ReadLemmas
+pub mod UniqueLemmas
+pub mod Theorems

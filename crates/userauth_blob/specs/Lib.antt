@@ -1,0 +1,2 @@
+pub mod UserAuths
+pub mod Reading
