@@ -2,7 +2,7 @@
 use Rattle.std.proofs.Common.{◌≡◌, ℕ, zero, suc, ◌<◌, ◌≤◌, List, [], length, refl, ap, sym, ◌∙◌, arith, Option, Some, None, true, false}
 use Rattle.std.proofs.lemmas.Bool.Decides.{nat_tests}
 use Rattle.world_ports.specs.declared.plain.Moment.{Moment}
-use Rattle.agent_core.specs.State.{State, owed_at, owed_by, is_some_bytes}
+use Rattle.agent_core.specs.State.{State, owed_at, is_some_bytes}
 use Rattle.agent_core.specs.Step.{Took}
 use Rattle.agent_core.specs.Budget.{budget}
 use Rattle.agent_core.proofs.SoundLemmas.{IsNumbered, step_keeps-rising, step-last_port}

@@ -1,6 +1,6 @@
 -- A taking of all that a port is owed lowers the budget of a state, whichever port it is. The same for the first such
 -- port is taking_lowers of agent_core.
-use Rattle.std.proofs.Common.{◌≡◌, ℕ, ◌+◌, ◌<◌, ◌≤◌, List, [], ◌∷◌, length, refl, ap, arith, ◌∙◌, Option, Some, None, true, inl, inr, nat_lt, if◌then◌else◌, length-drop}
+use Rattle.std.proofs.Common.{◌≡◌, ℕ, ◌+◌, ◌<◌, ◌≤◌, List, [], ◌∷◌, length, refl, ap, arith, ◌∙◌, Option, Some, None, true, inl, inr, length-drop}
 use Rattle.std.proofs.Math.Seq.{drop-length}
 use Rattle.std.proofs.lemmas.Bool.{cases_lt}
 use Rattle.std.proofs.lemmas.Bool.Decides.{nat_tests}
