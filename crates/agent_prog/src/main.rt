@@ -4,6 +4,8 @@
 #![tactic(auto)]
 
 mod agent;
+#[cfg(test)]
+mod line_tests;
 mod status;
 #[cfg(test)]
 mod tests;

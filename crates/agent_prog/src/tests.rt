@@ -58,6 +58,20 @@ fn replay(alloc: Global, run: &Run<'_>) -> Result<(Status, VecSink), AllocError>
     Ok((status, sink))
 }
 
+// A run with nothing cut and no failure.
+pub fn replay_whole(alloc: Global, schedule: &[u8]) -> Result<(Status, VecSink), AllocError> {
+    replay(
+        alloc,
+        &Run {
+            schedule,
+            cut: u32::MAX,
+            failing_read: 0,
+            sink_cut: u32::MAX,
+            failing_write: 0,
+        },
+    )
+}
+
 #[test]
 fn each_schedule_prints_its_output_in_any_pieces(rt: HostRuntime) -> Result<(), Fail> {
     let cases = [

@@ -1,3 +1,5 @@
+pub mod HoldingLemmas
+pub mod TakingLemmas
 pub mod SettlingLemmas
 pub mod RunLemmas
 pub mod GoesOnLemmas

@@ -1,8 +1,8 @@
 -- A line keeps what the numbers of a run say.
-use Rattle.std.proofs.Common.{◌≡◌, ℕ, suc, ◌+◌, ◌<◌, ◌≤◌, List, refl, ap, sym, ◌∙◌, arith, Option, Some, None, Bool, true, false, nat_lt, if◌then◌else◌, Result, Ok, Err}
+use Rattle.std.proofs.Common.{◌≡◌, ℕ, suc, ◌+◌, ◌<◌, ◌≤◌, List, [], length, refl, ap, sym, ◌∙◌, arith, Option, Some, None, Bool, true, false, nat_lt, if◌then◌else◌, Result, Ok, Err}
 use Rattle.std.proofs.lemmas.Bool.Decides.{nat_tests}
 use Rattle.world_ports.specs.declared.plain.Door.TheVariants.{Clients, Children}
-use Rattle.agent_core.specs.State.{Port, find_port}
+use Rattle.agent_core.specs.State.{State, Port, find_port, owed_at}
 use Rattle.agent_core.specs.Step.{Happening, Joined, Heard, Ended, Took, Started, StartFailed, Tick}
 use Rattle.agent_core.proofs.SoundLemmas.{step-last_port, last_after}
 use Rattle.schedule_text.specs.declared.fault.LineFault.{LineFault}
@@ -10,8 +10,9 @@ use Rattle.schedule_text.specs.declared.fault.LineFault.TheVariants.{TooLong}
 use Rattle.schedule_text.specs.declared.step.Step.{Step}
 use Rattle.schedule_text.specs.declared.step.Step.TheVariants.{Skip, At, Join, Hear, End, Hold, Free, Take, Started as StartedStep, Failed}
 use Rattle.schedule_text.specs.Lines.{step_of}
-use Rattle.replay_run.specs.Settling.{start_moment, after_event}
-use Rattle.replay_run.specs.Replay.{Run, happened, at_port, step_turned, line_turned, turned, turned_by, longest_schedule}
+use Rattle.replay_run.specs.Holding.{free_port, hold_port}
+use Rattle.replay_run.specs.Settling.{after_event, close_lines, sending_lines, sent}
+use Rattle.replay_run.specs.Replay.{Run, Turned, happened, settling_turn, took, took_by, at_port, step_turned, line_turned, turned, turned_by, longest_schedule}
 use Rattle.replay_run.specs.Counts.{IsCounted, IsNext}
 use Rattle.replay_run.proofs.SettlingLemmas.{settled-last_port}
 
@@ -25,27 +26,54 @@ last_after-most (Started job ticket) last = omega arith
 last_after-most (StartFailed job) last = omega arith
 last_after-most Tick last = omega arith
 
--- an event
-happened-next : (event : Happening) (size : ℕ) (run : Run) → 0 < size → run.read + size ≤ longest_schedule → IsCounted run → IsNext run size (happened event size run).run
-happened-next event size run some within counted =
-    let state = after_event run.agent event in
-    let settling = settled-last_port state in
-    let stepping = step-last_port run.agent start_moment event in
-    let most = last_after-most event run.agent.last_port in
+-- a line that is run: it let at most one port join
+settling-next : (output : List ℕ) (size : ℕ) (run after : Run) → 0 < size → run.read + size ≤ longest_schedule → IsCounted run
+    → after.agent.last_port ≤ suc run.agent.last_port → after.line ≡ run.line → after.read ≡ run.read → after.refused ≡ None
+    → IsNext run size (settling_turn output size after).run
+settling-next output size run after some within counted most line_is read_is accepted =
+    let settling = settled-last_port after.moment after.held after.agent in
     record {
       counted = record {
-        accepted = counted.accepted;
-        ports = rw settling (rw stepping (omega (arith, counted.ports, most)));
-        lines = omega (arith, counted.lines);
-        within = within;
+        accepted = accepted;
+        ports = rw settling (omega (arith, counted.ports, most, line_is));
+        lines = omega (arith, counted.lines, line_is, read_is);
+        within = omega (arith, within, read_is);
       };
-      read = refl;
+      read = ap (λ n. n + size) read_is;
     }
 
--- the event of a port
-at_port-next : (found : Option Port) (event : Happening) (size : ℕ) (run : Run) → 0 < size → run.read + size ≤ longest_schedule → IsCounted run → (at_port found event size run).run.refused ≡ None → IsNext run size (at_port found event size run).run
-at_port-next None event size run some within counted accepted = absurd (cc)
-at_port-next (Some port) event size run some within counted accepted = happened-next event size run some within counted
+-- an event
+happened-next : (event : Happening) (size : ℕ) (run after : Run) → 0 < size → run.read + size ≤ longest_schedule → IsCounted run
+    → after.agent ≡ run.agent → after.line ≡ run.line → after.read ≡ run.read → after.refused ≡ None
+    → IsNext run size (happened event size after).run
+happened-next event size run after some within counted agent_is line_is read_is accepted =
+    let state = after_event after.moment after.agent event in
+    let stepping = step-last_port after.agent after.moment event ∙ ap (λ (s : State). last_after event s.last_port) agent_is in
+    settling-next (close_lines state.closes) size run (record after { agent = state }) some within counted
+    (rw stepping (last_after-most event run.agent.last_port)) line_is read_is accepted
+
+-- the line of a port
+at_port-next : (found : Option Port) (turned : Turned) (size : ℕ) (run : Run) → IsNext run size turned.run
+    → (at_port found turned run).run.refused ≡ None → IsNext run size (at_port found turned run).run
+at_port-next None turned size run next accepted = absurd (cc)
+at_port-next (Some port) turned size run next accepted = next
+
+-- a taking, by whether it is of more than is owed
+took_by-next : (test : Bool) (port count size : ℕ) (run : Run) → 0 < size → run.read + size ≤ longest_schedule → IsCounted run
+    → (took_by test port count size run).run.refused ≡ None → IsNext run size (took_by test port count size run).run
+took_by-next true port count size run some within counted accepted = absurd (cc)
+took_by-next false port count size run some within counted accepted =
+    let stepping = step-last_port run.agent run.moment (Took port count) in
+    settling-next (sending_lines run.moment port count run.agent) size run
+    (record run { agent = sent run.moment port count run.agent }) some within counted
+    (rw stepping (omega arith)) refl refl counted.accepted
+
+-- the same, where the port is open
+took_at-next : (found : Option Port) (port count size : ℕ) (run : Run) → 0 < size → run.read + size ≤ longest_schedule → IsCounted run
+    → (at_port found (took port count size run) run).run.refused ≡ None → IsNext run size (at_port found (took port count size run) run).run
+took_at-next None port count size run some within counted accepted = absurd (cc)
+took_at-next (Some open_port) port count size run some within counted accepted =
+    took_by-next (nat_lt (length (owed_at port run.agent.ports)) count) port count size run some within counted accepted
 
 -- what a step brings
 step_turned-next : (step : Step) (size : ℕ) (run : Run) → 0 < size → run.read + size ≤ longest_schedule → IsCounted run → (step_turned step size run).run.refused ≡ None → IsNext run size (step_turned step size run).run
@@ -58,16 +86,27 @@ step_turned-next Skip size run some within counted accepted = record {
   };
   read = refl;
 }
-step_turned-next (Join Clients) size run some within counted accepted = happened-next (Joined Clients) size run some within counted
+step_turned-next (At moment) size run some within counted accepted =
+    happened-next Tick size run (record run { moment = moment }) some within counted refl refl refl counted.accepted
+step_turned-next (Join Clients) size run some within counted accepted =
+    happened-next (Joined Clients) size run run some within counted refl refl refl counted.accepted
 step_turned-next (Join Children) size run some within counted accepted = absurd (cc)
 step_turned-next (Hear port bytes) size run some within counted accepted =
-    at_port-next (find_port port run.agent.ports) (Heard port bytes) size run some within counted accepted
+    at_port-next (find_port port run.agent.ports) (happened (Heard port bytes) size run) size run
+    (happened-next (Heard port bytes) size run run some within counted refl refl refl counted.accepted) accepted
 step_turned-next (End port) size run some within counted accepted =
-    at_port-next (find_port port run.agent.ports) (Ended port) size run some within counted accepted
-step_turned-next (At moment) size run some within counted accepted = absurd (cc)
-step_turned-next (Hold port) size run some within counted accepted = absurd (cc)
-step_turned-next (Free port) size run some within counted accepted = absurd (cc)
-step_turned-next (Take port count) size run some within counted accepted = absurd (cc)
+    at_port-next (find_port port run.agent.ports) (happened (Ended port) size run) size run
+    (happened-next (Ended port) size run run some within counted refl refl refl counted.accepted) accepted
+step_turned-next (Hold port) size run some within counted accepted =
+    let after : Run = record run { held = hold_port port run.held } in
+    at_port-next (find_port port run.agent.ports) (settling_turn [] size after) size run
+    (settling-next [] size run after some within counted (omega arith) refl refl counted.accepted) accepted
+step_turned-next (Free port) size run some within counted accepted =
+    let after : Run = record run { held = free_port port run.held } in
+    at_port-next (find_port port run.agent.ports) (settling_turn [] size after) size run
+    (settling-next [] size run after some within counted (omega arith) refl refl counted.accepted) accepted
+step_turned-next (Take port count) size run some within counted accepted =
+    took_at-next (find_port port run.agent.ports) port count size run some within counted accepted
 step_turned-next (StartedStep job ticket) size run some within counted accepted = absurd (cc)
 step_turned-next (Failed job) size run some within counted accepted = absurd (cc)
 

@@ -3,26 +3,9 @@ use Rattle.std.proofs.Common.{◌≡◌, ◌≢◌, ℕ, ◌+◌, ◌≤◌, inl
 use Rattle.agent_core.specs.declared.event.CoreMemory.{CoreMemory}
 use Rattle.schedule_text.specs.declared.fault.LineFault.{LineFault}
 use Rattle.schedule_text.specs.declared.fault.LineFault.TheVariants.{Memory}
-use Rattle.schedule_text.specs.declared.step.Step.{Step}
-use Rattle.schedule_text.specs.declared.step.Step.TheVariants.{Skip, At, Join, Hear, End, Hold, Free, Take, Started, Failed}
 use Rattle.schedule_text.specs.Lines.{step_of, IsFaultOf}
-use Rattle.schedule_text.proofs.Theorems.{heard_is_not_empty}
 use Rattle.replay_run.specs.Replay.{Run, refuse, turned, longest_schedule}
-use Rattle.replay_run.specs.Counts.{HearsSome}
 use Rattle.replay_run.proofs.RunLemmas.{turned-fault}
-
--- a line that is read hears something
-pub heard_some : (line : List ℕ) (step : Step) → step_of line ≡ Ok step → HearsSome step
-heard_some line Skip read = tt
-heard_some line (Join door) read = tt
-heard_some line (Hear port bytes) read = heard_is_not_empty line port bytes read
-heard_some line (End port) read = tt
-heard_some line (At moment) read = tt
-heard_some line (Hold port) read = tt
-heard_some line (Free port) read = tt
-heard_some line (Take port count) read = tt
-heard_some line (Started job ticket) read = tt
-heard_some line (Failed job) read = tt
 
 -- a fault that isn't want of memory is the line's
 pub fault_is : (line : List ℕ) (fault : LineFault) → IsFaultOf (step_of line) fault → fault ≢ Memory → step_of line ≡ Err fault

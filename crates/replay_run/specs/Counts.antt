@@ -1,8 +1,6 @@
 -- What the numbers of a run keep (ours).
-use Rattle.std.specs.Prelude.{◌≡◌, ℕ, ◌+◌, ◌<◌, ◌≤◌, length, None}
+use Rattle.std.specs.Prelude.{◌≡◌, ℕ, ◌+◌, ◌≤◌, None}
 use Rattle.replay_run.specs.Replay.{Run, longest_schedule}
-use Rattle.schedule_text.specs.declared.step.Step.{Step}
-use Rattle.schedule_text.specs.declared.step.Step.TheVariants.{Hear}
 
 -- a run that goes on: every line had a byte, and no more clients joined than lines were run
 pub record IsCounted (run : Run) : Type 0 where
@@ -15,8 +13,3 @@ pub record IsCounted (run : Run) : Type 0 where
 pub record IsNext (run : Run) (size : ℕ) (next : Run) : Type 0 where
   pub counted : IsCounted next
   pub read : next.read ≡ run.read + size
-
--- what is heard isn't empty
-abbrev pub HearsSome : Step → Type 0
-HearsSome (Hear port bytes) = 0 < length bytes
-HearsSome _ = Unit {0}

@@ -1,3 +1,4 @@
+pub mod Holding
 pub mod Settling
 pub mod Replay
 pub mod GoesOn

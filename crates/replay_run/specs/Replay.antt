@@ -2,27 +2,38 @@
 use Rattle.std.specs.Prelude.{ℕ, suc, ◌+◌, ◌==◌, ◌||◌, nat_lt, Bool, true, false, if◌then◌else◌, List, [], ◌∷◌, ◌++◌, length, Option, None, Some, Result, Ok, Err}
 use Rattle.std.specs.List.{slice_split}
 use Rattle.world_ports.specs.declared.plain.Door.TheVariants.{Clients, Children}
-use Rattle.agent_core.specs.State.{State, Port, opening_state, find_port}
-use Rattle.agent_core.specs.Step.{Happening, Joined, Heard, Ended}
+use Rattle.world_ports.specs.declared.plain.Moment.{Moment}
+use Rattle.agent_core.specs.State.{State, Port, opening_state, find_port, owed_at}
+use Rattle.agent_core.specs.Step.{Happening, Joined, Heard, Ended, Tick}
 use Rattle.schedule_text.specs.declared.fault.LineFault.{LineFault}
-use Rattle.schedule_text.specs.declared.fault.LineFault.TheVariants.{Word, UnknownPort, TooLong}
+use Rattle.schedule_text.specs.declared.fault.LineFault.TheVariants.{Word, UnknownPort, Order, TooLong}
 use Rattle.schedule_text.specs.declared.step.Step.{Step}
 use Rattle.schedule_text.specs.declared.step.Step.TheVariants.{Skip, At, Join, Hear, End, Hold, Free, Take, Started, Failed}
 use Rattle.schedule_text.specs.Deeds.{refused_line, end_line}
 use Rattle.schedule_text.specs.Lines.{step_of}
-use Rattle.replay_run.specs.Settling.{after_event, close_lines, settled}
+use Rattle.replay_run.specs.Holding.{hold_port, free_port}
+use Rattle.replay_run.specs.Settling.{after_event, close_lines, sending_lines, sent, settled}
 
--- a run so far: the agent, how many lines were run, how many bytes they had, and why the next one was
--- refused; the refused line is counted, and its bytes are not
+-- a run so far: the agent, the moment of the last `at` line, the held ports, how many lines were run, how many
+-- bytes they had, and why the next one was refused; the refused line is counted, and its bytes are not
 pub record Run : Type 0 where
   pub agent : State
+  pub moment : Moment
+  pub held : List ℕ
   pub line : ℕ
   pub read : ℕ
   pub refused : Option LineFault
 
 -- the run before the first line
 abbrev pub start_run : Run
-start_run = record { agent = opening_state None; line = 0; read = 0; refused = None }
+start_run = record {
+  agent = opening_state None;
+  moment = record { mono = 0; wall = 0 };
+  held = [];
+  line = 0;
+  read = 0;
+  refused = None;
+}
 
 -- the run after a line, and what the line printed
 pub record Turned : Type 0 where
@@ -48,33 +59,55 @@ refuse fault run = record {
   output = refused_line (suc run.line) fault;
 }
 
+-- a line that printed this so far, and the settling after it
+abbrev pub settling_turn : List ℕ → ℕ → Run → Turned
+settling_turn output size run =
+    let settling = settled run.moment run.held run.agent in
+    record {
+      run = record (counted size run) { agent = settling.agent };
+      output = output ++ settling.output;
+    }
+
 -- the line's event, and the settling after it
 abbrev pub happened : Happening → ℕ → Run → Turned
 happened event size run =
-    let state = after_event run.agent event in
-    record {
-      run = record (counted size run) { agent = (settled state).agent };
-      output = close_lines state.closes ++ (settled state).output;
-    }
+    let state = after_event run.moment run.agent event in
+    settling_turn (close_lines state.closes) size (record run { agent = state })
 
--- the event of a port, where that one is open
-abbrev pub at_port : Option Port → Happening → ℕ → Run → Turned
-at_port None event size run = refuse UnknownPort run
-at_port (Some port) event size run = happened event size run
+-- what a line of a port brings, where that one is open
+abbrev pub at_port : Option Port → Turned → Run → Turned
+at_port None turned run = refuse UnknownPort run
+at_port (Some port) turned run = turned
+
+-- the port takes so many bytes, and the settling after it; it is refused where they are more than it is owed
+abbrev pub took_by : Bool → ℕ → ℕ → ℕ → Run → Turned
+took_by true port count size run = refuse Order run
+took_by false port count size run =
+    settling_turn (sending_lines run.moment port count run.agent) size
+    (record run { agent = sent run.moment port count run.agent })
+
+abbrev pub took : ℕ → ℕ → ℕ → Run → Turned
+took port count size run =
+    took_by (nat_lt (length (owed_at port run.agent.ports)) count) port count size run
 
 -- what a step brings
 abbrev pub step_turned : Step → ℕ → Run → Turned
 step_turned Skip size run = skipped size run
+step_turned (At moment) size run = happened Tick size (record run { moment = moment })
 step_turned (Join Clients) size run = happened (Joined Clients) size run
 step_turned (Join Children) size run = refuse Word run
 step_turned (Hear port bytes) size run =
-    at_port (find_port port run.agent.ports) (Heard port bytes) size run
+    at_port (find_port port run.agent.ports) (happened (Heard port bytes) size run) run
 step_turned (End port) size run =
-    at_port (find_port port run.agent.ports) (Ended port) size run
-step_turned (At moment) size run = refuse Word run
-step_turned (Hold port) size run = refuse Word run
-step_turned (Free port) size run = refuse Word run
-step_turned (Take port count) size run = refuse Word run
+    at_port (find_port port run.agent.ports) (happened (Ended port) size run) run
+step_turned (Hold port) size run =
+    at_port (find_port port run.agent.ports)
+    (settling_turn [] size (record run { held = hold_port port run.held })) run
+step_turned (Free port) size run =
+    at_port (find_port port run.agent.ports)
+    (settling_turn [] size (record run { held = free_port port run.held })) run
+step_turned (Take port count) size run =
+    at_port (find_port port run.agent.ports) (took port count size run) run
 step_turned (Started job ticket) size run = refuse Word run
 step_turned (Failed job) size run = refuse Word run
 

@@ -1,11 +1,14 @@
 //! Laws of the runs of specs/.
 
-ghost use Rattle.std.specs.Prelude.{◌≡◌, None};
-ghost use Rattle.agent_core.specs.State.{IsRising, State, next_owed};
+ghost use Rattle.std.specs.Prelude.{◌≡◌, List, ℕ, [], false};
+ghost use Rattle.world_ports.specs.declared.plain.Moment.{Moment};
+ghost use Rattle.agent_core.specs.State.{IsRising, State, owed_at};
+ghost use Rattle.replay_run.specs.Holding.{is_held};
 ghost use Rattle.replay_run.specs.Settling.{settled};
 
-/// After a settling no port is owed anything, in every state whose ports have numbers that rise.
+/// After a settling nothing is owed to a port that isn't held, in every state whose ports have numbers that rise.
 pub fn nothing_is_owed_after_settling()
-    ensures { (state : State) → IsRising 0 state.last_port state.ports
-        → next_owed 0 (settled state).agent.ports ≡ None }
+    ensures { (moment : Moment) (held : List ℕ) (state : State) (port : ℕ)
+        → IsRising 0 state.last_port state.ports → is_held port held ≡ false
+        → owed_at port (settled moment held state).agent.ports ≡ [] }
 {}

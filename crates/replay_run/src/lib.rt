@@ -4,6 +4,7 @@
 #![tactic(auto)]
 
 mod feed;
+mod held;
 mod laws;
 mod limits;
 mod replay;

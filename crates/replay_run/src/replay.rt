@@ -1,24 +1,30 @@
 // A run of a schedule, a line at a time.
-ghost use Rattle.std.specs.Prelude.{◌≡◌, ◌≢◌, ◌+◌, ◌<◌, ◌≤◌, ◌++◌, ◌^◌, OnOk, None, length};
+ghost use Rattle.std.specs.Prelude.{◌≡◌, ◌≢◌, ◌+◌, ◌<◌, ◌≤◌, ◌++◌, ◌^◌, OnOk, None, length, []};
 ghost use Rattle.agent_core.specs.Happenings.{happening};
 ghost use Rattle.agent_core.specs.State.{IsOpen, find_port};
-ghost use Rattle.agent_core.specs.Step.{Fits};
-ghost use Rattle.replay_run.specs.Counts.{HearsSome, IsCounted};
+ghost use Rattle.agent_core.specs.Step.{Fits, Tick};
+ghost use Rattle.schedule_text.specs.Steps.{SaysSome};
+ghost use Rattle.replay_run.specs.Counts.{IsCounted};
+ghost use Rattle.replay_run.specs.Holding.{free_port, hold_port};
 ghost use Rattle.replay_run.specs.Replay.{start_run, longest_schedule, turned, step_turned};
-ghost use Rattle.replay_run.specs.Replay.{refuse, happened, at_port};
+ghost use Rattle.replay_run.specs.Replay.{refuse, happened, at_port, settling_turn, took};
 
+use crate::held::Held;
 use crate::limits::LONGEST_SCHEDULE;
-use crate::settle::{run_event, settle};
+use crate::settle::{run_event, send, settle};
 use agent_core::{Agent, CoreMemory, Event, Settings};
 use schedule_text::{Deed, LineFault, Step, put_deed, read_line};
 use std::alloc::Global;
 use std::marker::Model;
-use world_ports::Door;
+use world_ports::{Door, Moment};
 
-/// The agent, the lines that it was run on, and the fault of the line that was refused.
+/// The agent, the moment of the last `at` line and the held ports, the lines that were run, and the fault of the
+/// line that was refused.
 #[derive(Drop)]
 pub struct Replay {
     agent: Agent,
+    moment: Moment,
+    held: Held,
     line: u64,
     read: u64,
     refused: Option<LineFault>,
@@ -31,6 +37,8 @@ impl Model for Replay {
 
     ghost view = { λ r. record {
       agent = r.agent;
+      moment = r.moment;
+      held = r.held;
       line = r.line;
       read = r.read;
       refused = r.refused;
@@ -43,6 +51,8 @@ impl Replay {
     {
         Replay {
             agent: Agent::new(alloc, Settings { default_life: None }),
+            moment: Moment { mono: 0, wall: 0 },
+            held: Held::new(alloc),
             line: 0,
             read: 0,
             refused: None,
@@ -99,7 +109,7 @@ impl Replay {
         requires counted { IsCounted self.old }
         requires some { 0 < size }
         requires within { self.old.read + size ≤ longest_schedule }
-        requires hears { HearsSome step.now }
+        requires says { SaysSome step.now }
         ensures run { OnOk result (self.new ≡ (step_turned step.now size self.old).run) }
         ensures out { OnOk result (out.new.items ≡ out.old.items
             ++ (step_turned step.now size self.old).output) }
@@ -110,14 +120,100 @@ impl Replay {
                 self.read += size;
                 Ok(())
             }
+            Step::At(moment) => self.set_moment(*moment, size, out),
             Step::Join(Door::Clients) => self.happen(&Event::Joined(Door::Clients), size, out),
             Step::Hear { port, bytes } => {
                 let piece = bytes.as_slice();
                 self.happen_at(*port, &Event::Heard { port: *port, piece }, size, out)
             }
             Step::End(port) => self.happen_at(*port, &Event::Ended { port: *port }, size, out),
+            Step::Hold(port) => self.hold(*port, size, out),
+            Step::Free(port) => self.free(*port, size, out),
+            Step::Take { port, count } => self.take(*port, *count, size, out),
             _ => self.refuse(LineFault::Word, out),
         }
+    }
+
+    // From here on events come at this moment. The agent is told at once.
+    fn set_moment(&mut self, moment: Moment, size: u64, out: &mut Vec<u8>) -> Result<(), CoreMemory>
+        requires counted { IsCounted self.old }
+        requires some { 0 < size }
+        requires within { self.old.read + size ≤ longest_schedule }
+        ensures run { OnOk result
+            (self.new ≡ (happened Tick size (record self.old { moment = moment })).run) }
+        ensures out { OnOk result (out.new.items ≡ out.old.items
+            ++ (happened Tick size (record self.old { moment = moment })).output) }
+    {
+        self.moment = moment;
+        self.happen(&Event::Tick, size, out)
+    }
+
+    // From here on the port takes bytes only by `take`.
+    fn hold(&mut self, port: u64, size: u64, out: &mut Vec<u8>) -> Result<(), CoreMemory>
+        requires counted { IsCounted self.old }
+        requires some { 0 < size }
+        requires within { self.old.read + size ≤ longest_schedule }
+        ensures run { OnOk result (self.new ≡ (at_port (find_port port self.old.agent.ports)
+            (settling_turn [] size (record self.old { held = hold_port port self.old.held }))
+            self.old).run) }
+        ensures out { OnOk result (out.new.items ≡ out.old.items
+            ++ (at_port (find_port port self.old.agent.ports)
+            (settling_turn [] size (record self.old { held = hold_port port self.old.held }))
+            self.old).output) }
+    {
+        if !self.agent.is_port(port) {
+            return self.refuse(LineFault::UnknownPort, out);
+        }
+        self.held.hold(port)?;
+        self.end_turn(size, out)
+    }
+
+    // The port takes all again.
+    fn free(&mut self, port: u64, size: u64, out: &mut Vec<u8>) -> Result<(), CoreMemory>
+        requires counted { IsCounted self.old }
+        requires some { 0 < size }
+        requires within { self.old.read + size ≤ longest_schedule }
+        ensures run { OnOk result (self.new ≡ (at_port (find_port port self.old.agent.ports)
+            (settling_turn [] size (record self.old { held = free_port port self.old.held }))
+            self.old).run) }
+        ensures out { OnOk result (out.new.items ≡ out.old.items
+            ++ (at_port (find_port port self.old.agent.ports)
+            (settling_turn [] size (record self.old { held = free_port port self.old.held }))
+            self.old).output) }
+    {
+        if !self.agent.is_port(port) {
+            return self.refuse(LineFault::UnknownPort, out);
+        }
+        self.held.free(port);
+        self.end_turn(size, out)
+    }
+
+    // The port takes so many bytes, where it is open and owed them.
+    fn take(
+        &mut self,
+        port: u64,
+        count: u64,
+        size: u64,
+        out: &mut Vec<u8>,
+    ) -> Result<(), CoreMemory>
+        requires counted { IsCounted self.old }
+        requires some { 0 < size }
+        requires within { self.old.read + size ≤ longest_schedule }
+        requires count { 0 < count }
+        ensures run { OnOk result (self.new ≡ (at_port (find_port port self.old.agent.ports)
+            (took port count size self.old) self.old).run) }
+        ensures out { OnOk result (out.new.items ≡ out.old.items
+            ++ (at_port (find_port port self.old.agent.ports)
+            (took port count size self.old) self.old).output) }
+    {
+        if !self.agent.is_port(port) {
+            return self.refuse(LineFault::UnknownPort, out);
+        }
+        if count > self.agent.owed(port).len() as u64 {
+            return self.refuse(LineFault::Order, out);
+        }
+        send(&mut self.agent, self.moment, port, count as usize, out)?;
+        self.end_turn(size, out)
     }
 
     // The event of a port, where that one is open.
@@ -133,10 +229,11 @@ impl Replay {
         requires within { self.old.read + size ≤ longest_schedule }
         requires fits { IsOpen port self.old.agent.ports →
             Fits (happening event.now) self.old.agent }
-        ensures run { OnOk result (self.new ≡ (at_port
-            (find_port port self.old.agent.ports) (happening event.now) size self.old).run) }
-        ensures out { OnOk result (out.new.items ≡ out.old.items ++ (at_port
-            (find_port port self.old.agent.ports) (happening event.now) size self.old).output) }
+        ensures run { OnOk result (self.new ≡ (at_port (find_port port self.old.agent.ports)
+            (happened (happening event.now) size self.old) self.old).run) }
+        ensures out { OnOk result (out.new.items ≡ out.old.items
+            ++ (at_port (find_port port self.old.agent.ports)
+            (happened (happening event.now) size self.old) self.old).output) }
     {
         if !self.agent.is_port(port) {
             return self.refuse(LineFault::UnknownPort, out);
@@ -154,8 +251,19 @@ impl Replay {
         ensures out { OnOk result (out.new.items ≡ out.old.items
             ++ (happened (happening event.now) size self.old).output) }
     {
-        run_event(&mut self.agent, event, out)?;
-        settle(&mut self.agent, out)?;
+        run_event(&mut self.agent, self.moment, event, out)?;
+        self.end_turn(size, out)
+    }
+
+    // Settles, and counts the line.
+    fn end_turn(&mut self, size: u64, out: &mut Vec<u8>) -> Result<(), CoreMemory>
+        requires lines { self.old.line ≤ longest_schedule }
+        requires within { self.old.read + size ≤ longest_schedule }
+        ensures run { OnOk result (self.new ≡ (settling_turn [] size self.old).run) }
+        ensures out { OnOk result (out.new.items ≡ out.old.items
+            ++ (settling_turn [] size self.old).output) }
+    {
+        settle(&mut self.agent, self.moment, &self.held, out)?;
         self.line += 1;
         self.read += size;
         Ok(())

@@ -1,17 +1,16 @@
 // One event of the agent, and the settling after it.
-ghost use Rattle.std.specs.Prelude.{◌≡◌, ◌++◌, OnOk, Some, ◌∷◌};
+ghost use Rattle.std.specs.Prelude.{◌≡◌, ◌++◌, ◌<◌, ◌≤◌, OnOk, ◌∷◌, length};
 ghost use Rattle.agent_core.specs.Happenings.{happening};
-ghost use Rattle.agent_core.specs.State.{IsRising, next_owed};
+ghost use Rattle.agent_core.specs.State.{IsRising, owed_at};
 ghost use Rattle.agent_core.specs.Step.{Fits};
+ghost use Rattle.replay_run.specs.Holding.{next_unheld};
 ghost use Rattle.replay_run.specs.Settling.{after_event, close_lines, settled};
-ghost use Rattle.replay_run.specs.Settling.{delivered, delivery_lines};
+ghost use Rattle.replay_run.specs.Settling.{sending_lines, sent};
 
+use crate::held::Held;
 use agent_core::{Agent, CoreMemory, Event};
 use schedule_text::{Deed, put_deed};
 use world_ports::Moment;
-
-// The moment of every event.
-const START: Moment = Moment { mono: 0, wall: 0 };
 
 // Prints a line for each port that the last event closed.
 fn put_closes(closes: &[u64], out: &mut Vec<u8>) -> Result<(), CoreMemory>
@@ -24,36 +23,69 @@ fn put_closes(closes: &[u64], out: &mut Vec<u8>) -> Result<(), CoreMemory>
 }
 
 // Takes one step of the agent, and prints which ports it closed.
-pub fn run_event(agent: &mut Agent, event: &Event<'_>, out: &mut Vec<u8>) -> Result<(), CoreMemory>
+pub fn run_event(
+    agent: &mut Agent,
+    moment: Moment,
+    event: &Event<'_>,
+    out: &mut Vec<u8>,
+) -> Result<(), CoreMemory>
     requires { Fits (happening event.now) agent.old }
-    ensures agent { OnOk result (agent.new ≡ after_event agent.old (happening event.now)) }
+    ensures agent { OnOk result (agent.new ≡ after_event moment agent.old (happening event.now)) }
     ensures out { OnOk result (out.new.items ≡ out.old.items
-        ++ close_lines (after_event agent.old (happening event.now)).closes) }
+        ++ close_lines (after_event moment agent.old (happening event.now)).closes) }
 {
-    agent.step(START, event)?;
+    agent.step(moment, event)?;
     put_closes(agent.closes(), out)
 }
 
-// The next port takes all that it is owed.
-fn deliver(agent: &mut Agent, port: u64, out: &mut Vec<u8>) -> Result<(), CoreMemory>
-    requires rising { IsRising 0 agent.old.last_port agent.old.ports }
-    requires next { next_owed 0 agent.old.ports ≡ Some port }
-    ensures agent { OnOk result (agent.new ≡ delivered port agent.old) }
-    ensures out { OnOk result (out.new.items ≡ out.old.items ++ delivery_lines port agent.old) }
+// The port takes so many bytes of those that it is owed.
+pub fn send(
+    agent: &mut Agent,
+    moment: Moment,
+    port: u64,
+    count: usize,
+    out: &mut Vec<u8>,
+) -> Result<(), CoreMemory>
+    requires some { 0 < count }
+    requires owed { count ≤ length (owed_at port agent.old.ports) }
+    ensures agent { OnOk result (agent.new ≡ sent moment port count agent.old) }
+    ensures out { OnOk result
+        (out.new.items ≡ out.old.items ++ sending_lines moment port count agent.old) }
 {
-    let bytes = agent.owed(port);
-    let count = bytes.len();
+    let bytes = &agent.owed(port)[..count];
     put_deed(out, &Deed::To { port, bytes })?;
-    run_event(agent, &Event::Took { port, count }, out)
+    run_event(agent, moment, &Event::Took { port, count }, out)
 }
 
-// Every port takes what it is owed, the least number first.
-pub fn settle(agent: &mut Agent, out: &mut Vec<u8>) -> Result<(), CoreMemory>
-    ensures agent { OnOk result (agent.new ≡ (settled agent.old).agent) }
-    ensures out { OnOk result (out.new.items ≡ out.old.items ++ (settled agent.old).output) }
+// The open port of the least number that isn't held and is owed bytes.
+fn next_unheld(agent: &Agent, held: &Held) -> Option<u64>
+    ensures next { result ≡ next_unheld 0 held.now agent.now.ports }
+    ensures rising { IsRising 0 agent.now.last_port agent.now.ports }
 {
-    'takings: while let Some(port) = agent.next_owed(0) {
-        deliver(agent, port, out)?;
+    let mut after = 0;
+    'owed: while let Some(port) = agent.next_owed(after) {
+        if !held.has(port) {
+            return Some(port);
+        }
+        after = port;
+    }
+    None
+}
+
+// Every port that isn't held takes what it is owed, the least number first.
+pub fn settle(
+    agent: &mut Agent,
+    moment: Moment,
+    held: &Held,
+    out: &mut Vec<u8>,
+) -> Result<(), CoreMemory>
+    ensures agent { OnOk result (agent.new ≡ (settled moment held.now agent.old).agent) }
+    ensures out { OnOk result
+        (out.new.items ≡ out.old.items ++ (settled moment held.now agent.old).output) }
+{
+    'takings: while let Some(port) = next_unheld(agent, held) {
+        let count = agent.owed(port).len();
+        send(agent, moment, port, count, out)?;
     }
     Ok(())
 }

@@ -47,10 +47,14 @@ shortest-some : (digits : List ℕ) → is_shortest digits ≡ true → 0 < leng
 shortest-some [] shortest = cc shortest
 shortest-some (digit ∷ digits) shortest = omega arith
 
+-- the text of a number has digits alone
+pub all_digits-decimal : (n : ℕ) → n < 2 ^ 64 → all_ascii_digits (decimal n) ≡ true
+all_digits-decimal n small = digits_decimal decimal_digits n small
+
 -- the text of a number is read as that number
 pub number_of-decimal : (n : ℕ) → n < 2 ^ 64 → number_of (decimal n) ≡ Some n
 number_of-decimal n small =
-    let digits : all_ascii_digits (decimal n) ≡ true = digits_decimal decimal_digits n small in
+    let digits = all_digits-decimal n small in
     let same : number_after 0 (decimal n) ≡ n = digits_value-decimal decimal_digits n small in
     grind (arith, nat_tests, is_shortest-decimal n small, digits, same)
 

@@ -2,12 +2,13 @@
 use Rattle.std.proofs.Common.{◌≡◌, ◌≢◌, ◌<◌, ℕ, Bool, true, false, if◌then◌else◌, List, [], ◌∷◌, length, Option, None, Some, ok_or, Result, Ok, Err, refl, subst, arith, codes, bytes_eq, ◌==◌, nat_lt}
 use Rattle.std.proofs.lemmas.Bool.Decides.{nat_tests}
 use Rattle.schedule_text.specs.declared.fault.LineFault.{LineFault}
-use Rattle.schedule_text.specs.declared.fault.LineFault.TheVariants.{Memory, TooLong, Word}
+use Rattle.schedule_text.specs.declared.fault.LineFault.TheVariants.{Hex, Memory, Number, TooLong}
 use Rattle.schedule_text.specs.declared.step.Step.{Step}
-use Rattle.schedule_text.specs.declared.step.Step.TheVariants.{Hear, Skip}
+use Rattle.schedule_text.specs.declared.step.Step.TheVariants.{Skip, Take}
 use Rattle.schedule_text.specs.Fields.{fields_of}
-use Rattle.schedule_text.specs.Lines.{◌>>=◌, end_step, hear_step, join_step, step_of, step_of_fields, step_of_short}
+use Rattle.schedule_text.specs.Lines.{◌>>=◌, at_least_one, at_step, end_step, free_step, hear_step, hold_step, join_step, step_of, step_of_fields, step_of_short, take_step}
 use Rattle.schedule_text.specs.Numbers.{bytes_of, number_of}
+use Rattle.schedule_text.specs.Steps.{SaysSome}
 use Rattle.schedule_text.proofs.NumberLemmas.{length-bytes_of}
 
 -- an empty line is skipped
@@ -20,10 +21,9 @@ pub step_of-long : (line : List ℕ) → 65536 < length line → step_of line �
 unfolding step_of
 step_of-long line long = grind (arith, nat_tests)
 
--- a step hears one byte at least, and a refusal isn't for want of memory
+-- a step says something, and a refusal isn't for want of memory
 abbrev IsSound : Result Step LineFault → Type 0
-IsSound (Ok (Hear port bytes)) = 0 < length bytes
-IsSound (Ok _) = Unit {0}
+IsSound (Ok step) = SaysSome step
 IsSound (Err Memory) = ⊥
 IsSound (Err _) = Unit {0}
 
@@ -33,11 +33,18 @@ IsSound-if : (test : Bool) (first second : Result Step LineFault) → IsSound fi
 IsSound-if true first second sound_first sound_second = sound_first
 IsSound-if false first second sound_first sound_second = sound_second
 
--- what follows a field is sound
-IsSound-field : {A : Type 0} (read : Option A) (next : A → Result Step LineFault)
-    → ((value : A) → read ≡ Some value → IsSound (next value)) → IsSound (ok_or read Word >>= next)
-IsSound-field None next sound = tt
-IsSound-field (Some value) next sound = sound value refl
+-- what follows a field is sound, and so is the fault of that field
+IsSound-field : {A : Type 0} (read : Option A) (fault : LineFault) (next : A → Result Step LineFault)
+    → IsSound (Err fault) → ((value : A) → read ≡ Some value → IsSound (next value)) → IsSound (ok_or read fault >>= next)
+IsSound-field None fault next refusal sound = refusal
+IsSound-field (Some value) fault next refusal sound = sound value refl
+
+IsSound-at : (fields : List (List ℕ)) → IsSound (at_step fields)
+IsSound-at [] = tt
+IsSound-at (mono ∷ []) = tt
+IsSound-at (mono ∷ wall ∷ []) =
+    IsSound-field (number_of mono) Number _ tt (λ m _. IsSound-field (number_of wall) Number _ tt (λ w _. tt))
+IsSound-at (mono ∷ wall ∷ next ∷ fields) = tt
 
 IsSound-join : (fields : List (List ℕ)) → IsSound (join_step fields)
 IsSound-join [] = tt
@@ -48,20 +55,50 @@ IsSound-hear : (fields : List (List ℕ)) → IsSound (hear_step fields)
 IsSound-hear [] = tt
 IsSound-hear (port ∷ []) = tt
 IsSound-hear (port ∷ bytes ∷ []) =
-    IsSound-field (number_of port) _ (λ n _. IsSound-field (bytes_of bytes) _ (λ heard read. length-bytes_of bytes heard read))
+    IsSound-field (number_of port) Number _ tt (λ n _. IsSound-field (bytes_of bytes) Hex _ tt (λ heard read. length-bytes_of bytes heard read))
 IsSound-hear (port ∷ bytes ∷ next ∷ fields) = tt
 
 IsSound-end : (fields : List (List ℕ)) → IsSound (end_step fields)
 IsSound-end [] = tt
-IsSound-end (port ∷ []) = IsSound-field (number_of port) _ (λ n _. tt)
+IsSound-end (port ∷ []) = IsSound-field (number_of port) Number _ tt (λ n _. tt)
 IsSound-end (port ∷ next ∷ fields) = tt
+
+IsSound-hold : (fields : List (List ℕ)) → IsSound (hold_step fields)
+IsSound-hold [] = tt
+IsSound-hold (port ∷ []) = IsSound-field (number_of port) Number _ tt (λ n _. tt)
+IsSound-hold (port ∷ next ∷ fields) = tt
+
+IsSound-free : (fields : List (List ℕ)) → IsSound (free_step fields)
+IsSound-free [] = tt
+IsSound-free (port ∷ []) = IsSound-field (number_of port) Number _ tt (λ n _. tt)
+IsSound-free (port ∷ next ∷ fields) = tt
+
+-- by whether the count is 0
+IsSound-count_by : (port count : ℕ) (test : Bool) → (count == 0) ≡ test
+    → IsSound ((if test then Err Number else Ok count) >>= (λ n. Ok (Take port n)))
+IsSound-count_by port count true is = tt
+IsSound-count_by port count false is = grind (arith, nat_tests)
+
+IsSound-count : (port : ℕ) (read : Option ℕ) → IsSound ((ok_or read Number >>= at_least_one) >>= (λ n. Ok (Take port n)))
+IsSound-count port None = tt
+IsSound-count port (Some count) = IsSound-count_by port count (count == 0) refl
+
+IsSound-take : (fields : List (List ℕ)) → IsSound (take_step fields)
+IsSound-take [] = tt
+IsSound-take (port ∷ []) = tt
+IsSound-take (port ∷ count ∷ []) = IsSound-field (number_of port) Number _ tt (λ n _. IsSound-count n (number_of count))
+IsSound-take (port ∷ count ∷ next ∷ fields) = tt
 
 IsSound-fields : (fields : List (List ℕ)) → IsSound (step_of_fields fields)
 IsSound-fields [] = tt
 IsSound-fields (word ∷ fields) =
+    IsSound-if (bytes_eq word (codes "at")) _ _ (IsSound-at fields) (
     IsSound-if (bytes_eq word (codes "join")) _ _ (IsSound-join fields) (
     IsSound-if (bytes_eq word (codes "hear")) _ _ (IsSound-hear fields) (
-    IsSound-if (bytes_eq word (codes "end")) _ _ (IsSound-end fields) tt))
+    IsSound-if (bytes_eq word (codes "end")) _ _ (IsSound-end fields) (
+    IsSound-if (bytes_eq word (codes "hold")) _ _ (IsSound-hold fields) (
+    IsSound-if (bytes_eq word (codes "free")) _ _ (IsSound-free fields) (
+    IsSound-if (bytes_eq word (codes "take")) _ _ (IsSound-take fields) tt))))))
 
 IsSound-short : (line : List ℕ) → IsSound (step_of_short line)
 IsSound-short [] = tt
@@ -76,7 +113,6 @@ IsSound-step_of line = IsSound-if (nat_lt 65536 (length line)) _ _ tt (IsSound-s
 pub refusal_is_not_for_memory : (line : List ℕ) → step_of line ≢ Err Memory
 refusal_is_not_for_memory line refused = subst IsSound refused (IsSound-step_of line)
 
--- what is heard is one byte at least
-pub heard_is_not_empty : (line : List ℕ) (port : ℕ) (bytes : List ℕ) → step_of line ≡ Ok (Hear port bytes)
-    → 0 < length bytes
-heard_is_not_empty line port bytes read = subst IsSound read (IsSound-step_of line)
+-- what a line says is heard or taken is one byte at least
+pub step_says_some : (line : List ℕ) (step : Step) → step_of line ≡ Ok step → SaysSome step
+step_says_some line step read = subst IsSound read (IsSound-step_of line)

@@ -2,3 +2,4 @@ pub mod Deeds
 pub mod Fields
 pub mod Lines
 pub mod Numbers
+pub mod Steps

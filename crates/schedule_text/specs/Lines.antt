@@ -2,9 +2,9 @@
 use Rattle.std.specs.Prelude.{◌≡◌, ◌⊎◌, ℕ, ◌==◌, nat_lt, if◌then◌else◌, bytes_eq, codes, length, List, [], ◌∷◌, Result, Ok, Err, ok_or}
 use Rattle.world_ports.specs.declared.plain.Door.TheVariants.{Clients}
 use Rattle.schedule_text.specs.declared.fault.LineFault.{LineFault}
-use Rattle.schedule_text.specs.declared.fault.LineFault.TheVariants.{Memory, TooLong, Word}
+use Rattle.schedule_text.specs.declared.fault.LineFault.TheVariants.{Hex, Memory, Number, TooLong, Word}
 use Rattle.schedule_text.specs.declared.step.Step.{Step}
-use Rattle.schedule_text.specs.declared.step.Step.TheVariants.{Skip, Join, Hear, End}
+use Rattle.schedule_text.specs.declared.step.Step.TheVariants.{Skip, At, Join, Hear, End, Hold, Free, Take}
 use Rattle.schedule_text.specs.Fields.{fields_of}
 use Rattle.schedule_text.specs.Numbers.{bytes_of, number_of}
 
@@ -20,11 +20,34 @@ Err fault >>= f = Err fault
 
 -- the number that a field writes
 abbrev pub number_field : List ℕ → Result ℕ LineFault
-number_field field = ok_or (number_of field) Word
+number_field field = ok_or (number_of field) Number
+
+-- a number that is no 0
+abbrev pub at_least_one : ℕ → Result ℕ LineFault
+at_least_one number = if number == 0 then Err Number else Ok number
+
+-- the number that a field writes, which is no 0
+abbrev pub count_field : List ℕ → Result ℕ LineFault
+count_field field = do
+  number ← number_field field
+  at_least_one number
 
 -- the bytes that a field writes
 abbrev pub bytes_field : List ℕ → Result (List ℕ) LineFault
-bytes_field field = ok_or (bytes_of field) Word
+bytes_field field = ok_or (bytes_of field) Hex
+
+-- the number that the only field writes
+abbrev pub only_number : List (List ℕ) → Result ℕ LineFault
+only_number (field ∷ []) = number_field field
+only_number _ = Err Word
+
+-- `at MONO WALL`
+abbrev pub at_step : List (List ℕ) → Result Step LineFault
+at_step (mono ∷ wall ∷ []) = do
+  mono ← number_field mono
+  wall ← number_field wall
+  Ok (At (record { mono = mono; wall = wall }))
+at_step _ = Err Word
 
 -- `join client`
 abbrev pub join_step : List (List ℕ) → Result Step LineFault
@@ -41,18 +64,41 @@ hear_step _ = Err Word
 
 -- `end PORT`
 abbrev pub end_step : List (List ℕ) → Result Step LineFault
-end_step (port ∷ []) = do
-  port ← number_field port
+end_step fields = do
+  port ← only_number fields
   Ok (End port)
-end_step _ = Err Word
+
+-- `hold PORT`
+abbrev pub hold_step : List (List ℕ) → Result Step LineFault
+hold_step fields = do
+  port ← only_number fields
+  Ok (Hold port)
+
+-- `free PORT`
+abbrev pub free_step : List (List ℕ) → Result Step LineFault
+free_step fields = do
+  port ← only_number fields
+  Ok (Free port)
+
+-- `take PORT N`
+abbrev pub take_step : List (List ℕ) → Result Step LineFault
+take_step (port ∷ count ∷ []) = do
+  port ← number_field port
+  count ← count_field count
+  Ok (Take port count)
+take_step _ = Err Word
 
 -- what the fields ask for by the first of them, or their first fault
 abbrev pub step_of_fields : List (List ℕ) → Result Step LineFault
 step_of_fields [] = Err Word
 step_of_fields (word ∷ fields) =
-    if bytes_eq word (codes "join") then join_step fields
+    if bytes_eq word (codes "at") then at_step fields
+    else if bytes_eq word (codes "join") then join_step fields
     else if bytes_eq word (codes "hear") then hear_step fields
     else if bytes_eq word (codes "end") then end_step fields
+    else if bytes_eq word (codes "hold") then hold_step fields
+    else if bytes_eq word (codes "free") then free_step fields
+    else if bytes_eq word (codes "take") then take_step fields
     else Err Word
 
 -- the same of a line that isn't too long: where it is empty or begins with `#`, it is skipped

@@ -6,15 +6,20 @@
 mod deed;
 mod fault;
 mod fields;
+mod laws;
 mod numbers;
 mod read;
 mod step;
+mod step_line;
 #[cfg(test)]
 mod tests;
+mod texts;
 mod write;
 
 pub use crate::deed::Deed;
 pub use crate::fault::LineFault;
+pub use crate::laws::a_written_step_is_read_back;
 pub use crate::read::read_line;
 pub use crate::step::Step;
+pub use crate::step_line::put_step;
 pub use crate::write::put_deed;

@@ -2,7 +2,8 @@
 
 ghost use Rattle.std.specs.Prelude.{◌≡◌, IfOk, IfErr};
 ghost use Rattle.schedule_text.specs.Fields.{fields_of};
-ghost use Rattle.schedule_text.specs.Lines.{IsFaultOf, bytes_field, end_step, hear_step, join_step, number_field, step_of, step_of_fields};
+ghost use Rattle.schedule_text.specs.Lines.{IsFaultOf, bytes_field, count_field, number_field, only_number};
+ghost use Rattle.schedule_text.specs.Lines.{at_step, hear_step, join_step, take_step, step_of, step_of_fields};
 
 use crate::fields::Fields;
 use crate::numbers::number;
@@ -10,7 +11,7 @@ use crate::{LineFault, Step};
 use hex::FromHexError;
 use plain_lists::Bytes;
 use std::alloc::Global;
-use world_ports::Door;
+use world_ports::{Door, Moment};
 
 /// How long a line may be, in bytes without its LF.
 const MAX_LINE: usize = 65536;
@@ -40,15 +41,39 @@ fn read_fields(alloc: Global, line: &[u8]) -> Result<Step, LineFault>
     let Some(word) = fields.next_field() else {
         return Err(LineFault::Word);
     };
-    if word == b"join".as_slice() {
+    if word == b"at".as_slice() {
+        read_at(fields)
+    } else if word == b"join".as_slice() {
         read_join(fields)
     } else if word == b"hear".as_slice() {
         read_hear(alloc, fields)
     } else if word == b"end".as_slice() {
-        read_end(fields)
+        Ok(Step::End(read_only_number(fields)?))
+    } else if word == b"hold".as_slice() {
+        Ok(Step::Hold(read_only_number(fields)?))
+    } else if word == b"free".as_slice() {
+        Ok(Step::Free(read_only_number(fields)?))
+    } else if word == b"take".as_slice() {
+        read_take(fields)
     } else {
         Err(LineFault::Word)
     }
+}
+
+/// The rest of a line `at MONO WALL`.
+fn read_at(mut fields: Fields<'_>) -> Result<Step, LineFault>
+    ensures { result ≡ at_step fields.entry }
+{
+    let (Some(mono), Some(wall), None) = (
+        fields.next_field(),
+        fields.next_field(),
+        fields.next_field(),
+    ) else {
+        return Err(LineFault::Word);
+    };
+    let mono = read_number(mono)?;
+    let wall = read_number(wall)?;
+    Ok(Step::At(Moment { mono, wall }))
 }
 
 /// The rest of a line `join NAME`.
@@ -76,25 +101,51 @@ fn read_hear(alloc: Global, mut fields: Fields<'_>) -> Result<Step, LineFault>
     ) else {
         return Err(LineFault::Word);
     };
-    let port = read_number(port)?;
-    let bytes = read_bytes(alloc, bytes)?;
-    Ok(Step::Hear { port, bytes })
+    Ok(Step::Hear {
+        port: read_number(port)?,
+        bytes: read_bytes(alloc, bytes)?,
+    })
 }
 
-/// The rest of a line `end PORT`.
-fn read_end(mut fields: Fields<'_>) -> Result<Step, LineFault>
-    ensures { result ≡ end_step fields.entry }
+/// The rest of a line `take PORT N`.
+fn read_take(mut fields: Fields<'_>) -> Result<Step, LineFault>
+    ensures { result ≡ take_step fields.entry }
 {
-    let (Some(port), None) = (fields.next_field(), fields.next_field()) else {
+    let (Some(port), Some(count), None) = (
+        fields.next_field(),
+        fields.next_field(),
+        fields.next_field(),
+    ) else {
         return Err(LineFault::Word);
     };
-    Ok(Step::End(read_number(port)?))
+    let port = read_number(port)?;
+    let count = read_count(count)?;
+    Ok(Step::Take { port, count })
+}
+
+/// The rest of a line of a word and one number.
+fn read_only_number(mut fields: Fields<'_>) -> Result<u64, LineFault>
+    ensures { result ≡ only_number fields.entry }
+{
+    let (Some(field), None) = (fields.next_field(), fields.next_field()) else {
+        return Err(LineFault::Word);
+    };
+    read_number(field)
 }
 
 fn read_number(field: &[u8]) -> Result<u64, LineFault>
     ensures { result ≡ number_field field.now }
 {
-    number(field).ok_or(LineFault::Word)
+    number(field).ok_or(LineFault::Number)
+}
+
+fn read_count(field: &[u8]) -> Result<u64, LineFault>
+    ensures { result ≡ count_field field.now }
+{
+    match read_number(field)? {
+        0 => Err(LineFault::Number),
+        count => Ok(count),
+    }
 }
 
 fn read_bytes(alloc: Global, field: &[u8]) -> Result<Bytes, LineFault>
@@ -102,11 +153,11 @@ fn read_bytes(alloc: Global, field: &[u8]) -> Result<Bytes, LineFault>
     ensures exact { IfErr result (IsFaultOf (bytes_field field.now)) }
 {
     if field.is_empty() {
-        return Err(LineFault::Word);
+        return Err(LineFault::Hex);
     }
     match hex::decode(alloc, field) {
         Ok(bytes) => Ok(Bytes::from_vec(bytes)),
         Err(FromHexError::OutOfMemory) => Err(LineFault::Memory),
-        Err(_) => Err(LineFault::Word),
+        Err(_) => Err(LineFault::Hex),
     }
 }

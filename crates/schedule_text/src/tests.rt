@@ -1,9 +1,9 @@
 //! That the definitions say what docs/PROTOCOL.md says, on lines written out.
 //! That each call succeeds with ample memory.
-use crate::{Deed, LineFault, Step, put_deed, read_line};
+use crate::{Deed, LineFault, Step, put_deed, put_step, read_line};
 use plain_lists::Bytes;
 use std::test::Fail;
-use world_ports::{Door, Job, JobKind};
+use world_ports::{Door, Job, JobKind, Moment};
 
 #[test]
 fn empty_lines_and_comments_are_skipped(rt: HostRuntime) {
@@ -42,36 +42,55 @@ fn bytes_are_heard_in_either_case(rt: HostRuntime) -> Result<(), Fail> {
 }
 
 #[test]
-fn other_lines_are_refused_as_words(rt: HostRuntime) {
+fn moments_and_held_ports_are_read(rt: HostRuntime) {
+    let cases = [
+        (
+            b"at 0 18446744073709551615".as_slice(),
+            Step::At(Moment {
+                mono: 0,
+                wall: u64::MAX,
+            }),
+        ),
+        (b"hold 3".as_slice(), Step::Hold(3)),
+        (b"free 3".as_slice(), Step::Free(3)),
+        (b"take 3 1".as_slice(), Step::Take { port: 3, count: 1 }),
+        (b"take 0 10".as_slice(), Step::Take { port: 0, count: 10 }),
+    ];
+    for (line, want) in cases {
+        assert_eq!(rt; read_line(rt.alloc(), line), Ok(want), "at {line:?}");
+    }
+}
+
+#[test]
+fn another_word_or_number_of_fields_is_refused(rt: HostRuntime) {
     let lines = [
         b" ".as_slice(),
         b" join client".as_slice(),
         b"join".as_slice(),
         b"join ".as_slice(),
+        b"join child".as_slice(),
         b"join clients".as_slice(),
         b"join Client".as_slice(),
         b"join client ".as_slice(),
         b"joins client".as_slice(),
         b"join  client".as_slice(),
         b"leave 1".as_slice(),
+        b"At 1 1".as_slice(),
+        b"at".as_slice(),
+        b"at 1".as_slice(),
+        b"at 1 1 1".as_slice(),
         b"end".as_slice(),
-        b"end ".as_slice(),
         b"end 1 ".as_slice(),
-        b"end 1\r".as_slice(),
-        b"end 01".as_slice(),
-        b"end +1".as_slice(),
-        b"end x".as_slice(),
-        b"end 18446744073709551616".as_slice(),
-        b"end 99999999999999999999999".as_slice(),
         b"hear 1".as_slice(),
-        b"hear 1 ".as_slice(),
-        b"hear  00".as_slice(),
-        b"hear 1 0".as_slice(),
-        b"hear 1 000".as_slice(),
-        b"hear 1 0g".as_slice(),
         b"hear 1 00 ".as_slice(),
         b"hear 1 00 00".as_slice(),
-        b"hear 01 0".as_slice(),
+        b"hold".as_slice(),
+        b"hold 1 1".as_slice(),
+        b"free".as_slice(),
+        b"take 1".as_slice(),
+        b"take 1 1 1".as_slice(),
+        b"started 1 00000000000000000000000000000000".as_slice(),
+        b"failed 1".as_slice(),
     ];
     for line in lines {
         assert_eq!(rt;
@@ -79,6 +98,67 @@ fn other_lines_are_refused_as_words(rt: HostRuntime) {
             Err(LineFault::Word),
             "at {line:?}"
         );
+    }
+}
+
+#[test]
+fn a_field_that_is_no_number_is_refused(rt: HostRuntime) {
+    let lines = [
+        b"end ".as_slice(),
+        b"end 01".as_slice(),
+        b"end +1".as_slice(),
+        b"end x".as_slice(),
+        b"end 1\r".as_slice(),
+        b"end 18446744073709551616".as_slice(),
+        b"end 99999999999999999999999".as_slice(),
+        b"at 1 ".as_slice(),
+        b"at  1".as_slice(),
+        b"at 00 1".as_slice(),
+        b"at 1 01".as_slice(),
+        b"hear  00".as_slice(),
+        b"hold 1x".as_slice(),
+        b"free 01".as_slice(),
+        b"take x 1".as_slice(),
+        b"take 1 0".as_slice(),
+        b"take 1 01".as_slice(),
+    ];
+    for line in lines {
+        assert_eq!(rt;
+            read_line(rt.alloc(), line),
+            Err(LineFault::Number),
+            "at {line:?}"
+        );
+    }
+}
+
+#[test]
+fn a_field_that_is_no_hexadecimal_is_refused(rt: HostRuntime) {
+    for line in [
+        b"hear 1 ".as_slice(),
+        b"hear 1 0".as_slice(),
+        b"hear 1 000".as_slice(),
+        b"hear 1 0g".as_slice(),
+    ] {
+        assert_eq!(rt;
+            read_line(rt.alloc(), line),
+            Err(LineFault::Hex),
+            "at {line:?}"
+        );
+    }
+}
+
+#[test]
+fn the_first_of_two_faults_is_told(rt: HostRuntime) {
+    let cases = [
+        (b"hear x 0g".as_slice(), LineFault::Number),
+        (b"hear 01 ".as_slice(), LineFault::Number),
+        (b"take 1x 0".as_slice(), LineFault::Number),
+        (b"hear x 0g 1".as_slice(), LineFault::Word),
+        (b"take 01 0 1".as_slice(), LineFault::Word),
+        (b"leave x".as_slice(), LineFault::Word),
+    ];
+    for (line, want) in cases {
+        assert_eq!(rt; read_line(rt.alloc(), line), Err(want), "at {line:?}");
     }
 }
 
@@ -97,6 +177,8 @@ fn a_line_may_have_65536_bytes(rt: HostRuntime) -> Result<(), Fail> {
         read_line(rt.alloc(), &heard),
         Ok(Step::Hear { port: 12, bytes })
     );
+    heard.push(b'g')?;
+    assert_eq!(rt; read_line(rt.alloc(), &heard), Err(LineFault::TooLong));
     Ok(())
 }
 
@@ -154,6 +236,41 @@ fn each_output_line_has_its_text(rt: HostRuntime) -> Result<(), Fail> {
         start 1 helper\nstart 20 confirm\n\
         refused 1 word\nrefused 2 number\nrefused 3 hex\n\
         refused 4 port\nrefused 5 order\nrefused 0 long\nend\n";
+    assert_eq!(rt; out.as_slice(), want.as_bytes());
+    Ok(())
+}
+
+#[test]
+fn each_step_has_its_line(rt: HostRuntime) -> Result<(), Fail> {
+    let alloc = rt.alloc();
+    let mut out = Vec::new(alloc);
+    let bytes = Bytes::from_vec(Vec::from_slice(alloc, &[0, 171, 255])?);
+    put_step(&mut out, &Step::Skip)?;
+    put_step(
+        &mut out,
+        &Step::At(Moment {
+            mono: 7,
+            wall: 1_700_000_000,
+        }),
+    )?;
+    put_step(&mut out, &Step::Join(Door::Clients))?;
+    put_step(&mut out, &Step::Join(Door::Children))?;
+    put_step(&mut out, &Step::Hear { port: 1, bytes })?;
+    put_step(&mut out, &Step::End(10))?;
+    put_step(&mut out, &Step::Hold(2))?;
+    put_step(&mut out, &Step::Free(2))?;
+    put_step(&mut out, &Step::Take { port: 2, count: 1 })?;
+    put_step(
+        &mut out,
+        &Step::Started {
+            job: 3,
+            ticket: [161; 16],
+        },
+    )?;
+    put_step(&mut out, &Step::Failed(4))?;
+    let want = "\nat 7 1700000000\njoin client\njoin child\nhear 1 00abff\nend 10\n\
+        hold 2\nfree 2\ntake 2 1\n\
+        started 3 a1a1a1a1a1a1a1a1a1a1a1a1a1a1a1a1\nfailed 4\n";
     assert_eq!(rt; out.as_slice(), want.as_bytes());
     Ok(())
 }

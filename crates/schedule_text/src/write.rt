@@ -1,11 +1,10 @@
 //! Writing an output line.
 
-ghost use Rattle.std.specs.Prelude.{◌≡◌, ◌≢◌, ◌++◌, OnOk, OnErr, decimal, length, take};
-ghost use Rattle.hex.specs.Hex.{encode_lower};
+ghost use Rattle.std.specs.Prelude.{◌≡◌, ◌≢◌, ◌++◌, OnOk, OnErr, length, take};
 ghost use Rattle.schedule_text.specs.Deeds.{IsPrintable, close_line, end_line, fault_word, kind_word, output_line, refused_line, start_line, to_line};
 
+use crate::texts::{put_hex, put_number};
 use crate::{Deed, LineFault};
-use itoa::Buffer;
 use std::alloc::AllocError;
 use world_ports::{Job, JobKind};
 
@@ -108,32 +107,4 @@ fn word_of_fault(fault: LineFault) -> &'static [u8]
         LineFault::TooLong => b"long",
         LineFault::Memory => unreachable!(),
     }
-}
-
-/// Appends `number` in decimal.
-fn put_number(out: &mut Vec<u8>, number: u64) -> Result<(), AllocError>
-    ensures ok { OnOk result (out.new.items ≡ out.old.items ++ decimal number) }
-    ensures err { OnErr result (out.new.items ≡ out.old.items) }
-{
-    let mut digits = Buffer::new();
-    out.extend_from_slice(digits.format(number).as_bytes())
-}
-
-/// Appends `bytes` in hexadecimal, in lower case.
-fn put_hex(out: &mut Vec<u8>, bytes: &[u8]) -> Result<(), AllocError>
-    ensures ok { OnOk result (out.new.items ≡ out.old.items ++ encode_lower bytes.now) }
-    ensures err { OnErr result (out.new.items ≡ out.old.items) }
-{
-    let start = out.len();
-    let Some(digits) = bytes.len().checked_mul(2) else {
-        return Err(AllocError);
-    };
-    let Some(end) = start.checked_add(digits) else {
-        return Err(AllocError);
-    };
-    out.resize(end, 0)?;
-    let Ok(()) = hex::encode_to_slice(bytes, &mut out.as_mut_slice()[start..]) else {
-        unreachable!()
-    };
-    Ok(())
 }

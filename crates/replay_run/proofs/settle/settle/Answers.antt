@@ -1,39 +1,57 @@
-use Rattle.std.proofs.Common.{◌++◌, List, ℕ, ap, sym, ◌∙◌, append_assoc}
+use Rattle.std.proofs.Common.{◌≡◌, ◌++◌, List, ℕ, length, ap, sym, ◌∙◌, append_assoc}
 use Rattle.std.proofs.lemmas.List.{append-nil}
 use Rattle.agent_core.specs.State.{State}
-use Rattle.replay_run.specs.Settling.{Settled, delivered, delivery_lines, settled}
-use Rattle.replay_run.proofs.SettlingLemmas.{delivered_lowers, settled_none, settled_some}
+use Rattle.replay_run.specs.Settling.{Settled, delivered, delivery_lines, sending_lines, sent, settled}
+use Rattle.replay_run.proofs.SettlingLemmas.{delivered_lowers, owed_some, settled_none, settled_some}
 use Rattle.replay_run.proofs.settle.settle.Goals as goal
+
+pub send-requires-clause-some : goal.send-requires-clause-some
+send-requires-clause-some c =
+    rw c.owed-count.ensures
+    (owed_some c.args.held.now c.in-Some.port c.takings.agent c.in-Some.ensures.rising (sym c.in-Some.ensures.next))
 
 pub takings-smaller : goal.takings-smaller
 takings-smaller c =
-    rw c.in_ok-deliver.ensures.agent (delivered_lowers c.in-Some.port c.takings.agent c.in-Some.ensures.rising (sym c.in-Some.ensures.next))
+    let moment = c.args.moment in
+    let port = c.in-Some.port in
+    let state = c.takings.agent in
+    let agent_is : c.send.new.agent ≡ delivered moment port state =
+        c.in_ok-send.ensures.agent ∙ ap (λ (b : List ℕ). sent moment port (length b) state) c.owed-count.ensures in
+    rw agent_is (delivered_lowers moment c.args.held.now port state c.in-Some.ensures.rising (sym c.in-Some.ensures.next))
 
 pub takings-preserved : goal.takings-preserved
 takings-preserved c =
+    let moment = c.args.moment in
+    let held = c.args.held.now in
     let port = c.in-Some.port in
     let state = c.takings.agent in
-    let next = settled_some port state c.in-Some.ensures.rising (sym c.in-Some.ensures.next) in
-    let agent_is = c.in_ok-deliver.ensures.agent in
+    let out = c.takings.out.items in
+    let next = settled_some moment held port state c.in-Some.ensures.rising (sym c.in-Some.ensures.next) in
+    let agent_is : c.send.new.agent ≡ delivered moment port state =
+        c.in_ok-send.ensures.agent ∙ ap (λ (b : List ℕ). sent moment port (length b) state) c.owed-count.ensures in
+    let out_is : c.send.new.out.items ≡ out ++ delivery_lines moment port state =
+        c.in_ok-send.ensures.out ∙ ap (λ (b : List ℕ). out ++ sending_lines moment port (length b) state) c.owed-count.ensures in
     record {
       agent =
-          ap (λ (s : State). (settled s).agent) agent_is
+          ap (λ (s : State). (settled moment held s).agent) agent_is
           ∙ sym (ap (λ (s : Settled). s.agent) next)
           ∙ c.takings.invariant.agent;
       output =
-          ap (λ (s : State). c.deliver.new.out.items ++ (settled s).output) agent_is
-          ∙ ap (λ (o : List ℕ). o ++ (settled (delivered port state)).output) c.in_ok-deliver.ensures.out
-          ∙ append_assoc c.takings.out.items (delivery_lines port state) (settled (delivered port state)).output
-          ∙ sym (ap (λ (s : Settled). c.takings.out.items ++ s.output) next)
+          ap (λ (s : State). c.send.new.out.items ++ (settled moment held s).output) agent_is
+          ∙ ap (λ (o : List ℕ). o ++ (settled moment held (delivered moment port state)).output) out_is
+          ∙ append_assoc out (delivery_lines moment port state) (settled moment held (delivered moment port state)).output
+          ∙ sym (ap (λ (s : Settled). out ++ s.output) next)
           ∙ c.takings.invariant.output;
     }
 
 pub returns-clause-agent : goal.returns-clause-agent
 returns-clause-agent c =
-    sym (ap (λ (s : Settled). s.agent) (settled_none c.takings.agent (sym c.in_default.ensures.next))) ∙ c.takings.invariant.agent
+    sym (ap (λ (s : Settled). s.agent) (settled_none c.args.moment c.args.held.now c.takings.agent (sym c.in_default.ensures.next)))
+    ∙ c.takings.invariant.agent
 
 pub returns-clause-out : goal.returns-clause-out
 returns-clause-out c =
     sym (append-nil c.takings.out.items)
-    ∙ sym (ap (λ (s : Settled). c.takings.out.items ++ s.output) (settled_none c.takings.agent (sym c.in_default.ensures.next)))
+    ∙ sym (ap (λ (s : Settled). c.takings.out.items ++ s.output)
+    (settled_none c.args.moment c.args.held.now c.takings.agent (sym c.in_default.ensures.next)))
     ∙ c.takings.invariant.output

@@ -6,8 +6,9 @@ use Rattle.replay_run.proofs.settle.settle.Given as goal
 -- what is printed, and what the rest of the settling prints, are the output of all of it
 abbrev pub invariant-takings : goal.invariant-takings
 invariant-takings l = record {
-  agent : (settled l.agent).agent ≡ (settled l.fn.agent).agent;
-  output : l.out.items ++ (settled l.agent).output ≡ l.fn.out.items ++ (settled l.fn.agent).output;
+  agent : (settled l.moment l.held l.agent).agent ≡ (settled l.moment l.held l.fn.agent).agent;
+  output : l.out.items ++ (settled l.moment l.held l.agent).output
+      ≡ l.fn.out.items ++ (settled l.moment l.held l.fn.agent).output;
 }
 
 abbrev pub decreases-takings : goal.decreases-takings

@@ -1,7 +1,8 @@
 use Rattle.std.proofs.Common.{◌+◌, ◌<◌, ◌≤◌, ap, arith, inr}
+use Rattle.schedule_text.proofs.Theorems.{step_says_some}
 use Rattle.replay_run.specs.Replay.{Run, longest_schedule}
 use Rattle.replay_run.proofs.RunLemmas.{turned-too_long, turned-step}
-use Rattle.replay_run.proofs.TurnLemmas.{heard_some, fault_run, fault_out}
+use Rattle.replay_run.proofs.TurnLemmas.{fault_run, fault_out}
 use Rattle.replay_run.proofs.replay.Replay.turn.Goals as goal
 
 pub returns-then-self-size-gt-LONGEST_SCHEDULE-clause-run :
@@ -18,8 +19,8 @@ returns-then-self-size-gt-LONGEST_SCHEDULE-clause-out c =
     let late : longest_schedule < c.args.self.now.read + c.args.size = omega arith in
     rw (turned-too_long c.args.line.now c.args.size c.args.self.now c.requires.counted.accepted (inr late)) c.refuse.ensures.out
 
-pub take_step-requires-clause-hears : goal.take_step-requires-clause-hears
-take_step-requires-clause-hears c = heard_some c.args.line.now c.in-Ok.step c.in-Ok.ensures.found
+pub take_step-requires-clause-says : goal.take_step-requires-clause-says
+take_step-requires-clause-says c = step_says_some c.args.line.now c.in-Ok.step c.in-Ok.ensures.found
 
 pub returns-in-Ok-clause-run : goal.returns-in-Ok-clause-run
 returns-in-Ok-clause-run c =

@@ -1,0 +1,5 @@
+use Rattle.schedule_text.proofs.ReadBack.{read_back}
+use Rattle.schedule_text.proofs.laws.a_written_step_is_read_back.Goals as goal
+
+pub returns : goal.returns
+returns c = read_back
