@@ -91,13 +91,9 @@ found_lowers number port state (Some other) is found none =
     let same : other ≡ port = cc in
     owed_lowers number other state other.owed (ap (λ (p : Port). p.owed) same ∙ none) is
 
--- the port that is owed bytes first takes them all: the budget falls
-pub taking_lowers : (high number : ℕ) (moment : Moment) (state : State) → IsRising 0 high state.ports → next_owed 0 state.ports ≡ Some number → budget (step state moment (Took number (length (owed_at number state.ports)))).state < budget state
-taking_lowers high number moment state rising next =
-    let p = found_owed 0 high 0 number state.ports rising next in
-    let port = p.0 in
-    let found : find_port number state.ports ≡ Some port = p.1 in
-    let some : is_some_bytes port.owed ≡ true = p.2 in
+-- a port takes all that it is owed: the budget falls
+pub taking_lowers : (number : ℕ) (port : Port) (moment : Moment) (state : State) → find_port number state.ports ≡ Some port → is_some_bytes port.owed ≡ true → budget (step state moment (Took number (length (owed_at number state.ports)))).state < budget state
+taking_lowers number port moment state found some =
     let count = length (owed_at number state.ports) in
     let count_is : count ≡ length port.owed = ap (λ f. length (owed_by f)) found in
     let after = sent count port in

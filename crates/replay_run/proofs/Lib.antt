@@ -1,5 +1,4 @@
 pub mod HoldingLemmas
-pub mod TakingLemmas
 pub mod SettlingLemmas
 pub mod RunLemmas
 pub mod GoesOnLemmas

@@ -9,7 +9,7 @@ use Rattle.agent_core.proofs.SoundLemmas.{IsNumbered, step_keeps-rising, step-la
 use Rattle.replay_run.specs.Holding.{is_held, next_unheld}
 use Rattle.replay_run.specs.Settling.{Settled, delivered, delivery_lines, after_output, settled_from, settled_by, settled}
 use Rattle.replay_run.proofs.HoldingLemmas.{found_unheld, nothing_unheld}
-use Rattle.replay_run.proofs.TakingLemmas.{taking_lowers}
+use Rattle.agent_core.proofs.BudgetLemmas.{taking_lowers}
 
 -- a taking lowers the budget
 pub delivered_lowers : (moment : Moment) (held : List ℕ) (port : ℕ) (state : State) → IsNumbered state
