@@ -1,6 +1,5 @@
 -- The grammar of public keys and their reading are one: what is read is in the grammar, and what is in the grammar is read.
-use Rattle.std.proofs.Common.{◌≡◌, ℕ, ◌^◌, ◌<◌, List, [], ◌∷◌, ◌++◌, length, Option, Some, None, Result, Ok, Err, refl, sym, ap, subst, ◌∙◌, inl, inr}
-use Rattle.std.specs.Prelude.{◌⊎◌}
+use Rattle.std.proofs.Common.{◌≡◌, ℕ, ◌^◌, ◌<◌, List, [], ◌∷◌, ◌++◌, length, Option, Some, Result, Ok, refl, sym, ap, subst, ◌∙◌, inl, inr}
 use Rattle.std.proofs.lemmas.List.{append-nil}
 use Rattle.wire_text.specs.Wire.{IsBytes, string}
 use Rattle.wire_core.proofs.Theorems.{IsFront, string_at-string}
@@ -8,7 +7,7 @@ use Rattle.key_blob.specs.declared.fault.KeyFault.{KeyFault}
 use Rattle.key_blob.specs.declared.form.Form.{Form}
 use Rattle.key_blob.specs.declared.form.Form.TheVariants.{Plain, Certified}
 use Rattle.key_blob.specs.declared.kind.KeyKind.{KeyKind}
-use Rattle.key_blob.specs.Certificates.{CertificateParts, IsCertificateFront, text_at, certificate_at}
+use Rattle.key_blob.specs.Certificates.{CertificateParts, IsCertificateFront, certificate_at}
 use Rattle.key_blob.specs.KeyTypes.{IsListed, key_type, type_of, kind_of}
 use Rattle.key_blob.specs.PublicKeys.{KeyParts, key_with, plain_key, IsPlainKey, IsCertifiedKey, IsPublicKey, after_nonce, certificate_for, ended, public_key_of}
 use Rattle.key_blob.specs.Reading.{◌>>=◌, AreContents, strings, after_fields, form_at, taken}

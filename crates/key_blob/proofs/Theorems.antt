@@ -2,7 +2,7 @@
 use Rattle.std.proofs.Common.{◌≡◌, ℕ, ◌+◌, ◌-◌, ◌≤◌, Bool, true, false, cond, List, [], ◌∷◌, ◌++◌, length, drop, Result, Ok, Err, refl, sym, ap, subst, ◌∙◌, append_assoc, arith, inl, inr}
 use Rattle.std.specs.Prelude.{reverse, ◌⊎◌, if◌then◌else◌}
 use Rattle.std.specs.Str.{bytes_eq}
-use Rattle.std.proofs.lemmas.List.{append-nil, length-append, drop_at}
+use Rattle.std.proofs.lemmas.List.{length-append, drop_at}
 use Rattle.std.proofs.lemmas.List.Concat.{flat_map-append}
 use Rattle.std.proofs.lemmas.Grind.{reverse_onto}
 use Rattle.std.proofs.lemmas.Slice.Eq.{bytes_eq-Decides}
@@ -19,7 +19,7 @@ use Rattle.key_blob.specs.declared.kind.KeyKind.TheVariants.{Ed25519, Rsa, Nistp
 use Rattle.key_blob.specs.KeyTypes.{KeyType, key_type, certified_type, type_of, blob_order}
 use Rattle.key_blob.specs.Reading.{◌>>=◌, AreContents, strings, fields_at, after_fields, form_at, taken}
 use Rattle.key_blob.specs.PublicKeys.{KeyParts, plain_key, IsPublicKey, public_key_of}
-use Rattle.key_blob.specs.AddedKeys.{IsPlainText, IsCertificateText, IsBlobText, IsAddedKey, blob_fields, blob_fields_at, certificate_blob_at, blob_at, added_key_at, private_at, bytes_before, private_from}
+use Rattle.key_blob.specs.AddedKeys.{IsBlobText, IsAddedKey, blob_fields, blob_fields_at, certificate_blob_at, blob_at, added_key_at, private_at, bytes_before, private_from}
 use Rattle.key_blob.proofs.CertificateLemmas.{ok_is, text_step, content_is_bytes}
 use Rattle.key_blob.proofs.GrammarLemmas.{bind_ok, taken-append, fields_are_front, fields_again, passed_are_front, passed_again, form_is_front, form_again}
 use Rattle.key_blob.proofs.PublicLemmas.{public_is_found, public_is_read}

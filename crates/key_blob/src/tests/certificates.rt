@@ -139,19 +139,22 @@ const TIMES: &[u8] = b"\0\0\0\0\0\0\0\x64\0\0\0\0\0\0\0\xc8\0\0\0\0\0\0\0\0\0\0\
 
 const SIGNED: &[u8] = b"\0\0\0\x06signer\0\0\0\x01x";
 
+/// These parts, one after another.
+const WHOLE: &[u8] = b"\0\0\0\x20ssh-ed25519-cert-v01@openssh.com\
+    \0\0\0\x0512345\0\0\0\x2011111111111111111111111111111111\
+    \0\0\0\0\0\0\0\x01\0\0\0\x02\0\0\0\x02id\0\0\0\x11\0\0\0\x0d*.example.org\
+    \0\0\0\0\0\0\0\x64\0\0\0\0\0\0\0\xc8\0\0\0\0\0\0\0\0\0\0\0\0\
+    \0\0\0\x06signer\0\0\0\x01x";
+
 #[test]
 fn each_part_of_a_certificate_is_short(rt: HostRuntime) -> Result<(), Fail> {
-    let whole = joined(
-        rt.alloc(),
-        &[NAME, NONCE, PK, HOST, PRINCIPALS, TIMES, SIGNED],
-    )?;
-    let key = read_public(&whole).ok().ok_or("the text is a certificate")?;
+    let key = read_public(WHOLE).ok().ok_or("the text is a certificate")?;
     let certificate = key.certificate.ok_or("the key has a certificate")?;
     assert_eq!(rt; certificate.signer, b"signer".as_slice());
     assert!(rt; valid_for(&certificate, b"a.example.org", 199));
-    for len in 0..whole.len() {
+    for len in 0..WHOLE.len() {
         assert_eq!(rt;
-            read_public(&whole[..len]).err(),
+            read_public(&WHOLE[..len]).err(),
             Some(KeyFault::Short),
             "to {len}"
         );
@@ -241,35 +244,25 @@ const SK: &[u8] = b"\0\0\0\x4022222222222222222222222222222222222222222222222222
 
 #[test]
 fn the_first_fault_of_an_added_certificate_is_answered(rt: HostRuntime) -> Result<(), Fail> {
-    let whole = joined(
-        rt.alloc(),
-        &[NAME, NONCE, PK, HOST, PRINCIPALS, TIMES, SIGNED],
-    )?;
     let cases: [(&[&[u8]], Option<KeyFault>); 9] = [
-        (&[NAME, WHOLE_LEN, &whole, PK, SK], None),
-        (&[NAME, WHOLE_LEN, &whole, PK], Some(KeyFault::Short)),
+        (&[NAME, WHOLE_LEN, WHOLE, PK, SK], None),
+        (&[NAME, WHOLE_LEN, WHOLE, PK], Some(KeyFault::Short)),
         (
-            &[NAME, WHOLE_LEN, &whole, SHORT_PK, SK],
+            &[NAME, WHOLE_LEN, WHOLE, SHORT_PK, SK],
             Some(KeyFault::BadLength),
         ),
-        (
-            &[NAME, WHOLE_LEN, &whole, PK, PK],
-            Some(KeyFault::BadLength),
-        ),
-        (&[RSA, WHOLE_LEN, &whole], Some(KeyFault::Mismatch)),
+        (&[NAME, WHOLE_LEN, WHOLE, PK, PK], Some(KeyFault::BadLength)),
+        (&[RSA, WHOLE_LEN, WHOLE], Some(KeyFault::Mismatch)),
         (
             &[NAME, PLAIN_LEN, PLAIN, PK, PK, SK],
             Some(KeyFault::Mismatch),
         ),
         (
-            &[NAME, LONG_LEN, &whole, b"\0", PK],
+            &[NAME, LONG_LEN, WHOLE, b"\0", PK],
             Some(KeyFault::Trailing),
         ),
-        (
-            &[RSA, LONG_LEN, &whole, b"\0", PK],
-            Some(KeyFault::Trailing),
-        ),
-        (&[NAME, LONG_LEN, &whole], Some(KeyFault::Short)),
+        (&[RSA, LONG_LEN, WHOLE, b"\0", PK], Some(KeyFault::Trailing)),
+        (&[NAME, LONG_LEN, WHOLE], Some(KeyFault::Short)),
     ];
     for (pieces, fault) in cases {
         let text = joined(rt.alloc(), pieces)?;

@@ -1,4 +1,4 @@
-use Rattle.std.proofs.Common.{ap, sym, subst, ◌∙◌, ◌==◌, length, List, ℕ}
+use Rattle.std.proofs.Common.{ap, sym, ◌∙◌, ◌==◌, length, List, ℕ}
 use Rattle.key_blob.proofs.PrincipalLemmas.{string_shorter, are_strings-step, are_strings-end, end_test}
 use Rattle.key_blob.proofs.certificate.holds_strings.Goals as goal
 
