@@ -1,5 +1,6 @@
-// Runs with held ports and moments, on schedules and outputs written out by hand. Of the agent protocol: the body
-// 11 asks for identities, 12 with a count of 0 answers it, 5 is failure, and a length of 0 closes the port.
+// Runs with held ports and moments, on schedules and outputs written out by hand. Of the agent
+// protocol: the body 11 asks for identities, 12 with a count of 0 answers it, 5 is failure. A length
+// of 0 closes the port.
 use crate::status::Status;
 use crate::tests::replay_whole;
 use schedule_text::LineFault;

@@ -174,7 +174,7 @@ found_by : (low after number : ℕ) (held : List ℕ) (first : Port) (ports : Li
     → (nat_lt after first.number && is_due held first) ≡ test → low < first.number
     → (if test then Some first.number else next_unheld after held ports) ≡ Some number
     → (next_unheld after held ports ≡ Some number
-      → (port : Port) × (find_port number ports ≡ Some port) × (is_some_bytes port.owed ≡ true) × (first.number < number))
+    → (port : Port) × (find_port number ports ≡ Some port) × (is_some_bytes port.owed ≡ true) × (first.number < number))
     → (port : Port) × (find_port number (first ∷ ports) ≡ Some port) × (is_some_bytes port.owed ≡ true) × (low < number)
 found_by low after number held first ports true is above found later =
     let same : number ≡ first.number = cc in

@@ -37,7 +37,7 @@ some_budget moment held port state rising next = omega (arith, delivered_lowers 
 fuel_from : (moment : Moment) (held : List ℕ) (fuel more : ℕ) (state : State) (found : Option ℕ)
     → next_unheld 0 held state.ports ≡ found → IsNumbered state → budget state ≤ suc fuel → budget state ≤ suc more
     → ((port : ℕ) → budget (delivered moment port state) ≤ fuel → budget (delivered moment port state) ≤ more
-      → settled_by moment held fuel (delivered moment port state) ≡ settled_by moment held more (delivered moment port state))
+    → settled_by moment held fuel (delivered moment port state) ≡ settled_by moment held more (delivered moment port state))
     → settled_from moment (settled_by moment held fuel) state found ≡ settled_from moment (settled_by moment held more) state found
 fuel_from moment held fuel more state None next rising enough plenty later = refl
 fuel_from moment held fuel more state (Some port) next rising enough plenty later =
@@ -115,7 +115,7 @@ settled-last_port moment held state =
 nothing_from : (moment : Moment) (held : List ℕ) (fuel : ℕ) (state : State) (found : Option ℕ)
     → next_unheld 0 held state.ports ≡ found → IsNumbered state → budget state ≤ suc fuel
     → ((port : ℕ) → budget (delivered moment port state) ≤ fuel
-      → next_unheld 0 held (settled_by moment held fuel (delivered moment port state)).agent.ports ≡ None)
+    → next_unheld 0 held (settled_by moment held fuel (delivered moment port state)).agent.ports ≡ None)
     → next_unheld 0 held (settled_from moment (settled_by moment held fuel) state found).agent.ports ≡ None
 nothing_from moment held fuel state None next rising enough later = next
 nothing_from moment held fuel state (Some port) next rising enough later =

@@ -1,4 +1,5 @@
--- Held ports take bytes only by `take` (ours: docs/PROTOCOL.md, "Schedules"). A list of them has each once, rising.
+-- Held ports take bytes only by `take` (ours: docs/PROTOCOL.md, "Schedules"). A list of them has each
+-- once, rising.
 use Rattle.std.specs.Prelude.{ℕ, ◌==◌, ◌&&◌, ◌||◌, not, nat_lt, Bool, false, if◌then◌else◌, List, [], ◌∷◌, Option, None, Some}
 use Rattle.agent_core.specs.State.{Port, is_some_bytes}
 

@@ -18,8 +18,7 @@ use std::alloc::Global;
 use std::marker::Model;
 use world_ports::{Door, Moment};
 
-/// The agent, the moment of the last `at` line and the held ports, the lines that were run, and the fault of the
-/// line that was refused.
+/// The agent, the moment of its events, the held ports, and how far the schedule was run.
 #[derive(Drop)]
 pub struct Replay {
     agent: Agent,
@@ -151,7 +150,6 @@ impl Replay {
     // From here on the port takes bytes only by `take`.
     fn hold(&mut self, port: u64, size: u64, out: &mut Vec<u8>) -> Result<(), CoreMemory>
         requires counted { IsCounted self.old }
-        requires some { 0 < size }
         requires within { self.old.read + size ≤ longest_schedule }
         ensures run { OnOk result (self.new ≡ (at_port (find_port port self.old.agent.ports)
             (settling_turn [] size (record self.old { held = hold_port port self.old.held }))
@@ -171,7 +169,6 @@ impl Replay {
     // The port takes all again.
     fn free(&mut self, port: u64, size: u64, out: &mut Vec<u8>) -> Result<(), CoreMemory>
         requires counted { IsCounted self.old }
-        requires some { 0 < size }
         requires within { self.old.read + size ≤ longest_schedule }
         ensures run { OnOk result (self.new ≡ (at_port (find_port port self.old.agent.ports)
             (settling_turn [] size (record self.old { held = free_port port self.old.held }))
@@ -197,7 +194,6 @@ impl Replay {
         out: &mut Vec<u8>,
     ) -> Result<(), CoreMemory>
         requires counted { IsCounted self.old }
-        requires some { 0 < size }
         requires within { self.old.read + size ≤ longest_schedule }
         requires count { 0 < count }
         ensures run { OnOk result (self.new ≡ (at_port (find_port port self.old.agent.ports)

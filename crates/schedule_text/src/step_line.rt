@@ -10,8 +10,8 @@ use world_ports::Door;
 
 /// Appends the line of a step with its LF, or leaves `out` as it was.
 ///
-/// A skipped line is written as the empty line. What is heard is one byte at least, and so is what is taken, and the
-/// line has at most 65536 bytes without its LF.
+/// A skipped line is written as the empty line. What is heard is one byte at least, and so is what
+/// is taken, and the line has at most 65536 bytes without its LF.
 pub fn put_step(out: &mut Vec<u8>, step: &Step) -> Result<(), AllocError>
     requires { HasLine step.now }
     ensures ok { OnOk result (out.new.items ≡ out.old.items ++ step_line step.now) }

@@ -16,7 +16,7 @@ takings-smaller c =
     let port = c.in-Some.port in
     let state = c.takings.agent in
     let agent_is : c.send.new.agent ≡ delivered moment port state =
-        c.in_ok-send.ensures.agent ∙ ap (λ (b : List ℕ). sent moment port (length b) state) c.owed-count.ensures in
+    c.in_ok-send.ensures.agent ∙ ap (λ (b : List ℕ). sent moment port (length b) state) c.owed-count.ensures in
     rw agent_is (delivered_lowers moment c.args.held.now port state c.in-Some.ensures.rising (sym c.in-Some.ensures.next))
 
 pub takings-preserved : goal.takings-preserved
@@ -28,9 +28,9 @@ takings-preserved c =
     let out = c.takings.out.items in
     let next = settled_some moment held port state c.in-Some.ensures.rising (sym c.in-Some.ensures.next) in
     let agent_is : c.send.new.agent ≡ delivered moment port state =
-        c.in_ok-send.ensures.agent ∙ ap (λ (b : List ℕ). sent moment port (length b) state) c.owed-count.ensures in
+    c.in_ok-send.ensures.agent ∙ ap (λ (b : List ℕ). sent moment port (length b) state) c.owed-count.ensures in
     let out_is : c.send.new.out.items ≡ out ++ delivery_lines moment port state =
-        c.in_ok-send.ensures.out ∙ ap (λ (b : List ℕ). out ++ sending_lines moment port (length b) state) c.owed-count.ensures in
+    c.in_ok-send.ensures.out ∙ ap (λ (b : List ℕ). out ++ sending_lines moment port (length b) state) c.owed-count.ensures in
     record {
       agent =
           ap (λ (s : State). (settled moment held s).agent) agent_is
