@@ -21,7 +21,8 @@ pub bounded-none : (life : Option ℕ) → AreBounded (no_keys life)
 bounded-none life = record { sound = IsSound-none 0; short = tt; lock = tt }
 
 -- identities whose lifetime has run out leave
-pub bounded-expired : (second : ℕ) (keys : KeyState) → AreBounded keys → AreBounded (expired second keys)
+pub bounded-expired : (second : ℕ) (keys : KeyState) → AreBounded keys →
+    AreBounded (expired second keys)
 bounded-expired second keys held = record {
   sound = IsSound-alive second keys.table.identities keys.table.last held.sound;
   short = AreShort-alive second keys.table.identities held.short;
@@ -31,12 +32,16 @@ bounded-expired second keys held = record {
 -- ---- requests, one by one
 
 -- a request to sign holds nothing more
-bounded-sign_by : (found : Option HeldKey) (keys : KeyState) → AreBounded keys → AreBounded (sign_by found keys).keys
+bounded-sign_by : (found : Option HeldKey) (keys : KeyState) → AreBounded keys →
+    AreBounded (sign_by found keys).keys
 bounded-sign_by None keys held = held
 bounded-sign_by (Some key) keys held = held
 
 -- an addition holds a short key, where one message lists it too
-bounded-add_numbered : (spent : Bool) (addition : Addition) (now : ℕ) (keys : KeyState) → length_with addition now keys ≤ max_answer → IsShort (new_identity keys.table addition.key addition.terms addition.comment now) → AreBounded keys → AreBounded (add_numbered spent addition now keys).keys
+bounded-add_numbered : (spent : Bool) (addition : Addition) (now : ℕ) (keys : KeyState) →
+    length_with addition now keys ≤ max_answer →
+    IsShort (new_identity keys.table addition.key addition.terms addition.comment now) →
+    AreBounded keys → AreBounded (add_numbered spent addition now keys).keys
 bounded-add_numbered true addition now keys listed short held = held
 bounded-add_numbered false addition now keys listed short held =
     let new : HeldKey = new_identity keys.table addition.key addition.terms addition.comment now in
@@ -47,20 +52,26 @@ bounded-add_numbered false addition now keys listed short held =
     }
 
 -- that one message lists it is tested before
-bounded-add_listed : (full : Bool) (addition : Addition) (now : ℕ) (keys : KeyState) → nat_lt max_answer (length_with addition now keys) ≡ full → IsShort (new_identity keys.table addition.key addition.terms addition.comment now) → AreBounded keys → AreBounded (add_listed full addition now keys).keys
+bounded-add_listed : (full : Bool) (addition : Addition) (now : ℕ) (keys : KeyState) →
+    nat_lt max_answer (length_with addition now keys) ≡ full →
+    IsShort (new_identity keys.table addition.key addition.terms addition.comment now) →
+    AreBounded keys → AreBounded (add_listed full addition now keys).keys
 bounded-add_listed true addition now keys is short held = held
 bounded-add_listed false addition now keys is short held =
     let listed : length_with addition now keys ≤ max_answer = ltb-false max_answer (length_with addition now keys) is in
     bounded-add_numbered (keys.table.last == 2 ^ 64 - 1) addition now keys listed short held
 
 -- under destination constraints nothing is added
-bounded-add_under : (rules : List Constraint) (addition : Addition) (now : ℕ) (keys : KeyState) → IsShort (new_identity keys.table addition.key addition.terms addition.comment now) → AreBounded keys → AreBounded (add_under rules addition now keys).keys
+bounded-add_under : (rules : List Constraint) (addition : Addition) (now : ℕ) (keys : KeyState) →
+    IsShort (new_identity keys.table addition.key addition.terms addition.comment now) →
+    AreBounded keys → AreBounded (add_under rules addition now keys).keys
 bounded-add_under [] addition now keys short held =
     bounded-add_listed (nat_lt max_answer (length_with addition now keys)) addition now keys refl short held
 bounded-add_under (rule ∷ rules) addition now keys short held = held
 
 -- a removal leaves fewer
-bounded-remove_by : (found : Option HeldKey) (blob : List ℕ) (keys : KeyState) → AreBounded keys → AreBounded (remove_by found blob keys).keys
+bounded-remove_by : (found : Option HeldKey) (blob : List ℕ) (keys : KeyState) → AreBounded keys →
+    AreBounded (remove_by found blob keys).keys
 bounded-remove_by None blob keys held = held
 bounded-remove_by (Some key) blob keys held = record {
   sound = IsSound-remove blob keys.table.identities keys.table.last held.sound;
@@ -69,19 +80,23 @@ bounded-remove_by (Some key) blob keys held = record {
 }
 
 -- a lock holds its passphrase
-bounded-lock_by : (passphrase : List ℕ) (keys : KeyState) → length passphrase ≤ longest_body → AreBounded keys → AreBounded (lock_by passphrase keys).keys
+bounded-lock_by : (passphrase : List ℕ) (keys : KeyState) → length passphrase ≤ longest_body →
+    AreBounded keys → AreBounded (lock_by passphrase keys).keys
 bounded-lock_by [] keys short held = held
 bounded-lock_by (byte ∷ bytes) keys short held = record { sound = held.sound; short = held.short; lock = short }
 
 -- and lets it go when it is opened
-bounded-unlock_by : (same : Bool) (keys : KeyState) → AreBounded keys → AreBounded (unlock_by same keys).keys
+bounded-unlock_by : (same : Bool) (keys : KeyState) → AreBounded keys →
+    AreBounded (unlock_by same keys).keys
 bounded-unlock_by true keys held = record { sound = held.sound; short = held.short; lock = tt }
 bounded-unlock_by false keys held = held
 
 -- ---- the table of requests
 
 -- of an agent that isn't locked
-bounded-serve_open : (body : List ℕ) (request : ClientRequest) (now : ℕ) (keys : KeyState) → IsRequest body request → length body ≤ longest_body → AreBounded keys → AreBounded (serve_open request now keys).keys
+bounded-serve_open : (body : List ℕ) (request : ClientRequest) (now : ℕ) (keys : KeyState) →
+    IsRequest body request → length body ≤ longest_body → AreBounded keys →
+    AreBounded (serve_open request now keys).keys
 bounded-serve_open body ListIdentities now keys is within held = held
 bounded-serve_open body (Sign signing) now keys is within held =
     bounded-sign_by (find_identity signing.blob keys.table.identities) keys held
@@ -99,7 +114,8 @@ bounded-serve_open body (OtherExtension name) now keys is within held = held
 bounded-serve_open body (Unsupported number) now keys is within held = held
 
 -- of an agent that is locked
-bounded-serve_locked : (locked : List ℕ) (request : ClientRequest) (keys : KeyState) → AreBounded keys → AreBounded (serve_locked locked request keys).keys
+bounded-serve_locked : (locked : List ℕ) (request : ClientRequest) (keys : KeyState) →
+    AreBounded keys → AreBounded (serve_locked locked request keys).keys
 bounded-serve_locked locked ListIdentities keys held = held
 bounded-serve_locked locked (Sign signing) keys held = held
 bounded-serve_locked locked (Add addition) keys held = held
@@ -111,16 +127,22 @@ bounded-serve_locked locked (OtherExtension name) keys held = held
 bounded-serve_locked locked (Unsupported number) keys held = held
 
 -- of either
-bounded-serve_by : (body : List ℕ) (lock : Option (List ℕ)) (request : ClientRequest) (now : ℕ) (keys : KeyState) → IsRequest body request → length body ≤ longest_body → AreBounded keys → AreBounded (serve_by lock request now keys).keys
+bounded-serve_by : (body : List ℕ) (lock : Option (List ℕ)) (request : ClientRequest) (now : ℕ) (keys : KeyState) →
+    IsRequest body request → length body ≤ longest_body → AreBounded keys →
+    AreBounded (serve_by lock request now keys).keys
 bounded-serve_by body None request now keys is within held = bounded-serve_open body request now keys is within held
 bounded-serve_by body (Some locked) request now keys is within held = bounded-serve_locked locked request keys held
 
 -- by what the body reads as
-bounded_by_read : (body : List ℕ) (read : Result ClientRequest MsgFault) (now : ℕ) (keys : KeyState) → IsBytes body → request_of body ≡ read → length body ≤ longest_body → AreBounded keys → AreBounded (serve read now keys).keys
+bounded_by_read : (body : List ℕ) (read : Result ClientRequest MsgFault) (now : ℕ) (keys : KeyState) →
+    IsBytes body → request_of body ≡ read → length body ≤ longest_body → AreBounded keys →
+    AreBounded (serve read now keys).keys
 bounded_by_read body (Ok request) now keys each is within held =
     bounded-serve_by body keys.lock request now keys (request_is_found body request each is) within held
 bounded_by_read body (Err fault) now keys each is within held = held
 
 -- a request with a body of bytes that is no longer than the longest leaves what is held bounded
-pub bounded-serve : (body : List ℕ) (now : ℕ) (keys : KeyState) → IsBytes body → length body ≤ longest_body → AreBounded keys → AreBounded (serve (request_of body) now keys).keys
+pub bounded-serve : (body : List ℕ) (now : ℕ) (keys : KeyState) → IsBytes body →
+    length body ≤ longest_body → AreBounded keys →
+    AreBounded (serve (request_of body) now keys).keys
 bounded-serve body now keys each within held = bounded_by_read body (request_of body) now keys each refl within held

@@ -1,4 +1,5 @@
--- What bounds what is held: no body of a client's message is longer than the longest, and what is held came in bodies (ours).
+-- What bounds what is held: it came in the bodies of clients' messages, and each of these is short
+-- (ours: docs/DECISIONS.md, "Limits of the agent").
 use Rattle.std.specs.Prelude.{ℕ, ◌≤◌, List, [], ◌∷◌, length}
 use Rattle.std.specs.Option.{IfSome}
 use Rattle.wire_text.specs.Wire.{IsBytes}
@@ -42,8 +43,9 @@ abbrev pub AreShort : List HeldKey → Type 0
 AreShort [] = Unit {0}
 AreShort (key ∷ keys) = IsShort key × AreShort keys
 
--- each identity has its own blob and its own number, and one message of 262144 bytes lists them all; no part of a
--- key is longer than the longest body, nor is the passphrase of a lock
+-- each identity has its own blob and its own number, and one message of at most 262144 bytes lists
+-- them all; no key's blob or private string is longer than the longest body, nor is the passphrase
+-- of a lock
 pub record AreBounded (keys : KeyState) : Type 0 where
   pub sound : IsSound keys.table.identities keys.table.last
   pub short : AreShort keys.table.identities
