@@ -1,5 +1,5 @@
 -- What comes in one body is short, and lists of identities stay short.
-use Rattle.std.proofs.Common.{◌≡◌, ℕ, ◌+◌, ◌<◌, ◌≤◌, Bool, true, false, cond, List, [], ◌∷◌, ◌++◌, length, take, drop, ap, arith, inl, inr}
+use Rattle.std.proofs.Common.{◌≡◌, ℕ, ◌+◌, ◌<◌, ◌≤◌, Bool, true, false, cond, List, [], ◌∷◌, ◌++◌, length, drop, ap, arith, inl, inr}
 use Rattle.std.specs.Str.{bytes_eq}
 use Rattle.std.proofs.lemmas.List.{length-append}
 use Rattle.std.proofs.lemmas.List.Elements.{All-drop, All-take}
@@ -46,9 +46,11 @@ text-within number body text is within = omega (arith, ap length is.printed, len
 private-within : (body : List ℕ) (addition : Addition) → IsRequest body (Add addition) →
     length body ≤ longest_body → length addition.key.private ≤ longest_body
 private-within body addition (inl is) within =
-    omega (arith, ap length is.printed, length-append addition.key.private (string addition.comment), within)
+    let parts = length-append addition.key.private (string addition.comment) in
+    omega (arith, ap length is.printed, parts, within)
 private-within body addition (inr is) within =
-    omega (arith, ap length is.printed, length-append addition.key.private (string addition.comment ++ is.constraints), within)
+    let parts = length-append addition.key.private (string addition.comment ++ is.constraints) in
+    omega (arith, ap length is.printed, parts, within)
 
 -- and so is its blob
 blob-within : (body : List ℕ) (addition : Addition) → IsRequest body (Add addition) →

@@ -1,5 +1,5 @@
 -- Events leave what ports heard bytes, and what is held bounded.
-use Rattle.std.proofs.Common.{◌≡◌, ℕ, suc, max, ◌==◌, ◌<◌, ◌≤◌, Bool, true, false, cond, List, [], ◌∷◌, ◌++◌, refl, sym, subst, Option, Some, None, nat_lt}
+use Rattle.std.proofs.Common.{◌≡◌, ℕ, suc, max, ◌==◌, ◌<◌, Bool, true, false, cond, List, [], ◌∷◌, ◌++◌, refl, sym, subst, Option, Some, None, nat_lt}
 use Rattle.std.proofs.lemmas.List.Elements.{All-append, All-nil}
 use Rattle.std.specs.Option.{IfSome}
 use Rattle.wire_text.specs.Wire.{IsBytes}
@@ -8,14 +8,14 @@ use Rattle.world_ports.specs.declared.Moment.{Moment}
 use Rattle.agent_core.specs.declared.slot.Fate.{Fate}
 use Rattle.agent_core.specs.declared.slot.Fate.TheVariants.{Stays, Owes, Closes}
 use Rattle.agent_core.specs.Bounds.{AreBounded, AreOfBytes, HasHeardBytes, IsOfBytes}
-use Rattle.agent_core.specs.KeyStates.{KeyState, expired}
-use Rattle.agent_core.specs.PortLook.{fate_of, fated_ports, found_looked, front_kept, found_kept, front_looked, keys_after, looked_keys, owed_kept, owed_looked, port_looked}
+use Rattle.agent_core.specs.KeyStates.{KeyState}
+use Rattle.agent_core.specs.PortLook.{fate_of, fated_ports, found_looked, front_kept, found_kept, front_looked, keys_after, owed_kept, owed_looked, port_looked}
 use Rattle.agent_core.specs.Runs.{Timed, run}
 use Rattle.agent_core.specs.State.{Port, State, find_port, change_port, remove_port, new_client, client_count, opening_state}
 use Rattle.agent_core.specs.Step.{Happening, Joined, Heard, Ended, Took, Started, StartFailed, Tick, admitted, changed, heard, longest_body, looked, most_clients, opened, sent, step}
 use Rattle.agent_core.proofs.BoundLemmas.{IsBytes-front_body, IsBytes-after_front, front_body-within}
 use Rattle.agent_core.proofs.ServeLemmas.{bounded-none, bounded-expired, bounded-serve}
-use Rattle.agent_core.proofs.StepLemmas.{looked-state, replies, leaves}
+use Rattle.agent_core.proofs.StepLemmas.{looked-state, replies}
 
 -- ---- what the ports heard
 
@@ -65,6 +65,7 @@ heard_bytes-joined : (number : ℕ) (ports : List Port) → HasHeardBytes ports 
 heard_bytes-joined number [] each = (All-nil (λ byte. byte < 256), tt)
 heard_bytes-joined number (port ∷ ports) each = (each.0, heard_bytes-joined number ports each.1)
 
+-- nor where there is no room for it
 heard_bytes-admitted : (room : Bool) (number : ℕ) (ports : List Port) → HasHeardBytes ports →
     HasHeardBytes (admitted room number ports)
 heard_bytes-admitted true number ports each = heard_bytes-joined number ports each
@@ -79,11 +80,13 @@ heard_by_front reply (Whole body_len) port each = IsBytes-after_front body_len p
 heard_by_front reply (Bad announced) port each = each
 heard_by_front reply More port each = each
 
+-- and nothing is taken of a port that is owed bytes
 heard_by_owed : (reply : List ℕ → List ℕ) (owed : List ℕ) (port : Port) → IsBytes port.heard →
     IsBytes (owed_looked reply owed port).heard
 heard_by_owed reply [] port each = heard_by_front reply (front longest_body port.heard) port each
 heard_by_owed reply (byte ∷ bytes) port each = each
 
+-- by what the look brings, all ports heard bytes after it
 heard_bytes-fated : (reply : List ℕ → List ℕ) (number : ℕ) (fate : Fate) (ports : List Port) →
     HasHeardBytes ports → HasHeardBytes (fated_ports reply number fate ports)
 heard_bytes-fated reply number Closes ports each = heard_bytes-removed number ports each
@@ -91,26 +94,29 @@ heard_bytes-fated reply number Owes ports each =
     heard_bytes-changed number (port_looked reply) ports (λ port bytes. heard_by_owed reply port.owed port bytes) each
 heard_bytes-fated reply number Stays ports each = each
 
--- so that all ports heard bytes after it
+-- whether the port is open or not
 heard_bytes-found : (reply : List ℕ → List ℕ) (number : ℕ) (found : Option Port) (ports : List Port) →
     HasHeardBytes ports → HasHeardBytes (found_looked reply number found ports)
 heard_bytes-found reply number None ports each = each
 heard_bytes-found reply number (Some port) ports each = heard_bytes-fated reply number (fate_of port) ports each
 
--- and the request that it takes, if any, leaves what is held bounded
+-- the request that a look takes, if a whole one is there, leaves what is held bounded
 bounded-front : (now : ℕ) (keys : KeyState) (bytes : List ℕ) (answer : Front) → IsBytes bytes →
     front longest_body bytes ≡ answer → AreBounded keys →
     AreBounded (front_kept (keys_after now keys) keys bytes answer)
 bounded-front now keys bytes (Whole body_len) each is held =
-    bounded-serve (front_body body_len bytes) now keys (IsBytes-front_body body_len bytes each) (front_body-within body_len bytes is) held
+    let is_bytes = IsBytes-front_body body_len bytes each in
+    bounded-serve (front_body body_len bytes) now keys is_bytes (front_body-within body_len bytes is) held
 bounded-front now keys bytes (Bad announced) each is held = held
 bounded-front now keys bytes More each is held = held
 
+-- where bytes are owed none is taken
 bounded-owed : (now : ℕ) (keys : KeyState) (owed bytes : List ℕ) → IsBytes bytes →
     AreBounded keys → AreBounded (owed_kept (keys_after now keys) keys owed bytes)
 bounded-owed now keys [] bytes each held = bounded-front now keys bytes (front longest_body bytes) each refl held
 bounded-owed now keys (byte ∷ owed) bytes each held = held
 
+-- and none where the port is not open
 bounded-found : (now : ℕ) (keys : KeyState) (found : Option Port) → FoundBytes found →
     AreBounded keys → AreBounded (found_kept (keys_after now keys) keys found)
 bounded-found now keys None each held = held
@@ -149,9 +155,12 @@ pub step_keeps-bounded : (state : State) (moment : Moment) (event : Happening) �
     IsBounded state → IsBounded (step state moment event).state
 step_keeps-bounded state moment (Joined door) of_bytes here =
     let open_now = bounded-opened moment state here in
-    (open_now.0, heard_bytes-admitted (nat_lt (client_count state.ports) most_clients) (suc state.last_port) state.ports here.1)
+    let room = nat_lt (client_count state.ports) most_clients in
+    (open_now.0, heard_bytes-admitted room (suc state.last_port) state.ports here.1)
 step_keeps-bounded state moment (Heard port piece) of_bytes here =
-    bounded-changed port (heard piece) (opened moment state) (λ p bytes. All-append (λ byte. byte < 256) p.heard piece bytes of_bytes) (bounded-opened moment state here)
+    let more : (p : Port) → IsBytes p.heard → IsBytes (p.heard ++ piece) =
+    λ p bytes. All-append (λ byte. byte < 256) p.heard piece bytes of_bytes in
+    bounded-changed port (heard piece) (opened moment state) more (bounded-opened moment state here)
 step_keeps-bounded state moment (Ended port) of_bytes here =
     let open_now = bounded-opened moment state here in
     (open_now.0, heard_bytes-removed port state.ports here.1)

@@ -1,6 +1,6 @@
 -- What bounds what is held: it came in the bodies of clients' messages, and each of these is short
 -- (ours: docs/DECISIONS.md, "Limits of the agent").
-use Rattle.std.specs.Prelude.{ℕ, ◌≤◌, List, [], ◌∷◌, length}
+use Rattle.std.specs.Prelude.{◌≤◌, List, [], ◌∷◌, length}
 use Rattle.std.specs.Option.{IfSome}
 use Rattle.wire_text.specs.Wire.{IsBytes}
 use Rattle.identity_table.specs.Identities.{HeldKey, IsSound}

@@ -47,9 +47,9 @@ pub fn no_number_is_used_again()
         → find_port number (run state events).ports ≡ None }
 {}
 
-/// Where what clients send is bytes, whatever happens, what is held is bounded: each identity has its
-/// own blob and its own number, one message of at most 262144 bytes lists them all, and no key's blob
-/// or private string, nor the passphrase of a lock, has more than 262144 bytes.
+/// Where what clients send is bytes, whatever happens, what is held is bounded: each identity has
+/// its own blob and its own number, one message of at most 262144 bytes lists them all, and no key's
+/// blob or private string, nor the passphrase of a lock, has more than 262144 bytes.
 pub fn what_is_held_is_bounded()
     ensures held { (life : Option ℕ) (events : List Timed) → AreOfBytes events
         → AreBounded (run (opening_state life) events).keys }
