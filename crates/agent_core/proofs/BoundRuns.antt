@@ -65,7 +65,7 @@ heard_bytes-joined : (number : ℕ) (ports : List Port) → HasHeardBytes ports 
 heard_bytes-joined number [] each = (All-nil (λ byte. byte < 256), tt)
 heard_bytes-joined number (port ∷ ports) each = (each.0, heard_bytes-joined number ports each.1)
 
--- nor where there is no room for it
+-- and where there is no room for it the ports stay
 heard_bytes-admitted : (room : Bool) (number : ℕ) (ports : List Port) → HasHeardBytes ports →
     HasHeardBytes (admitted room number ports)
 heard_bytes-admitted true number ports each = heard_bytes-joined number ports each
