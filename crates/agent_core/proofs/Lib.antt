@@ -11,3 +11,6 @@ pub mod SoundLemmas
 pub mod RunsLemmas
 pub mod PiecesLemmas
 pub mod TakenLemmas
+pub mod BoundLemmas
+pub mod ServeLemmas
+pub mod BoundRuns

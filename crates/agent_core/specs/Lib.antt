@@ -9,3 +9,4 @@ pub mod PortLook
 pub mod Places
 pub mod Owing
 pub mod Budget
+pub mod Bounds

@@ -2,6 +2,7 @@
 
 ghost use Rattle.std.specs.Prelude.{◌≡◌, ℕ, ◌^◌, ◌<◌, ◌≤◌, List, ◌++◌, Option, None};
 ghost use Rattle.world_ports.specs.declared.Moment.{Moment};
+ghost use Rattle.agent_core.specs.Bounds.{AreBounded, AreOfBytes, HasHeardBytes, IsOfBytes};
 ghost use Rattle.agent_core.specs.Runs.{AllFit, Timed, forget_closes, run};
 ghost use Rattle.agent_core.specs.State.{IsSound, State, find_port, opening_state};
 ghost use Rattle.agent_core.specs.Step.{Happening, Heard, opened, step};
@@ -44,4 +45,16 @@ pub fn no_number_is_used_again()
     ensures closed { (state : State) (events : List Timed) (number : ℕ) → number ≤ state.last_port
         → find_port number state.ports ≡ None
         → find_port number (run state events).ports ≡ None }
+{}
+
+/// Where what clients send is bytes, whatever happens, what is held is bounded: each identity has
+/// its own blob and its own number, one message of at most 262144 bytes lists them all, and no key's
+/// blob or private string, nor the passphrase of a lock, has more than 262144 bytes.
+pub fn what_is_held_is_bounded()
+    ensures held { (life : Option ℕ) (events : List Timed) → AreOfBytes events
+        → AreBounded (run (opening_state life) events).keys }
+    ensures step { (state : State) (moment : Moment) (event : Happening) → IsOfBytes event
+        → HasHeardBytes state.ports → AreBounded state.keys
+        → AreBounded (step state moment event).state.keys
+        × HasHeardBytes (step state moment event).state.ports }
 {}
