@@ -9,47 +9,61 @@ use wire_core::Cursor;
 const HEAD: &[u8] = b"\xff\0\0\0\x24restrict-destination-v00@openssh.com";
 
 /// Contents of the extension, and their first fault.
-const CASES: [(&[u8], Option<TermFault>); 20] = [
+struct Case {
+    contents: &'static [u8],
+    want: Option<TermFault>,
+}
+
+const CASES: [Case; 20] = [
     // an empty list, none, and one that is cut off
-    (b"\0\0\0\0", Some(TermFault::NoRules)),
-    (b"", Some(TermFault::Short)),
-    (b"\0\0\0\x01", Some(TermFault::Short)),
+    Case {
+        contents: b"\0\0\0\0",
+        want: Some(TermFault::NoRules),
+    },
+    Case {
+        contents: b"",
+        want: Some(TermFault::Short),
+    },
+    Case {
+        contents: b"\0\0\0\x01",
+        want: Some(TermFault::Short),
+    },
     // one constraint without a fault
-    (
-        b"\
+    Case {
+        contents: b"\
         \0\0\0\x71\0\0\0\x6d\
         \0\0\0\x0c\0\0\0\0\0\0\0\0\0\0\0\0\
         \0\0\0\x55\0\0\0\0\0\0\0\x04host\0\0\0\0\
         \0\0\0\x40\0\0\0\x18keyed-sha256@example.com\0\0\0\x20\
         11111111111111111111111111111111\0\
         \0\0\0\0",
-        None,
-    ),
+        want: None,
+    },
     // a user, and no keys
-    (
-        b"\
+    Case {
+        contents: b"\
         \0\0\0\x77\0\0\0\x73\
         \0\0\0\x12\0\0\0\x02me\0\0\0\x04host\0\0\0\0\
         \0\0\0\x55\0\0\0\0\0\0\0\x04host\0\0\0\0\
         \0\0\0\x40\0\0\0\x18keyed-sha256@example.com\0\0\0\x20\
         11111111111111111111111111111111\0\
         \0\0\0\0",
-        Some(TermFault::FromUser),
-    ),
+        want: Some(TermFault::FromUser),
+    },
     // a hostname and no keys
-    (
-        b"\
+    Case {
+        contents: b"\
         \0\0\0\x75\0\0\0\x71\
         \0\0\0\x10\0\0\0\0\0\0\0\x04host\0\0\0\0\
         \0\0\0\x55\0\0\0\0\0\0\0\x04host\0\0\0\0\
         \0\0\0\x40\0\0\0\x18keyed-sha256@example.com\0\0\0\x20\
         11111111111111111111111111111111\0\
         \0\0\0\0",
-        Some(TermFault::FromHalf),
-    ),
+        want: Some(TermFault::FromHalf),
+    },
     // keys and no hostname
-    (
-        b"\
+    Case {
+        contents: b"\
         \0\0\0\xb6\0\0\0\xb2\
         \0\0\0\x51\0\0\0\0\0\0\0\0\0\0\0\0\
         \0\0\0\x40\0\0\0\x18keyed-sha256@example.com\0\0\0\x20\
@@ -58,31 +72,31 @@ const CASES: [(&[u8], Option<TermFault>); 20] = [
         \0\0\0\x40\0\0\0\x18keyed-sha256@example.com\0\0\0\x20\
         11111111111111111111111111111111\0\
         \0\0\0\0",
-        Some(TermFault::FromHalf),
-    ),
+        want: Some(TermFault::FromHalf),
+    },
     // no keys to enter by
-    (
-        b"\
+    Case {
+        contents: b"\
         \0\0\0\x2c\0\0\0\x28\
         \0\0\0\x0c\0\0\0\0\0\0\0\0\0\0\0\0\
         \0\0\0\x10\0\0\0\0\0\0\0\x04host\0\0\0\0\
         \0\0\0\0",
-        Some(TermFault::ToHalf),
-    ),
+        want: Some(TermFault::ToHalf),
+    },
     // no hostname to enter
-    (
-        b"\
+    Case {
+        contents: b"\
         \0\0\0\x6d\0\0\0\x69\
         \0\0\0\x0c\0\0\0\0\0\0\0\0\0\0\0\0\
         \0\0\0\x51\0\0\0\0\0\0\0\0\0\0\0\0\
         \0\0\0\x40\0\0\0\x18keyed-sha256@example.com\0\0\0\x20\
         11111111111111111111111111111111\0\
         \0\0\0\0",
-        Some(TermFault::ToHalf),
-    ),
+        want: Some(TermFault::ToHalf),
+    },
     // no key, and no byte behind it
-    (
-        b"\
+    Case {
+        contents: b"\
         \0\0\0\x7a\0\0\0\x76\
         \0\0\0\x15\0\0\0\0\0\0\0\x04host\0\0\0\0\
         \0\0\0\x01x\
@@ -90,11 +104,11 @@ const CASES: [(&[u8], Option<TermFault>); 20] = [
         \0\0\0\x40\0\0\0\x18keyed-sha256@example.com\0\0\0\x20\
         11111111111111111111111111111111\0\
         \0\0\0\0",
-        Some(TermFault::Key),
-    ),
+        want: Some(TermFault::Key),
+    },
     // no key in the second hop, and a user in neither
-    (
-        b"\
+    Case {
+        contents: b"\
         \0\0\0\x7b\0\0\0\x77\
         \0\0\0\x55\0\0\0\0\0\0\0\x04host\0\0\0\0\
         \0\0\0\x40\0\0\0\x18keyed-sha256@example.com\0\0\0\x20\
@@ -102,22 +116,22 @@ const CASES: [(&[u8], Option<TermFault>); 20] = [
         \0\0\0\x16\0\0\0\0\0\0\0\x04host\0\0\0\0\
         \0\0\0\x01x\0\
         \0\0\0\0",
-        Some(TermFault::Key),
-    ),
+        want: Some(TermFault::Key),
+    },
     // no byte behind a key
-    (
-        b"\
+    Case {
+        contents: b"\
         \0\0\0\x70\0\0\0\x6c\
         \0\0\0\x0c\0\0\0\0\0\0\0\0\0\0\0\0\
         \0\0\0\x54\0\0\0\0\0\0\0\x04host\0\0\0\0\
         \0\0\0\x40\0\0\0\x18keyed-sha256@example.com\0\0\0\x20\
         11111111111111111111111111111111\
         \0\0\0\0",
-        Some(TermFault::Short),
-    ),
+        want: Some(TermFault::Short),
+    },
     // a hop's reserved string, and no key behind it, and a user
-    (
-        b"\
+    Case {
+        contents: b"\
         \0\0\0\x7e\0\0\0\x7a\
         \0\0\0\x19\0\0\0\x02me\0\0\0\x04host\0\0\0\x01x\
         \0\0\0\x01x\0\
@@ -125,73 +139,73 @@ const CASES: [(&[u8], Option<TermFault>); 20] = [
         \0\0\0\x40\0\0\0\x18keyed-sha256@example.com\0\0\0\x20\
         11111111111111111111111111111111\0\
         \0\0\0\0",
-        Some(TermFault::Reserved),
-    ),
+        want: Some(TermFault::Reserved),
+    },
     // a constraint's reserved string
-    (
-        b"\
+    Case {
+        contents: b"\
         \0\0\0\x72\0\0\0\x6e\
         \0\0\0\x0c\0\0\0\0\0\0\0\0\0\0\0\0\
         \0\0\0\x55\0\0\0\0\0\0\0\x04host\0\0\0\0\
         \0\0\0\x40\0\0\0\x18keyed-sha256@example.com\0\0\0\x20\
         11111111111111111111111111111111\0\
         \0\0\0\x01x",
-        Some(TermFault::Reserved),
-    ),
+        want: Some(TermFault::Reserved),
+    },
     // a byte behind a constraint's reserved string
-    (
-        b"\
+    Case {
+        contents: b"\
         \0\0\0\x72\0\0\0\x6e\
         \0\0\0\x0c\0\0\0\0\0\0\0\0\0\0\0\0\
         \0\0\0\x55\0\0\0\0\0\0\0\x04host\0\0\0\0\
         \0\0\0\x40\0\0\0\x18keyed-sha256@example.com\0\0\0\x20\
         11111111111111111111111111111111\0\
         \0\0\0\0x",
-        Some(TermFault::Short),
-    ),
+        want: Some(TermFault::Short),
+    },
     // a reserved string that is cut off
-    (
-        b"\
+    Case {
+        contents: b"\
         \0\0\0\x70\0\0\0\x6c\
         \0\0\0\x0c\0\0\0\0\0\0\0\0\0\0\0\0\
         \0\0\0\x55\0\0\0\0\0\0\0\x04host\0\0\0\0\
         \0\0\0\x40\0\0\0\x18keyed-sha256@example.com\0\0\0\x20\
         11111111111111111111111111111111\0\
         \0\0\0",
-        Some(TermFault::Short),
-    ),
+        want: Some(TermFault::Short),
+    },
     // a user, and no key in the second hop
-    (
-        b"\
+    Case {
+        contents: b"\
         \0\0\0\x34\0\0\0\x30\
         \0\0\0\x12\0\0\0\x02me\0\0\0\x04host\0\0\0\0\
         \0\0\0\x16\0\0\0\0\0\0\0\x04host\0\0\0\0\
         \0\0\0\x01x\0",
-        Some(TermFault::FromUser),
-    ),
+        want: Some(TermFault::FromUser),
+    },
     // no keys to enter by, and a second constraint whose length is cut off
-    (
-        b"\
+    Case {
+        contents: b"\
         \0\0\0\x2e\0\0\0\x28\
         \0\0\0\x0c\0\0\0\0\0\0\0\0\0\0\0\0\
         \0\0\0\x10\0\0\0\0\0\0\0\x04host\0\0\0\0\
         \0\0\0\0\0\0",
-        Some(TermFault::ToHalf),
-    ),
+        want: Some(TermFault::ToHalf),
+    },
     // a second constraint whose length is cut off
-    (
-        b"\
+    Case {
+        contents: b"\
         \0\0\0\x73\0\0\0\x6d\
         \0\0\0\x0c\0\0\0\0\0\0\0\0\0\0\0\0\
         \0\0\0\x55\0\0\0\0\0\0\0\x04host\0\0\0\0\
         \0\0\0\x40\0\0\0\x18keyed-sha256@example.com\0\0\0\x20\
         11111111111111111111111111111111\0\
         \0\0\0\0\0\0",
-        Some(TermFault::Short),
-    ),
+        want: Some(TermFault::Short),
+    },
     // the extension again, with an empty list
-    (
-        b"\
+    Case {
+        contents: b"\
         \0\0\0\x71\0\0\0\x6d\
         \0\0\0\x0c\0\0\0\0\0\0\0\0\0\0\0\0\
         \0\0\0\x55\0\0\0\0\0\0\0\x04host\0\0\0\0\
@@ -199,8 +213,8 @@ const CASES: [(&[u8], Option<TermFault>); 20] = [
         11111111111111111111111111111111\0\
         \0\0\0\0\
         \xff\0\0\0\x24restrict-destination-v00@openssh.com\0\0\0\0",
-        Some(TermFault::Twice),
-    ),
+        want: Some(TermFault::Twice),
+    },
 ];
 
 /// Contents whose three keys have behind them the bytes 0, 2 and 255.
@@ -230,8 +244,13 @@ fn fault(alloc: Global, contents: &[u8]) -> Result<Option<TermFault>, Fail> {
 
 #[test]
 fn the_first_fault_of_an_extension_is_answered(rt: HostRuntime) -> Result<(), Fail> {
-    for (contents, want) in CASES {
-        assert_eq!(rt; fault(rt.alloc(), contents)?, want, "at {contents:?}");
+    for case in &CASES {
+        assert_eq!(rt;
+            fault(rt.alloc(), case.contents)?,
+            case.want,
+            "at {:?}",
+            case.contents
+        );
     }
     Ok(())
 }
