@@ -1,5 +1,5 @@
--- What reading destination constraints from left to right gives: the constraints, or the first fault. A hop is
--- judged when its keys were read, and a key before the byte behind it is read.
+-- What reading destination constraints from left to right gives: the constraints, or the first fault.
+-- A hop is judged when its keys were read, and a key before the byte behind it is read.
 use Rattle.std.specs.Prelude.{◌≡◌, ◌⊎◌, MatchResult, ℕ, zero, suc, Bool, true, false, not, List, [], ◌∷◌, length, Result, Ok, Err, is_ok, ◌==◌, if◌then◌else◌}
 use Rattle.std.specs.Option.{ok_or}
 use Rattle.wire_core.specs.Fields.{string_at, boolean_at}
@@ -72,7 +72,8 @@ hop_in bytes = do
   keys ← all_of key_at rest
   Ok (record { user = user.0; host = host.0; keys = keys })
 
--- the hop that is left, where it is one: a user comes before a hostname without keys, or keys without a hostname
+-- the hop that is left, where it is one: a user is found before one of hostname and keys without the
+-- other
 unfoldable pub as_from : Hop → Result Hop TermFault
 as_from hop =
     if not (is_empty hop.user) then Err FromUser

@@ -1,4 +1,5 @@
--- Constraints as they are written: lifetime, confirmation, destination constraints, each where it is there.
+-- Constraints as they are written: lifetime, confirmation, destination constraints, each where it is
+-- there.
 use Rattle.std.specs.Prelude.{◌≡◌, ℕ, ◌^◌, ◌<◌, Bool, true, false, List, [], ◌∷◌, ◌++◌, map, length, All, Option, Some, None}
 use Rattle.std.specs.List.{flat_map}
 use Rattle.constraint_rec.specs.declared.key_spec.KeySpec.{KeySpec}
@@ -46,7 +47,8 @@ items_of terms = life_items terms.life ++ (confirm_items terms.confirm ++ rule_i
 unfoldable pub constraints_bytes : Terms → List ℕ
 constraints_bytes terms = flat_map item_text (items_of terms)
 
--- each destination constraint meets the rules of the format, and their text fits its field, so that each text in it does
+-- each destination constraint meets the rules of the format, and the text of all fits its field, so
+-- that each text in it does
 pub record IsWritable (terms : Terms) : Type 0 where
   pub rules : All IsDestination terms.rules
   pub short : length (list_text (map spelt_constraint terms.rules)) < 2 ^ 32

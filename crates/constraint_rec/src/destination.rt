@@ -78,7 +78,8 @@ fn read_hop(alloc: Global, bytes: &[u8]) -> Result<Hop, TermFault>
 /// The hop, where it can be left.
 #[tactic(auto, unfolding(crate::specs::HopReading::as_from))]
 fn judge_from(hop: Hop) -> Result<Hop, TermFault>
-    ensures { MatchResult result (λ good. as_from hop ≡ Ok good) (λ fault. as_from hop ≡ Err fault) }
+    ensures { MatchResult result (λ good. as_from hop ≡ Ok good)
+        (λ fault. as_from hop ≡ Err fault) }
 {
     if !hop.user.is_empty() {
         return Err(TermFault::FromUser);
@@ -92,7 +93,8 @@ fn judge_from(hop: Hop) -> Result<Hop, TermFault>
 /// The hop, where it can be entered.
 #[tactic(auto, unfolding(crate::specs::HopReading::as_to))]
 fn judge_to(hop: Hop) -> Result<Hop, TermFault>
-    ensures { MatchResult result (λ good. as_to hop ≡ Ok good) (λ fault. as_to hop ≡ Err fault) }
+    ensures { MatchResult result (λ good. as_to hop ≡ Ok good)
+        (λ fault. as_to hop ≡ Err fault) }
 {
     if hop.host.is_empty() || hop.keys.is_empty() {
         return Err(TermFault::ToHalf);
