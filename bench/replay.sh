@@ -1,16 +1,17 @@
 #!/usr/bin/env bash
-# Lines and bytes per second of `agent_prog replay` for schedules of three shapes, beside what sha256sum and wc -l
-# take for the same file in the same run, and the most memory that each held. Needs python3, GNU time, and
-# bin/agent_prog, which `make` builds.
+# Lines and bytes per second of `agent_prog replay` for schedules of several shapes, beside what sha256sum and wc -l
+# take for the same file in the same run, the most memory that each held, and how much replay wrote. Needs python3,
+# GNU time, and bin/agent_prog, which `make` builds. The shapes may be named as words: bench/replay.sh keys
 set -eu
 cd "$(dirname "$0")/.."
 agent=$PWD/bin/agent_prog
+shapes=${*:-cut long many keys}
 [ -x "$agent" ] || { echo "bench: run make first" >&2; exit 1; }
 work=$(mktemp -d)
 trap 'rm -rf "$work"' EXIT
 
 python3 - "$work" <<'PYTHON'
-import random, sys
+import random, struct, sys
 folder = sys.argv[1]
 random.seed(1)
 message = "000000010b"
@@ -38,6 +39,60 @@ with open(f"{folder}/long", "w") as out:
 with open(f"{folder}/many", "w") as out:
     for port in range(1, 60_001):
         out.write(f"join client\nhear {port} {message}\nend {port}\n")
+
+# 100 clients and 1,000 held keys of the stand-in type: additions of held keys, removals with an addition at the
+# end, refusals of a locked agent, removals of a key that isn't held, and a list in fifty draws
+def string(content):
+    return struct.pack(">I", len(content)) + content
+
+def hear(out, *fields):
+    message = string(b"".join(fields))
+    out.write(f"hear {random.randint(1, 100)} {message.hex()}\n")
+
+kind = string(b"keyed-sha256@example.com")
+add, remove, lock, unlock, constrained, give = b"\x11", b"\x12", b"\x16", b"\x17", b"\x19", b"\x0b"
+
+def tag(key):
+    return string(struct.pack(">H", key) * 16)
+
+def addition(key, moment):
+    return kind + tag(key) + string(bytes(32)) + string(b"key %d of %d" % (key, moment))
+
+def keys(out, aged):
+    def put(key, moment):
+        if aged:
+            life = struct.pack(">BI", 1, random.randint(1, 50_000))
+            hear(out, constrained, addition(key, moment), life)
+        else:
+            hear(out, add, addition(key, moment))
+    for _ in range(100):
+        out.write("join client\n")
+    for key in range(1_000):
+        put(key, 0)
+    for moment in range(1, 20_001):
+        if aged:
+            out.write(f"at {moment} 0\n")
+        key, draw = random.randrange(1_000), random.randrange(50)
+        if draw == 0:
+            hear(out, give)
+        elif draw < 20:
+            put(key, moment)
+        elif draw < 30:
+            hear(out, remove, string(kind + tag(key)))
+            put(key, moment)
+        elif draw < 40:
+            hear(out, lock, string(b"passphrase"))
+            put(key, moment)
+            hear(out, unlock, string(b"passphrase"))
+        else:
+            hear(out, remove, string(kind + tag(1_000)))
+
+with open(f"{folder}/keys", "w") as out:
+    keys(out, False)
+
+# the same with a moment before each draw, and lifetimes of up to 50,000 seconds
+with open(f"{folder}/aged", "w") as out:
+    keys(out, True)
 PYTHON
 
 # The least of three times of a command that reads the file, in seconds.
@@ -60,7 +115,7 @@ resident() {
     { env time -f %M "$@" < "$file" > /dev/null; } 2>&1
 }
 
-for shape in cut long many; do
+for shape in $shapes; do
     file=$work/$shape
     lines=$(wc -l < "$file")
     bytes=$(wc -c < "$file")
@@ -70,5 +125,6 @@ for shape in cut long many; do
     awk -v shape="$shape" -v lines="$lines" -v bytes="$bytes" -v ours="$ours" -v hash="$hash" -v count="$count" 'BEGIN {
         printf "%s: %d lines, %d bytes: %.0f lines/s, %.1f MB/s; %.1f times sha256sum, %.1f times wc -l\n",
             shape, lines, bytes, lines / ours, bytes / ours / 1e6, ours / hash, ours / count }'
-    echo "$shape: $(resident "$file" "$agent" replay) kB resident, sha256sum $(resident "$file" sha256sum) kB"
+    echo "$shape: $(resident "$file" "$agent" replay) kB resident, sha256sum $(resident "$file" sha256sum) kB;" \
+        "$("$agent" replay < "$file" | wc -c) bytes written"
 done

@@ -2,6 +2,8 @@
 // protocol: 11 asks for identities, 12 with a count of 0 answers, 5 is failure.
 ghost use Rattle.std.specs.Prelude.{◌<◌};
 
+mod keys;
+
 use crate::agent::agent_main;
 use crate::status::Status;
 use schedule_text::LineFault;
