@@ -1,11 +1,11 @@
 -- Hops: what is read is in the grammar, and what is in the grammar is read.
-use Rattle.std.proofs.Common.{◌≡◌, ◌≢◌, ◌↔◌, ℕ, zero, suc, ◌+◌, ◌^◌, ◌<◌, ◌≤◌, Bool, true, false, not, cond, List, [], ◌∷◌, ◌++◌, map, length, All, Some, Result, Ok, Err, is_ok, refl, sym, ap, subst, ◌∙◌, arith, length-append, append_assoc}
+use Rattle.std.proofs.Common.{◌≡◌, ◌↔◌, ℕ, ◌+◌, ◌^◌, ◌<◌, ◌≤◌, Bool, true, false, not, cond, List, [], ◌∷◌, ◌++◌, map, length, All, Some, Result, Ok, Err, is_ok, refl, sym, ap, subst, ◌∙◌, arith, length-append, append_assoc}
 use Rattle.std.specs.Option.{ok_or}
 use Rattle.std.specs.List.{flat_map}
-use Rattle.std.proofs.lemmas.List.Elements.{All-head, All-tail, All-cons, All-nil}
+use Rattle.std.proofs.lemmas.List.Elements.{All-tail}
 use Rattle.wire_text.specs.Wire.{IsBytes, boolean_of, string}
 use Rattle.wire_text.proofs.WireLemmas.{length-string}
-use Rattle.wire_core.specs.Fields.{string_at, boolean_at}
+use Rattle.wire_core.specs.Fields.{boolean_at}
 use Rattle.wire_core.proofs.Theorems.{string_at-string}
 use Rattle.key_blob.specs.PublicKeys.{public_key_of}
 use Rattle.constraint_rec.specs.declared.fault.TermFault.{TermFault}
@@ -14,9 +14,9 @@ use Rattle.constraint_rec.specs.declared.key_spec.KeySpec.{KeySpec}
 use Rattle.constraint_rec.specs.declared.constraint.Hop.{Hop}
 use Rattle.constraint_rec.specs.Hops.{SpeltKey, SpeltHop, key_text, hop_text, key_of, hop_of, IsReadable, IsFromHop, IsToHop}
 use Rattle.constraint_rec.specs.HopReading.{◌>>=◌, is_empty, field_at, all_of, readable, key_at, after_reserved, hop_in, as_from, as_to}
-use Rattle.constraint_rec.proofs.FieldLemmas.{bind_ok, unguarded, guarded, ok_or_some, empty_is, nonempty_is, nonempty_test, field_is, field_again, reserved_is, reserved_again}
+use Rattle.constraint_rec.proofs.FieldLemmas.{bind_ok, unguarded, guarded, ok_or_some, empty_is, nonempty_is, nonempty_test, field_is, reserved_is, reserved_again}
 use Rattle.constraint_rec.proofs.SizeLemmas.{hop_fits}
-use Rattle.constraint_rec.proofs.ElementLemmas.{IsElement, AreElements, elements_are, elements_again}
+use Rattle.constraint_rec.proofs.ElementLemmas.{IsElement, elements_are, elements_again}
 
 -- ---- a key
 

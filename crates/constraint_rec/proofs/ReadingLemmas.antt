@@ -1,5 +1,5 @@
 -- Reading one constraint: what is read is a constraint in front of what follows, and a constraint is read.
-use Rattle.std.proofs.Common.{◌≡◌, ◌≢◌, ℕ, ◌^◌, ◌<◌, Bool, true, false, not, cond, eqb, List, [], ◌∷◌, ◌++◌, map, length, All, Option, Some, None, Result, Ok, Err, refl, sym, ap, subst, ◌∙◌, append_assoc, lit<}
+use Rattle.std.proofs.Common.{◌≡◌, ◌≢◌, ℕ, ◌^◌, ◌<◌, Bool, true, false, cond, eqb, List, [], ◌∷◌, ◌++◌, map, length, All, Option, Some, None, Result, Ok, Err, refl, sym, ap, subst, ◌∙◌, append_assoc, lit<}
 use Rattle.std.proofs.lemmas.Bool.{eqb-true}
 use Rattle.std.specs.Option.{ok_or}
 use Rattle.std.specs.Str.{bytes_eq}
@@ -16,7 +16,7 @@ use Rattle.constraint_rec.specs.declared.terms.Terms.{Terms}
 use Rattle.constraint_rec.specs.declared.constraint.Constraint.{Constraint}
 use Rattle.constraint_rec.specs.Hops.{SpeltConstraint, list_text, constraint_of, IsDestination}
 use Rattle.constraint_rec.specs.Constraints.{Item, Life, Confirmation, Rules, restrict_destination, AreRules, item_text, IsItem, with_item}
-use Rattle.constraint_rec.specs.HopReading.{◌>>=◌, is_empty, field_at, rules_in}
+use Rattle.constraint_rec.specs.HopReading.{◌>>=◌, field_at, rules_in}
 use Rattle.constraint_rec.specs.Reading.{kind_named, extension_at, kind_at, has_kind, with_life, with_rules, contents_at, new_contents_at, next_at}
 use Rattle.constraint_rec.proofs.FieldLemmas.{bind_ok, unguarded, guarded, field_is, field_again}
 use Rattle.constraint_rec.proofs.DestinationLemmas.{rules_are, rules_again}

@@ -1,15 +1,14 @@
 -- What is written is in the grammar and says the terms, and what is read can be written.
-use Rattle.std.proofs.Common.{◌≡◌, ◌≢◌, ℕ, ◌+◌, ◌^◌, ◌<◌, ◌≤◌, Bool, true, false, not, cond, List, [], ◌∷◌, ◌++◌, map, length, filter, get_or, take, All, Option, Some, None, IfSome, Result, Ok, Err, refl, sym, ap, subst, ◌∙◌, arith, length-append, append_assoc}
+use Rattle.std.proofs.Common.{◌≡◌, ℕ, ◌^◌, ◌<◌, ◌≤◌, Bool, true, false, List, [], ◌∷◌, ◌++◌, map, length, filter, All, Option, Some, None, IfSome, refl, sym, ap, subst, ◌∙◌, arith}
 use Rattle.std.specs.List.{flat_map}
 use Rattle.std.proofs.lemmas.List.Elements.{All-nil, All-cons, All-head, All-tail}
 use Rattle.std.proofs.lemmas.Grind.{flat_map-append}
-use Rattle.wire_text.specs.Wire.{string, boolean_of}
-use Rattle.wire_text.proofs.WireLemmas.{length-string}
+use Rattle.wire_text.specs.Wire.{boolean_of}
 use Rattle.constraint_rec.specs.declared.key_spec.KeySpec.{KeySpec}
 use Rattle.constraint_rec.specs.declared.constraint.Hop.{Hop}
 use Rattle.constraint_rec.specs.declared.constraint.Constraint.{Constraint}
 use Rattle.constraint_rec.specs.declared.terms.Terms.{Terms}
-use Rattle.constraint_rec.specs.Hops.{SpeltHop, SpeltConstraint, key_text, hop_text, constraint_text, list_text, key_of, hop_of, constraint_of, IsDestination}
+use Rattle.constraint_rec.specs.Hops.{list_text, key_of, hop_of, constraint_of, IsDestination}
 use Rattle.constraint_rec.specs.Constraints.{no_terms, Item, Life, Confirmation, Rules, AreRules, item_text, IsItem, is_alike, with_item, with_items, IsConstraints}
 use Rattle.constraint_rec.proofs.SizeLemmas.{list_len}
 use Rattle.constraint_rec.specs.Writing.{is_ca_byte, spelt_key, spelt_hop, spelt_constraint, life_items, confirm_items, rule_items, items_of, constraints_bytes, IsWritable}

@@ -1,6 +1,6 @@
 -- What reading destination constraints from left to right gives: the constraints, or the first fault.
 -- A hop is judged when its keys were read, and a key before the byte behind it is read.
-use Rattle.std.specs.Prelude.{◌≡◌, ◌⊎◌, MatchResult, ℕ, zero, suc, Bool, true, false, not, List, [], ◌∷◌, length, Result, Ok, Err, is_ok, ◌==◌, if◌then◌else◌}
+use Rattle.std.specs.Prelude.{◌≡◌, ◌⊎◌, MatchResult, ℕ, zero, suc, Bool, not, List, [], ◌∷◌, length, Result, Ok, Err, is_ok, ◌==◌, if◌then◌else◌}
 use Rattle.std.specs.Option.{ok_or}
 use Rattle.wire_core.specs.Fields.{string_at, boolean_at}
 use Rattle.key_blob.specs.PublicKeys.{public_key_of}

@@ -1,7 +1,7 @@
-use Rattle.std.proofs.Common.{◌≡◌, ◌≢◌, ◌⊎◌, [], length, Ok, Err, ap, sym, subst, ◌∙◌, arith, rules}
+use Rattle.std.proofs.Common.{◌≡◌, ◌≢◌, ◌⊎◌, [], length, Ok, Err, ap, sym, ◌∙◌, arith, rules}
 use Rattle.constraint_rec.specs.HopReading.{constraint_at, all_of}
 use Rattle.constraint_rec.specs.declared.fault.TermFault.TheVariants.{Memory}
-use Rattle.constraint_rec.proofs.ElementLemmas.{GoesOn, elements-start, elements-next, elements-fault, elements-end}
+use Rattle.constraint_rec.proofs.ElementLemmas.{elements-start, elements-next, elements-fault, elements-end}
 use Rattle.constraint_rec.proofs.destination.destinations_in.Goals as goal
 
 pub rules-init : goal.rules-init
