@@ -8,8 +8,8 @@ ghost use Rattle.child_msg.specs.Messages.{from_child_message, to_child_message}
 ghost use Rattle.child_msg.specs.Writing.{IsFromChildWriting, IsToChildWriting};
 
 use crate::fields::push_head;
-use frame_core::{push_string, push_u32};
 use crate::message::{FromChild, ToChild};
+use frame_core::{push_string, push_u32};
 use secret_buf::ScrubBuf;
 use std::alloc::AllocError;
 
