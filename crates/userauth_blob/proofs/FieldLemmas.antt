@@ -13,7 +13,7 @@ use Rattle.wire_text.specs.Wire.{IsBytes, string}
 use Rattle.wire_text.proofs.WireLemmas.{drop-string}
 use Rattle.key_blob.specs.PublicKeys.{KeyParts, algorithms_of, IsPublicKey, public_key_of}
 use Rattle.key_blob.specs.declared.fault.KeyFault.{KeyFault}
-use Rattle.key_blob.proofs.Theorems.{public_is_found, public_is_read}
+use Rattle.key_blob.proofs.PublicLemmas.{public_is_found, public_is_read}
 use Rattle.userauth_blob.specs.declared.fault.AuthFault.{AuthFault}
 use Rattle.userauth_blob.specs.declared.fault.AuthFault.TheVariants.{Trailing}
 use Rattle.userauth_blob.specs.UserAuths.{Login, Fits}
