@@ -12,23 +12,24 @@ use world_ports::{SliceSource, VecSink};
 const ROOM: u32 = 1_048_576;
 
 // The string "keyed-sha256@example.com".
-const TYPE: &str = "000000186b657965642d736861323536406578616d706c652e636f6d";
+pub const TYPE: &str = "000000186b657965642d736861323536406578616d706c652e636f6d";
 
 // Tags and secrets, each a string of 32 equal bytes.
-const TAG_1: &str = "000000201111111111111111111111111111111111111111111111111111111111111111";
+pub const TAG_1: &str = "000000201111111111111111111111111111111111111111111111111111111111111111";
 
 const TAG_2: &str = "000000201212121212121212121212121212121212121212121212121212121212121212";
 
 const TAG_3: &str = "000000201313131313131313131313131313131313131313131313131313131313131313";
 
-const SECRET_1: &str = "000000202121212121212121212121212121212121212121212121212121212121212121";
+pub const SECRET_1: &str =
+    "000000202121212121212121212121212121212121212121212121212121212121212121";
 
 const SECRET_2: &str = "000000202222222222222222222222222222222222222222222222222222222222222222";
 
 const SECRET_3: &str = "000000202323232323232323232323232323232323232323232323232323232323232323";
 
 // The strings "one", "uno" and "two".
-const ONE: &str = "000000036f6e65";
+pub const ONE: &str = "000000036f6e65";
 
 const UNO: &str = "00000003756e6f";
 
@@ -44,7 +45,7 @@ fn repeated(alloc: Global, digits: &str, count: u32) -> Result<String, AllocErro
 }
 
 // What is printed for a schedule, which is to be run to its end.
-fn printed(alloc: Global, schedule: &[u8]) -> Result<VecSink, Fail> {
+pub fn printed(alloc: Global, schedule: &[u8]) -> Result<VecSink, Fail> {
     let mut source = SliceSource::new(schedule, 4096, Vec::new(alloc));
     let mut sink = VecSink::new(alloc, ROOM, Vec::new(alloc))?;
     let mut words = Vec::new(alloc);
