@@ -4,8 +4,6 @@
 #![tactic(auto)]
 
 mod agent;
-#[cfg(test)]
-mod line_tests;
 mod status;
 #[cfg(test)]
 mod tests;

@@ -3,6 +3,8 @@
 ghost use Rattle.std.specs.Prelude.{◌<◌};
 
 mod keys;
+mod lines;
+mod timed_keys;
 
 use crate::agent::agent_main;
 use crate::status::Status;
