@@ -5,7 +5,7 @@
 set -eu
 cd "$(dirname "$0")/.."
 agent=$PWD/bin/agent_prog
-shapes=${*:-cut long many keys}
+shapes=${*:-cut long many keys aged}
 [ -x "$agent" ] || { echo "bench: run make first" >&2; exit 1; }
 work=$(mktemp -d)
 trap 'rm -rf "$work"' EXIT

@@ -6,13 +6,13 @@ use Rattle.world_ports.specs.Causes.{Rose}
 use Rattle.schedule_text.specs.declared.fault.LineFault.{LineFault}
 use Rattle.replay_run.specs.Replay.{Run, last_turned, ending}
 use Rattle.replay_run.specs.Feeding.{Feeding, IsReady}
-use Rattle.replay_run.specs.Writing.{WritesSome}
+use Rattle.world_ports.specs.Streams.{WritesPart}
 use Rattle.replay_run.specs.Claims.{end_by, end_of, ending_text, ending_run, Finishes, FinishesUnwritten}
 use Rattle.replay_run.proofs.GoesOnLemmas.{printed-last, ran-last}
 
 -- nothing was written of a text
-pub nothing_left : (all : List ℕ) (written : Option (List ℕ)) → WritesSome all written written
-nothing_left all written = record { rest = all; front = record { text = []; wrote = Appends-nil written; is = refl } }
+pub nothing_left : (all : List ℕ) (written : Option (List ℕ)) → WritesPart all written written
+nothing_left all written = (all, record { front = []; whole = refl; written = Appends-nil written })
 
 -- the last line and `end` were printed
 pub ends_text : (old mid new : Feeding) → IsReady old → mid.run ≡ (last_turned old.pending old.run).run → mid.out ≡ old.out ++ (last_turned old.pending old.run).output → new.run ≡ mid.run → new.out ≡ mid.out ++ ending true mid.run.refused → (new.run ≡ ending_run old) × (new.out ≡ ending_text old)
@@ -44,8 +44,8 @@ finished old new before after f0 f1 run_is out_is wrote =
     finished_by new.run.refused old new before after f0 f1 refl run_is (subst (λ (o : List ℕ). Appends before after o) out_is wrote)
 
 -- some of it was written
-pub finishes_unwritten : (old new : Feeding) (before after : Option (List ℕ)) (f0 f1 : ℕ) → new.out ≡ ending_text old → WritesSome new.out before after → Rose f0 f1 → FinishesUnwritten old before after f0 f1
+pub finishes_unwritten : (old new : Feeding) (before after : Option (List ℕ)) (f0 f1 : ℕ) → new.out ≡ ending_text old → WritesPart new.out before after → Rose f0 f1 → FinishesUnwritten old before after f0 f1
 finishes_unwritten old new before after f0 f1 out_is some cause = record {
-  front = subst (λ (o : List ℕ). WritesSome o before after) out_is some;
+  front = subst (λ (o : List ℕ). WritesPart o before after) out_is some;
   cause = cause;
 }

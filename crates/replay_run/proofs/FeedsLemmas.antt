@@ -10,7 +10,7 @@ use Rattle.replay_run.specs.declared.run_end.RunEnd.TheVariants.{Done, Refused, 
 use Rattle.replay_run.specs.Replay.{parts_of, printed}
 use Rattle.replay_run.specs.GoesOn.{GoesOn, IsLineEnd}
 use Rattle.replay_run.specs.Feeding.{Feeding, Feeds, GoesOnFed, FedSoFar, fed_so_far, WritesFront, WritesRefusal, Halts}
-use Rattle.replay_run.specs.Writing.{WritesSome}
+use Rattle.world_ports.specs.Streams.{WritesPart}
 use Rattle.replay_run.proofs.GoesOnLemmas.{goes_on-same, goes_on-then, goes_on-more, goes_on-front, goes_on-refused}
 
 -- ---- one after the other
@@ -118,13 +118,13 @@ feeds_written feeding before after wrote = record {
 }
 
 -- some of it is written
-pub front_written : (feeding : Feeding) (bytes : List ℕ) (before after : Option (List ℕ)) → WritesSome feeding.out before after → WritesFront feeding bytes before after
+pub front_written : (feeding : Feeding) (bytes : List ℕ) (before after : Option (List ℕ)) → WritesPart feeding.out before after → WritesFront feeding bytes before after
 front_written feeding bytes before after some = record {
-  text = some.front.text;
-  wrote = some.front.wrote;
+  text = some.1.front;
+  wrote = some.1.written;
   front = λ ended more.
       let rest = printed ended feeding.run (parts_of ((feeding.pending ++ bytes) ++ more)) in
-      record { more = some.rest ++ rest; is = sym (append_assoc some.front.text some.rest rest) ∙ ap (λ (t : List ℕ). t ++ rest) some.front.is };
+      record { more = some.0 ++ rest; is = sym (append_assoc some.1.front some.0 rest) ∙ ap (λ (t : List ℕ). t ++ rest) some.1.whole };
 }
 
 -- a run that was refused, with all of it written

@@ -6,7 +6,6 @@ pub mod RunCounts
 pub mod TurnLemmas
 pub mod LineEnds
 pub mod FeedLemmas
-pub mod WriteLemmas
 pub mod FeedsLemmas
 pub mod EndLemmas
 pub mod RoundLemmas

@@ -10,7 +10,7 @@ use Rattle.replay_run.specs.declared.run_end.RunEnd.{RunEnd}
 use Rattle.replay_run.specs.declared.run_end.RunEnd.TheVariants.{Done, Refused, Memory, ReadFault, WriteFault}
 use Rattle.replay_run.specs.Replay.{Run, start_run, parts_of, printed, ran, output_of, run_of, output_so_far}
 use Rattle.replay_run.specs.Feeding.{Feeding, start_feeding, IsFront, Feeds, GoesOnFed, Halts}
-use Rattle.replay_run.specs.Writing.{WritesSome}
+use Rattle.world_ports.specs.Streams.{WritesPart}
 use Rattle.replay_run.specs.Claims.{Seen, HasRead, HoldsOfInput, IsRefused, EndsEarly, Ends, NoFewerFaults, IsUnderWay, IsLonger, ending_text, ending_run, Finishes}
 use Rattle.replay_run.proofs.RunLemmas.{printed-refused, ran-refused}
 use Rattle.replay_run.proofs.GoesOnLemmas.{goes_on-same, begun-nothing, begun-same}
@@ -159,17 +159,17 @@ all_run bytes old w0 w1 feeds =
     sym (ap run_of (append-nil bytes)) ∙ feeds.goes.ran_same true [] ∙ ap (λ (p : List ℕ). ran true old.run (parts_of p)) (append-nil old.pending)
 
 -- a front of it was written
-early_at_end : (start mid new : Seen) (old : Feeding) (under : IsUnderWay start mid old) → HasRead start new under.bytes → IsAtEnd new.left → WritesSome (ending_text old) mid.written new.written → EndsEarly start new
+early_at_end : (start mid new : Seen) (old : Feeding) (under : IsUnderWay start mid old) → HasRead start new under.bytes → IsAtEnd new.left → WritesPart (ending_text old) mid.written new.written → EndsEarly start new
 early_at_end start mid new old under read end some = record {
   bytes = under.bytes;
   read = read;
-  text = under.feeds.text ++ some.front.text;
-  wrote = Appends-trans start.written mid.written new.written under.feeds.text some.front.text under.feeds.wrote some.front.wrote;
-  front = holds_at_end new.left under.bytes (λ schedule. IsFront (under.feeds.text ++ some.front.text) (output_of schedule)) end (record {
-    more = some.rest;
+  text = under.feeds.text ++ some.1.front;
+  wrote = Appends-trans start.written mid.written new.written under.feeds.text some.1.front under.feeds.wrote some.1.written;
+  front = holds_at_end new.left under.bytes (λ schedule. IsFront (under.feeds.text ++ some.1.front) (output_of schedule)) end (record {
+    more = some.0;
     is =
-        append_assoc under.feeds.text some.front.text some.rest
-        ∙ ap (λ (t : List ℕ). under.feeds.text ++ t) some.front.is
+        append_assoc under.feeds.text some.1.front some.0
+        ∙ ap (λ (t : List ℕ). under.feeds.text ++ t) some.1.whole
         ∙ sym (all_text under.bytes old start.written mid.written under.feeds);
   });
 }

@@ -7,7 +7,7 @@ use Rattle.replay_run.specs.declared.run_end.RunEnd.{RunEnd}
 use Rattle.replay_run.specs.declared.run_end.RunEnd.TheVariants.{Done, Refused, Memory, ReadFault, WriteFault}
 use Rattle.replay_run.specs.Replay.{Run, start_run, parts_of, printed, ran, output_of, run_of, output_so_far, longest_schedule}
 use Rattle.replay_run.specs.Feeding.{Feeding, start_feeding, IsReady, IsFront, Feeds, fed_so_far}
-use Rattle.replay_run.specs.Writing.{WritesSome}
+use Rattle.world_ports.specs.Streams.{WritesPart}
 
 -- what the source and the sink tell at one time, and how often they failed
 pub record Seen : Type 0 where
@@ -130,13 +130,13 @@ pub record FinishesRefused
 -- a write failed
 pub record FinishesUnwritten
     (old : Feeding) (before after : Option (List ℕ)) (faults_before faults_after : ℕ) : Type 0 where
-  pub front : WritesSome (ending_text old) before after
+  pub front : WritesPart (ending_text old) before after
   pub cause : Rose faults_before faults_after
 
 -- how a run ends with its schedule
 abbrev pub Finishes : RunEnd → Feeding → Option (List ℕ) → Option (List ℕ) → ℕ → ℕ → Type 0
 Finishes Done old before after faults0 faults1 = FinishesDone old before after
 Finishes (Refused line fault) old before after faults0 faults1 = FinishesRefused line fault old before after
-Finishes Memory old before after faults0 faults1 = WritesSome (ending_text old) before after
+Finishes Memory old before after faults0 faults1 = WritesPart (ending_text old) before after
 Finishes ReadFault old before after faults0 faults1 = ⊥
 Finishes WriteFault old before after faults0 faults1 = FinishesUnwritten old before after faults0 faults1

@@ -4,5 +4,4 @@ pub mod Replay
 pub mod GoesOn
 pub mod Counts
 pub mod Feeding
-pub mod Writing
 pub mod Claims

@@ -7,16 +7,15 @@ ghost use Rattle.replay_run.specs.Claims.{Finishes, end_of};
 ghost use Rattle.replay_run.specs.Replay.{last_turned, ending};
 ghost use Rattle.replay_run.specs.Feeding.{start_feeding, IsReady, GoesOnFed, Halts, fed_so_far};
 ghost use Rattle.replay_run.specs.GoesOn.{HasNoLf, IsLineEnd, GoesOn};
-ghost use Rattle.replay_run.specs.Writing.{WritesSome};
+ghost use Rattle.world_ports.specs.Streams.{WritesPart};
 
 use crate::limits::{LONGEST_LINE, LONGEST_SCHEDULE, ROOM};
-use crate::write::write_all;
 use crate::{Replay, RunEnd};
 use agent_core::CoreMemory;
 use schedule_text::{Deed, LineFault, put_deed};
 use std::alloc::Global;
 use std::marker::Model;
-use world_ports::{Fault, Sink};
+use world_ports::{Fault, Sink, write_all};
 
 /// A run, the front of the line that waits for its LF, and what was printed and isn't written yet.
 #[derive(Drop)]
@@ -98,15 +97,13 @@ impl Feed {
             (Appends (O.written output.old) (O.written output.new) self.old.out) }
         ensures new { OnOk result (self.new ≡ record self.old { out = [] }) }
         ensures err { OnErr result
-            (WritesSome self.old.out (O.written output.old) (O.written output.new)) }
+            (WritesPart self.old.out (O.written output.old) (O.written output.new)) }
         ensures cause { HasCause (O.write_faults output.old) (O.write_faults output.new) result }
         ensures taken { O.taken output.new ≡ O.taken output.old }
         ensures left { O.left output.new ≡ O.left output.old }
         ensures read_faults { O.read_faults output.new ≡ O.read_faults output.old }
     {
-        let Ok(()) = write_all(&self.out, output) else {
-            return Err(Fault);
-        };
+        write_all(output, &self.out)?;
         self.out.clear();
         Ok(())
     }

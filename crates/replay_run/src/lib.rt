@@ -11,7 +11,6 @@ mod replay;
 mod run;
 mod run_end;
 mod settle;
-mod write;
 
 use feed::Feed;
 pub use laws::nothing_is_owed_after_settling;
