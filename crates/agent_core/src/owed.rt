@@ -15,12 +15,17 @@ use std::marker::Model;
 /// How many bytes SUCCESS and FAILURE have as they are sent.
 const STATUS_LEN: usize = 5;
 
+/// The storage of a reply with a longer body isn't kept for the next one, in bytes.
+const LONG: u32 = 4096;
+
 /// Bytes that a client is owed, seen as the list of them.
 ///
 /// Where there are none, there is room for a status reply. Dropping it wipes it.
 #[derive(Drop)]
 pub struct Owed {
+    alloc: Global,
     bytes: ScrubBuf,
+    is_long: bool,
 }
 
 impl Model for Owed {
@@ -40,7 +45,11 @@ impl Owed {
     {
         let mut bytes = ScrubBuf::new(alloc);
         bytes.reserve(STATUS_LEN)?;
-        Ok(Owed { bytes })
+        Ok(Owed {
+            alloc,
+            bytes,
+            is_long: false,
+        })
     }
 
     pub fn bytes(&self) -> &[u8]
@@ -49,12 +58,16 @@ impl Owed {
         self.bytes.live()
     }
 
-    /// The first `count` bytes are sent.
+    /// The first `count` bytes are sent, and with the last of them the storage of a long reply is
+    /// given back.
     pub fn consume(&mut self, count: usize)
         requires { count ≤ length self.old }
         ensures { self.new ≡ drop count self.old }
     {
         self.bytes.consume(count);
+        if self.is_long && self.bytes.live().is_empty() {
+            self.give_back();
+        }
     }
 
     /// SUCCESS or FAILURE. Takes no memory.
@@ -72,9 +85,22 @@ impl Owed {
         ensures { OnOk result (self.new ≡ identities_answer (map shown identities.now)) }
     {
         let body = listed_len(identities) as u32;
+        self.is_long = body > LONG;
         put_list_head(&mut self.bytes, body, identities.len() as u32)?;
         put_entries(&mut self.bytes, identities)?;
         Ok(())
+    }
+}
+
+impl Owed {
+    // Takes room for a status reply in the place of the storage, where there is memory for it.
+    fn give_back(&mut self)
+        requires { self.old ≡ [] }
+        ensures { self.new ≡ [] }
+    {
+        if let Ok(owed) = Owed::new(self.alloc) {
+            *self = owed;
+        }
     }
 }
 

@@ -1,5 +1,5 @@
 ghost use Rattle.std.specs.Prelude.{◌≡◌, ◌↔◌, IsTrue, ◌+◌, ◌≤◌, IfOk, OnOk, length};
-ghost use Rattle.wire_text.specs.Frames.{front, front_body, Whole, More};
+ghost use Rattle.wire_text.specs.Frames.{after_front, front, front_body, Whole, More};
 ghost use Rattle.agent_core.specs.Step.{heard, longest_body, sent};
 ghost use Rattle.agent_core.specs.PortLook.{answer_to, fate_of, keys_after, port_kept, port_looked};
 ghost use Rattle.agent_core.specs.Slots.{port_of};
@@ -12,6 +12,9 @@ use secret_buf::ScrubBuf;
 
 /// The longest body of a client's message, in bytes.
 pub const LONGEST_BODY: u32 = 262_144;
+
+/// The storage of a request with a longer body isn't kept for the next one, in bytes.
+const LONG: u32 = 4096;
 
 /// An open port of a client.
 #[derive(Drop)]
@@ -43,6 +46,17 @@ fn first_body(heard: &[u8], body_len: u32) -> &[u8]
     &heard[4..end]
 }
 
+// Drops the frame at the front, and with the last byte the storage that a long one took.
+fn drop_frame(heard: &mut ScrubBuf, body_len: u32)
+    requires { 4 + body_len ≤ length heard.old.live }
+    ensures { heard.new.live ≡ after_front body_len heard.old.live }
+{
+    heard.consume(4 + body_len as usize);
+    if body_len > LONG && heard.live().is_empty() {
+        heard.wipe();
+    }
+}
+
 // Takes the first request, where the port is owed nothing and the request is whole.
 fn look_at(slot: &mut Slot, keys: &mut Keys, now: u64) -> Result<Fate, CoreMemory>
     requires { keys.old.table.greatest ≤ now }
@@ -60,7 +74,7 @@ fn look_at(slot: &mut Slot, keys: &mut Keys, now: u64) -> Result<Fate, CoreMemor
     match look(slot.heard.live(), LONGEST_BODY) {
         Look::Whole { body } => {
             keys.serve(now, first_body(slot.heard.live(), body), &mut slot.owed)?;
-            slot.heard.consume(4 + body as usize);
+            drop_frame(&mut slot.heard, body);
             Ok(Fate::Owes)
         }
         Look::Bad { .. } => Ok(Fate::Closes),
