@@ -175,3 +175,21 @@ fn a_list_has_at_most_262144_bytes(rt: HostRuntime) -> Result<(), Fail> {
     assert!(rt; sink.written() == output.as_bytes());
     Ok(())
 }
+
+#[test]
+fn a_key_for_one_destination_is_not_held(rt: HostRuntime) -> Result<(), Fail> {
+    // The constraint 255 of that name (OpenSSH's PROTOCOL.agent): from the agent's own host, to the
+    // host "h" as any user, where it is known by this key.
+    let name = "72657374726963742d64657374696e6174696f6e2d763030406f70656e7373682e636f6d";
+    let to = format!(in rt.alloc(); "0000000000000001680000000000000040{TYPE}{TAG_1}00")?;
+    let rule = format!(in rt.alloc(); "0000000c00000000000000000000000000000052{to}00000000")?;
+    let schedule = format!(in rt.alloc();
+        "join client\n\
+        hear 1 0000010719{TYPE}{TAG_1}{SECRET_1}{ONE}ff00000024{name}0000006e0000006a{rule}\n\
+        hear 1 000000010b\n"
+    )?;
+    let sink = printed(rt.alloc(), schedule.as_bytes())?;
+    let output = b"to 1 0000000105\nto 1 000000050c00000000\nend\n";
+    assert_eq!(rt; sink.written(), output.as_slice());
+    Ok(())
+}
