@@ -39,12 +39,12 @@ some_of None P holds = tt
 some_of (Some input) P holds = holds input
 
 -- an input of which no line is refused is run to its end
-finished_by : (end : RunEnd) (old new : Seen) → Ends end old new → HasNoFault old new → IfSome old.left (λ input. (run_of input).refused ≡ None → IsFinished (status_of end))
+finished_by : (end : RunEnd) (old new : Seen) → Ends end old new → HasNoFault old new → IfSome old.input.left (λ input. (run_of input).refused ≡ None → IsFinished (status_of end))
 unfolding Ends
-finished_by Done old new ends none = some_of old.left (λ input. (run_of input).refused ≡ None → Unit {0}) (λ input accepted. tt)
+finished_by Done old new ends none = some_of old.input.left (λ input. (run_of input).refused ≡ None → Unit {0}) (λ input accepted. tt)
 finished_by (Refused line fault) old new ends none =
-    refused_input old.left new.left ends.bytes ends.text line fault ends.read.left ends.refused.whole
-finished_by Memory old new ends none = some_of old.left (λ input. (run_of input).refused ≡ None → Unit {0}) (λ input accepted. tt)
+    refused_input old.input.left new.input.left ends.bytes ends.text line fault ends.read.left ends.refused.whole
+finished_by Memory old new ends none = some_of old.input.left (λ input. (run_of input).refused ≡ None → Unit {0}) (λ input accepted. tt)
 finished_by ReadFault old new ends none = absurd (none.reads ends.cause)
 finished_by WriteFault old new ends none = absurd (none.writes ends.cause)
 

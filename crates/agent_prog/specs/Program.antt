@@ -59,15 +59,15 @@ IsFinished status.WriteFault = ⊥
 
 -- no read and no write failed
 pub record HasNoFault (old new : Seen) : Type 0 where
-  pub reads : ¬ (Rose old.read_faults new.read_faults)
-  pub writes : ¬ (Rose old.write_faults new.write_faults)
+  pub reads : ¬ (Rose old.input.read_faults new.input.read_faults)
+  pub writes : ¬ (Rose old.output.write_faults new.output.write_faults)
 
 -- where no read and no write failed, the run is complete, and it is finished where no line of the
 -- input is refused
 pub record Completes (result : Status) (old new : Seen) : Type 0 where
   pub complete : HasNoFault old new → IsComplete result
   pub finished : HasNoFault old new →
-      IfSome old.left (λ input. (run_of input).refused ≡ None → IsFinished result)
+      IfSome old.input.left (λ input. (run_of input).refused ≡ None → IsFinished result)
 
 -- the exit status
 abbrev pub code_of : Status → ℕ

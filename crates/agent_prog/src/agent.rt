@@ -1,8 +1,9 @@
 // The program over any input and output.
-ghost use Rattle.std.specs.Prelude.{◌≡◌, ◌≤◌, ◌↔◌};
+ghost use Rattle.std.specs.Prelude.{◌≡◌, ◌↔◌};
 ghost use Rattle.agent_prog.specs.Program.{ReplaysExactly, Completes, status_of};
 ghost use Rattle.agent_prog.specs.Words.{IsReplay};
 ghost use Rattle.replay_run.specs.Claims.{Seen};
+ghost use Rattle.world_ports.specs.Streams.{OnlyReads, OnlyWrites};
 
 use crate::status::Status;
 use crate::words::is_replay;
@@ -35,44 +36,15 @@ pub fn agent_main<I: Source, O: Sink>(
     output: &mut O,
 ) -> Status
     ensures replays { IsReplay words.now → ReplaysExactly result
-        (record {
-          taken = I.taken input.old;
-          left = I.left input.old;
-          written = O.written output.old;
-          read_faults = I.read_faults input.old;
-          write_faults = O.write_faults output.old;
-        })
-        (record {
-          taken = I.taken input.new;
-          left = I.left input.new;
-          written = O.written output.new;
-          read_faults = I.read_faults input.new;
-          write_faults = O.write_faults output.new;
-        }) }
+        (record { input = I.seen input.old; output = O.seen output.old })
+        (record { input = I.seen input.new; output = O.seen output.new }) }
     ensures completes { IsReplay words.now → Completes result
-        (record {
-          taken = I.taken input.old;
-          left = I.left input.old;
-          written = O.written output.old;
-          read_faults = I.read_faults input.old;
-          write_faults = O.write_faults output.old;
-        })
-        (record {
-          taken = I.taken input.new;
-          left = I.left input.new;
-          written = O.written output.new;
-          read_faults = I.read_faults input.new;
-          write_faults = O.write_faults output.new;
-        }) }
+        (record { input = I.seen input.old; output = O.seen output.old })
+        (record { input = I.seen input.new; output = O.seen output.new }) }
     ensures usage { (result ≡ Status.Usage) ↔ ¬ (IsReplay words.now) }
     ensures unused { ¬ (IsReplay words.now) → (input.new ≡ input.old) × (output.new ≡ output.old) }
-    ensures faults { (I.read_faults input.old ≤ I.read_faults input.new)
-        × (O.write_faults output.old ≤ O.write_faults output.new) }
-    ensures input_kept { (I.written input.new ≡ I.written input.old)
-        × (I.write_faults input.new ≡ I.write_faults input.old) }
-    ensures output_kept { (O.taken output.new ≡ O.taken output.old)
-        × (O.left output.new ≡ O.left output.old)
-        × (O.read_faults output.new ≡ O.read_faults output.old) }
+    ensures input_only { OnlyReads (I.seen input.old) (I.seen input.new) }
+    ensures output_only { OnlyWrites (O.seen output.old) (O.seen output.new) }
 {
     if !is_replay(words) {
         return Status::Usage;

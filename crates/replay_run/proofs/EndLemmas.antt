@@ -1,18 +1,17 @@
 -- Lemmas on the end of a schedule.
 use Rattle.std.proofs.Common.{◌≡◌, ℕ, List, [], ◌++◌, refl, ap, sym, ◌∙◌, subst, Option, Some, None, true, append_assoc}
 use Rattle.std.proofs.KnownBytes.{Appends-nil}
-use Rattle.std.specs.Io.KnownBytes.{Appends}
 use Rattle.world_ports.specs.Causes.{Rose}
 use Rattle.schedule_text.specs.declared.fault.LineFault.{LineFault}
 use Rattle.replay_run.specs.Replay.{Run, last_turned, ending}
-use Rattle.replay_run.specs.Feeding.{Feeding, IsReady}
-use Rattle.world_ports.specs.Streams.{WritesPart}
+use Rattle.replay_run.specs.Feeding.{Feeding, Wrote, IsReady}
+use Rattle.world_ports.specs.Streams.{StreamView, WritesPart}
 use Rattle.replay_run.specs.Claims.{end_by, end_of, ending_text, ending_run, Finishes, FinishesUnwritten}
 use Rattle.replay_run.proofs.GoesOnLemmas.{printed-last, ran-last}
 
 -- nothing was written of a text
-pub nothing_left : (all : List ℕ) (written : Option (List ℕ)) → WritesPart all written written
-nothing_left all written = (all, record { front = []; whole = refl; written = Appends-nil written })
+pub nothing_left : (all : List ℕ) (seen : StreamView) → WritesPart all seen seen
+nothing_left all seen = (all, record { front = []; whole = refl; written = Appends-nil seen.written })
 
 -- the last line and `end` were printed
 pub ends_text : (old mid new : Feeding) → IsReady old → mid.run ≡ (last_turned old.pending old.run).run → mid.out ≡ old.out ++ (last_turned old.pending old.run).output → new.run ≡ mid.run → new.out ≡ mid.out ++ ending true mid.run.refused → (new.run ≡ ending_run old) × (new.out ≡ ending_text old)
@@ -27,25 +26,25 @@ ends_text old mid new ready mid_run mid_out new_run new_out =
     )
 
 -- by whether the last line was refused
-finished_by : (refused : Option LineFault) (old new : Feeding) (before after : Option (List ℕ)) (f0 f1 : ℕ) → new.run.refused ≡ refused → new.run ≡ ending_run old → Appends before after (ending_text old) → Finishes (end_by new.run.line refused) old before after f0 f1
-finished_by None old new before after f0 f1 is run_is wrote = record {
+finished_by : (refused : Option LineFault) (old new : Feeding) (before after : StreamView) → new.run.refused ≡ refused → new.run ≡ ending_run old → Wrote before after (ending_text old) → Finishes (end_by new.run.line refused) old before after
+finished_by None old new before after is run_is wrote = record {
   wrote = wrote;
   accepted = sym (ap (λ (r : Run). r.refused) run_is) ∙ is;
 }
-finished_by (Some fault) old new before after f0 f1 is run_is wrote = record {
+finished_by (Some fault) old new before after is run_is wrote = record {
   wrote = wrote;
   refused = sym (ap (λ (r : Run). r.refused) run_is) ∙ is;
   number = sym (ap (λ (r : Run). r.line) run_is);
 }
 
 -- all of it was written
-pub finished : (old new : Feeding) (before after : Option (List ℕ)) (f0 f1 : ℕ) → new.run ≡ ending_run old → new.out ≡ ending_text old → Appends before after new.out → Finishes (end_of new.run) old before after f0 f1
-finished old new before after f0 f1 run_is out_is wrote =
-    finished_by new.run.refused old new before after f0 f1 refl run_is (subst (λ (o : List ℕ). Appends before after o) out_is wrote)
+pub finished : (old new : Feeding) (before after : StreamView) → new.run ≡ ending_run old → new.out ≡ ending_text old → Wrote before after new.out → Finishes (end_of new.run) old before after
+finished old new before after run_is out_is wrote =
+    finished_by new.run.refused old new before after refl run_is (subst (λ (o : List ℕ). Wrote before after o) out_is wrote)
 
 -- some of it was written
-pub finishes_unwritten : (old new : Feeding) (before after : Option (List ℕ)) (f0 f1 : ℕ) → new.out ≡ ending_text old → WritesPart new.out before after → Rose f0 f1 → FinishesUnwritten old before after f0 f1
-finishes_unwritten old new before after f0 f1 out_is some cause = record {
+pub finishes_unwritten : (old new : Feeding) (before after : StreamView) → new.out ≡ ending_text old → WritesPart new.out before after → Rose before.write_faults after.write_faults → FinishesUnwritten old before after
+finishes_unwritten old new before after out_is some cause = record {
   front = subst (λ (o : List ℕ). WritesPart o before after) out_is some;
   cause = cause;
 }

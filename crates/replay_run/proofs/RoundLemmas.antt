@@ -5,13 +5,12 @@ use Rattle.std.proofs.lemmas.List.{append-nil, nil_from_length}
 use Rattle.std.proofs.KnownBytes.{Appends-nil, Appends-trans, Appends-kept, Consumes-nil, Consumes-trans, Consumes-kept}
 use Rattle.std.specs.Io.KnownBytes.{Appends, Consumes, Keeps, IsAtEnd}
 use Rattle.world_ports.specs.Causes.{Rose}
-use Rattle.world_ports.proofs.CauseLemmas.{Rose-earlier}
 use Rattle.replay_run.specs.declared.run_end.RunEnd.{RunEnd}
 use Rattle.replay_run.specs.declared.run_end.RunEnd.TheVariants.{Done, Refused, Memory, ReadFault, WriteFault}
 use Rattle.replay_run.specs.Replay.{Run, start_run, parts_of, printed, ran, output_of, run_of, output_so_far}
 use Rattle.replay_run.specs.Feeding.{Feeding, start_feeding, IsFront, Feeds, GoesOnFed, Halts}
-use Rattle.world_ports.specs.Streams.{WritesPart}
-use Rattle.replay_run.specs.Claims.{Seen, HasRead, HoldsOfInput, IsRefused, EndsEarly, Ends, NoFewerFaults, IsUnderWay, IsLonger, ending_text, ending_run, Finishes}
+use Rattle.world_ports.specs.Streams.{StreamView, WritesPart}
+use Rattle.replay_run.specs.Claims.{Seen, HasRead, HoldsOfInput, IsRefused, EndsEarly, Ends, IsUnderWay, IsLonger, ending_text, ending_run, Finishes}
 use Rattle.replay_run.proofs.RunLemmas.{printed-refused, ran-refused}
 use Rattle.replay_run.proofs.GoesOnLemmas.{goes_on-same, begun-nothing, begun-same}
 use Rattle.replay_run.proofs.FeedsLemmas.{feeds_by, feeds_then, feeds_halts}
@@ -42,14 +41,14 @@ holds_at_end left bytes P end holds = record { read = holds; whole = end_of_inpu
 pub under_way-start : (seen : Seen) → IsUnderWay seen seen start_feeding
 under_way-start seen = record {
   bytes = [];
-  read = record { taken = Appends-nil seen.taken; left = Consumes-nil seen.left };
-  feeds = feeds_by seen.written (goes_on-same [] start_run []);
+  read = record { taken = Appends-nil seen.input.taken; left = Consumes-nil seen.input.left };
+  feeds = feeds_by seen.output (goes_on-same [] start_run []);
   ready = record {
     counted = record { accepted = refl; ports = omega arith; lines = omega arith; within = omega arith };
     begun = record { part = tt; short = omega arith; within = omega arith };
   };
   empty = refl;
-  later = record { reads = omega arith; writes = omega arith };
+  reads = refl;
 }
 
 -- memory ran out before it
@@ -57,40 +56,41 @@ pub ends-start : (seen : Seen) → Ends Memory seen seen
 unfolding Ends
 ends-start seen = record {
   bytes = [];
-  read = record { taken = Appends-nil seen.taken; left = Consumes-nil seen.left };
+  read = record { taken = Appends-nil seen.input.taken; left = Consumes-nil seen.input.left };
   text = [];
-  wrote = Appends-nil seen.written;
-  front = holds_of seen.left [] (λ schedule. IsFront [] (output_of schedule)) (λ more. record { more = output_of more; is = refl });
+  wrote = Appends-nil seen.output.written;
+  front = holds_of seen.input.left [] (λ schedule. IsFront [] (output_of schedule)) (λ more. record { more = output_of more; is = refl });
 }
 
 -- ---- a read that brought bytes
 
-pub round_fed : (start mid new : Seen) (old feeding : Feeding) (bytes : List ℕ) → IsUnderWay start mid old → GoesOnFed old bytes feeding mid.written new.written → length feeding.out ≤ 0 → Appends mid.taken new.taken bytes → Consumes mid.left new.left bytes → NoFewerFaults mid new → 0 < length bytes → IsUnderWay start new feeding × IsLonger old feeding
-round_fed start mid new old feeding bytes under fed empty taken left later some = (
+pub round_fed : (start mid new : Seen) (old feeding : Feeding) (bytes : List ℕ) → IsUnderWay start mid old → GoesOnFed old bytes feeding mid.output new.output → length feeding.out ≤ 0 → Appends mid.input.taken new.input.taken bytes → Consumes mid.input.left new.input.left bytes → new.input.read_faults ≡ mid.input.read_faults → 0 < length bytes → IsUnderWay start new feeding × IsLonger old feeding
+round_fed start mid new old feeding bytes under fed empty taken left reads some = (
   record {
     bytes = under.bytes ++ bytes;
     read = record {
-      taken = Appends-trans start.taken mid.taken new.taken under.bytes bytes under.read.taken taken;
-      left = Consumes-trans start.left mid.left new.left under.bytes bytes under.read.left left;
+      taken = Appends-trans start.input.taken mid.input.taken new.input.taken under.bytes bytes under.read.taken taken;
+      left = Consumes-trans start.input.left mid.input.left new.input.left under.bytes bytes under.read.left left;
     };
     feeds = feeds_then under.feeds fed.feeds;
     ready = fed.ready;
     empty = nil_from_length feeding.out (omega arith);
-    later = record { reads = omega (arith, under.later.reads, later.reads); writes = omega (arith, under.later.writes, later.writes) };
+    reads = reads ∙ under.reads;
   },
   record { more = omega (arith, fed.size); within = fed.ready.begun.within },
 )
 
 -- the run ended, and all that was read was fed
-ends_by : (end : RunEnd) (start new : Seen) (bytes : List ℕ) → HasRead start new bytes → Halts end start_feeding bytes start.written new.written start.write_faults new.write_faults → Ends end start new
+ends_by : (end : RunEnd) (start new : Seen) (bytes : List ℕ) → HasRead start new bytes → new.input.read_faults ≡ start.input.read_faults → Halts end start_feeding bytes start.output new.output → Ends end start new
 unfolding Ends
-ends_by Done start new bytes read halts = absurd halts
-ends_by (Refused line fault) start new bytes read halts = record {
+ends_by Done start new bytes read reads halts = absurd halts
+ends_by (Refused line fault) start new bytes read reads halts = record {
   bytes = bytes;
   read = read;
   text = halts.text;
-  wrote = halts.wrote;
-  refused = holds_of new.left bytes (IsRefused line fault halts.text) (λ more.
+  wrote = halts.wrote.written;
+  faults = record { reads = reads; writes = halts.wrote.kept };
+  refused = holds_of new.input.left bytes (IsRefused line fault halts.text) (λ more.
       let same = halts.goes.ran_same true more ∙ ran-refused true halts.run fault (parts_of more) halts.refused in
       record {
         output =
@@ -101,121 +101,126 @@ ends_by (Refused line fault) start new bytes read halts = record {
         number = ap (λ (r : Run). r.line) same ∙ halts.number;
       });
 }
-ends_by Memory start new bytes read halts = record {
+ends_by Memory start new bytes read reads halts = record {
   bytes = bytes;
   read = read;
   text = halts.text;
   wrote = halts.wrote;
-  front = holds_of new.left bytes (λ schedule. IsFront halts.text (output_of schedule)) (λ more. halts.front true more);
+  front = holds_of new.input.left bytes (λ schedule. IsFront halts.text (output_of schedule)) (λ more. halts.front true more);
 }
-ends_by ReadFault start new bytes read halts = absurd halts
-ends_by WriteFault start new bytes read halts = record {
+ends_by ReadFault start new bytes read reads halts = absurd halts
+ends_by WriteFault start new bytes read reads halts = record {
   early = record {
     bytes = bytes;
     read = read;
     text = halts.front.text;
     wrote = halts.front.wrote;
-    front = holds_of new.left bytes (λ schedule. IsFront halts.front.text (output_of schedule)) (λ more. halts.front.front true more);
+    front = holds_of new.input.left bytes (λ schedule. IsFront halts.front.text (output_of schedule)) (λ more. halts.front.front true more);
   };
   cause = halts.cause;
+  reads = reads;
 }
 
-pub round_halts : (end : RunEnd) (start mid new : Seen) (old : Feeding) (bytes : List ℕ) → IsUnderWay start mid old → Halts end old bytes mid.written new.written mid.write_faults new.write_faults → Appends mid.taken new.taken bytes → Consumes mid.left new.left bytes → Ends end start new
-round_halts end start mid new old bytes under halts taken left =
+pub round_halts : (end : RunEnd) (start mid new : Seen) (old : Feeding) (bytes : List ℕ) → IsUnderWay start mid old → Halts end old bytes mid.output new.output → Appends mid.input.taken new.input.taken bytes → Consumes mid.input.left new.input.left bytes → new.input.read_faults ≡ mid.input.read_faults → Ends end start new
+round_halts end start mid new old bytes under halts taken left reads =
     ends_by end start new (under.bytes ++ bytes)
     (record {
-      taken = Appends-trans start.taken mid.taken new.taken under.bytes bytes under.read.taken taken;
-      left = Consumes-trans start.left mid.left new.left under.bytes bytes under.read.left left;
+      taken = Appends-trans start.input.taken mid.input.taken new.input.taken under.bytes bytes under.read.taken taken;
+      left = Consumes-trans start.input.left mid.input.left new.input.left under.bytes bytes under.read.left left;
     })
-    (feeds_halts end start_feeding old under.bytes bytes start.written mid.written new.written start.write_faults mid.write_faults new.write_faults
-    under.feeds under.later.writes halts)
+    (reads ∙ under.reads)
+    (feeds_halts end start_feeding old under.bytes bytes start.output mid.output new.output
+    under.feeds halts)
 
 -- the answer of a piece
-pub round_answer : (result : Option RunEnd) (start mid new : Seen) (old feeding : Feeding) (bytes : List ℕ) → IsUnderWay start mid old → MatchOption result (GoesOnFed old bytes feeding mid.written new.written × (length feeding.out ≤ 0)) (λ end. Halts end old bytes mid.written new.written mid.write_faults new.write_faults) → Appends mid.taken new.taken bytes → Consumes mid.left new.left bytes → NoFewerFaults mid new → 0 < length bytes → MatchOption result (IsUnderWay start new feeding × IsLonger old feeding) (λ end. Ends end start new)
-round_answer None start mid new old feeding bytes under answer taken left later some =
-    round_fed start mid new old feeding bytes under answer.0 answer.1 taken left later some
-round_answer (Some end) start mid new old feeding bytes under answer taken left later some =
-    round_halts end start mid new old bytes under answer taken left
+pub round_answer : (result : Option RunEnd) (start mid new : Seen) (old feeding : Feeding) (bytes : List ℕ) → IsUnderWay start mid old → MatchOption result (GoesOnFed old bytes feeding mid.output new.output × (length feeding.out ≤ 0)) (λ end. Halts end old bytes mid.output new.output) → Appends mid.input.taken new.input.taken bytes → Consumes mid.input.left new.input.left bytes → new.input.read_faults ≡ mid.input.read_faults → 0 < length bytes → MatchOption result (IsUnderWay start new feeding × IsLonger old feeding) (λ end. Ends end start new)
+round_answer None start mid new old feeding bytes under answer taken left reads some =
+    round_fed start mid new old feeding bytes under answer.0 answer.1 taken left reads some
+round_answer (Some end) start mid new old feeding bytes under answer taken left reads some =
+    round_halts end start mid new old bytes under answer taken left reads
 
 -- ---- a read that found the end
 
 -- nothing more was read
-read_kept : (start mid new : Seen) (old : Feeding) (under : IsUnderWay start mid old) → Keeps mid.taken new.taken → Keeps mid.left new.left → HasRead start new under.bytes
+read_kept : (start mid new : Seen) (old : Feeding) (under : IsUnderWay start mid old) → Keeps mid.input.taken new.input.taken → Keeps mid.input.left new.input.left → HasRead start new under.bytes
 read_kept start mid new old under taken left = record {
-  taken = Appends-kept start.taken mid.taken new.taken under.bytes under.read.taken taken;
-  left = Consumes-kept start.left mid.left new.left under.bytes under.read.left left;
+  taken = Appends-kept start.input.taken mid.input.taken new.input.taken under.bytes under.read.taken taken;
+  left = Consumes-kept start.input.left mid.input.left new.input.left under.bytes under.read.left left;
 }
 
 -- all that the schedule prints
-all_text : (bytes : List ℕ) (old : Feeding) (w0 w1 : Option (List ℕ)) (feeds : Feeds start_feeding bytes old w0 w1) → output_of bytes ≡ feeds.text ++ ending_text old
+all_text : (bytes : List ℕ) (old : Feeding) (w0 w1 : StreamView) (feeds : Feeds start_feeding bytes old w0 w1) → output_of bytes ≡ feeds.text ++ ending_text old
 all_text bytes old w0 w1 feeds =
     sym (ap output_of (append-nil bytes))
     ∙ feeds.goes.printed_same true []
     ∙ ap (λ (p : List ℕ). (feeds.text ++ old.out) ++ printed true old.run (parts_of p)) (append-nil old.pending)
     ∙ append_assoc feeds.text old.out (printed true old.run (parts_of old.pending))
 
-all_run : (bytes : List ℕ) (old : Feeding) (w0 w1 : Option (List ℕ)) (feeds : Feeds start_feeding bytes old w0 w1) → run_of bytes ≡ ending_run old
+all_run : (bytes : List ℕ) (old : Feeding) (w0 w1 : StreamView) (feeds : Feeds start_feeding bytes old w0 w1) → run_of bytes ≡ ending_run old
 all_run bytes old w0 w1 feeds =
     sym (ap run_of (append-nil bytes)) ∙ feeds.goes.ran_same true [] ∙ ap (λ (p : List ℕ). ran true old.run (parts_of p)) (append-nil old.pending)
 
 -- a front of it was written
-early_at_end : (start mid new : Seen) (old : Feeding) (under : IsUnderWay start mid old) → HasRead start new under.bytes → IsAtEnd new.left → WritesPart (ending_text old) mid.written new.written → EndsEarly start new
+early_at_end : (start mid new : Seen) (old : Feeding) (under : IsUnderWay start mid old) → HasRead start new under.bytes → IsAtEnd new.input.left → WritesPart (ending_text old) mid.output new.output → EndsEarly start new
 early_at_end start mid new old under read end some = record {
   bytes = under.bytes;
   read = read;
   text = under.feeds.text ++ some.1.front;
-  wrote = Appends-trans start.written mid.written new.written under.feeds.text some.1.front under.feeds.wrote some.1.written;
-  front = holds_at_end new.left under.bytes (λ schedule. IsFront (under.feeds.text ++ some.1.front) (output_of schedule)) end (record {
+  wrote = Appends-trans start.output.written mid.output.written new.output.written under.feeds.text some.1.front under.feeds.wrote.written some.1.written;
+  front = holds_at_end new.input.left under.bytes (λ schedule. IsFront (under.feeds.text ++ some.1.front) (output_of schedule)) end (record {
     more = some.0;
     is =
         append_assoc under.feeds.text some.1.front some.0
         ∙ ap (λ (t : List ℕ). under.feeds.text ++ t) some.1.whole
-        ∙ sym (all_text under.bytes old start.written mid.written under.feeds);
+        ∙ sym (all_text under.bytes old start.output mid.output under.feeds);
   });
 }
 
 -- all of it was written
-all_wrote : (start mid new : Seen) (old : Feeding) (under : IsUnderWay start mid old) → Appends mid.written new.written (ending_text old) → Appends start.written new.written (output_of under.bytes)
+all_wrote : (start mid new : Seen) (old : Feeding) (under : IsUnderWay start mid old) → Appends mid.output.written new.output.written (ending_text old) → Appends start.output.written new.output.written (output_of under.bytes)
 all_wrote start mid new old under wrote =
-    subst (λ (t : List ℕ). Appends start.written new.written t) (sym (all_text under.bytes old start.written mid.written under.feeds))
-    (Appends-trans start.written mid.written new.written under.feeds.text (ending_text old) under.feeds.wrote wrote)
+    subst (λ (t : List ℕ). Appends start.output.written new.output.written t) (sym (all_text under.bytes old start.output mid.output under.feeds))
+    (Appends-trans start.output.written mid.output.written new.output.written under.feeds.text (ending_text old) under.feeds.wrote.written wrote)
 
-pub round_finishes : (end : RunEnd) (start mid new : Seen) (old : Feeding) → IsUnderWay start mid old → Finishes end old mid.written new.written mid.write_faults new.write_faults → Keeps mid.taken new.taken → Keeps mid.left new.left → IsAtEnd new.left → Ends end start new
+pub round_finishes : (end : RunEnd) (start mid new : Seen) (old : Feeding) → IsUnderWay start mid old → Finishes end old mid.output new.output → Keeps mid.input.taken new.input.taken → Keeps mid.input.left new.input.left → IsAtEnd new.input.left → new.input.read_faults ≡ mid.input.read_faults → Ends end start new
 unfolding Ends
-round_finishes Done start mid new old under finishes taken left end =
+round_finishes Done start mid new old under finishes taken left end reads =
     record {
       bytes = under.bytes;
       read = read_kept start mid new old under taken left;
       end = end;
-      wrote = all_wrote start mid new old under finishes.wrote;
-      accepted = ap (λ (r : Run). r.refused) (all_run under.bytes old start.written mid.written under.feeds) ∙ finishes.accepted;
+      wrote = all_wrote start mid new old under finishes.wrote.written;
+      accepted = ap (λ (r : Run). r.refused) (all_run under.bytes old start.output mid.output under.feeds) ∙ finishes.accepted;
+      faults = record { reads = reads ∙ under.reads; writes = finishes.wrote.kept ∙ under.feeds.wrote.kept };
     }
-round_finishes (Refused line fault) start mid new old under finishes taken left end =
-    let same = all_run under.bytes old start.written mid.written under.feeds in
+round_finishes (Refused line fault) start mid new old under finishes taken left end reads =
+    let same = all_run under.bytes old start.output mid.output under.feeds in
     record {
       bytes = under.bytes;
       read = read_kept start mid new old under taken left;
       text = output_of under.bytes;
-      wrote = all_wrote start mid new old under finishes.wrote;
-      refused = holds_at_end new.left under.bytes (IsRefused line fault (output_of under.bytes)) end (record {
+      wrote = all_wrote start mid new old under finishes.wrote.written;
+      refused = holds_at_end new.input.left under.bytes (IsRefused line fault (output_of under.bytes)) end (record {
         output = refl;
         refused = ap (λ (r : Run). r.refused) same ∙ finishes.refused;
         number = ap (λ (r : Run). r.line) same ∙ finishes.number;
       });
+      faults = record { reads = reads ∙ under.reads; writes = finishes.wrote.kept ∙ under.feeds.wrote.kept };
     }
-round_finishes Memory start mid new old under finishes taken left end =
+round_finishes Memory start mid new old under finishes taken left end reads =
     early_at_end start mid new old under (read_kept start mid new old under taken left) end finishes
-round_finishes ReadFault start mid new old under finishes taken left end = absurd finishes
-round_finishes WriteFault start mid new old under finishes taken left end = record {
+round_finishes ReadFault start mid new old under finishes taken left end reads = absurd finishes
+round_finishes WriteFault start mid new old under finishes taken left end reads = record {
   early = early_at_end start mid new old under (read_kept start mid new old under taken left) end finishes.front;
-  cause = Rose-earlier start.write_faults mid.write_faults new.write_faults under.later.writes finishes.cause;
+  cause = subst (λ (n : ℕ). Rose n new.output.write_faults) under.feeds.wrote.kept finishes.cause;
+  reads = reads ∙ under.reads;
 }
 
 -- ---- a read that failed
 
-pub round_unread : (start mid new : Seen) (old : Feeding) → IsUnderWay start mid old → Keeps mid.taken new.taken → Keeps mid.left new.left → new.written ≡ mid.written → Rose mid.read_faults new.read_faults → Ends ReadFault start new
+pub round_unread : (start mid new : Seen) (old : Feeding) → IsUnderWay start mid old → Keeps mid.input.taken new.input.taken → Keeps mid.input.left new.input.left → new.output ≡ mid.output → Rose mid.input.read_faults new.input.read_faults → Ends ReadFault start new
 unfolding Ends
-round_unread start mid new old under taken left written cause =
+round_unread start mid new old under taken left output cause =
     let goes = under.feeds.goes in
     let text_is : output_so_far under.bytes ≡ under.feeds.text =
     sym (ap output_so_far (append-nil under.bytes))
@@ -233,9 +238,10 @@ round_unread start mid new old under taken left written cause =
     record {
       bytes = under.bytes;
       read = read_kept start mid new old under taken left;
-      wrote = rw (text_is, written) under.feeds.wrote;
+      wrote = rw (text_is, output) under.feeds.wrote.written;
       accepted = ap (λ (r : Run). r.refused) run_is ∙ under.ready.counted.accepted;
-      cause = Rose-earlier start.read_faults mid.read_faults new.read_faults under.later.reads cause;
+      cause = subst (λ (n : ℕ). Rose n new.input.read_faults) under.reads cause;
+      writes = rw output under.feeds.wrote.kept;
     }
 
 -- ---- what was read

@@ -6,21 +6,23 @@ use Rattle.schedule_text.specs.declared.fault.LineFault.{LineFault}
 use Rattle.replay_run.specs.declared.run_end.RunEnd.{RunEnd}
 use Rattle.replay_run.specs.declared.run_end.RunEnd.TheVariants.{Done, Refused, Memory, ReadFault, WriteFault}
 use Rattle.replay_run.specs.Replay.{Run, start_run, parts_of, printed, ran, output_of, run_of, output_so_far, longest_schedule}
-use Rattle.replay_run.specs.Feeding.{Feeding, start_feeding, IsReady, IsFront, Feeds, fed_so_far}
-use Rattle.world_ports.specs.Streams.{WritesPart}
+use Rattle.replay_run.specs.Feeding.{Feeding, Wrote, start_feeding, IsReady, IsFront, Feeds, fed_so_far}
+use Rattle.world_ports.specs.Streams.{StreamView, WritesPart}
 
--- what the source and the sink tell at one time, and how often they failed
+-- what the source and the sink tell at one time
 pub record Seen : Type 0 where
-  pub taken : Option (List ℕ)
-  pub left : Option (List ℕ)
-  pub written : Option (List ℕ)
-  pub read_faults : ℕ
-  pub write_faults : ℕ
+  pub input : StreamView
+  pub output : StreamView
 
 -- these bytes were read
 pub record HasRead (old new : Seen) (bytes : List ℕ) : Type 0 where
-  pub taken : Appends old.taken new.taken bytes
-  pub left : Consumes old.left new.left bytes
+  pub taken : Appends old.input.taken new.input.taken bytes
+  pub left : Consumes old.input.left new.input.left bytes
+
+-- no read and no write failed
+pub record NoneFailed (old new : Seen) : Type 0 where
+  pub reads : new.input.read_faults ≡ old.input.read_faults
+  pub writes : new.output.write_faults ≡ old.output.write_faults
 
 -- it holds of what was read, and of the whole input, where that is told
 pub record HoldsOfInput (left : Option (List ℕ)) (bytes : List ℕ) (P : List ℕ → Type 0) : Type 0 where
@@ -37,39 +39,43 @@ pub record IsRefused (line : ℕ) (fault : LineFault) (text schedule : List ℕ)
 pub record EndsDone (old new : Seen) : Type 0 where
   pub bytes : List ℕ
   pub read : HasRead old new bytes
-  pub end : IsAtEnd new.left
-  pub wrote : Appends old.written new.written (output_of bytes)
+  pub end : IsAtEnd new.input.left
+  pub wrote : Appends old.output.written new.output.written (output_of bytes)
   pub accepted : (run_of bytes).refused ≡ None
+  pub faults : NoneFailed old new
 
 -- the input's first refused line is this one, and all that it prints is written
 pub record EndsRefused (line : ℕ) (fault : LineFault) (old new : Seen) : Type 0 where
   pub bytes : List ℕ
   pub read : HasRead old new bytes
   pub text : List ℕ
-  pub wrote : Appends old.written new.written text
-  pub refused : HoldsOfInput new.left bytes (IsRefused line fault text)
+  pub wrote : Appends old.output.written new.output.written text
+  pub refused : HoldsOfInput new.input.left bytes (IsRefused line fault text)
+  pub faults : NoneFailed old new
 
 -- what is written is a front of what the input prints
 pub record EndsEarly (old new : Seen) : Type 0 where
   pub bytes : List ℕ
   pub read : HasRead old new bytes
   pub text : List ℕ
-  pub wrote : Appends old.written new.written text
-  pub front : HoldsOfInput new.left bytes (λ schedule. IsFront text (output_of schedule))
+  pub wrote : Appends old.output.written new.output.written text
+  pub front : HoldsOfInput new.input.left bytes (λ schedule. IsFront text (output_of schedule))
 
 -- what the whole lines print that were read before is written, none of them is refused, and a read
 -- failed
 pub record EndsUnread (old new : Seen) : Type 0 where
   pub bytes : List ℕ
   pub read : HasRead old new bytes
-  pub wrote : Appends old.written new.written (output_so_far bytes)
+  pub wrote : Appends old.output.written new.output.written (output_so_far bytes)
   pub accepted : (ran false start_run (parts_of bytes)).refused ≡ None
-  pub cause : Rose old.read_faults new.read_faults
+  pub cause : Rose old.input.read_faults new.input.read_faults
+  pub writes : new.output.write_faults ≡ old.output.write_faults
 
 -- a front of what the input prints is written, and a write failed
 pub record EndsUnwritten (old new : Seen) : Type 0 where
   pub early : EndsEarly old new
-  pub cause : Rose old.write_faults new.write_faults
+  pub cause : Rose old.output.write_faults new.output.write_faults
+  pub reads : new.input.read_faults ≡ old.input.read_faults
 
 -- what the end of a run says
 unfoldable pub Ends : RunEnd → Seen → Seen → Type 0
@@ -80,19 +86,14 @@ Ends Memory old new = EndsEarly old new
 Ends ReadFault old new = EndsUnread old new
 Ends WriteFault old new = EndsUnwritten old new
 
--- no fault is forgotten
-pub record NoFewerFaults (old new : Seen) : Type 0 where
-  pub reads : old.read_faults ≤ new.read_faults
-  pub writes : old.write_faults ≤ new.write_faults
-
 -- a run that goes on: these bytes were read and fed, and all that they print is written
 pub record IsUnderWay (old new : Seen) (feeding : Feeding) : Type 0 where
   pub bytes : List ℕ
   pub read : HasRead old new bytes
-  pub feeds : Feeds start_feeding bytes feeding old.written new.written
+  pub feeds : Feeds start_feeding bytes feeding old.output new.output
   pub ready : IsReady feeding
   pub empty : feeding.out ≡ []
-  pub later : NoFewerFaults old new
+  pub reads : new.input.read_faults ≡ old.input.read_faults
 
 -- more of the schedule was fed, and no more than it may have
 pub record IsLonger (old new : Feeding) : Type 0 where
@@ -116,27 +117,27 @@ abbrev pub ending_run : Feeding → Run
 ending_run feeding = ran true feeding.run (parts_of feeding.pending)
 
 -- the schedule ended, and all is written
-pub record FinishesDone (old : Feeding) (before after : Option (List ℕ)) : Type 0 where
-  pub wrote : Appends before after (ending_text old)
+pub record FinishesDone (old : Feeding) (before after : StreamView) : Type 0 where
+  pub wrote : Wrote before after (ending_text old)
   pub accepted : (ending_run old).refused ≡ None
 
 -- its last line is refused, and all is written
 pub record FinishesRefused
-    (line : ℕ) (fault : LineFault) (old : Feeding) (before after : Option (List ℕ)) : Type 0 where
-  pub wrote : Appends before after (ending_text old)
+    (line : ℕ) (fault : LineFault) (old : Feeding) (before after : StreamView) : Type 0 where
+  pub wrote : Wrote before after (ending_text old)
   pub refused : (ending_run old).refused ≡ Some fault
   pub number : (ending_run old).line ≡ line
 
 -- a write failed
 pub record FinishesUnwritten
-    (old : Feeding) (before after : Option (List ℕ)) (faults_before faults_after : ℕ) : Type 0 where
+    (old : Feeding) (before after : StreamView) : Type 0 where
   pub front : WritesPart (ending_text old) before after
-  pub cause : Rose faults_before faults_after
+  pub cause : Rose before.write_faults after.write_faults
 
 -- how a run ends with its schedule
-abbrev pub Finishes : RunEnd → Feeding → Option (List ℕ) → Option (List ℕ) → ℕ → ℕ → Type 0
-Finishes Done old before after faults0 faults1 = FinishesDone old before after
-Finishes (Refused line fault) old before after faults0 faults1 = FinishesRefused line fault old before after
-Finishes Memory old before after faults0 faults1 = WritesPart (ending_text old) before after
-Finishes ReadFault old before after faults0 faults1 = ⊥
-Finishes WriteFault old before after faults0 faults1 = FinishesUnwritten old before after faults0 faults1
+abbrev pub Finishes : RunEnd → Feeding → StreamView → StreamView → Type 0
+Finishes Done old before after = FinishesDone old before after
+Finishes (Refused line fault) old before after = FinishesRefused line fault old before after
+Finishes Memory old before after = WritesPart (ending_text old) before after
+Finishes ReadFault old before after = ⊥
+Finishes WriteFault old before after = FinishesUnwritten old before after

@@ -1,7 +1,8 @@
 -- A run that is fed with pieces of its schedule, and writes what it prints (ours).
-use Rattle.std.specs.Prelude.{◌≡◌, ℕ, Bool, List, [], ◌++◌, ◌+◌, length, Option, Some, None}
+use Rattle.std.specs.Prelude.{◌≡◌, ℕ, Bool, List, [], ◌++◌, ◌+◌, length, Some, None}
 use Rattle.std.specs.Io.KnownBytes.{Appends}
 use Rattle.world_ports.specs.Causes.{Rose}
+use Rattle.world_ports.specs.Streams.{StreamView}
 use Rattle.schedule_text.specs.declared.fault.LineFault.{LineFault}
 use Rattle.replay_run.specs.declared.run_end.RunEnd.{RunEnd}
 use Rattle.replay_run.specs.declared.run_end.RunEnd.TheVariants.{Done, Refused, Memory, ReadFault, WriteFault}
@@ -29,11 +30,16 @@ pub record IsFront (text all : List ℕ) : Type 0 where
   pub more : List ℕ
   pub is : text ++ more ≡ all
 
+-- all of this text was written, and no write failed
+pub record Wrote (before after : StreamView) (text : List ℕ) : Type 0 where
+  pub written : Appends before.written after.written text
+  pub kept : after.write_faults ≡ before.write_faults
+
 -- these bytes were fed: what was written since, and how the run goes on from there
 pub record Feeds
-    (old : Feeding) (bytes : List ℕ) (new : Feeding) (before after : Option (List ℕ)) : Type 0 where
+    (old : Feeding) (bytes : List ℕ) (new : Feeding) (before after : StreamView) : Type 0 where
   pub text : List ℕ
-  pub wrote : Appends before after text
+  pub wrote : Wrote before after text
   pub goes : GoesOn old.out old.run (old.pending ++ bytes) (text ++ new.out) new.run new.pending
 
 -- how many bytes of the schedule were fed
@@ -42,7 +48,7 @@ fed_so_far feeding = feeding.run.read + length feeding.pending
 
 -- the same of a run that was ready and is ready for more
 pub record GoesOnFed
-    (old : Feeding) (bytes : List ℕ) (new : Feeding) (before after : Option (List ℕ)) : Type 0 where
+    (old : Feeding) (bytes : List ℕ) (new : Feeding) (before after : StreamView) : Type 0 where
   pub accepted : old.run.refused ≡ None
   pub feeds : Feeds old bytes new before after
   pub ready : IsReady new
@@ -50,18 +56,18 @@ pub record GoesOnFed
 
 -- what was written is a front of what the run prints, whatever follows these bytes
 pub record WritesFront
-    (old : Feeding) (bytes : List ℕ) (before after : Option (List ℕ)) : Type 0 where
+    (old : Feeding) (bytes : List ℕ) (before after : StreamView) : Type 0 where
   pub text : List ℕ
-  pub wrote : Appends before after text
+  pub wrote : Appends before.written after.written text
   pub front : (ended : Bool) (more : List ℕ) →
       IsFront text (old.out ++ printed ended old.run (parts_of ((old.pending ++ bytes) ++ more)))
 
 -- a line was refused, and all that the run prints is written
 pub record WritesRefusal
-    (old : Feeding) (bytes : List ℕ) (line : ℕ) (fault : LineFault) (before after : Option (List ℕ))
+    (old : Feeding) (bytes : List ℕ) (line : ℕ) (fault : LineFault) (before after : StreamView)
     : Type 0 where
   pub text : List ℕ
-  pub wrote : Appends before after text
+  pub wrote : Wrote before after text
   pub run : Run
   pub goes : GoesOn old.out old.run (old.pending ++ bytes) text run []
   pub refused : run.refused ≡ Some fault
@@ -69,22 +75,21 @@ pub record WritesRefusal
 
 -- the same as a front, where writing failed
 pub record WritesUntilFault
-    (old : Feeding) (bytes : List ℕ) (before after : Option (List ℕ)) (faults_before faults_after : ℕ)
-    : Type 0 where
+    (old : Feeding) (bytes : List ℕ) (before after : StreamView) : Type 0 where
   pub front : WritesFront old bytes before after
-  pub cause : Rose faults_before faults_after
+  pub cause : Rose before.write_faults after.write_faults
 
 -- why the run ended while these bytes were fed
-abbrev pub Halts : RunEnd → Feeding → List ℕ → Option (List ℕ) → Option (List ℕ) → ℕ → ℕ → Type 0
-Halts Done old bytes before after faults0 faults1 = ⊥
-Halts (Refused line fault) old bytes before after faults0 faults1 = WritesRefusal old bytes line fault before after
-Halts Memory old bytes before after faults0 faults1 = WritesFront old bytes before after
-Halts ReadFault old bytes before after faults0 faults1 = ⊥
-Halts WriteFault old bytes before after faults0 faults1 = WritesUntilFault old bytes before after faults0 faults1
+abbrev pub Halts : RunEnd → Feeding → List ℕ → StreamView → StreamView → Type 0
+Halts Done old bytes before after = ⊥
+Halts (Refused line fault) old bytes before after = WritesRefusal old bytes line fault before after
+Halts Memory old bytes before after = WritesFront old bytes before after
+Halts ReadFault old bytes before after = ⊥
+Halts WriteFault old bytes before after = WritesUntilFault old bytes before after
 
 -- the front of a piece was fed, and this is left of it
 pub record FedSoFar
-    (old : Feeding) (piece rest : List ℕ) (new : Feeding) (before after : Option (List ℕ)) : Type 0 where
+    (old : Feeding) (piece rest : List ℕ) (new : Feeding) (before after : StreamView) : Type 0 where
   pub front : List ℕ
   pub is : front ++ rest ≡ piece
   pub fed : GoesOnFed old front new before after

@@ -1,13 +1,12 @@
 // A run that is fed with pieces.
 ghost use Rattle.std.specs.Prelude.{◌≡◌, ◌∷◌, [], ◌++◌, ◌≤◌, ◌+◌, length, true};
 ghost use Rattle.std.specs.Prelude.{MatchOption, None, OnErr, OnOk};
-ghost use Rattle.std.specs.Io.KnownBytes.{Appends};
 ghost use Rattle.world_ports.specs.Causes.{HasCause};
 ghost use Rattle.replay_run.specs.Claims.{Finishes, end_of};
 ghost use Rattle.replay_run.specs.Replay.{last_turned, ending};
-ghost use Rattle.replay_run.specs.Feeding.{start_feeding, IsReady, GoesOnFed, Halts, fed_so_far};
+ghost use Rattle.replay_run.specs.Feeding.{Wrote, start_feeding, IsReady, GoesOnFed, Halts, fed_so_far};
 ghost use Rattle.replay_run.specs.GoesOn.{HasNoLf, IsLineEnd, GoesOn};
-ghost use Rattle.world_ports.specs.Streams.{WritesPart};
+ghost use Rattle.world_ports.specs.Streams.{OnlyWrites, WritesPart};
 
 use crate::limits::{LONGEST_LINE, LONGEST_SCHEDULE, ROOM};
 use crate::{Replay, RunEnd};
@@ -94,14 +93,13 @@ impl Feed {
     // Writes what was printed.
     fn write_out<O: Sink>(&mut self, output: &mut O) -> Result<(), Fault>
         ensures ok { OnOk result
-            (Appends (O.written output.old) (O.written output.new) self.old.out) }
+            (Wrote (O.seen output.old) (O.seen output.new) self.old.out) }
         ensures new { OnOk result (self.new ≡ record self.old { out = [] }) }
         ensures err { OnErr result
-            (WritesPart self.old.out (O.written output.old) (O.written output.new)) }
-        ensures cause { HasCause (O.write_faults output.old) (O.write_faults output.new) result }
-        ensures taken { O.taken output.new ≡ O.taken output.old }
-        ensures left { O.left output.new ≡ O.left output.old }
-        ensures read_faults { O.read_faults output.new ≡ O.read_faults output.old }
+            (WritesPart self.old.out (O.seen output.old) (O.seen output.new)) }
+        ensures cause { HasCause
+            (O.seen output.old).write_faults (O.seen output.new).write_faults result }
+        ensures only { OnlyWrites (O.seen output.old) (O.seen output.new) }
     {
         write_all(output, &self.out)?;
         self.out.clear();
@@ -113,14 +111,10 @@ impl Feed {
     fn look_back<O: Sink>(&mut self, most: usize, output: &mut O) -> Option<RunEnd>
         requires ready { self.old.run.refused ≡ None → IsReady self.old }
         ensures feeds { MatchOption result
-            (GoesOnFed self.old [] self.new (O.written output.old) (O.written output.new)
+            (GoesOnFed self.old [] self.new (O.seen output.old) (O.seen output.new)
             × (length self.new.out ≤ most))
-            (λ end. Halts end self.old [] (O.written output.old) (O.written output.new)
-            (O.write_faults output.old) (O.write_faults output.new)) }
-        ensures later { O.write_faults output.old ≤ O.write_faults output.new }
-        ensures taken { O.taken output.new ≡ O.taken output.old }
-        ensures left { O.left output.new ≡ O.left output.old }
-        ensures read_faults { O.read_faults output.new ≡ O.read_faults output.old }
+            (λ end. Halts end self.old [] (O.seen output.old) (O.seen output.new)) }
+        ensures only { OnlyWrites (O.seen output.old) (O.seen output.new) }
     {
         if let Some(fault) = self.run.refused() {
             let line = self.run.line();
@@ -144,15 +138,11 @@ impl Feed {
         requires part { HasNoLf line.now }
         ensures feeds { MatchOption result
             (GoesOnFed self.old (line.now ++ 10 ∷ []) self.new
-            (O.written output.old) (O.written output.new)
+            (O.seen output.old) (O.seen output.new)
             × (length self.new.out ≤ 65536))
             (λ end. Halts end self.old (line.now ++ 10 ∷ [])
-            (O.written output.old) (O.written output.new)
-            (O.write_faults output.old) (O.write_faults output.new)) }
-        ensures later { O.write_faults output.old ≤ O.write_faults output.new }
-        ensures taken { O.taken output.new ≡ O.taken output.old }
-        ensures left { O.left output.new ≡ O.left output.old }
-        ensures read_faults { O.read_faults output.new ≡ O.read_faults output.old }
+            (O.seen output.old) (O.seen output.new)) }
+        ensures only { OnlyWrites (O.seen output.old) (O.seen output.new) }
     {
         let Ok(()) = self.end_line(alloc, line) else {
             return Some(RunEnd::Memory);
@@ -165,14 +155,10 @@ impl Feed {
         requires ready { IsReady self.old }
         requires part { HasNoLf front.now }
         ensures feeds { MatchOption result
-            (GoesOnFed self.old front.now self.new (O.written output.old) (O.written output.new)
+            (GoesOnFed self.old front.now self.new (O.seen output.old) (O.seen output.new)
             × (length self.new.out ≤ 0))
-            (λ end. Halts end self.old front.now (O.written output.old) (O.written output.new)
-            (O.write_faults output.old) (O.write_faults output.new)) }
-        ensures later { O.write_faults output.old ≤ O.write_faults output.new }
-        ensures taken { O.taken output.new ≡ O.taken output.old }
-        ensures left { O.left output.new ≡ O.left output.old }
-        ensures read_faults { O.read_faults output.new ≡ O.read_faults output.old }
+            (λ end. Halts end self.old front.now (O.seen output.old) (O.seen output.new)) }
+        ensures only { OnlyWrites (O.seen output.old) (O.seen output.new) }
     {
         let Ok(()) = self.begin_line(front) else {
             return Some(RunEnd::Memory);
@@ -189,14 +175,10 @@ impl Feed {
     ) -> Option<RunEnd>
         requires ready { IsReady self.old }
         ensures feeds { MatchOption result
-            (GoesOnFed self.old piece.now self.new (O.written output.old) (O.written output.new)
+            (GoesOnFed self.old piece.now self.new (O.seen output.old) (O.seen output.new)
             × (length self.new.out ≤ 0))
-            (λ end. Halts end self.old piece.now (O.written output.old) (O.written output.new)
-            (O.write_faults output.old) (O.write_faults output.new)) }
-        ensures later { O.write_faults output.old ≤ O.write_faults output.new }
-        ensures taken { O.taken output.new ≡ O.taken output.old }
-        ensures left { O.left output.new ≡ O.left output.old }
-        ensures read_faults { O.read_faults output.new ≡ O.read_faults output.old }
+            (λ end. Halts end self.old piece.now (O.seen output.old) (O.seen output.new)) }
+        ensures only { OnlyWrites (O.seen output.old) (O.seen output.new) }
     {
         let mut rest = piece;
         'lines: while let Some(place) = line_end(rest) {
@@ -250,12 +232,8 @@ impl Feed {
     /// Ends the schedule, and writes all that is left to write.
     pub fn finish<O: Sink>(&mut self, alloc: Global, output: &mut O) -> RunEnd
         requires ready { IsReady self.old }
-        ensures ends { Finishes result self.old (O.written output.old) (O.written output.new)
-            (O.write_faults output.old) (O.write_faults output.new) }
-        ensures later { O.write_faults output.old ≤ O.write_faults output.new }
-        ensures taken { O.taken output.new ≡ O.taken output.old }
-        ensures left { O.left output.new ≡ O.left output.old }
-        ensures read_faults { O.read_faults output.new ≡ O.read_faults output.old }
+        ensures ends { Finishes result self.old (O.seen output.old) (O.seen output.new) }
+        ensures only { OnlyWrites (O.seen output.old) (O.seen output.new) }
     {
         let Ok(()) = self.run_pending(alloc) else {
             return RunEnd::Memory;

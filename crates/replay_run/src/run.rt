@@ -1,7 +1,8 @@
 // The loop over reads.
-ghost use Rattle.std.specs.Prelude.{◌≡◌, ◌<◌, ◌≤◌, IfOk, MatchOption, length, vec_len};
+ghost use Rattle.std.specs.Prelude.{◌≡◌, ◌<◌, IfOk, MatchOption, length, vec_len};
 ghost use Rattle.replay_run.specs.Claims.{Seen, Ends, IsUnderWay, IsLonger};
 ghost use Rattle.replay_run.specs.Feeding.{IsReady};
+ghost use Rattle.world_ports.specs.Streams.{OnlyReads, OnlyWrites};
 
 use crate::limits::ROOM;
 use crate::{Feed, RunEnd};
@@ -26,36 +27,13 @@ fn run_round<I: Source, O: Sink>(
     requires room { 0 < length room.old }
     requires ready { IsReady feed.old }
     ensures round { (start : Seen) →
-        IsUnderWay start (record {
-          taken = I.taken input.old;
-          left = I.left input.old;
-          written = O.written output.old;
-          read_faults = I.read_faults input.old;
-          write_faults = O.write_faults output.old;
-        }) feed.old →
+        IsUnderWay start (record { input = I.seen input.old; output = O.seen output.old }) feed.old →
         MatchOption result
-        (IsUnderWay start (record {
-          taken = I.taken input.new;
-          left = I.left input.new;
-          written = O.written output.new;
-          read_faults = I.read_faults input.new;
-          write_faults = O.write_faults output.new;
-        }) feed.new
+        (IsUnderWay start (record { input = I.seen input.new; output = O.seen output.new }) feed.new
         × IsLonger feed.old feed.new)
-        (λ end. Ends end start (record {
-          taken = I.taken input.new;
-          left = I.left input.new;
-          written = O.written output.new;
-          read_faults = I.read_faults input.new;
-          write_faults = O.write_faults output.new;
-        })) }
-    ensures reads { I.read_faults input.old ≤ I.read_faults input.new }
-    ensures writes { O.write_faults output.old ≤ O.write_faults output.new }
-    ensures input_written { I.written input.new ≡ I.written input.old }
-    ensures input_faults { I.write_faults input.new ≡ I.write_faults input.old }
-    ensures output_taken { O.taken output.new ≡ O.taken output.old }
-    ensures output_left { O.left output.new ≡ O.left output.old }
-    ensures output_faults { O.read_faults output.new ≡ O.read_faults output.old }
+        (λ end. Ends end start (record { input = I.seen input.new; output = O.seen output.new })) }
+    ensures input_only { OnlyReads (I.seen input.old) (I.seen input.new) }
+    ensures output_only { OnlyWrites (O.seen output.old) (O.seen output.new) }
 {
     match input.read(room) {
         Ok(Pulled::Bytes(n)) => feed.run_piece(alloc, &room[..n as usize], output),
@@ -73,27 +51,10 @@ fn run_rounds<I: Source, O: Sink>(
 ) -> RunEnd
     requires { 0 < length room.old }
     ensures ends { Ends result
-        (record {
-          taken = I.taken input.old;
-          left = I.left input.old;
-          written = O.written output.old;
-          read_faults = I.read_faults input.old;
-          write_faults = O.write_faults output.old;
-        })
-        (record {
-          taken = I.taken input.new;
-          left = I.left input.new;
-          written = O.written output.new;
-          read_faults = I.read_faults input.new;
-          write_faults = O.write_faults output.new;
-        }) }
-    ensures reads { I.read_faults input.old ≤ I.read_faults input.new }
-    ensures writes { O.write_faults output.old ≤ O.write_faults output.new }
-    ensures input_written { I.written input.new ≡ I.written input.old }
-    ensures input_faults { I.write_faults input.new ≡ I.write_faults input.old }
-    ensures output_taken { O.taken output.new ≡ O.taken output.old }
-    ensures output_left { O.left output.new ≡ O.left output.old }
-    ensures output_faults { O.read_faults output.new ≡ O.read_faults output.old }
+        (record { input = I.seen input.old; output = O.seen output.old })
+        (record { input = I.seen input.new; output = O.seen output.new }) }
+    ensures input_only { OnlyReads (I.seen input.old) (I.seen input.new) }
+    ensures output_only { OnlyWrites (O.seen output.old) (O.seen output.new) }
 {
     let mut feed = Feed::new(alloc);
     'rounds: loop {
@@ -110,27 +71,10 @@ fn run_rounds<I: Source, O: Sink>(
 /// written after a failed write.
 pub fn run_replay<I: Source, O: Sink>(alloc: Global, input: &mut I, output: &mut O) -> RunEnd
     ensures ends { Ends result
-        (record {
-          taken = I.taken input.old;
-          left = I.left input.old;
-          written = O.written output.old;
-          read_faults = I.read_faults input.old;
-          write_faults = O.write_faults output.old;
-        })
-        (record {
-          taken = I.taken input.new;
-          left = I.left input.new;
-          written = O.written output.new;
-          read_faults = I.read_faults input.new;
-          write_faults = O.write_faults output.new;
-        }) }
-    ensures reads { I.read_faults input.old ≤ I.read_faults input.new }
-    ensures writes { O.write_faults output.old ≤ O.write_faults output.new }
-    ensures input_written { I.written input.new ≡ I.written input.old }
-    ensures input_faults { I.write_faults input.new ≡ I.write_faults input.old }
-    ensures output_taken { O.taken output.new ≡ O.taken output.old }
-    ensures output_left { O.left output.new ≡ O.left output.old }
-    ensures output_faults { O.read_faults output.new ≡ O.read_faults output.old }
+        (record { input = I.seen input.old; output = O.seen output.old })
+        (record { input = I.seen input.new; output = O.seen output.new }) }
+    ensures input_only { OnlyReads (I.seen input.old) (I.seen input.new) }
+    ensures output_only { OnlyWrites (O.seen output.old) (O.seen output.new) }
 {
     let Ok(mut room) = zeros(alloc, ROOM) else {
         return RunEnd::Memory;

@@ -1,22 +1,38 @@
 -- Lemmas on specs/Streams.antt: what several writes did.
-use Rattle.std.proofs.Common.{ℕ, ◌-◌, List, [], ◌++◌, length, take, drop, refl, ap, ◌∙◌, append_assoc, take-append-drop}
+use Rattle.std.proofs.Common.{ℕ, ◌-◌, List, [], ◌++◌, length, take, drop, refl, ap, ◌∙◌, append_assoc, take-append-drop, arith}
 use Rattle.std.proofs.KnownBytes.{Appends-nil, Appends-trans}
 use Rattle.std.proofs.lemmas.List.{take_rest}
-use Rattle.std.specs.Prelude.{Option}
-use Rattle.world_ports.specs.Streams.{TakesFront, WritesFront}
+use Rattle.world_ports.specs.Streams.{StreamView, OnlyReads, OnlyWrites, TakesFront, WritesFront}
 
 -- before the first write nothing was written
-pub WritesFront-none : (bytes : List ℕ) (written : Option (List ℕ)) → WritesFront bytes bytes written written
-WritesFront-none bytes written = record { front = []; whole = refl; written = Appends-nil written }
+pub WritesFront-none : (bytes : List ℕ) (seen : StreamView) → WritesFront bytes bytes seen seen
+WritesFront-none bytes seen = record { front = []; whole = refl; written = Appends-nil seen.written }
 
 -- one write more, from the front of what was left
-pub WritesFront-next : (n : ℕ) (bytes rest : List ℕ) (written0 written1 written2 : Option (List ℕ))
-    → WritesFront bytes rest written0 written1 → TakesFront n rest written1 written2
-    → WritesFront bytes (take (length rest - n) (drop n rest)) written0 written2
-WritesFront-next n bytes rest written0 written1 written2 before write = record {
+pub WritesFront-next : (n : ℕ) (bytes rest : List ℕ) (old mid new : StreamView)
+    → WritesFront bytes rest old mid → TakesFront n rest mid new
+    → WritesFront bytes (take (length rest - n) (drop n rest)) old new
+WritesFront-next n bytes rest old mid new before write = record {
   front = before.front ++ take n rest;
   whole = append_assoc before.front (take n rest) (take (length rest - n) (drop n rest))
       ∙ ap (λ l. before.front ++ (take n rest ++ l)) (take_rest rest n)
       ∙ ap (λ l. before.front ++ l) (take-append-drop n rest) ∙ before.whole;
-  written = Appends-trans written0 written1 written2 before.front (take n rest) before.written write.written;
+  written = Appends-trans old.written mid.written new.written before.front (take n rest) before.written write.written;
+}
+
+-- one read after another
+pub OnlyReads-trans : (old mid new : StreamView) → OnlyReads old mid → OnlyReads mid new → OnlyReads old new
+OnlyReads-trans old mid new first second = record {
+  written = second.written ∙ first.written;
+  write_faults = second.write_faults ∙ first.write_faults;
+  later = omega (arith, first.later, second.later);
+}
+
+-- one write after another
+pub OnlyWrites-trans : (old mid new : StreamView) → OnlyWrites old mid → OnlyWrites mid new → OnlyWrites old new
+OnlyWrites-trans old mid new first second = record {
+  taken = second.taken ∙ first.taken;
+  left = second.left ∙ first.left;
+  read_faults = second.read_faults ∙ first.read_faults;
+  later = omega (arith, first.later, second.later);
 }

@@ -1,5 +1,5 @@
 -- Counts of faults, one for each object of the outside. None falls, and it stays at 2^64 - 1 (ours).
-use Rattle.std.specs.Prelude.{◌≡◌, ◌⊎◌, ◌<◌, ◌≤◌, ◌+◌, ◌-◌, ◌^◌, Bool, ℕ, Result, OnErr, min, if◌then◌else◌}
+use Rattle.std.specs.Prelude.{◌≡◌, ◌⊎◌, ◌<◌, ◌≤◌, ◌+◌, ◌-◌, ◌^◌, Bool, ℕ, Result, OnErr, OnOk, min, if◌then◌else◌}
 
 -- one more, where there is one
 abbrev pub next_count : ℕ → ℕ
@@ -13,7 +13,8 @@ count_after failed n = if failed then next_count n else n
 abbrev pub Rose : ℕ → ℕ → Type 0
 Rose before now = (before < now) ⊎ (now ≡ 2 ^ 64 - 1)
 
--- no fault is forgotten, and a call answers an error only where it counted one
+-- no fault is forgotten: a call answers an error exactly where it counted one
 pub record HasCause {T E : Type 0} (before now : ℕ) (result : Result T E) : Type 0 where
   pub later : before ≤ now
   pub fault : OnErr result (Rose before now)
+  pub kept : OnOk result (now ≡ before)

@@ -1,8 +1,9 @@
 -- Sources and sinks in memory (ours): what they hold, and which of their calls fail.
-use Rattle.std.specs.Prelude.{Bool, ℕ, zero, suc, List, min, length, Contains}
+use Rattle.std.specs.Prelude.{Bool, ℕ, zero, suc, List, Some, min, length, Contains}
 use Rattle.world_ports.specs.Causes.{next_count, count_after}
 use Rattle.world_ports.specs.declared.stream.Pulled.{Pulled}
 use Rattle.world_ports.specs.declared.stream.Pulled.TheVariants.{Bytes, End}
+use Rattle.world_ports.specs.Streams.{StreamView, reading_view, writing_view}
 
 -- the calls of one object: the numbers, from 1, of those to fail; how many were made and failed
 pub record CallState : Type 0 where
@@ -28,6 +29,10 @@ pub record SourceState : Type 0 where
   pub cut : ℕ
   pub calls : CallState
 
+-- what it tells
+abbrev pub source_view : SourceState → StreamView
+source_view source = record (reading_view (Some source.left) source.calls.failed) { taken = Some source.taken }
+
 -- how many bytes the next read into a room of this length gives, where it does not fail
 abbrev pub read_len : ℕ → SourceState → ℕ
 read_len room source = min source.cut (min room (length source.left))
@@ -43,3 +48,7 @@ pub record SinkState : Type 0 where
   pub room : ℕ
   pub cut : ℕ
   pub calls : CallState
+
+-- what it tells
+abbrev pub sink_view : SinkState → StreamView
+sink_view sink = writing_view (Some sink.written) sink.calls.failed

@@ -1,5 +1,6 @@
 // A source and a sink in one object.
-ghost use Rattle.std.specs.Prelude.{◌≡◌, None, Some};
+ghost use Rattle.std.specs.Prelude.{◌≡◌, Some};
+ghost use Rattle.world_ports.specs.Memory.{source_view};
 
 use crate::{Fault, Pulled, Sink, SliceSource, Source, Stream, VecSink};
 
@@ -27,15 +28,10 @@ impl<'a> MemPeer<'a> {
 }
 
 impl Stream for MemPeer<'_> {
-    ghost taken = { λ p. Some p.source.taken };
-
-    ghost left = { λ p. Some p.source.left };
-
-    ghost written = { λ p. Some p.sink.written };
-
-    ghost read_faults = { λ p. p.source.calls.failed };
-
-    ghost write_faults = { λ p. p.sink.calls.failed };
+    ghost seen = { λ p. record (source_view p.source) {
+      written = Some p.sink.written;
+      write_faults = p.sink.calls.failed;
+    } };
 }
 
 impl Source for MemPeer<'_> {

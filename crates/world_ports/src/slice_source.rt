@@ -1,8 +1,8 @@
 // A source over a slice.
-ghost use Rattle.std.specs.Prelude.{◌≡◌, ◌↔◌, ◌<◌, ◌≤◌, None, Some, IsErr, IfOk, [], length, take, drop, is_err};
+ghost use Rattle.std.specs.Prelude.{◌≡◌, ◌↔◌, ◌<◌, ◌≤◌, IsErr, IfOk, [], length, take, drop, is_err};
 ghost use Rattle.world_ports.specs.Causes.{HasCause};
-ghost use Rattle.world_ports.specs.Memory.{SourceState, IsNextListed, after_call, read_len, pulled_of};
-ghost use Rattle.world_ports.specs.Streams.{Reads};
+ghost use Rattle.world_ports.specs.Memory.{SourceState, IsNextListed, after_call, read_len, pulled_of, source_view};
+ghost use Rattle.world_ports.specs.Streams.{OnlyReads, Reads};
 
 use crate::calls::Calls;
 use crate::{Fault, Pulled, Source, Stream};
@@ -51,28 +51,20 @@ impl<'a> SliceSource<'a> {
 }
 
 impl Stream for SliceSource<'_> {
-    ghost taken = { λ s. Some s.taken };
-
-    ghost left = { λ s. Some s.left };
-
-    ghost written = { λ _. None };
-
-    ghost read_faults = { λ s. s.calls.failed };
-
-    ghost write_faults = { λ _. 0 };
+    ghost seen = { source_view };
 }
 
 impl Source for SliceSource<'_> {
     fn read(&mut self, room: &mut [u8]) -> Result<Pulled, Fault>
         requires { 0 < length room.old }
-        ensures reads { Reads result room.new (Some self.old.taken) (Some self.new.taken)
-            (Some self.old.left) (Some self.new.left) }
+        ensures reads { Reads result room.new (source_view self.old) (source_view self.new) }
         ensures cause { HasCause self.old.calls.failed self.new.calls.failed result }
         ensures fails { IsErr result ↔ IsNextListed self.old.calls }
         ensures value { IfOk result (λ pulled.
             pulled ≡ pulled_of (read_len (length room.old) self.old)) }
         ensures calls { self.new.calls ≡ after_call (is_err result) self.old.calls }
         ensures kept { self.new.cut ≡ self.old.cut }
+        ensures only { OnlyReads (source_view self.old) (source_view self.new) }
     {
         self.calls.begin(false)?;
         let left = &self.bytes[self.at..];

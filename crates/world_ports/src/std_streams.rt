@@ -4,7 +4,7 @@ ghost use Rattle.std.specs.Io.{ReadsAtMost, WritesAtMost};
 ghost use Rattle.std.specs.Io.KnownBytes.{Appends, Keeps, ReadConsumes};
 ghost use Rattle.std.specs.IoError.{error_kind};
 ghost use Rattle.world_ports.specs.Causes.{HasCause, count_after};
-ghost use Rattle.world_ports.specs.Streams.{Reads, TakesFront};
+ghost use Rattle.world_ports.specs.Streams.{Reads, TakesFront, reading_view, writing_view};
 
 use crate::{Fault, Pulled, Sink, Source, Stream};
 use std::io::{Error, ErrorKind, Read, Result as IoResult, Write};
@@ -45,27 +45,11 @@ impl<W: Write> Writing<W> {
 }
 
 impl<R: Read> Stream for Reading<R> {
-    ghost taken = { λ _. None };
-
-    ghost left = { λ _. None };
-
-    ghost written = { λ _. None };
-
-    ghost read_faults = { λ s. s.faults };
-
-    ghost write_faults = { λ _. 0 };
+    ghost seen = { λ s. reading_view (R.remaining s.reader) s.faults };
 }
 
 impl<W: Write> Stream for Writing<W> {
-    ghost taken = { λ _. None };
-
-    ghost left = { λ _. None };
-
-    ghost written = { λ _. None };
-
-    ghost read_faults = { λ _. 0 };
-
-    ghost write_faults = { λ s. s.faults };
+    ghost seen = { λ s. writing_view None s.faults };
 }
 
 // The most that is offered to one call, so that its answer fits a u32.
@@ -74,8 +58,9 @@ const MAX_PIECE: usize = u32::MAX as usize;
 impl<R: Read> Source for Reading<R> {
     fn read(&mut self, room: &mut [u8]) -> Result<Pulled, Fault>
         requires { 0 < length room.old }
-        ensures reads { Reads result room.new None None
-            (R.remaining self.old.reader) (R.remaining self.new.reader) }
+        ensures reads { Reads result room.new
+            (reading_view (R.remaining self.old.reader) self.old.faults)
+            (reading_view (R.remaining self.new.reader) self.new.faults) }
         ensures cause { HasCause self.old.faults self.new.faults result }
         ensures faults { self.new.faults ≡ count_after (is_err result) self.old.faults }
     {
@@ -95,7 +80,8 @@ impl<W: Write> Sink for Writing<W> {
     fn write(&mut self, bytes: &[u8]) -> Result<u32, Fault>
         requires { 0 < length bytes.now }
         ensures writes { IfOk result (λ n. TakesFront n bytes.now
-            (W.contents self.old.writer) (W.contents self.new.writer)) }
+            (writing_view (W.contents self.old.writer) self.old.faults)
+            (writing_view (W.contents self.new.writer) self.new.faults)) }
         ensures cause { HasCause self.old.faults self.new.faults result }
         ensures faults { self.new.faults ≡ count_after (is_err result) self.old.faults }
     {

@@ -1,8 +1,8 @@
 // A sink that keeps what is written.
-ghost use Rattle.std.specs.Prelude.{◌≡◌, ◌↔◌, ◌⊎◌, ◌+◌, ◌-◌, ◌<◌, ◌≤◌, ◌^◌, None, Some, IsErr, IfOk, [], length, min, vec_len, vec_capacity, is_err};
+ghost use Rattle.std.specs.Prelude.{◌≡◌, ◌↔◌, ◌⊎◌, ◌+◌, ◌-◌, ◌<◌, ◌≤◌, ◌^◌, IsErr, IfOk, [], length, min, vec_len, vec_capacity, is_err};
 ghost use Rattle.world_ports.specs.Causes.{HasCause};
-ghost use Rattle.world_ports.specs.Memory.{SinkState, IsNextListed, after_call};
-ghost use Rattle.world_ports.specs.Streams.{Writes};
+ghost use Rattle.world_ports.specs.Memory.{SinkState, IsNextListed, after_call, sink_view};
+ghost use Rattle.world_ports.specs.Streams.{OnlyWrites, Writes};
 
 use crate::calls::Calls;
 use crate::{Fault, Sink, Stream};
@@ -77,21 +77,13 @@ impl VecSink {
 }
 
 impl Stream for VecSink {
-    ghost taken = { λ _. None };
-
-    ghost left = { λ _. None };
-
-    ghost written = { λ s. Some s.written };
-
-    ghost read_faults = { λ _. 0 };
-
-    ghost write_faults = { λ s. s.calls.failed };
+    ghost seen = { sink_view };
 }
 
 impl Sink for VecSink {
     fn write(&mut self, bytes: &[u8]) -> Result<u32, Fault>
         requires { 0 < length bytes.now }
-        ensures writes { Writes result bytes.now (Some self.old.written) (Some self.new.written) }
+        ensures writes { Writes result bytes.now (sink_view self.old) (sink_view self.new) }
         ensures cause { HasCause self.old.calls.failed self.new.calls.failed result }
         ensures fails { IsErr result
             ↔ (IsNextListed self.old.calls ⊎ self.old.room < length bytes.now) }
@@ -100,6 +92,7 @@ impl Sink for VecSink {
             ≡ self.old.room + length self.old.written }
         ensures calls { self.new.calls ≡ after_call (is_err result) self.old.calls }
         ensures kept { self.new.cut ≡ self.old.cut }
+        ensures only { OnlyWrites (sink_view self.old) (sink_view self.new) }
     {
         self.calls.begin(bytes.len() > self.room as usize)?;
         let n = bytes.len().min(self.cut as usize);

@@ -1,14 +1,14 @@
--- a front of the bytes is written, and `rest` is what follows it
-use Rattle.std.proofs.Common.{◌≡◌, ◌≤◌, length}
-use Rattle.world_ports.specs.Streams.{WritesFront}
+-- a front of the bytes is written, no write failed, and `rest` is what follows it
+use Rattle.std.proofs.Common.{◌≡◌, length}
+use Rattle.world_ports.specs.Streams.{OnlyWrites, WritesFront}
 use Rattle.world_ports.proofs.whole.write_all.Given as goal
 
 abbrev pub invariant-pieces : goal.invariant-pieces
-invariant-pieces g l = WritesFront l.bytes l.rest (g.O.Stream.written l.fn.output) (g.O.Stream.written l.output)
-    × (g.O.Stream.write_faults l.fn.output ≤ g.O.Stream.write_faults l.output)
-    × (g.O.Stream.taken l.output ≡ g.O.Stream.taken l.fn.output)
-    × (g.O.Stream.left l.output ≡ g.O.Stream.left l.fn.output)
-    × (g.O.Stream.read_faults l.output ≡ g.O.Stream.read_faults l.fn.output)
+invariant-pieces g l = record {
+  front : WritesFront l.bytes l.rest (g.O.Stream.seen l.fn.output) (g.O.Stream.seen l.output);
+  kept : (g.O.Stream.seen l.output).write_faults ≡ (g.O.Stream.seen l.fn.output).write_faults;
+  only : OnlyWrites (g.O.Stream.seen l.fn.output) (g.O.Stream.seen l.output);
+}
 
 abbrev pub decreases-pieces : goal.decreases-pieces
 decreases-pieces g l = length l.rest

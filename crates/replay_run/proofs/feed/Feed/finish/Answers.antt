@@ -3,19 +3,19 @@ use Rattle.replay_run.proofs.EndLemmas.{nothing_left, ends_text, finished, finis
 use Rattle.replay_run.proofs.feed.Feed.finish.Goals as goal
 
 pub returns-in_default-clause-ends : goal.returns-in_default-clause-ends
-returns-in_default-clause-ends g c = nothing_left (ending_text c.args.self.now) (g.O.Stream.written c.args.output.now)
+returns-in_default-clause-ends g c = nothing_left (ending_text c.args.self.now) (g.O.Stream.seen c.args.output.now)
 
 pub returns-in_default-put_end-clause-ends : goal.returns-in_default-put_end-clause-ends
-returns-in_default-put_end-clause-ends g c = nothing_left (ending_text c.args.self.now) (g.O.Stream.written c.args.output.now)
+returns-in_default-put_end-clause-ends g c = nothing_left (ending_text c.args.self.now) (g.O.Stream.seen c.args.output.now)
 
 pub returns-in-Ok-write_out-clause-ends : goal.returns-in-Ok-write_out-clause-ends
 returns-in-Ok-write_out-clause-ends g c =
     let texts = ends_text c.args.self.now c.run_pending.new.self c.put_end.new.self c.requires.ready c.in-Ok.ensures.run c.in-Ok.ensures.out c.in-Ok-put_end.ensures.run c.in-Ok-put_end.ensures.out in
-    rw c.verdict-end.ensures (finished c.args.self.now c.put_end.new.self (g.O.Stream.written c.args.output.now) (g.O.Stream.written c.write_out.new.output)
-    (g.O.Stream.write_faults c.args.output.now) (g.O.Stream.write_faults c.write_out.new.output) texts.0 texts.1 c.in-Ok-write_out.ensures.ok)
+    rw c.verdict-end.ensures (finished c.args.self.now c.put_end.new.self (g.O.Stream.seen c.args.output.now) (g.O.Stream.seen c.write_out.new.output)
+    texts.0 texts.1 c.in-Ok-write_out.ensures.ok)
 
 pub returns-in-Err-clause-ends : goal.returns-in-Err-clause-ends
 returns-in-Err-clause-ends g c =
     let texts = ends_text c.args.self.now c.run_pending.new.self c.put_end.new.self c.requires.ready c.in-Ok.ensures.run c.in-Ok.ensures.out c.in-Ok-put_end.ensures.run c.in-Ok-put_end.ensures.out in
-    finishes_unwritten c.args.self.now c.put_end.new.self (g.O.Stream.written c.args.output.now) (g.O.Stream.written c.write_out.new.output)
-    (g.O.Stream.write_faults c.args.output.now) (g.O.Stream.write_faults c.write_out.new.output) texts.1 c.in-Err.ensures.err c.in-Err.ensures.cause.fault
+    finishes_unwritten c.args.self.now c.put_end.new.self (g.O.Stream.seen c.args.output.now) (g.O.Stream.seen c.write_out.new.output)
+    texts.1 c.in-Err.ensures.err c.in-Err.ensures.cause.fault

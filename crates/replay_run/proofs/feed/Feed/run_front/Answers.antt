@@ -4,6 +4,5 @@ use Rattle.replay_run.proofs.feed.Feed.run_front.Goals as goal
 pub returns-clause-feeds : goal.returns-clause-feeds
 returns-clause-feeds g c =
     fed_then c.look_back.result c.args.self.now c.begin_line.new.self c.look_back.new.self c.args.front.now 0
-    (g.O.Stream.written c.args.output.now) (g.O.Stream.written c.look_back.new.output)
-    (g.O.Stream.write_faults c.args.output.now) (g.O.Stream.write_faults c.look_back.new.output)
+    (g.O.Stream.seen c.args.output.now) (g.O.Stream.seen c.look_back.new.output)
     c.requires.ready.counted.accepted c.in-Ok.ensures.goes c.in-Ok.ensures.size c.look_back.ensures.feeds
