@@ -9,6 +9,7 @@ use Rattle.agent_core.specs.declared.slot.Fate.{Fate}
 use Rattle.agent_core.specs.declared.slot.Fate.TheVariants.{Stays, Owes, Closes}
 use Rattle.agent_core.specs.Bounds.{AreBounded, AreOfBytes, HasHeardBytes, IsOfBytes}
 use Rattle.agent_core.specs.KeyStates.{KeyState}
+use Rattle.agent_core.specs.Dispatch.{Asking, asking}
 use Rattle.agent_core.specs.PortLook.{fate_of, fated_ports, found_looked, front_kept, found_kept, front_looked, keys_after, owed_kept, owed_looked, port_looked}
 use Rattle.agent_core.specs.Runs.{Timed, run}
 use Rattle.agent_core.specs.State.{Port, State, find_port, change_port, remove_port, new_client, client_count, opening_state}
@@ -101,26 +102,26 @@ heard_bytes-found reply number None ports each = each
 heard_bytes-found reply number (Some port) ports each = heard_bytes-fated reply number (fate_of port) ports each
 
 -- the request that a look takes, if a whole one is there, leaves what is held bounded
-bounded-front : (now : ℕ) (keys : KeyState) (bytes : List ℕ) (answer : Front) → IsBytes bytes →
+bounded-front : (asks : Asking) (keys : KeyState) (bytes : List ℕ) (answer : Front) → IsBytes bytes →
     front longest_body bytes ≡ answer → AreBounded keys →
-    AreBounded (front_kept (keys_after now keys) keys bytes answer)
-bounded-front now keys bytes (Whole body_len) each is held =
+    AreBounded (front_kept (keys_after asks keys) keys bytes answer)
+bounded-front asks keys bytes (Whole body_len) each is held =
     let is_bytes = IsBytes-front_body body_len bytes each in
-    bounded-serve (front_body body_len bytes) now keys is_bytes (front_body-within body_len bytes is) held
-bounded-front now keys bytes (Bad announced) each is held = held
-bounded-front now keys bytes More each is held = held
+    bounded-serve (front_body body_len bytes) asks keys is_bytes (front_body-within body_len bytes is) held
+bounded-front asks keys bytes (Bad announced) each is held = held
+bounded-front asks keys bytes More each is held = held
 
 -- where bytes are owed none is taken
-bounded-owed : (now : ℕ) (keys : KeyState) (owed bytes : List ℕ) → IsBytes bytes →
-    AreBounded keys → AreBounded (owed_kept (keys_after now keys) keys owed bytes)
-bounded-owed now keys [] bytes each held = bounded-front now keys bytes (front longest_body bytes) each refl held
-bounded-owed now keys (byte ∷ owed) bytes each held = held
+bounded-owed : (asks : Asking) (keys : KeyState) (owed bytes : List ℕ) → IsBytes bytes →
+    AreBounded keys → AreBounded (owed_kept (keys_after asks keys) keys owed bytes)
+bounded-owed asks keys [] bytes each held = bounded-front asks keys bytes (front longest_body bytes) each refl held
+bounded-owed asks keys (byte ∷ owed) bytes each held = held
 
 -- and none where the port is not open
-bounded-found : (now : ℕ) (keys : KeyState) (found : Option Port) → FoundBytes found →
-    AreBounded keys → AreBounded (found_kept (keys_after now keys) keys found)
-bounded-found now keys None each held = held
-bounded-found now keys (Some port) each held = bounded-owed now keys port.owed port.heard each held
+bounded-found : (asks : Asking) (keys : KeyState) (found : Option Port) → FoundBytes found →
+    AreBounded keys → AreBounded (found_kept (keys_after asks keys) keys found)
+bounded-found asks keys None each held = held
+bounded-found asks keys (Some port) each held = bounded-owed asks keys port.owed port.heard each held
 
 -- ---- states
 
@@ -134,8 +135,8 @@ bounded-looked : (number : ℕ) (state : State) → IsBounded state →
 bounded-looked number state here =
     let found : Option Port = find_port number state.ports in
     subst IsBounded (sym (looked-state number state)) (
-      bounded-found state.moment.mono state.keys found (found_bytes number state.ports here.1) here.0,
-      heard_bytes-found (replies state) number found state.ports here.1,
+      bounded-found (asking number state.moment.mono) state.keys found (found_bytes number state.ports here.1) here.0,
+      heard_bytes-found (replies number state) number found state.ports here.1,
     )
 
 -- and so does a change of a port with a look after it

@@ -9,6 +9,7 @@ use Rattle.wire_text.proofs.FrontLemmas.{front_says}
 use Rattle.agent_core.specs.State.{Port, State, IsRising, find_port, change_port, remove_port, next_owed, owed_at, owed_by, is_some_bytes}
 use Rattle.agent_msg.specs.Reading.{request_of}
 use Rattle.agent_core.specs.Dispatch.{serve, reply_of, reply_text}
+use Rattle.agent_core.specs.Dispatch.{asking}
 use Rattle.agent_core.specs.Step.{step, Took, sent, take_frame, owe, changed, opened, look_front, look_owed, look_port, longest_body}
 use Rattle.agent_core.specs.Budget.{port_budget, ports_budget, budget}
 
@@ -74,7 +75,7 @@ served_lowers number body text port ports found some =
 front_lowers : (number : ℕ) (port : Port) (state : State) (at : Front) → front longest_body port.heard ≡ at → find_port number state.ports ≡ Some port → budget (look_front number port.heard at state).state ≤ ports_budget state.ports
 front_lowers number port state (Whole body) at found =
     served_lowers number body
-    (reply_text (reply_of (serve (request_of (front_body body port.heard)) state.moment.mono state.keys).verdict))
+    (reply_text (reply_of (serve (request_of (front_body body port.heard)) (asking number state.moment.mono) state.keys).verdict))
     port state.ports found (whole_has_length longest_body body port.heard at)
 front_lowers number port state (Bad announced) at found = omega (arith, budget-remove number state.ports port found)
 front_lowers number port state More at found = omega arith

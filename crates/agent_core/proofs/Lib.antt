@@ -14,3 +14,4 @@ pub mod TakenLemmas
 pub mod BoundLemmas
 pub mod ServeLemmas
 pub mod BoundRuns
+pub mod SecondLemmas

@@ -12,7 +12,7 @@ use Rattle.agent_core.specs.declared.slot.Fate.TheVariants.{Stays, Owes, Closes}
 use Rattle.wire_text.specs.Wire.{uint32}
 use Rattle.agent_msg.specs.Reading.{request_of}
 use Rattle.agent_msg.specs.Replies.{entries}
-use Rattle.agent_core.specs.Dispatch.{Reply, Failure, Success, Identities, serve, reply_of, reply_text}
+use Rattle.agent_core.specs.Dispatch.{Asking, Reply, Failure, Success, Identities, serve, reply_of, reply_text}
 use Rattle.agent_core.specs.KeyStates.{KeyState}
 use Rattle.agent_core.specs.PortLook.{answer_to, fate_of, fated_ports, found_looked, looked_ports, owed_fate, port_looked, served_port}
 use Rattle.agent_core.specs.State.{Port, IsRising, find_port, change_port, remove_port}
@@ -42,8 +42,8 @@ text_is_some Success = omega (arith, length-string (6 ∷ []))
 text_is_some (Identities identities) =
     omega (arith, length-string (12 ∷ (uint32 (length identities) ++ entries identities)))
 
-pub answers_are_some : (now : ℕ) (keys : KeyState) → AreSome (answer_to now keys)
-answers_are_some now keys body = text_is_some (reply_of (serve (request_of body) now keys).verdict)
+pub answers_are_some : (asks : Asking) (keys : KeyState) → AreSome (answer_to asks keys)
+answers_are_some asks keys body = text_is_some (reply_of (serve (request_of body) asks keys).verdict)
 
 -- what a port that is owed bytes meets
 pub stays_while_owed : (owed heard : List ℕ) → 0 < length owed → owed_fate owed heard ≡ Stays

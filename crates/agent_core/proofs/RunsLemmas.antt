@@ -81,7 +81,7 @@ find_port-found reply number other (Some port) ports absent = find_port-fated re
 find_port-looked : (number other : ℕ) (state : State) → find_port number state.ports ≡ None → find_port number (looked other state).state.ports ≡ None
 find_port-looked number other state absent =
     ap (λ s. find_port number s.ports) (looked-state other state)
-    ∙ find_port-found (replies state) number other (find_port other state.ports) state.ports absent
+    ∙ find_port-found (replies other state) number other (find_port other state.ports) state.ports absent
 
 -- and when a client joins under a greater number
 find_port-joined : (number other : ℕ) (ports : List Port) → number < other → find_port number ports ≡ None → find_port number (ports ++ new_client other ∷ []) ≡ None

@@ -31,7 +31,7 @@ found-stays Holds stays reply number (Some port) last ports here = fated-stays H
 looked-stays : (Holds : ℕ → List Port → Type 0) → StaysByPort Holds → (number : ℕ) (state : State) → Holds state.last_port state.ports → Holds (looked number state).state.last_port (looked number state).state.ports
 looked-stays Holds stays number state here =
     let P : State → Type 0 = λ s. Holds s.last_port s.ports in
-    subst P (sym (looked-state number state)) (found-stays Holds stays (replies state) number (find_port number state.ports) state.last_port state.ports here)
+    subst P (sym (looked-state number state)) (found-stays Holds stays (replies number state) number (find_port number state.ports) state.last_port state.ports here)
 
 -- and at every event
 pub step-stays : (Holds : ℕ → List Port → Type 0) → StaysByPort Holds → (state : State) (moment : Moment) (event : Happening) → Holds state.last_port state.ports → Holds (step state moment event).state.last_port (step state moment event).state.ports

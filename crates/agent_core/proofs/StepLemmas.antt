@@ -6,7 +6,9 @@ use Rattle.agent_core.specs.declared.slot.Fate.TheVariants.{Stays, Owes, Closes}
 use Rattle.agent_core.specs.KeyStates.{KeyState, expired}
 use Rattle.agent_core.specs.State.{State, Port, IsRising, find_port, change_port, remove_port, numbers, new_client, client_count}
 use Rattle.agent_core.specs.Step.{longest_body, looked, look_port, look_owed, look_front, take_frame, owe, changed, without, gone, heard, sent, admitted, most_clients, opened, closed_between, step, handle, Happening, Joined, Heard, Ended, Took}
-use Rattle.agent_core.specs.PortLook.{port_looked, looked_ports, found_looked, fated_ports, looked_keys, found_kept, owed_kept, front_kept, fate_of, owed_fate, front_fate, answer_to, keys_after, served_port, closes_by, closes_at, found_closes}
+use Rattle.agent_core.specs.Dispatch.{asking}
+use Rattle.agent_core.proofs.SecondLemmas.{second-looked}
+use Rattle.agent_core.specs.PortLook.{asks_of, port_looked, looked_ports, found_looked, fated_ports, looked_keys, found_kept, owed_kept, front_kept, fate_of, owed_fate, front_fate, answer_to, keys_after, served_port, closes_by, closes_at, found_closes}
 use Rattle.agent_core.proofs.LookLemmas.{port_looked-front, port_looked-number}
 use Rattle.agent_core.proofs.ClosesLemmas.{without-same, without-remove_port, without-behind, has-above, numbers-append}
 use Rattle.agent_core.proofs.PortsLemmas.{change_port-twice, change_port-by, numbers-change_port, rising-change_port}
@@ -18,38 +20,38 @@ use Rattle.std.proofs.lemmas.Bool.Decides.{nat_tests}
 use Rattle.std.proofs.lemmas.List.{append-nil}
 
 -- the texts that answer requests, and what requests leave of what is held, in a state
-abbrev pub replies : State → List ℕ → List ℕ
-replies state = answer_to state.moment.mono state.keys
+abbrev pub replies : ℕ → State → List ℕ → List ℕ
+replies number state = answer_to (asking number state.moment.mono) state.keys
 
-abbrev pub leaves : State → List ℕ → KeyState
-leaves state = keys_after state.moment.mono state.keys
+abbrev pub leaves : ℕ → State → List ℕ → KeyState
+leaves number state = keys_after (asking number state.moment.mono) state.keys
 
 -- the state after a look, from what is held and the ports
 abbrev pub with_both : State → KeyState → List Port → State
 with_both state keys ports = record state { keys = keys; ports = ports }
 
-looked_by_front : (number : ℕ) (port : Port) (state : State) (answer : Front) → find_port number state.ports ≡ Some port → port.owed ≡ [] → front longest_body port.heard ≡ answer → (look_front number port.heard answer state).state ≡ with_both state (front_kept (leaves state) state.keys port.heard answer) (fated_ports (replies state) number (front_fate answer) state.ports)
+looked_by_front : (number : ℕ) (port : Port) (state : State) (answer : Front) → find_port number state.ports ≡ Some port → port.owed ≡ [] → front longest_body port.heard ≡ answer → (look_front number port.heard answer state).state ≡ with_both state (front_kept (leaves number state) state.keys port.heard answer) (fated_ports (replies number state) number (front_fate answer) state.ports)
 looked_by_front number port state (Whole body_len) found empty is =
-    let reply : List ℕ = replies state (front_body body_len port.heard) in
+    let reply : List ℕ = replies number state (front_body body_len port.heard) in
     let twice : change_port number (owe reply) (change_port number (take_frame body_len) state.ports) ≡ change_port number (λ p. owe reply (take_frame body_len p)) state.ports =
     change_port-twice number (take_frame body_len) (owe reply) state.ports (λ p. refl) in
-    let whole : port_looked (replies state) port ≡ served_port (replies state) body_len port = port_looked-front (replies state) port (Whole body_len) empty is in
-    let as_looked : change_port number (λ p. owe reply (take_frame body_len p)) state.ports ≡ change_port number (port_looked (replies state)) state.ports =
-    change_port-by number (λ p. owe reply (take_frame body_len p)) (port_looked (replies state)) state.ports port found (sym whole) in
-    ap (with_both state (leaves state (front_body body_len port.heard))) (twice ∙ as_looked)
+    let whole : port_looked (replies number state) port ≡ served_port (replies number state) body_len port = port_looked-front (replies number state) port (Whole body_len) empty is in
+    let as_looked : change_port number (λ p. owe reply (take_frame body_len p)) state.ports ≡ change_port number (port_looked (replies number state)) state.ports =
+    change_port-by number (λ p. owe reply (take_frame body_len p)) (port_looked (replies number state)) state.ports port found (sym whole) in
+    ap (with_both state (leaves number state (front_body body_len port.heard))) (twice ∙ as_looked)
 looked_by_front number port state (Bad announced) found empty is = refl
 looked_by_front number port state More found empty is = refl
 
-looked_by_owed : (number : ℕ) (port : Port) (state : State) (owed : List ℕ) → find_port number state.ports ≡ Some port → port.owed ≡ owed → (look_owed number owed port.heard state).state ≡ with_both state (owed_kept (leaves state) state.keys owed port.heard) (fated_ports (replies state) number (owed_fate owed port.heard) state.ports)
+looked_by_owed : (number : ℕ) (port : Port) (state : State) (owed : List ℕ) → find_port number state.ports ≡ Some port → port.owed ≡ owed → (look_owed number owed port.heard state).state ≡ with_both state (owed_kept (leaves number state) state.keys owed port.heard) (fated_ports (replies number state) number (owed_fate owed port.heard) state.ports)
 looked_by_owed number port state [] found is = looked_by_front number port state (front longest_body port.heard) found is refl
 looked_by_owed number port state (byte ∷ bytes) found is = refl
 
-looked_by_port : (number : ℕ) (state : State) (found : Option Port) → find_port number state.ports ≡ found → (look_port number found state).state ≡ with_both state (found_kept (leaves state) state.keys found) (found_looked (replies state) number found state.ports)
+looked_by_port : (number : ℕ) (state : State) (found : Option Port) → find_port number state.ports ≡ found → (look_port number found state).state ≡ with_both state (found_kept (leaves number state) state.keys found) (found_looked (replies number state) number found state.ports)
 looked_by_port number state None is = refl
 looked_by_port number state (Some port) is = looked_by_owed number port state port.owed is refl
 
 -- a look changes what is held and the ports alone
-pub looked-state : (number : ℕ) (state : State) → (looked number state).state ≡ with_both state (looked_keys (leaves state) state.keys number state.ports) (looked_ports (replies state) number state.ports)
+pub looked-state : (number : ℕ) (state : State) → (looked number state).state ≡ with_both state (looked_keys (leaves number state) state.keys number state.ports) (looked_ports (replies number state) number state.ports)
 looked-state number state = looked_by_port number state (find_port number state.ports) refl
 
 -- and of them only the one of this number
@@ -111,57 +113,61 @@ none_or_one true n = refl
 none_or_one false n = refl
 
 -- a change of a port and a look at it
-takes_look : (event : Happening) (number : ℕ) (f : Port → Port) (now : ℕ) (keys kept : KeyState) (old new : OpenPorts) (closes : Bool) → ((state : State) → (handle event state).state ≡ (looked number (changed number f state)).state) → kept ≡ looked_keys (keys_after now keys) keys number (change_port number f old.ports) → new ≡ record old { ports = looked_ports (answer_to now keys) number (change_port number f old.ports) } → gone old.last old.ports new.last new.ports ≡ (if closes then number ∷ [] else []) → Takes event now keys kept old new (if closes then Some number else None)
-takes_look event number f now keys kept old new closes handles held is closed = record {
+takes_look : (event : Happening) (number : ℕ) (f : Port → Port) (keys kept : KeyState) (old new : OpenPorts) (closes : Bool) → ((state : State) → (handle event state).state ≡ (looked number (changed number f state)).state) → kept ≡ looked_keys (keys_after (asks_of number keys) keys) keys number (change_port number f old.ports) → new ≡ record old { ports = looked_ports (answer_to (asks_of number keys) keys) number (change_port number f old.ports) } → gone old.last old.ports new.last new.ports ≡ (if closes then number ∷ [] else []) → Takes event keys kept old new (if closes then Some number else None)
+takes_look event number f keys kept old new closes handles held is closed = record {
   handled = λ state at.
       handles state
       ∙ looked-state number (changed number f state)
-      ∙ ap (λ n. with_both state (looked_keys (keys_after n state.keys) state.keys number (change_port number f state.ports)) (looked_ports (answer_to n state.keys) number (change_port number f state.ports))) at.second
-      ∙ ap (λ k. with_both state (looked_keys (keys_after now k) k number (change_port number f state.ports)) (looked_ports (answer_to now k) number (change_port number f state.ports))) at.keys
-      ∙ ap (λ ps. with_both state (looked_keys (keys_after now keys) keys number (change_port number f ps)) (looked_ports (answer_to now keys) number (change_port number f ps))) at.ports
-      ∙ ap (λ k. with_both state k (looked_ports (answer_to now keys) number (change_port number f old.ports))) (sym held)
+      ∙ ap (λ n. with_both state (looked_keys (keys_after (asking number n) state.keys) state.keys number (change_port number f state.ports)) (looked_ports (answer_to (asking number n) state.keys) number (change_port number f state.ports))) at.second
+      ∙ ap (λ k. with_both state (looked_keys (keys_after (asks_of number keys) k) k number (change_port number f state.ports)) (looked_ports (answer_to (asks_of number keys) k) number (change_port number f state.ports))) at.keys
+      ∙ ap (λ ps. with_both state (looked_keys (keys_after (asks_of number keys) keys) keys number (change_port number f ps)) (looked_ports (answer_to (asks_of number keys) keys) number (change_port number f ps))) at.ports
+      ∙ ap (λ k. with_both state k (looked_ports (answer_to (asks_of number keys) keys) number (change_port number f old.ports))) (sym held)
       ∙ ap (λ ps. with_both state kept ps) (sym (ap (λ v. v.ports) is))
       ∙ with_parts state kept new.ports new.last old at.last (ap (λ v. v.last) is);
+  second = ap (λ (k : KeyState). k.table.greatest) held ∙ second-looked number keys (change_port number f old.ports);
   closes = closed ∙ one_or_none closes number;
 }
 
-pub takes_heard : (port : ℕ) (piece : List ℕ) (now : ℕ) (keys kept : KeyState) (old new : OpenPorts) (closes : Bool) → kept ≡ looked_keys (keys_after now keys) keys port (change_port port (heard piece) old.ports) → new ≡ record old { ports = looked_ports (answer_to now keys) port (change_port port (heard piece) old.ports) } → gone old.last old.ports new.last new.ports ≡ (if closes then port ∷ [] else []) → Takes (Heard port piece) now keys kept old new (if closes then Some port else None)
-takes_heard port piece now keys kept old new closes held is closed =
-    takes_look (Heard port piece) port (heard piece) now keys kept old new closes (λ state. refl) held is closed
+pub takes_heard : (port : ℕ) (piece : List ℕ) (keys kept : KeyState) (old new : OpenPorts) (closes : Bool) → kept ≡ looked_keys (keys_after (asks_of port keys) keys) keys port (change_port port (heard piece) old.ports) → new ≡ record old { ports = looked_ports (answer_to (asks_of port keys) keys) port (change_port port (heard piece) old.ports) } → gone old.last old.ports new.last new.ports ≡ (if closes then port ∷ [] else []) → Takes (Heard port piece) keys kept old new (if closes then Some port else None)
+takes_heard port piece keys kept old new closes held is closed =
+    takes_look (Heard port piece) port (heard piece) keys kept old new closes (λ state. refl) held is closed
 
-pub takes_took : (port count now : ℕ) (keys kept : KeyState) (old new : OpenPorts) (closes : Bool) → kept ≡ looked_keys (keys_after now keys) keys port (change_port port (sent count) old.ports) → new ≡ record old { ports = looked_ports (answer_to now keys) port (change_port port (sent count) old.ports) } → gone old.last old.ports new.last new.ports ≡ (if closes then port ∷ [] else []) → Takes (Took port count) now keys kept old new (if closes then Some port else None)
-takes_took port count now keys kept old new closes held is closed =
-    takes_look (Took port count) port (sent count) now keys kept old new closes (λ state. refl) held is closed
+pub takes_took : (port count : ℕ) (keys kept : KeyState) (old new : OpenPorts) (closes : Bool) → kept ≡ looked_keys (keys_after (asks_of port keys) keys) keys port (change_port port (sent count) old.ports) → new ≡ record old { ports = looked_ports (answer_to (asks_of port keys) keys) port (change_port port (sent count) old.ports) } → gone old.last old.ports new.last new.ports ≡ (if closes then port ∷ [] else []) → Takes (Took port count) keys kept old new (if closes then Some port else None)
+takes_took port count keys kept old new closes held is closed =
+    takes_look (Took port count) port (sent count) keys kept old new closes (λ state. refl) held is closed
 
-pub takes_ended : (port now : ℕ) (keys kept : KeyState) (old new : OpenPorts) → kept ≡ keys → new ≡ record old { ports = remove_port port old.ports } → gone old.last old.ports new.last new.ports ≡ port ∷ [] → Takes (Ended port) now keys kept old new (Some port)
-takes_ended port now keys kept old new held is closed = record {
+pub takes_ended : (port : ℕ) (keys kept : KeyState) (old new : OpenPorts) → kept ≡ keys → new ≡ record old { ports = remove_port port old.ports } → gone old.last old.ports new.last new.ports ≡ port ∷ [] → Takes (Ended port) keys kept old new (Some port)
+takes_ended port keys kept old new held is closed = record {
   handled = λ state at.
       ap (λ k. with_both state k (remove_port port state.ports)) (at.keys ∙ sym held)
       ∙ ap (λ ps. with_both state kept (remove_port port ps)) at.ports
       ∙ ap (λ ps. with_both state kept ps) (sym (ap (λ v. v.ports) is))
       ∙ with_parts state kept new.ports new.last old at.last (ap (λ v. v.last) is);
+  second = ap (λ (k : KeyState). k.table.greatest) held;
   closes = closed;
 }
 
-pub takes_joined : (door : Door) (now : ℕ) (keys kept : KeyState) (old new : OpenPorts) (is_in : Bool) → kept ≡ keys → is_in ≡ nat_lt (client_count old.ports) most_clients → new ≡ record { ports = admitted is_in (suc old.last) old.ports; last = suc old.last } → gone old.last old.ports new.last new.ports ≡ (if is_in then [] else suc old.last ∷ []) → Takes (Joined door) now keys kept old new (if is_in then None else Some (suc old.last))
-takes_joined door now keys kept old new is_in held room is closed = record {
+pub takes_joined : (door : Door) (keys kept : KeyState) (old new : OpenPorts) (is_in : Bool) → kept ≡ keys → is_in ≡ nat_lt (client_count old.ports) most_clients → new ≡ record { ports = admitted is_in (suc old.last) old.ports; last = suc old.last } → gone old.last old.ports new.last new.ports ≡ (if is_in then [] else suc old.last ∷ []) → Takes (Joined door) keys kept old new (if is_in then None else Some (suc old.last))
+takes_joined door keys kept old new is_in held room is closed = record {
   handled = λ state at.
       ap (λ k. let a : State = record state { keys = k; ports = admitted (nat_lt (client_count state.ports) most_clients) (suc state.last_port) state.ports; last_port = suc state.last_port } in a) (at.keys ∙ sym held)
       ∙ ap (λ ps. let a : State = record state { keys = kept; ports = admitted (nat_lt (client_count ps) most_clients) (suc state.last_port) ps; last_port = suc state.last_port } in a) at.ports
       ∙ ap (λ n. let a : State = record state { keys = kept; ports = admitted (nat_lt (client_count old.ports) most_clients) (suc n) old.ports; last_port = suc n } in a) at.last
       ∙ ap (λ b. let a : State = record state { keys = kept; ports = admitted b (suc old.last) old.ports; last_port = suc old.last } in a) (sym room)
       ∙ ap (λ (v : OpenPorts). let a : State = record state { keys = kept; ports = v.ports; last_port = v.last } in a) (sym is);
+  second = ap (λ (k : KeyState). k.table.greatest) held;
   closes = closed ∙ none_or_one is_in (suc old.last);
 }
 
 -- where nothing happens to the ports
-pub takes_nothing : (event : Happening) (now : ℕ) (keys kept : KeyState) (old : OpenPorts) → kept ≡ keys → ((state : State) → (handle event state).state ≡ state) → Takes event now keys kept old old None
-takes_nothing event now keys kept old held stays = record {
+pub takes_nothing : (event : Happening) (keys kept : KeyState) (old : OpenPorts) → kept ≡ keys → ((state : State) → (handle event state).state ≡ state) → Takes event keys kept old old None
+takes_nothing event keys kept old held stays = record {
   handled = λ state at.
       stays state
       ∙ ap (λ k. let a : State = record state { keys = k } in a) (at.keys ∙ sym held)
       ∙ ap (λ ps. let a : State = record state { keys = kept; ports = ps } in a) at.ports
       ∙ ap (λ n. let a : State = record state { keys = kept; ports = old.ports; last_port = n } in a) at.last;
+  second = ap (λ (k : KeyState). k.table.greatest) held;
   closes = gone-same_last old.last old.ports old.ports ∙ without-same (numbers old.ports);
 }
 
@@ -176,10 +182,10 @@ after_step moment now keys new closes = record {
 }
 
 -- the state after a step, from the ports and what is held as the event leaves them
-pub stepped : (state : State) (moment : Moment) (event : Happening) (now : ℕ) (keys kept : KeyState) (old new : OpenPorts) (closed : Option ℕ) → now ≡ max state.moment.mono moment.mono → keys ≡ expired now state.keys → state.ports ≡ old.ports → state.last_port ≡ old.last → Takes event now keys kept old new closed → (step state moment event).state ≡ after_step moment now kept new (option_to_list closed)
+pub stepped : (state : State) (moment : Moment) (event : Happening) (now : ℕ) (keys kept : KeyState) (old new : OpenPorts) (closed : Option ℕ) → now ≡ max state.moment.mono moment.mono → keys ≡ expired now state.keys → state.ports ≡ old.ports → state.last_port ≡ old.last → Takes event keys kept old new closed → (step state moment event).state ≡ after_step moment now kept new (option_to_list closed)
 stepped state moment event now keys kept old new closed at_now held ports last takes =
-    let at : IsAt (opened moment state) now keys old = record {
-      second = sym at_now;
+    let at : IsAt (opened moment state) keys old = record {
+      second = sym at_now ∙ sym (ap (λ (k : KeyState). k.table.greatest) held);
       keys = ap (λ n. expired n state.keys) (sym at_now) ∙ sym held;
       ports = ports;
       last = last;

@@ -8,7 +8,7 @@ use Rattle.wire_text.specs.Frames.{Front, front, front_body, Whole, Bad, More}
 use Rattle.agent_msg.specs.Reading.{request_of}
 use Rattle.agent_core.specs.declared.slot.Fate.{Fate}
 use Rattle.agent_core.specs.declared.slot.Fate.TheVariants.{Stays, Owes, Closes}
-use Rattle.agent_core.specs.Dispatch.{Verdict, serve}
+use Rattle.agent_core.specs.Dispatch.{Asking, Verdict, asking, serve}
 use Rattle.agent_core.specs.KeyStates.{KeyState, expired}
 use Rattle.agent_core.specs.PortLook.{answer_to, keys_after, fate_of, fated_ports, found_looked, found_kept, owed_kept, front_kept, looked_keys, owed_fate, port_looked}
 use Rattle.agent_core.specs.Runs.{forget_closes}
@@ -23,8 +23,8 @@ use Rattle.agent_core.proofs.PiecesLemmas.{left, left_by, heard-twice, whole_lon
 -- ---- what is taken
 
 -- the verdict on the request of this body
-abbrev pub verdict_on : ℕ → KeyState → List ℕ → Verdict
-verdict_on now keys body = (serve (request_of body) now keys).verdict
+abbrev pub verdict_on : Asking → KeyState → List ℕ → Verdict
+verdict_on asks keys body = (serve (request_of body) asks keys).verdict
 
 abbrev pub front_acts : (List ℕ → Verdict) → ℕ → List ℕ → Front → List Action
 front_acts verdict number heard (Whole body_len) =
@@ -45,16 +45,16 @@ abbrev pub acts : (List ℕ → Verdict) → ℕ → Option Port → List Action
 acts verdict number None = []
 acts verdict number (Some port) = owed_acts verdict number port.owed port.heard
 
-look_front-acts : (number : ℕ) (heard : List ℕ) (answer : Front) (state : State) → (look_front number heard answer state).actions ≡ front_acts (verdict_on state.moment.mono state.keys) number heard answer
+look_front-acts : (number : ℕ) (heard : List ℕ) (answer : Front) (state : State) → (look_front number heard answer state).actions ≡ front_acts (verdict_on (asking number state.moment.mono) state.keys) number heard answer
 look_front-acts number heard (Whole body_len) state = refl
 look_front-acts number heard (Bad announced) state = refl
 look_front-acts number heard More state = refl
 
-look_owed-acts : (number : ℕ) (owed heard : List ℕ) (state : State) → (look_owed number owed heard state).actions ≡ owed_acts (verdict_on state.moment.mono state.keys) number owed heard
+look_owed-acts : (number : ℕ) (owed heard : List ℕ) (state : State) → (look_owed number owed heard state).actions ≡ owed_acts (verdict_on (asking number state.moment.mono) state.keys) number owed heard
 look_owed-acts number [] heard state = look_front-acts number heard (front longest_body heard) state
 look_owed-acts number (byte ∷ bytes) heard state = refl
 
-look_port-acts : (number : ℕ) (found : Option Port) (state : State) → (look_port number found state).actions ≡ acts (verdict_on state.moment.mono state.keys) number found
+look_port-acts : (number : ℕ) (found : Option Port) (state : State) → (look_port number found state).actions ≡ acts (verdict_on (asking number state.moment.mono) state.keys) number found
 look_port-acts number None state = refl
 look_port-acts number (Some port) state = look_owed-acts number port.owed port.heard state
 
@@ -78,92 +78,92 @@ body_longer heard a b body_len is =
 -- ---- a port that hears two parts
 
 -- what is held after a port heard a piece
-abbrev pub kept_by : ℕ → KeyState → List ℕ → Option Port → KeyState
-kept_by now keys piece found = found_kept (keys_after now keys) keys (option_map (heard piece) found)
+abbrev pub kept_by : Asking → KeyState → List ℕ → Option Port → KeyState
+kept_by asks keys piece found = found_kept (keys_after asks keys) keys (option_map (heard piece) found)
 
 -- the port after it heard a piece
-abbrev pub left_after : ℕ → KeyState → List ℕ → Option Port → Option Port
-left_after now keys piece found = left (answer_to now keys) (option_map (heard piece) found)
+abbrev pub left_after : Asking → KeyState → List ℕ → Option Port → Option Port
+left_after asks keys piece found = left (answer_to asks keys) (option_map (heard piece) found)
 
 -- what two parts lead to is what the whole leads to, where the second comes to those that are held next
 record PortParts (now : ℕ) (keys next : KeyState) (number : ℕ) (a b : List ℕ) (found : Option Port) : Type 0 where
-  pub kept : expired now (kept_by now next b (left_after now keys a found)) ≡ expired now (kept_by now keys (a ++ b) found)
-  pub taken : acts (verdict_on now keys) number (option_map (heard (a ++ b)) found) ≡ acts (verdict_on now keys) number (option_map (heard a) found) ++ acts (verdict_on now next) number (option_map (heard b) (left_after now keys a found))
+  pub kept : expired now (kept_by (asking number now) next b (left_after (asking number now) keys a found)) ≡ expired now (kept_by (asking number now) keys (a ++ b) found)
+  pub taken : acts (verdict_on (asking number now) keys) number (option_map (heard (a ++ b)) found) ≡ acts (verdict_on (asking number now) keys) number (option_map (heard a) found) ++ acts (verdict_on (asking number now) next) number (option_map (heard b) (left_after (asking number now) keys a found))
 
 -- a port of which nothing came
-parts-nothing : (now : ℕ) (keys next : KeyState) (number : ℕ) (a b : List ℕ) (port : Port) → next ≡ keys → fate_of (heard a port) ≡ Stays → acts (verdict_on now keys) number (Some (heard a port)) ≡ [] → PortParts now keys next number a b (Some port)
+parts-nothing : (now : ℕ) (keys next : KeyState) (number : ℕ) (a b : List ℕ) (port : Port) → next ≡ keys → fate_of (heard a port) ≡ Stays → acts (verdict_on (asking number now) keys) number (Some (heard a port)) ≡ [] → PortParts now keys next number a b (Some port)
 parts-nothing now keys next number a b port same stays none =
-    let there : left_after now keys a (Some port) ≡ Some (heard a port) = ap (λ f. left_by (answer_to now keys) f (heard a port)) stays in
+    let there : left_after (asking number now) keys a (Some port) ≡ Some (heard a port) = ap (λ f. left_by (answer_to (asking number now) keys) f (heard a port)) stays in
     record {
-      kept = ap (λ o. expired now (kept_by now next b o)) there
-          ∙ ap (λ k. expired now (kept_by now k b (Some (heard a port)))) same
-          ∙ ap (λ p. expired now (found_kept (keys_after now keys) keys (Some p))) (heard-twice a b port);
-      taken = ap (λ p. acts (verdict_on now keys) number (Some p)) (sym (heard-twice a b port))
-          ∙ ap (λ k. acts (verdict_on now k) number (Some (heard b (heard a port)))) (sym same)
-          ∙ ap (λ o. acts (verdict_on now next) number (option_map (heard b) o)) (sym there)
-          ∙ ap (λ xs. xs ++ acts (verdict_on now next) number (option_map (heard b) (left_after now keys a (Some port)))) (sym none);
+      kept = ap (λ o. expired now (kept_by (asking number now) next b o)) there
+          ∙ ap (λ k. expired now (kept_by (asking number now) k b (Some (heard a port)))) same
+          ∙ ap (λ p. expired now (found_kept (keys_after (asking number now) keys) keys (Some p))) (heard-twice a b port);
+      taken = ap (λ p. acts (verdict_on (asking number now) keys) number (Some p)) (sym (heard-twice a b port))
+          ∙ ap (λ k. acts (verdict_on (asking number now) k) number (Some (heard b (heard a port)))) (sym same)
+          ∙ ap (λ o. acts (verdict_on (asking number now) next) number (option_map (heard b) o)) (sym there)
+          ∙ ap (λ xs. xs ++ acts (verdict_on (asking number now) next) number (option_map (heard b) (left_after (asking number now) keys a (Some port)))) (sym none);
     }
 
-parts-by_front : (now : ℕ) (keys next : KeyState) (number : ℕ) (a b : List ℕ) (port : Port) (answer : Front) → expired now keys ≡ keys → next ≡ expired now (front_kept (keys_after now keys) keys (port.heard ++ a) answer) → port.owed ≡ [] → front longest_body (port.heard ++ a) ≡ answer → PortParts now keys next number a b (Some port)
+parts-by_front : (now : ℕ) (keys next : KeyState) (number : ℕ) (a b : List ℕ) (port : Port) (answer : Front) → expired now keys ≡ keys → next ≡ expired now (front_kept (keys_after (asking number now) keys) keys (port.heard ++ a) answer) → port.owed ≡ [] → front longest_body (port.heard ++ a) ≡ answer → PortParts now keys next number a b (Some port)
 parts-by_front now keys next number a b port (Whole body_len) settled is empty whole =
     let longer : front longest_body (port.heard ++ (a ++ b)) ≡ Whole body_len = whole_longer port.heard a b body_len whole in
     let body : front_body body_len (port.heard ++ (a ++ b)) ≡ front_body body_len (port.heard ++ a) = body_longer port.heard a b body_len whole in
-    let some = owes_reply (answer_to now keys) body_len (heard a port) (answers_are_some now keys) empty whole in
-    let after : Port = heard b (port_looked (answer_to now keys) (heard a port)) in
-    let there : left_after now keys a (Some port) ≡ Some (port_looked (answer_to now keys) (heard a port)) =
-    ap (λ f. left_by (answer_to now keys) f (heard a port)) (fate_of-front (heard a port) (Whole body_len) empty whole) in
-    let all : kept_by now keys (a ++ b) (Some port) ≡ keys_after now keys (front_body body_len (port.heard ++ a)) =
-    port_kept-front (keys_after now keys) keys (heard (a ++ b) port) (Whole body_len) empty longer ∙ ap (keys_after now keys) body in
-    let first : acts (verdict_on now keys) number (Some (heard a port)) ≡ front_acts (verdict_on now keys) number (port.heard ++ a) (Whole body_len) =
-    ap (λ owed. owed_acts (verdict_on now keys) number owed (port.heard ++ a)) empty
-    ∙ ap (front_acts (verdict_on now keys) number (port.heard ++ a)) whole in
-    let second : acts (verdict_on now next) number (option_map (heard b) (left_after now keys a (Some port))) ≡ [] =
-    ap (λ o. acts (verdict_on now next) number (option_map (heard b) o)) there
-    ∙ acts-owed (verdict_on now next) number after.owed after.heard some in
+    let some = owes_reply (answer_to (asking number now) keys) body_len (heard a port) (answers_are_some (asking number now) keys) empty whole in
+    let after : Port = heard b (port_looked (answer_to (asking number now) keys) (heard a port)) in
+    let there : left_after (asking number now) keys a (Some port) ≡ Some (port_looked (answer_to (asking number now) keys) (heard a port)) =
+    ap (λ f. left_by (answer_to (asking number now) keys) f (heard a port)) (fate_of-front (heard a port) (Whole body_len) empty whole) in
+    let all : kept_by (asking number now) keys (a ++ b) (Some port) ≡ keys_after (asking number now) keys (front_body body_len (port.heard ++ a)) =
+    port_kept-front (keys_after (asking number now) keys) keys (heard (a ++ b) port) (Whole body_len) empty longer ∙ ap (keys_after (asking number now) keys) body in
+    let first : acts (verdict_on (asking number now) keys) number (Some (heard a port)) ≡ front_acts (verdict_on (asking number now) keys) number (port.heard ++ a) (Whole body_len) =
+    ap (λ owed. owed_acts (verdict_on (asking number now) keys) number owed (port.heard ++ a)) empty
+    ∙ ap (front_acts (verdict_on (asking number now) keys) number (port.heard ++ a)) whole in
+    let second : acts (verdict_on (asking number now) next) number (option_map (heard b) (left_after (asking number now) keys a (Some port))) ≡ [] =
+    ap (λ o. acts (verdict_on (asking number now) next) number (option_map (heard b) o)) there
+    ∙ acts-owed (verdict_on (asking number now) next) number after.owed after.heard some in
     record {
-      kept = ap (λ o. expired now (kept_by now next b o)) there
-          ∙ ap (expired now) (kept-owed (keys_after now next) next after.owed after.heard some)
+      kept = ap (λ o. expired now (kept_by (asking number now) next b o)) there
+          ∙ ap (expired now) (kept-owed (keys_after (asking number now) next) next after.owed after.heard some)
           ∙ ap (expired now) is
-          ∙ expired-twice now (keys_after now keys (front_body body_len (port.heard ++ a)))
+          ∙ expired-twice now (keys_after (asking number now) keys (front_body body_len (port.heard ++ a)))
           ∙ ap (expired now) (sym all);
-      taken = ap (λ owed. owed_acts (verdict_on now keys) number owed (port.heard ++ (a ++ b))) empty
-          ∙ ap (front_acts (verdict_on now keys) number (port.heard ++ (a ++ b))) longer
-          ∙ ap (λ bytes. Requested (record { port = number; body = bytes; verdict = verdict_on now keys bytes }) ∷ []) body
+      taken = ap (λ owed. owed_acts (verdict_on (asking number now) keys) number owed (port.heard ++ (a ++ b))) empty
+          ∙ ap (front_acts (verdict_on (asking number now) keys) number (port.heard ++ (a ++ b))) longer
+          ∙ ap (λ bytes. Requested (record { port = number; body = bytes; verdict = verdict_on (asking number now) keys bytes }) ∷ []) body
           ∙ sym first
-          ∙ sym (ap (λ xs. acts (verdict_on now keys) number (Some (heard a port)) ++ xs) second ∙ append-nil (acts (verdict_on now keys) number (Some (heard a port))));
+          ∙ sym (ap (λ xs. acts (verdict_on (asking number now) keys) number (Some (heard a port)) ++ xs) second ∙ append-nil (acts (verdict_on (asking number now) keys) number (Some (heard a port))));
     }
 parts-by_front now keys next number a b port (Bad announced) settled is empty bad =
     let longer : front longest_body (port.heard ++ (a ++ b)) ≡ Bad announced = bad_longer port.heard a b announced bad in
-    let there : left_after now keys a (Some port) ≡ None =
-    ap (λ f. left_by (answer_to now keys) f (heard a port)) (fate_of-front (heard a port) (Bad announced) empty bad) in
-    let all : kept_by now keys (a ++ b) (Some port) ≡ keys = port_kept-front (keys_after now keys) keys (heard (a ++ b) port) (Bad announced) empty longer in
-    let first : acts (verdict_on now keys) number (Some (heard a port)) ≡ [] =
-    ap (λ owed. owed_acts (verdict_on now keys) number owed (port.heard ++ a)) empty
-    ∙ ap (front_acts (verdict_on now keys) number (port.heard ++ a)) bad in
-    let whole : acts (verdict_on now keys) number (Some (heard (a ++ b) port)) ≡ [] =
-    ap (λ owed. owed_acts (verdict_on now keys) number owed (port.heard ++ (a ++ b))) empty
-    ∙ ap (front_acts (verdict_on now keys) number (port.heard ++ (a ++ b))) longer in
-    let second : acts (verdict_on now next) number (option_map (heard b) (left_after now keys a (Some port))) ≡ [] =
-    ap (λ o. acts (verdict_on now next) number (option_map (heard b) o)) there in
+    let there : left_after (asking number now) keys a (Some port) ≡ None =
+    ap (λ f. left_by (answer_to (asking number now) keys) f (heard a port)) (fate_of-front (heard a port) (Bad announced) empty bad) in
+    let all : kept_by (asking number now) keys (a ++ b) (Some port) ≡ keys = port_kept-front (keys_after (asking number now) keys) keys (heard (a ++ b) port) (Bad announced) empty longer in
+    let first : acts (verdict_on (asking number now) keys) number (Some (heard a port)) ≡ [] =
+    ap (λ owed. owed_acts (verdict_on (asking number now) keys) number owed (port.heard ++ a)) empty
+    ∙ ap (front_acts (verdict_on (asking number now) keys) number (port.heard ++ a)) bad in
+    let whole : acts (verdict_on (asking number now) keys) number (Some (heard (a ++ b) port)) ≡ [] =
+    ap (λ owed. owed_acts (verdict_on (asking number now) keys) number owed (port.heard ++ (a ++ b))) empty
+    ∙ ap (front_acts (verdict_on (asking number now) keys) number (port.heard ++ (a ++ b))) longer in
+    let second : acts (verdict_on (asking number now) next) number (option_map (heard b) (left_after (asking number now) keys a (Some port))) ≡ [] =
+    ap (λ o. acts (verdict_on (asking number now) next) number (option_map (heard b) o)) there in
     record {
-      kept = ap (λ o. expired now (kept_by now next b o)) there
+      kept = ap (λ o. expired now (kept_by (asking number now) next b o)) there
           ∙ ap (expired now) is ∙ expired-twice now keys ∙ ap (expired now) (sym all);
-      taken = whole ∙ sym (ap (λ xs. xs ++ acts (verdict_on now next) number (option_map (heard b) (left_after now keys a (Some port)))) first ∙ second);
+      taken = whole ∙ sym (ap (λ xs. xs ++ acts (verdict_on (asking number now) next) number (option_map (heard b) (left_after (asking number now) keys a (Some port)))) first ∙ second);
     }
 parts-by_front now keys next number a b port More settled is empty more =
     parts-nothing now keys next number a b port (is ∙ settled) (fate_of-front (heard a port) More empty more)
-    (ap (λ owed. owed_acts (verdict_on now keys) number owed (port.heard ++ a)) empty
-    ∙ ap (front_acts (verdict_on now keys) number (port.heard ++ a)) more)
+    (ap (λ owed. owed_acts (verdict_on (asking number now) keys) number owed (port.heard ++ a)) empty
+    ∙ ap (front_acts (verdict_on (asking number now) keys) number (port.heard ++ a)) more)
 
-parts-by_owed : (now : ℕ) (keys next : KeyState) (number : ℕ) (a b : List ℕ) (port : Port) (owed : List ℕ) → expired now keys ≡ keys → next ≡ expired now (owed_kept (keys_after now keys) keys owed (port.heard ++ a)) → port.owed ≡ owed → PortParts now keys next number a b (Some port)
+parts-by_owed : (now : ℕ) (keys next : KeyState) (number : ℕ) (a b : List ℕ) (port : Port) (owed : List ℕ) → expired now keys ≡ keys → next ≡ expired now (owed_kept (keys_after (asking number now) keys) keys owed (port.heard ++ a)) → port.owed ≡ owed → PortParts now keys next number a b (Some port)
 parts-by_owed now keys next number a b port [] settled is empty =
     parts-by_front now keys next number a b port (front longest_body (port.heard ++ a)) settled is empty refl
 parts-by_owed now keys next number a b port (byte ∷ bytes) settled is owes =
     parts-nothing now keys next number a b port (is ∙ settled)
     (ap (λ owed. owed_fate owed (port.heard ++ a)) owes)
-    (ap (λ owed. owed_acts (verdict_on now keys) number owed (port.heard ++ a)) owes)
+    (ap (λ owed. owed_acts (verdict_on (asking number now) keys) number owed (port.heard ++ a)) owes)
 
-parts-by_port : (now : ℕ) (keys next : KeyState) (number : ℕ) (a b : List ℕ) (found : Option Port) → expired now keys ≡ keys → next ≡ expired now (kept_by now keys a found) → PortParts now keys next number a b found
+parts-by_port : (now : ℕ) (keys next : KeyState) (number : ℕ) (a b : List ℕ) (found : Option Port) → expired now keys ≡ keys → next ≡ expired now (kept_by (asking number now) keys a found) → PortParts now keys next number a b found
 parts-by_port now keys next number a b None settled is = record {
   kept = ap (expired now) (is ∙ settled);
   taken = refl;
@@ -173,28 +173,28 @@ parts-by_port now keys next number a b (Some port) settled is = parts-by_owed no
 -- ---- all ports
 
 -- the ports that two parts lead to
-ports-by_front : (now : ℕ) (keys next : KeyState) (number last : ℕ) (a b : List ℕ) (ports : List Port) (port : Port) (answer : Front) → expired now keys ≡ keys → next ≡ expired now (front_kept (keys_after now keys) keys (port.heard ++ a) answer) → IsRising 0 last ports → find_port number ports ≡ Some port → port.owed ≡ [] → front longest_body (port.heard ++ a) ≡ answer → hear_ports (answer_to now next) number b (hear_ports (answer_to now keys) number a ports) ≡ hear_ports (answer_to now keys) number (a ++ b) ports
+ports-by_front : (now : ℕ) (keys next : KeyState) (number last : ℕ) (a b : List ℕ) (ports : List Port) (port : Port) (answer : Front) → expired now keys ≡ keys → next ≡ expired now (front_kept (keys_after (asking number now) keys) keys (port.heard ++ a) answer) → IsRising 0 last ports → find_port number ports ≡ Some port → port.owed ≡ [] → front longest_body (port.heard ++ a) ≡ answer → hear_ports (answer_to (asking number now) next) number b (hear_ports (answer_to (asking number now) keys) number a ports) ≡ hear_ports (answer_to (asking number now) keys) number (a ++ b) ports
 ports-by_front now keys next number last a b ports port (Whole body_len) settled is rising found empty whole =
-    hear-owes (answer_to now keys) (answer_to now next) number a b body_len ports port (answers_are_some now keys) found empty whole
+    hear-owes (answer_to (asking number now) keys) (answer_to (asking number now) next) number a b body_len ports port (answers_are_some (asking number now) keys) found empty whole
 ports-by_front now keys next number last a b ports port (Bad announced) settled is rising found empty bad =
-    ap (λ k. hear_ports (answer_to now k) number b (hear_ports (answer_to now keys) number a ports)) (is ∙ settled)
-    ∙ hear-closes (answer_to now keys) number last a b announced ports port rising found empty bad
+    ap (λ k. hear_ports (answer_to (asking number now) k) number b (hear_ports (answer_to (asking number now) keys) number a ports)) (is ∙ settled)
+    ∙ hear-closes (answer_to (asking number now) keys) number last a b announced ports port rising found empty bad
 ports-by_front now keys next number last a b ports port More settled is rising found empty more =
-    ap (λ k. hear_ports (answer_to now k) number b (hear_ports (answer_to now keys) number a ports)) (is ∙ settled)
-    ∙ hear-nothing (answer_to now keys) number a b ports port found (fate_of-front (heard a port) More empty more)
+    ap (λ k. hear_ports (answer_to (asking number now) k) number b (hear_ports (answer_to (asking number now) keys) number a ports)) (is ∙ settled)
+    ∙ hear-nothing (answer_to (asking number now) keys) number a b ports port found (fate_of-front (heard a port) More empty more)
 
-ports-by_owed : (now : ℕ) (keys next : KeyState) (number last : ℕ) (a b : List ℕ) (ports : List Port) (port : Port) (owed : List ℕ) → expired now keys ≡ keys → next ≡ expired now (owed_kept (keys_after now keys) keys owed (port.heard ++ a)) → IsRising 0 last ports → find_port number ports ≡ Some port → port.owed ≡ owed → hear_ports (answer_to now next) number b (hear_ports (answer_to now keys) number a ports) ≡ hear_ports (answer_to now keys) number (a ++ b) ports
+ports-by_owed : (now : ℕ) (keys next : KeyState) (number last : ℕ) (a b : List ℕ) (ports : List Port) (port : Port) (owed : List ℕ) → expired now keys ≡ keys → next ≡ expired now (owed_kept (keys_after (asking number now) keys) keys owed (port.heard ++ a)) → IsRising 0 last ports → find_port number ports ≡ Some port → port.owed ≡ owed → hear_ports (answer_to (asking number now) next) number b (hear_ports (answer_to (asking number now) keys) number a ports) ≡ hear_ports (answer_to (asking number now) keys) number (a ++ b) ports
 ports-by_owed now keys next number last a b ports port [] settled is rising found empty =
     ports-by_front now keys next number last a b ports port (front longest_body (port.heard ++ a)) settled is rising found empty refl
 ports-by_owed now keys next number last a b ports port (byte ∷ bytes) settled is rising found owes =
-    ap (λ k. hear_ports (answer_to now k) number b (hear_ports (answer_to now keys) number a ports)) (is ∙ settled)
-    ∙ hear-nothing (answer_to now keys) number a b ports port found (ap (λ owed. owed_fate owed (port.heard ++ a)) owes)
+    ap (λ k. hear_ports (answer_to (asking number now) k) number b (hear_ports (answer_to (asking number now) keys) number a ports)) (is ∙ settled)
+    ∙ hear-nothing (answer_to (asking number now) keys) number a b ports port found (ap (λ owed. owed_fate owed (port.heard ++ a)) owes)
 
-ports-by_port : (now : ℕ) (keys next : KeyState) (number last : ℕ) (a b : List ℕ) (ports : List Port) (found : Option Port) → expired now keys ≡ keys → next ≡ expired now (kept_by now keys a found) → IsRising 0 last ports → find_port number ports ≡ found → hear_ports (answer_to now next) number b (hear_ports (answer_to now keys) number a ports) ≡ hear_ports (answer_to now keys) number (a ++ b) ports
+ports-by_port : (now : ℕ) (keys next : KeyState) (number last : ℕ) (a b : List ℕ) (ports : List Port) (found : Option Port) → expired now keys ≡ keys → next ≡ expired now (kept_by (asking number now) keys a found) → IsRising 0 last ports → find_port number ports ≡ found → hear_ports (answer_to (asking number now) next) number b (hear_ports (answer_to (asking number now) keys) number a ports) ≡ hear_ports (answer_to (asking number now) keys) number (a ++ b) ports
 ports-by_port now keys next number last a b ports None settled is rising absent =
-    ap (hear_ports (answer_to now next) number b) (hear-none (answer_to now keys) number a ports absent)
-    ∙ hear-none (answer_to now next) number b ports absent
-    ∙ sym (hear-none (answer_to now keys) number (a ++ b) ports absent)
+    ap (hear_ports (answer_to (asking number now) next) number b) (hear-none (answer_to (asking number now) keys) number a ports absent)
+    ∙ hear-none (answer_to (asking number now) next) number b ports absent
+    ∙ sym (hear-none (answer_to (asking number now) keys) number (a ++ b) ports absent)
 ports-by_port now keys next number last a b ports (Some port) settled is rising found =
     ports-by_owed now keys next number last a b ports port port.owed settled is rising found refl
 
@@ -212,25 +212,25 @@ find-found reply number last (Some port) ports rising is = find-fated reply numb
 
 -- what is held after a piece of one of the ports
 abbrev pub hear_keys : ℕ → KeyState → ℕ → List ℕ → List Port → KeyState
-hear_keys now keys number piece ports = looked_keys (keys_after now keys) keys number (change_port number (heard piece) ports)
+hear_keys now keys number piece ports = looked_keys (keys_after (asking number now) keys) keys number (change_port number (heard piece) ports)
 
-hear_keys-by : (now : ℕ) (keys : KeyState) (number : ℕ) (piece : List ℕ) (ports : List Port) → hear_keys now keys number piece ports ≡ kept_by now keys piece (find_port number ports)
+hear_keys-by : (now : ℕ) (keys : KeyState) (number : ℕ) (piece : List ℕ) (ports : List Port) → hear_keys now keys number piece ports ≡ kept_by (asking number now) keys piece (find_port number ports)
 hear_keys-by now keys number piece ports =
-    ap (found_kept (keys_after now keys) keys) (find_port-change_port number (heard piece) ports (λ p. refl))
+    ap (found_kept (keys_after (asking number now) keys) keys) (find_port-change_port number (heard piece) ports (λ p. refl))
 
 -- the port after a piece
-find-heard : (now : ℕ) (keys : KeyState) (number last : ℕ) (piece : List ℕ) (ports : List Port) → IsRising 0 last ports → find_port number (hear_ports (answer_to now keys) number piece ports) ≡ left_after now keys piece (find_port number ports)
+find-heard : (now : ℕ) (keys : KeyState) (number last : ℕ) (piece : List ℕ) (ports : List Port) → IsRising 0 last ports → find_port number (hear_ports (answer_to (asking number now) keys) number piece ports) ≡ left_after (asking number now) keys piece (find_port number ports)
 find-heard now keys number last piece ports rising =
-    find-found (answer_to now keys) number last (find_port number (change_port number (heard piece) ports)) (change_port number (heard piece) ports)
+    find-found (answer_to (asking number now) keys) number last (find_port number (change_port number (heard piece) ports)) (change_port number (heard piece) ports)
     (rising-change_port number 0 last (heard piece) ports (λ p. refl) rising) refl
-    ∙ ap (left (answer_to now keys)) (find_port-change_port number (heard piece) ports (λ p. refl))
+    ∙ ap (left (answer_to (asking number now) keys)) (find_port-change_port number (heard piece) ports (λ p. refl))
 
 -- what is held and the ports after a piece, from what was held at that second
 abbrev pub piece_state : Moment → ℕ → KeyState → ℕ → List ℕ → State → State
 piece_state moment now keys port piece state = record {
   moment = record { mono = now; wall = moment.wall };
   keys = hear_keys now keys port piece state.ports;
-  ports = hear_ports (answer_to now keys) port piece state.ports;
+  ports = hear_ports (answer_to (asking port now) keys) port piece state.ports;
   last_port = state.last_port;
   closes = [];
 }
@@ -243,10 +243,10 @@ step-heard : (state : State) (moment : Moment) (port : ℕ) (piece : List ℕ) �
 step-heard state moment port piece =
     ap forget_closes (looked-state port (changed port (heard piece) (opened moment state)))
 
-actions-heard : (state : State) (moment : Moment) (port : ℕ) (piece : List ℕ) → (step state moment (Heard port piece)).actions ≡ acts (verdict_on (second_of moment state) (expired (second_of moment state) state.keys)) port (option_map (heard piece) (find_port port state.ports))
+actions-heard : (state : State) (moment : Moment) (port : ℕ) (piece : List ℕ) → (step state moment (Heard port piece)).actions ≡ acts (verdict_on (asking port (second_of moment state)) (expired (second_of moment state) state.keys)) port (option_map (heard piece) (find_port port state.ports))
 actions-heard state moment port piece =
     look_port-acts port (find_port port (change_port port (heard piece) state.ports)) (changed port (heard piece) (opened moment state))
-    ∙ ap (acts (verdict_on (second_of moment state) (expired (second_of moment state) state.keys)) port) (find_port-change_port port (heard piece) state.ports (λ p. refl))
+    ∙ ap (acts (verdict_on (asking port (second_of moment state)) (expired (second_of moment state) state.keys)) port) (find_port-change_port port (heard piece) state.ports (λ p. refl))
 
 -- the state as the next event at the same moment begins
 abbrev pub settled_state : Moment → ℕ → State → State
@@ -283,15 +283,15 @@ pieces-state state moment port a b sound =
     let below : moment.mono ≤ now = le-max_right state.moment.mono moment.mono in
     let settled : expired now keys ≡ keys = expired-twice now state.keys in
     let found = find_port port state.ports in
-    let is : next ≡ expired now (kept_by now keys a found) = ap (expired now) (hear_keys-by now keys port a state.ports) in
+    let is : next ≡ expired now (kept_by (asking port now) keys a found) = ap (expired now) (hear_keys-by now keys port a state.ports) in
     let parts : PortParts now keys next port a b found = parts-by_port now keys next port a b found settled is in
     let first = piece_state moment now keys port a state in
-    let same_ports : hear_ports (answer_to now next) port b first.ports ≡ hear_ports (answer_to now keys) port (a ++ b) state.ports =
+    let same_ports : hear_ports (answer_to (asking port now) next) port b first.ports ≡ hear_ports (answer_to (asking port now) keys) port (a ++ b) state.ports =
     ports-by_port now keys next port state.last_port a b state.ports found settled is sound.rising refl in
-    let there : find_port port first.ports ≡ left_after now keys a found = find-heard now keys port state.last_port a state.ports sound.rising in
+    let there : find_port port first.ports ≡ left_after (asking port now) keys a found = find-heard now keys port state.last_port a state.ports sound.rising in
     let same_keys : expired now (hear_keys now next port b first.ports) ≡ expired now (hear_keys now keys port (a ++ b) state.ports) =
     ap (expired now) (hear_keys-by now next port b first.ports)
-    ∙ ap (λ o. expired now (kept_by now next b o)) there
+    ∙ ap (λ o. expired now (kept_by (asking port now) next b o)) there
     ∙ parts.kept
     ∙ ap (expired now) (sym (hear_keys-by now keys port (a ++ b) state.ports)) in
     let left_side : forget_closes (opened moment (step state moment (Heard port (a ++ b))).state) ≡ settled_state moment now (piece_state moment now keys port (a ++ b) state) =
@@ -302,7 +302,7 @@ pieces-state state moment port a b sound =
     ∙ ap (λ s. forget_closes (opened moment s)) (second-part moment now keys port a b state below)
     ∙ opened-piece moment now next port b first below in
     left_side
-    ∙ ap (λ k. let s : State = record { moment = record { mono = now; wall = moment.wall }; keys = k; ports = hear_ports (answer_to now keys) port (a ++ b) state.ports; last_port = state.last_port; closes = [] } in s) (sym same_keys)
+    ∙ ap (λ k. let s : State = record { moment = record { mono = now; wall = moment.wall }; keys = k; ports = hear_ports (answer_to (asking port now) keys) port (a ++ b) state.ports; last_port = state.last_port; closes = [] } in s) (sym same_keys)
     ∙ ap (λ ps. let s : State = record { moment = record { mono = now; wall = moment.wall }; keys = expired now (hear_keys now next port b first.ports); ports = ps; last_port = state.last_port; closes = [] } in s) (sym same_ports)
     ∙ sym right_side
 
@@ -315,17 +315,17 @@ pieces-actions state moment port a b sound =
     let below : moment.mono ≤ now = le-max_right state.moment.mono moment.mono in
     let settled : expired now keys ≡ keys = expired-twice now state.keys in
     let found = find_port port state.ports in
-    let is : next ≡ expired now (kept_by now keys a found) = ap (expired now) (hear_keys-by now keys port a state.ports) in
+    let is : next ≡ expired now (kept_by (asking port now) keys a found) = ap (expired now) (hear_keys-by now keys port a state.ports) in
     let parts : PortParts now keys next port a b found = parts-by_port now keys next port a b found settled is in
     let first = piece_state moment now keys port a state in
-    let there : find_port port first.ports ≡ left_after now keys a found = find-heard now keys port state.last_port a state.ports sound.rising in
+    let there : find_port port first.ports ≡ left_after (asking port now) keys a found = find-heard now keys port state.last_port a state.ports sound.rising in
     let after : forget_closes (step state moment (Heard port a)).state ≡ first = step-heard state moment port a in
-    let second : (step (step state moment (Heard port a)).state moment (Heard port b)).actions ≡ acts (verdict_on now next) port (option_map (heard b) (left_after now keys a found)) =
+    let second : (step (step state moment (Heard port a)).state moment (Heard port b)).actions ≡ acts (verdict_on (asking port now) next) port (option_map (heard b) (left_after (asking port now) keys a found)) =
     actions-heard (step state moment (Heard port a)).state moment port b
-    ∙ ap (λ (s : State). acts (verdict_on (second_of moment s) (expired (second_of moment s) s.keys)) port (option_map (heard b) (find_port port s.ports))) after
-    ∙ ap (λ n. acts (verdict_on n (expired n (hear_keys now keys port a state.ports))) port (option_map (heard b) (find_port port first.ports))) (max-eq_left below)
-    ∙ ap (λ o. acts (verdict_on now next) port (option_map (heard b) o)) there in
+    ∙ ap (λ (s : State). acts (verdict_on (asking port (second_of moment s)) (expired (second_of moment s) s.keys)) port (option_map (heard b) (find_port port s.ports))) after
+    ∙ ap (λ n. acts (verdict_on (asking port n) (expired n (hear_keys now keys port a state.ports))) port (option_map (heard b) (find_port port first.ports))) (max-eq_left below)
+    ∙ ap (λ o. acts (verdict_on (asking port now) next) port (option_map (heard b) o)) there in
     actions-heard state moment port (a ++ b)
     ∙ parts.taken
-    ∙ ap (λ xs. xs ++ acts (verdict_on now next) port (option_map (heard b) (left_after now keys a found))) (sym (actions-heard state moment port a))
+    ∙ ap (λ xs. xs ++ acts (verdict_on (asking port now) next) port (option_map (heard b) (left_after (asking port now) keys a found))) (sym (actions-heard state moment port a))
     ∙ ap (λ xs. (step state moment (Heard port a)).actions ++ xs) (sym second)

@@ -11,6 +11,14 @@ use Rattle.agent_msg.specs.Replies.{failure, success, identities_answer}
 use Rattle.agent_msg.specs.Requests.{Addition, ClientRequest, ListIdentities, Sign, Add, Remove, RemoveAll, Lock, Unlock, OtherExtension, Unsupported}
 use Rattle.agent_core.specs.KeyStates.{KeyState, listing}
 
+-- who asks, and when
+pub record Asking : Type 0 where
+  pub port : ℕ
+  pub second : ℕ
+
+abbrev pub asking : ℕ → ℕ → Asking
+asking port second = record { port = port; second = second }
+
 -- a reply to a client
 pub data Reply : Type 0 where
   Failure : Reply
@@ -69,25 +77,25 @@ sign_by (Some key) keys = refuses TooManyUnanswered keys
 -- ---- additions
 
 -- by whether all numbers were given
-abbrev pub add_numbered : Bool → Addition → ℕ → KeyState → Served
-add_numbered true addition now keys = refuses NumbersSpent keys
-add_numbered false addition now keys =
-    answers Success (record keys { table = added keys.table addition.key addition.terms addition.comment now })
+abbrev pub add_numbered : Bool → Addition → Asking → KeyState → Served
+add_numbered true addition asks keys = refuses NumbersSpent keys
+add_numbered false addition asks keys =
+    answers Success (record keys { table = added keys.table addition.key addition.terms addition.comment asks.second })
 
 -- by whether one message would not list all identities any more
-abbrev pub add_listed : Bool → Addition → ℕ → KeyState → Served
-add_listed true addition now keys = refuses ListFull keys
-add_listed false addition now keys = add_numbered (keys.table.last == 2 ^ 64 - 1) addition now keys
+abbrev pub add_listed : Bool → Addition → Asking → KeyState → Served
+add_listed true addition asks keys = refuses ListFull keys
+add_listed false addition asks keys = add_numbered (keys.table.last == 2 ^ 64 - 1) addition asks keys
 
 -- the length of the list that would answer after the addition
-abbrev pub length_with : Addition → ℕ → KeyState → ℕ
-length_with addition now keys =
-    answer_len (identities_with keys.table addition.key addition.terms addition.comment now)
+abbrev pub length_with : Addition → Asking → KeyState → ℕ
+length_with addition asks keys =
+    answer_len (identities_with keys.table addition.key addition.terms addition.comment asks.second)
 
 -- by its destination constraints
-abbrev pub add_under : List Constraint → Addition → ℕ → KeyState → Served
-add_under [] addition now keys = add_listed (nat_lt max_answer (length_with addition now keys)) addition now keys
-add_under (rule ∷ rules) addition now keys = refuses DestinationsUnserved keys
+abbrev pub add_under : List Constraint → Addition → Asking → KeyState → Served
+add_under [] addition asks keys = add_listed (nat_lt max_answer (length_with addition asks keys)) addition asks keys
+add_under (rule ∷ rules) addition asks keys = refuses DestinationsUnserved keys
 
 -- ---- removals
 
@@ -112,17 +120,17 @@ unlock_by false keys = refuses WrongPassphrase keys
 -- ---- the table of requests
 
 -- of an agent that isn't locked, at this second
-abbrev pub serve_open : ClientRequest → ℕ → KeyState → Served
-serve_open ListIdentities now keys = answers (Identities (listing keys)) keys
-serve_open (Sign signing) now keys = sign_by (find_identity signing.blob keys.table.identities) keys
-serve_open (Add addition) now keys = add_under addition.terms.rules addition now keys
-serve_open (Remove blob) now keys = remove_by (find_identity blob keys.table.identities) blob keys
-serve_open RemoveAll now keys =
+abbrev pub serve_open : ClientRequest → Asking → KeyState → Served
+serve_open ListIdentities asks keys = answers (Identities (listing keys)) keys
+serve_open (Sign signing) asks keys = sign_by (find_identity signing.blob keys.table.identities) keys
+serve_open (Add addition) asks keys = add_under addition.terms.rules addition asks keys
+serve_open (Remove blob) asks keys = remove_by (find_identity blob keys.table.identities) blob keys
+serve_open RemoveAll asks keys =
     answers Success (record keys { table = record keys.table { identities = [] } })
-serve_open (Lock passphrase) now keys = lock_by passphrase keys
-serve_open (Unlock passphrase) now keys = refuses NotLocked keys
-serve_open (OtherExtension name) now keys = refuses Unserved keys
-serve_open (Unsupported number) now keys = refuses Unserved keys
+serve_open (Lock passphrase) asks keys = lock_by passphrase keys
+serve_open (Unlock passphrase) asks keys = refuses NotLocked keys
+serve_open (OtherExtension name) asks keys = refuses Unserved keys
+serve_open (Unsupported number) asks keys = refuses Unserved keys
 
 -- of an agent that is locked with this passphrase
 abbrev pub serve_locked : List ℕ → ClientRequest → KeyState → Served
@@ -136,9 +144,9 @@ serve_locked held (Unlock passphrase) keys = unlock_by (bytes_eq held passphrase
 serve_locked held (OtherExtension name) keys = refuses Locked keys
 serve_locked held (Unsupported number) keys = refuses Locked keys
 
-abbrev pub serve_by : Option (List ℕ) → ClientRequest → ℕ → KeyState → Served
-serve_by None request now keys = serve_open request now keys
-serve_by (Some held) request now keys = serve_locked held request keys
+abbrev pub serve_by : Option (List ℕ) → ClientRequest → Asking → KeyState → Served
+serve_by None request asks keys = serve_open request asks keys
+serve_by (Some held) request asks keys = serve_locked held request keys
 
 -- constraints that don't read, by the lock: what else doesn't read is malformed even where the agent is locked
 abbrev pub constraints_by : Option (List ℕ) → TermFault → Cause
@@ -155,6 +163,6 @@ unread (fault.Terms term_fault) lock = constraints_by lock term_fault
 unread fault.Memory lock = Malformed fault.Memory
 
 -- a request, as its body reads, at this second
-abbrev pub serve : Result ClientRequest MsgFault → ℕ → KeyState → Served
-serve (Ok request) now keys = serve_by keys.lock request now keys
-serve (Err fault) now keys = refuses (unread fault keys.lock) keys
+abbrev pub serve : Result ClientRequest MsgFault → Asking → KeyState → Served
+serve (Ok request) asks keys = serve_by keys.lock request asks keys
+serve (Err fault) asks keys = refuses (unread fault keys.lock) keys

@@ -4,18 +4,22 @@ use Rattle.wire_text.specs.Frames.{Front, front, front_body, Whole, Bad, More}
 use Rattle.agent_core.specs.declared.slot.Fate.{Fate}
 use Rattle.agent_core.specs.declared.slot.Fate.TheVariants.{Stays, Owes, Closes}
 use Rattle.agent_msg.specs.Reading.{request_of}
-use Rattle.agent_core.specs.Dispatch.{serve, reply_of, reply_text}
+use Rattle.agent_core.specs.Dispatch.{Asking, asking, serve, reply_of, reply_text}
 use Rattle.agent_core.specs.KeyStates.{KeyState}
 use Rattle.agent_core.specs.State.{Port, find_port, remove_port, change_port}
 use Rattle.agent_core.specs.Step.{longest_body, owe, take_frame}
 
 -- the text of the reply to a request with this body, at this second, of an agent that holds these
-abbrev pub answer_to : ℕ → KeyState → List ℕ → List ℕ
-answer_to now keys body = reply_text (reply_of (serve (request_of body) now keys).verdict)
+abbrev pub answer_to : Asking → KeyState → List ℕ → List ℕ
+answer_to asks keys body = reply_text (reply_of (serve (request_of body) asks keys).verdict)
 
 -- what is held after it
-abbrev pub keys_after : ℕ → KeyState → List ℕ → KeyState
-keys_after now keys body = (serve (request_of body) now keys).keys
+abbrev pub keys_after : Asking → KeyState → List ℕ → KeyState
+keys_after asks keys body = (serve (request_of body) asks keys).keys
+
+-- who asks what holds these: the second is the greatest that the table knows
+abbrev pub asks_of : ℕ → KeyState → Asking
+asks_of port keys = asking port keys.table.greatest
 
 -- by what stands at the front of the bytes
 abbrev pub front_fate : Front → Fate

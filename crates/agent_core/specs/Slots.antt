@@ -33,14 +33,15 @@ pub record IsKept (slots : List Slot) (owing : List ℕ) (capacity last : ℕ) :
 abbrev pub FitsPorts : Happening → OpenPorts → Type 0
 FitsPorts event old = FitsAt event old.last old.ports
 
--- a state in which these ports are open, these keys are held and this is the second
-pub record IsAt (state : State) (now : ℕ) (held : KeyState) (open_ports : OpenPorts) : Type 0 where
-  pub second : state.moment.mono ≡ now
+-- a state in which these ports are open and these keys are held, whose table knows the second
+pub record IsAt (state : State) (held : KeyState) (open_ports : OpenPorts) : Type 0 where
+  pub second : state.moment.mono ≡ held.table.greatest
   pub keys : state.keys ≡ held
   pub ports : state.ports ≡ open_ports.ports
   pub last : state.last_port ≡ open_ports.last
 
--- the ports and what is held after an event at this second, and the port that it closed
-pub record Takes (event : Happening) (now : ℕ) (keys kept : KeyState) (old new : OpenPorts) (closed : Option ℕ) : Type 0 where
-  pub handled : (state : State) → IsAt state now keys old → (handle event state).state ≡ record state { keys = kept; ports = new.ports; last_port = new.last }
+-- the ports and what is held after an event, and the port that it closed
+pub record Takes (event : Happening) (keys kept : KeyState) (old new : OpenPorts) (closed : Option ℕ) : Type 0 where
+  pub handled : (state : State) → IsAt state keys old → (handle event state).state ≡ record state { keys = kept; ports = new.ports; last_port = new.last }
+  pub second : kept.table.greatest ≡ keys.table.greatest
   pub closes : gone old.last old.ports new.last new.ports ≡ option_to_list closed

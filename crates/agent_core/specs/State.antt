@@ -80,6 +80,14 @@ next_owed after [] = None
 next_owed after (port ∷ ports) =
     if nat_lt after port.number && is_some_bytes port.owed then Some port.number else next_owed after ports
 
+-- what a port is owed in this state
+abbrev pub owed_of : ℕ → State → List ℕ
+owed_of number state = owed_at number state.ports
+
+-- the first port above this number that is owed bytes in this state
+abbrev pub next_owing : ℕ → State → Option ℕ
+next_owing after state = next_owed after state.ports
+
 -- the numbers rise, each above `low` and none above `high`; so they are distinct, and the last one bounds them
 abbrev pub IsRising : ℕ → ℕ → List Port → Type 0
 IsRising low high [] = low ≤ high

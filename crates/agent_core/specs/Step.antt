@@ -4,9 +4,9 @@ use Rattle.world_ports.specs.declared.Moment.{Moment}
 use Rattle.world_ports.specs.declared.Door.{Door}
 use Rattle.world_ports.specs.declared.Door.TheVariants.{Clients, Children}
 use Rattle.wire_text.specs.Frames.{Front, front, front_body, after_front, Whole, Bad, More}
-use Rattle.agent_core.specs.State.{State, Port, new_client, find_port, change_port, remove_port, numbers, client_count, owed_at, IsOpen}
+use Rattle.agent_core.specs.State.{State, Port, new_client, find_port, change_port, remove_port, numbers, client_count, owed_at, owed_of, IsOpen}
 use Rattle.agent_msg.specs.Reading.{request_of}
-use Rattle.agent_core.specs.Dispatch.{Verdict, Served, serve, reply_of, reply_text}
+use Rattle.agent_core.specs.Dispatch.{Verdict, Served, asking, serve, reply_of, reply_text}
 use Rattle.agent_core.specs.KeyStates.{KeyState, expired}
 
 -- an event, with its bytes as a plain list
@@ -27,6 +27,17 @@ longest_body = 262144
 abbrev pub most_clients : ℕ
 most_clients = 128
 
+-- the event may come in this state
+abbrev pub Fits : Happening → State → Type 0
+Fits (Joined Clients) state = state.last_port < 2 ^ 64 - 1
+Fits (Joined Children) state = ⊥
+Fits (Heard port piece) state = IsOpen port state.ports × (0 < length piece)
+Fits (Ended port) state = IsOpen port state.ports
+Fits (Took port count) state = (0 < count) × (count ≤ length (owed_of port state))
+Fits (Started job ticket) state = ⊥
+Fits (StartFailed job) state = ⊥
+Fits Tick state = Unit {0}
+
 -- the event may come where the last port that joined has this number and these are open
 abbrev pub FitsAt : Happening → ℕ → List Port → Type 0
 FitsAt (Joined Clients) last ports = last < 2 ^ 64 - 1
@@ -37,10 +48,6 @@ FitsAt (Took port count) last ports = (0 < count) × (count ≤ length (owed_at 
 FitsAt (Started job ticket) last ports = ⊥
 FitsAt (StartFailed job) last ports = ⊥
 FitsAt Tick last ports = Unit {0}
-
--- the event may come in this state
-abbrev pub Fits : Happening → State → Type 0
-Fits event state = FitsAt event state.last_port state.ports
 
 -- a request that was taken, and what came of it
 pub record Requesting : Type 0 where
@@ -114,7 +121,7 @@ concluded number body served state =
 abbrev pub taken : ℕ → ℕ → List ℕ → State → Outcome
 taken number body_len heard state =
     let body = front_body body_len heard in
-    concluded number body (serve (request_of body) state.moment.mono state.keys)
+    concluded number body (serve (request_of body) (asking number state.moment.mono) state.keys)
     (changed number (take_frame body_len) state)
 
 -- by what stands at the front of the client's bytes

@@ -1,10 +1,10 @@
 //! The agent.
 
-ghost use Rattle.std.specs.Prelude.{◌≡◌, ◌↔◌, ◌≤◌, [], IfOk, IsTrue, OnErr, OnOk, length};
+ghost use Rattle.std.specs.Prelude.{◌≡◌, ◌↔◌, [], IfOk, IsTrue, OnErr, OnOk, length};
 ghost use Rattle.identity_table.specs.Identities.{next_death};
 ghost use Rattle.agent_core.specs.Happenings.{happening};
 ghost use Rattle.agent_core.specs.Slots.{FitsPorts, Takes};
-ghost use Rattle.agent_core.specs.State.{IsOpen, IsRising, client_count, next_owed, opening_state, owed_at};
+ghost use Rattle.agent_core.specs.State.{IsOpen, IsRising, client_count, next_owing, opening_state, owed_of};
 ghost use Rattle.agent_core.specs.Step.{Fits, Wants, step};
 
 use crate::keys::Keys;
@@ -21,27 +21,24 @@ use world_ports::{Door, Job, Moment};
 #[derive(Drop)]
 pub struct Agent {
     alloc: Global,
-    moment: Moment,
+    wall: u64,
     keys: Keys,
     ports: Ports,
     closes: Vec<u64>,
 }
 
 impl Model for Agent {
-    ghost use Rattle.std.specs.Prelude.{◌≤◌};
     ghost use Rattle.agent_core.specs.State.{State};
 
     ghost Value = { State };
 
     ghost view = { λ a. record {
-      moment = a.moment;
+      moment = record { mono = a.keys.table.greatest; wall = a.wall };
       keys = a.keys;
       ports = a.ports.ports;
       last_port = a.ports.last;
       closes = a.closes.items;
     } };
-
-    ghost invariant = { λ a. a.keys.table.greatest ≤ a.moment.mono };
 }
 
 impl Agent {
@@ -51,7 +48,7 @@ impl Agent {
     {
         Agent {
             alloc,
-            moment: Moment { mono: 0, wall: 0 },
+            wall: 0,
             keys: Keys::new(alloc, settings.default_life),
             ports: Ports::new(alloc),
             closes: Vec::new(alloc),
@@ -94,14 +91,14 @@ impl Agent {
 
     /// What the port is owed: nothing where it isn't open.
     pub fn owed(&self, port: u64) -> &[u8]
-        ensures { result.now ≡ owed_at port self.now.ports }
+        ensures { result.now ≡ owed_of port self.now }
     {
         self.ports.owed(port)
     }
 
     /// The open port of the least number above `after` that is owed bytes.
     pub fn next_owed(&self, after: u64) -> Option<u64>
-        ensures next { result ≡ next_owed after self.now.ports }
+        ensures next { result ≡ next_owing after self.now }
         ensures rising { IsRising 0 self.now.last_port self.now.ports }
     {
         self.ports.next_owed(after)
@@ -169,14 +166,10 @@ impl Agent {
         requires { Fits (happening event.now) self.old }
         ensures { OnOk result (self.new ≡ (step self.old moment (happening event.now)).state) }
     {
-        self.moment = Moment {
-            mono: self.moment.mono.max(moment.mono),
-            wall: moment.wall,
-        };
-        let now = self.moment.mono;
-        self.keys.expire(now);
+        self.wall = moment.wall;
+        self.keys.expire(self.keys.second().max(moment.mono));
         self.closes.clear();
-        if let Some(port) = take_event(&mut self.ports, &mut self.keys, now, event)? {
+        if let Some(port) = take_event(&mut self.ports, &mut self.keys, event)? {
             self.closes.push(port)?;
         }
         Ok(())
@@ -187,14 +180,11 @@ impl Agent {
 fn take_event(
     ports: &mut Ports,
     keys: &mut Keys,
-    now: u64,
     event: &Event<'_>,
 ) -> Result<Option<u64>, CoreMemory>
     requires fits { FitsPorts (happening event.now) ports.old }
-    requires clock { keys.old.table.greatest ≤ now }
-    ensures takes { IfOk result
-        (Takes (happening event.now) now keys.old keys.new ports.old ports.new) }
-    ensures clock { keys.new.table.greatest ≤ now }
+    ensures { IfOk result
+        (Takes (happening event.now) keys.old keys.new ports.old ports.new) }
 {
     match *event {
         Event::Joined(_) => {
@@ -205,7 +195,7 @@ fn take_event(
             }
         }
         Event::Heard { port, piece } => {
-            if ports.hear(keys, now, port, piece)? {
+            if ports.hear(keys, port, piece)? {
                 Ok(Some(port))
             } else {
                 Ok(None)
@@ -216,7 +206,7 @@ fn take_event(
             Ok(Some(port))
         }
         Event::Took { port, count } => {
-            if ports.send(keys, now, port, count)? {
+            if ports.send(keys, port, count)? {
                 Ok(Some(port))
             } else {
                 Ok(None)

@@ -1,12 +1,12 @@
 //! What the agent holds, and its answers to requests.
 
-ghost use Rattle.std.specs.Prelude.{◌≡◌, ◌≢◌, ◌≤◌, [], ℕ, IsSome, OnOk, IfOk, length};
+ghost use Rattle.std.specs.Prelude.{◌≡◌, ◌≢◌, ◌≤◌, [], IsSome, OnOk, IfOk, length};
 ghost use Rattle.agent_msg.specs.Replies.{status};
 ghost use Rattle.agent_msg.specs.Requests.{ListIdentities, client_request};
 ghost use Rattle.identity_table.specs.Identities.{find_identity, next_death};
-ghost use Rattle.agent_core.specs.Dispatch.{add_under, remove_by, reply_of, reply_text, serve_by};
+ghost use Rattle.agent_core.specs.Dispatch.{Asking, add_under, remove_by, reply_of, reply_text, serve_by};
 ghost use Rattle.agent_core.specs.KeyStates.{expired, no_keys};
-ghost use Rattle.agent_core.specs.PortLook.{answer_to, keys_after};
+ghost use Rattle.agent_core.specs.PortLook.{answer_to, asks_of, keys_after};
 
 use crate::CoreMemory;
 use crate::owed::Owed;
@@ -67,6 +67,13 @@ impl Keys {
         self.table.next_death()
     }
 
+    /// The greatest second so far.
+    pub fn second(&self) -> u64
+        ensures { result ≡ self.now.table.greatest }
+    {
+        self.table.greatest()
+    }
+
     /// Removes and wipes the identities whose lifetime has run out.
     pub fn expire(&mut self, now: u64)
         requires { self.old.table.greatest ≤ now }
@@ -76,17 +83,15 @@ impl Keys {
     }
 
     /// Does what the request of this body asks, and owes the reply.
-    pub fn serve(&mut self, now: u64, body: &[u8], owed: &mut Owed) -> Result<(), CoreMemory>
-        requires clock { self.old.table.greatest ≤ now }
+    pub fn serve(&mut self, port: u64, body: &[u8], owed: &mut Owed) -> Result<(), CoreMemory>
         requires nothing { owed.old ≡ [] }
-        ensures keys { OnOk result (self.new ≡ keys_after now self.old body.now) }
-        ensures reply { OnOk result (owed.new ≡ answer_to now self.old body.now) }
-        ensures clock { self.new.table.greatest ≤ now }
+        ensures keys { OnOk result (self.new ≡ keys_after (asks_of port self.old) self.old body.now) }
+        ensures reply { OnOk result (owed.new ≡ answer_to (asks_of port self.old) self.old body.now) }
     {
         match read_request(self.alloc, body) {
             Ok(Request::List) => self.list(owed),
             Ok(request) => {
-                let done = self.take(now, request)?;
+                let done = self.take(port, request)?;
                 owed.put_status(done);
                 Ok(())
             }
@@ -104,8 +109,8 @@ impl Keys {
     #[tactic(auto, unfolding(identity_table::specs::Identities::entries_len))]
     fn list(&self, owed: &mut Owed) -> Result<(), CoreMemory>
         requires { owed.old ≡ [] }
-        ensures { (now : ℕ) → OnOk result (owed.new
-            ≡ reply_text (reply_of (serve_by self.now.lock ListIdentities now self.now).verdict)) }
+        ensures { (asks : Asking) → OnOk result (owed.new
+            ≡ reply_text (reply_of (serve_by self.now.lock ListIdentities asks self.now).verdict)) }
     {
         if self.lock.is_locked() {
             owed.put_list(&[])?;
@@ -116,14 +121,12 @@ impl Keys {
     }
 
     // Does what any other request asks, and tells whether it succeeded.
-    fn take(&mut self, now: u64, request: Request<'_>) -> Result<bool, CoreMemory>
-        requires clock { self.old.table.greatest ≤ now }
+    fn take(&mut self, port: u64, request: Request<'_>) -> Result<bool, CoreMemory>
         requires other { client_request request ≢ ListIdentities }
         ensures keys { OnOk result (self.new
-            ≡ (serve_by self.old.lock (client_request request.entry) now self.old).keys) }
+            ≡ (serve_by self.old.lock (client_request request.entry) (asks_of port self.old) self.old).keys) }
         ensures reply { IfOk result (λ done. status done ≡ reply_text
-            (reply_of (serve_by self.old.lock (client_request request.entry) now self.old).verdict)) }
-        ensures clock { self.new.table.greatest ≤ now }
+            (reply_of (serve_by self.old.lock (client_request request.entry) (asks_of port self.old) self.old).verdict)) }
     {
         if self.lock.is_locked() {
             return Ok(self.take_locked(request));
@@ -133,7 +136,7 @@ impl Keys {
                 key,
                 comment,
                 terms,
-            } => self.add(now, key, comment, terms),
+            } => self.add(port, key, comment, terms),
             Request::Remove { blob } => Ok(self.remove(blob)),
             Request::RemoveAll => {
                 self.table.remove_all();
@@ -157,10 +160,10 @@ impl Keys {
     fn take_locked(&mut self, request: Request<'_>) -> bool
         requires locked { IsSome self.old.lock }
         requires other { client_request request ≢ ListIdentities }
-        ensures keys { (now : ℕ) → self.new
-            ≡ (serve_by self.old.lock (client_request request.entry) now self.old).keys }
-        ensures reply { (now : ℕ) → status result ≡ reply_text
-            (reply_of (serve_by self.old.lock (client_request request.entry) now self.old).verdict) }
+        ensures keys { (asks : Asking) → self.new
+            ≡ (serve_by self.old.lock (client_request request.entry) asks self.old).keys }
+        ensures reply { (asks : Asking) → status result ≡ reply_text
+            (reply_of (serve_by self.old.lock (client_request request.entry) asks self.old).verdict) }
         ensures table { self.new.table ≡ self.old.table }
     {
         match request {
@@ -176,7 +179,6 @@ impl Keys {
         ensures reply { status result ≡ reply_text (reply_of
             (remove_by (find_identity blob.now self.old.table.identities) blob.now
             self.old).verdict) }
-        ensures clock { self.new.table.greatest ≡ self.old.table.greatest }
     {
         self.table.remove(blob)
     }
@@ -184,22 +186,21 @@ impl Keys {
     // Adds a key, which may not have destination constraints.
     fn add(
         &mut self,
-        now: u64,
+        port: u64,
         key: AddedKey,
         comment: &[u8],
         terms: Terms,
     ) -> Result<bool, CoreMemory>
-        requires clock { self.old.table.greatest ≤ now }
         ensures keys { OnOk result (self.new ≡ (add_under terms.rules
-            record { key = key; comment = comment.now; terms = terms } now self.old).keys) }
+            record { key = key; comment = comment.now; terms = terms } (asks_of port self.old) self.old).keys) }
         ensures reply { IfOk result (λ done. status done ≡ reply_text (reply_of
-            (add_under terms.rules record { key = key; comment = comment.now; terms = terms } now
-            self.old).verdict)) }
-        ensures clock { self.new.table.greatest ≤ now }
+            (add_under terms.rules record { key = key; comment = comment.now; terms = terms }
+            (asks_of port self.old) self.old).verdict)) }
     {
         if !terms.rules.is_empty() {
             return Ok(false);
         }
+        let now = self.table.greatest();
         match self.table.add(key, terms, comment, now) {
             Ok(_) => Ok(true),
             Err(AddFault::Memory) => Err(CoreMemory),

@@ -2,7 +2,7 @@
 
 ghost use Rattle.std.specs.Prelude.{◌≡◌, ◌↔◌, ◌+◌, ◌-◌, ◌^◌, ◌<◌, ◌≤◌, [], ◌∷◌, if◌then◌else◌, suc, None, Some, IfOk, IsTrue, MatchOption, OnOk, length, nat_lt, vec_capacity};
 ghost use Rattle.agent_core.specs.Owing.{IsRisingNumbers, inserted, noted};
-ghost use Rattle.agent_core.specs.PortLook.{answer_to, closes_at, closes_by, fate_at, fate_of, finished_ports, keys_after, looked_keys, looked_ports, port_kept, port_looked};
+ghost use Rattle.agent_core.specs.PortLook.{answer_to, asks_of, closes_at, closes_by, fate_at, fate_of, finished_ports, keys_after, looked_keys, looked_ports, port_kept, port_looked};
 ghost use Rattle.agent_core.specs.Slots.{port_of};
 ghost use Rattle.agent_core.specs.State.{IsOpen, IsRising, change_port, client_count, find_port, is_some_bytes, next_owed, owed_at, remove_port};
 ghost use Rattle.agent_core.specs.Step.{Wants, admitted, gone, heard, most_clients, sent};
@@ -124,27 +124,24 @@ impl Ports {
     pub fn hear(
         &mut self,
         keys: &mut Keys,
-        now: u64,
         number: u64,
         piece: &[u8],
     ) -> Result<bool, CoreMemory>
         requires is_open { IsOpen number self.old.ports }
-        requires clock { keys.old.table.greatest ≤ now }
         ensures closes { IfOk result (λ closes. closes ≡ closes_at number (change_port number (heard piece.now) self.old.ports)) }
         ensures ports { OnOk result (self.new ≡ record self.old {
-          ports = looked_ports (answer_to now keys.old) number
+          ports = looked_ports (answer_to (asks_of number keys.old) keys.old) number
               (change_port number (heard piece.now) self.old.ports);
         }) }
-        ensures keys { OnOk result (keys.new ≡ looked_keys (keys_after now keys.old) keys.old number
+        ensures keys { OnOk result (keys.new ≡ looked_keys (keys_after (asks_of number keys.old) keys.old) keys.old number
             (change_port number (heard piece.now) self.old.ports)) }
-        ensures clock { keys.new.table.greatest ≤ now }
         ensures closed { IfOk result (λ closes. gone self.old.last self.old.ports self.new.last self.new.ports
             ≡ (if closes then number ∷ [] else [])) }
     {
         let Some(place) = place_of(&self.slots, number) else {
             unreachable!()
         };
-        let fate = hear_at(&mut self.slots[place], &mut self.owing, keys, now, piece)?;
+        let fate = hear_at(&mut self.slots[place], &mut self.owing, keys, piece)?;
         Ok(self.finish(number, fate))
     }
 
@@ -152,28 +149,25 @@ impl Ports {
     pub fn send(
         &mut self,
         keys: &mut Keys,
-        now: u64,
         number: u64,
         count: usize,
     ) -> Result<bool, CoreMemory>
         requires is_open { IsOpen number self.old.ports }
-        requires clock { keys.old.table.greatest ≤ now }
         requires count { count ≤ length (owed_at number self.old.ports) }
         ensures closes { IfOk result (λ closes. closes ≡ closes_at number (change_port number (sent count) self.old.ports)) }
         ensures ports { OnOk result (self.new ≡ record self.old {
-          ports = looked_ports (answer_to now keys.old) number
+          ports = looked_ports (answer_to (asks_of number keys.old) keys.old) number
               (change_port number (sent count) self.old.ports);
         }) }
-        ensures keys { OnOk result (keys.new ≡ looked_keys (keys_after now keys.old) keys.old number
+        ensures keys { OnOk result (keys.new ≡ looked_keys (keys_after (asks_of number keys.old) keys.old) keys.old number
             (change_port number (sent count) self.old.ports)) }
-        ensures clock { keys.new.table.greatest ≤ now }
         ensures closed { IfOk result (λ closes. gone self.old.last self.old.ports self.new.last self.new.ports
             ≡ (if closes then number ∷ [] else [])) }
     {
         let Some(place) = place_of(&self.slots, number) else {
             unreachable!()
         };
-        let fate = send_at(&mut self.slots[place], &mut self.owing, keys, now, count)?;
+        let fate = send_at(&mut self.slots[place], &mut self.owing, keys, count)?;
         Ok(self.finish(number, fate))
     }
 
@@ -235,23 +229,20 @@ fn hear_at(
     slot: &mut Slot,
     owing: &mut Vec<u64>,
     keys: &mut Keys,
-    now: u64,
     piece: &[u8],
 ) -> Result<Fate, CoreMemory>
-    requires clock { keys.old.table.greatest ≤ now }
     requires rising { IsRisingNumbers 0 owing.old.items }
     requires room { length (inserted slot.old.number owing.old.items) ≤ vec_capacity owing.old }
     ensures fate { IfOk result (λ fate. fate ≡ fate_of (heard piece.now (port_of slot.old))) }
     ensures port { OnOk result (port_of slot.new
-        ≡ port_looked (answer_to now keys.old) (heard piece.now (port_of slot.old))) }
+        ≡ port_looked (answer_to (asks_of slot.old.number keys.old) keys.old) (heard piece.now (port_of slot.old))) }
     ensures keys { OnOk result (keys.new
-        ≡ port_kept (keys_after now keys.old) keys.old (heard piece.now (port_of slot.old))) }
-    ensures clock { keys.new.table.greatest ≤ now }
+        ≡ port_kept (keys_after (asks_of slot.old.number keys.old) keys.old) keys.old (heard piece.now (port_of slot.old))) }
     ensures number { slot.new.number ≡ slot.old.number }
     ensures items { owing.new.items ≡ noted (is_some_bytes slot.new.owed) slot.old.number owing.old.items }
     ensures room { vec_capacity owing.old ≤ vec_capacity owing.new }
 {
-    let looked = slot::hear(slot, keys, now, piece);
+    let looked = slot::hear(slot, keys, piece);
     note_owed(slot, owing);
     looked
 }
@@ -261,24 +252,21 @@ fn send_at(
     slot: &mut Slot,
     owing: &mut Vec<u64>,
     keys: &mut Keys,
-    now: u64,
     count: usize,
 ) -> Result<Fate, CoreMemory>
-    requires clock { keys.old.table.greatest ≤ now }
     requires count { count ≤ length slot.old.owed }
     requires rising { IsRisingNumbers 0 owing.old.items }
     requires room { length (inserted slot.old.number owing.old.items) ≤ vec_capacity owing.old }
     ensures fate { IfOk result (λ fate. fate ≡ fate_of (sent count (port_of slot.old))) }
     ensures port { OnOk result (port_of slot.new
-        ≡ port_looked (answer_to now keys.old) (sent count (port_of slot.old))) }
+        ≡ port_looked (answer_to (asks_of slot.old.number keys.old) keys.old) (sent count (port_of slot.old))) }
     ensures keys { OnOk result (keys.new
-        ≡ port_kept (keys_after now keys.old) keys.old (sent count (port_of slot.old))) }
-    ensures clock { keys.new.table.greatest ≤ now }
+        ≡ port_kept (keys_after (asks_of slot.old.number keys.old) keys.old) keys.old (sent count (port_of slot.old))) }
     ensures number { slot.new.number ≡ slot.old.number }
     ensures items { owing.new.items ≡ noted (is_some_bytes slot.new.owed) slot.old.number owing.old.items }
     ensures room { vec_capacity owing.old ≤ vec_capacity owing.new }
 {
-    let looked = slot::send(slot, keys, now, count);
+    let looked = slot::send(slot, keys, count);
     note_owed(slot, owing);
     looked
 }

@@ -1,7 +1,7 @@
 ghost use Rattle.std.specs.Prelude.{◌≡◌, ◌↔◌, IsTrue, ◌+◌, ◌≤◌, IfOk, OnOk, length};
 ghost use Rattle.wire_text.specs.Frames.{after_front, front, front_body, Whole, More};
 ghost use Rattle.agent_core.specs.Step.{heard, longest_body, sent};
-ghost use Rattle.agent_core.specs.PortLook.{answer_to, fate_of, keys_after, port_kept, port_looked};
+ghost use Rattle.agent_core.specs.PortLook.{answer_to, asks_of, fate_of, keys_after, port_kept, port_looked};
 ghost use Rattle.agent_core.specs.Slots.{port_of};
 
 use crate::CoreMemory;
@@ -58,14 +58,12 @@ fn drop_frame(heard: &mut ScrubBuf, body_len: u32)
 }
 
 // Takes the first request, where the port is owed nothing and the request is whole.
-fn look_at(slot: &mut Slot, keys: &mut Keys, now: u64) -> Result<Fate, CoreMemory>
-    requires { keys.old.table.greatest ≤ now }
+fn look_at(slot: &mut Slot, keys: &mut Keys) -> Result<Fate, CoreMemory>
     ensures fate { IfOk result (λ fate. fate ≡ fate_of (port_of slot.old)) }
     ensures port { OnOk result (port_of slot.new
-        ≡ port_looked (answer_to now keys.old) (port_of slot.old)) }
+        ≡ port_looked (answer_to (asks_of slot.old.number keys.old) keys.old) (port_of slot.old)) }
     ensures keys { OnOk result (keys.new
-        ≡ port_kept (keys_after now keys.old) keys.old (port_of slot.old)) }
-    ensures clock { keys.new.table.greatest ≤ now }
+        ≡ port_kept (keys_after (asks_of slot.old.number keys.old) keys.old) keys.old (port_of slot.old)) }
     ensures number { slot.new.number ≡ slot.old.number }
 {
     if !slot.owed.bytes().is_empty() {
@@ -73,7 +71,7 @@ fn look_at(slot: &mut Slot, keys: &mut Keys, now: u64) -> Result<Fate, CoreMemor
     }
     match look(slot.heard.live(), LONGEST_BODY) {
         Look::Whole { body } => {
-            keys.serve(now, first_body(slot.heard.live(), body), &mut slot.owed)?;
+            keys.serve(slot.number, first_body(slot.heard.live(), body), &mut slot.owed)?;
             drop_frame(&mut slot.heard, body);
             Ok(Fate::Owes)
         }
@@ -83,34 +81,30 @@ fn look_at(slot: &mut Slot, keys: &mut Keys, now: u64) -> Result<Fate, CoreMemor
 }
 
 // Appends the piece to what was heard, and looks.
-pub fn hear(slot: &mut Slot, keys: &mut Keys, now: u64, piece: &[u8]) -> Result<Fate, CoreMemory>
-    requires { keys.old.table.greatest ≤ now }
+pub fn hear(slot: &mut Slot, keys: &mut Keys, piece: &[u8]) -> Result<Fate, CoreMemory>
     ensures fate { IfOk result (λ fate. fate ≡ fate_of (heard piece.now (port_of slot.old))) }
     ensures port { OnOk result (port_of slot.new
-        ≡ port_looked (answer_to now keys.old) (heard piece.now (port_of slot.old))) }
+        ≡ port_looked (answer_to (asks_of slot.old.number keys.old) keys.old) (heard piece.now (port_of slot.old))) }
     ensures keys { OnOk result (keys.new
-        ≡ port_kept (keys_after now keys.old) keys.old (heard piece.now (port_of slot.old))) }
-    ensures clock { keys.new.table.greatest ≤ now }
+        ≡ port_kept (keys_after (asks_of slot.old.number keys.old) keys.old) keys.old (heard piece.now (port_of slot.old))) }
     ensures number { slot.new.number ≡ slot.old.number }
 {
     slot.heard.push_slice(piece)?;
-    look_at(slot, keys, now)
+    look_at(slot, keys)
 }
 
 // Drops the first `count` bytes that are owed, and looks.
-pub fn send(slot: &mut Slot, keys: &mut Keys, now: u64, count: usize) -> Result<Fate, CoreMemory>
+pub fn send(slot: &mut Slot, keys: &mut Keys, count: usize) -> Result<Fate, CoreMemory>
     requires count { count ≤ length slot.old.owed }
-    requires clock { keys.old.table.greatest ≤ now }
     ensures fate { IfOk result (λ fate. fate ≡ fate_of (sent count (port_of slot.old))) }
     ensures port { OnOk result (port_of slot.new
-        ≡ port_looked (answer_to now keys.old) (sent count (port_of slot.old))) }
+        ≡ port_looked (answer_to (asks_of slot.old.number keys.old) keys.old) (sent count (port_of slot.old))) }
     ensures keys { OnOk result (keys.new
-        ≡ port_kept (keys_after now keys.old) keys.old (sent count (port_of slot.old))) }
-    ensures clock { keys.new.table.greatest ≤ now }
+        ≡ port_kept (keys_after (asks_of slot.old.number keys.old) keys.old) keys.old (sent count (port_of slot.old))) }
     ensures number { slot.new.number ≡ slot.old.number }
 {
     slot.owed.consume(count);
-    look_at(slot, keys, now)
+    look_at(slot, keys)
 }
 
 // Whether the bytes are the front of a request that isn't whole.

@@ -147,6 +147,13 @@ impl Table {
         self.identities.as_slice()
     }
 
+    /// The greatest second so far.
+    pub fn greatest(&self) -> u64
+        ensures { result ≡ self.now.greatest }
+    {
+        self.greatest
+    }
+
     /// How many identities there are.
     pub fn len(&self) -> usize
         ensures value { result ≡ length self.now.identities }

@@ -3,7 +3,7 @@ use Rattle.std.specs.Prelude.{ℕ, suc, ◌+◌, ◌==◌, ◌||◌, nat_lt, Boo
 use Rattle.std.specs.List.{slice_split}
 use Rattle.world_ports.specs.declared.plain.Door.TheVariants.{Clients, Children}
 use Rattle.world_ports.specs.declared.plain.Moment.{Moment}
-use Rattle.agent_core.specs.State.{State, Port, opening_state, find_port, owed_at}
+use Rattle.agent_core.specs.State.{State, Port, opening_state, find_port, owed_of}
 use Rattle.agent_core.specs.Step.{Happening, Joined, Heard, Ended, Tick}
 use Rattle.schedule_text.specs.declared.fault.LineFault.{LineFault}
 use Rattle.schedule_text.specs.declared.fault.LineFault.TheVariants.{Word, UnknownPort, Order, TooLong}
@@ -88,7 +88,7 @@ took_by false port count size run =
 
 abbrev pub took : ℕ → ℕ → ℕ → Run → Turned
 took port count size run =
-    took_by (nat_lt (length (owed_at port run.agent.ports)) count) port count size run
+    took_by (nat_lt (length (owed_of port run.agent)) count) port count size run
 
 -- what a step brings
 abbrev pub step_turned : Step → ℕ → Run → Turned

@@ -1,7 +1,7 @@
 -- Settling: after a line every port that isn't held takes what it is owed (ours: docs/PROTOCOL.md, "Output").
 use Rattle.std.specs.Prelude.{ℕ, zero, suc, List, [], ◌∷◌, ◌++◌, length, take, Option, None, Some}
 use Rattle.world_ports.specs.declared.plain.Moment.{Moment}
-use Rattle.agent_core.specs.State.{State, owed_at}
+use Rattle.agent_core.specs.State.{State, owed_of}
 use Rattle.agent_core.specs.Step.{Happening, Took, step}
 use Rattle.agent_core.specs.Budget.{budget}
 use Rattle.schedule_text.specs.Deeds.{to_line, close_line}
@@ -23,14 +23,14 @@ close_lines (port ∷ ports) = close_line port ++ close_lines ports
 -- what that prints: the bytes, and then the ports that were closed by it
 abbrev pub sending_lines : Moment → ℕ → ℕ → State → List ℕ
 sending_lines moment port count state =
-    to_line port (take count (owed_at port state.ports)) ++ close_lines (sent moment port count state).closes
+    to_line port (take count (owed_of port state)) ++ close_lines (sent moment port count state).closes
 
 -- the state after a port took all that it was owed, and what that prints
 abbrev pub delivered : Moment → ℕ → State → State
-delivered moment port state = sent moment port (length (owed_at port state.ports)) state
+delivered moment port state = sent moment port (length (owed_of port state)) state
 
 abbrev pub delivery_lines : Moment → ℕ → State → List ℕ
-delivery_lines moment port state = sending_lines moment port (length (owed_at port state.ports)) state
+delivery_lines moment port state = sending_lines moment port (length (owed_of port state)) state
 
 -- the state that a settling leaves, and what it prints
 pub record Settled : Type 0 where

@@ -1,7 +1,7 @@
 // One event of the agent, and the settling after it.
 ghost use Rattle.std.specs.Prelude.{◌≡◌, ◌++◌, ◌<◌, ◌≤◌, OnOk, ◌∷◌, length};
 ghost use Rattle.agent_core.specs.Happenings.{happening};
-ghost use Rattle.agent_core.specs.State.{IsRising, owed_at};
+ghost use Rattle.agent_core.specs.State.{IsRising, owed_of};
 ghost use Rattle.agent_core.specs.Step.{Fits};
 ghost use Rattle.replay_run.specs.Holding.{next_unheld};
 ghost use Rattle.replay_run.specs.Settling.{after_event, close_lines, settled};
@@ -47,7 +47,7 @@ pub fn send(
     out: &mut Vec<u8>,
 ) -> Result<(), CoreMemory>
     requires some { 0 < count }
-    requires owed { count ≤ length (owed_at port agent.old.ports) }
+    requires owed { count ≤ length (owed_of port agent.old) }
     ensures agent { OnOk result (agent.new ≡ sent moment port count agent.old) }
     ensures out { OnOk result
         (out.new.items ≡ out.old.items ++ sending_lines moment port count agent.old) }

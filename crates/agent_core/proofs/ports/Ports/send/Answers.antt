@@ -1,5 +1,5 @@
-use Rattle.std.proofs.Common.{◌≡◌, ◌∙◌, sym, ap, refl, [], ◌∷◌, if◌then◌else◌}
-use Rattle.agent_core.specs.PortLook.{answer_to, keys_after, closes_by, looked_ports}
+use Rattle.std.proofs.Common.{◌≡◌, ◌∙◌, ℕ, subst, sym, ap, refl, [], ◌∷◌, if◌then◌else◌}
+use Rattle.agent_core.specs.PortLook.{answer_to, asks_of, keys_after, closes_by, looked_ports, port_kept, port_looked}
 use Rattle.agent_core.specs.State.{change_port}
 use Rattle.agent_core.specs.Slots.{OpenPorts, port_of, ports_of}
 use Rattle.agent_core.specs.Step.{gone, sent}
@@ -44,7 +44,7 @@ pub finish-requires : goal.finish-requires
 finish-requires c =
     let is = rw c.deref.ensures.value at c.in-Some.ensures in
     let found = found_slot _ _ _ _ is c.index_mut.ensures.value in
-    open_looked (answer_to c.args.now c.args.keys.now) _ _ _ _ _ (sent c.args.count) is found (λ p. refl) c.in_ok-fate.ensures.port
+    open_looked (answer_to (asks_of c.args.number c.args.keys.now) c.args.keys.now) _ _ _ _ _ (sent c.args.count) is found (λ p. refl) (subst (λ (n : ℕ). port_of c.send_at.new.slot ≡ port_looked (answer_to (asks_of n c.args.keys.now) c.args.keys.now) (sent c.args.count (port_of c.index_mut.result.now))) (found_number c.args.number (ports_of c.self.inside.slots.items) (port_of c.index_mut.result.now) found) c.in_ok-fate.ensures.port)
 
 pub returns-clause-closes : goal.returns-clause-closes
 returns-clause-closes c =
@@ -56,23 +56,23 @@ pub returns-clause-ports : goal.returns-clause-ports
 returns-clause-ports c =
     let is = rw c.deref.ensures.value at c.in-Some.ensures in
     let found = found_slot _ _ _ _ is c.index_mut.ensures.value in
-    let same = finished_looked (answer_to c.args.now c.args.keys.now) _ _ _ _ _ (sent c.args.count) _ is found (λ p. refl) c.in_ok-fate.ensures.port c.in_ok-fate.ensures.fate in
+    let same = finished_looked (answer_to (asks_of c.args.number c.args.keys.now) c.args.keys.now) _ _ _ _ _ (sent c.args.count) _ is found (λ p. refl) (subst (λ (n : ℕ). port_of c.send_at.new.slot ≡ port_looked (answer_to (asks_of n c.args.keys.now) c.args.keys.now) (sent c.args.count (port_of c.index_mut.result.now))) (found_number c.args.number (ports_of c.self.inside.slots.items) (port_of c.index_mut.result.now) found) c.in_ok-fate.ensures.port) c.in_ok-fate.ensures.fate in
     rw (← c.self.view_is) (c.finish.ensures.ports ∙ ap (λ ports. let after : OpenPorts = record { ports = ports; last = c.self.inside.last } in after) same)
 
 pub returns-clause-closed : goal.returns-clause-closed
 returns-clause-closed c =
     let is = rw c.deref.ensures.value at c.in-Some.ensures in
     let found = found_slot _ _ _ _ is c.index_mut.ensures.value in
-    let same = finished_looked (answer_to c.args.now c.args.keys.now) _ _ _ _ _ (sent c.args.count) _ is found (λ p. refl) c.in_ok-fate.ensures.port c.in_ok-fate.ensures.fate in
+    let same = finished_looked (answer_to (asks_of c.args.number c.args.keys.now) c.args.keys.now) _ _ _ _ _ (sent c.args.count) _ is found (λ p. refl) (subst (λ (n : ℕ). port_of c.send_at.new.slot ≡ port_looked (answer_to (asks_of n c.args.keys.now) c.args.keys.now) (sent c.args.count (port_of c.index_mut.result.now))) (found_number c.args.number (ports_of c.self.inside.slots.items) (port_of c.index_mut.result.now) found) c.in_ok-fate.ensures.port) c.in_ok-fate.ensures.fate in
     let closes = c.finish.ensures.closes ∙ ap closes_by c.in_ok-fate.ensures.fate ∙ sym (closes_at-change_port c.args.number (sent c.args.count) (ports_of c.self.inside.slots.items) (port_of c.index_mut.result.now) found (λ p. refl)) in
-    let after : c.finish.new.self ≡ (let v : OpenPorts = record { ports = looked_ports (answer_to c.args.now c.args.keys.now) c.args.number (change_port c.args.number (sent c.args.count) (ports_of c.self.inside.slots.items)); last = c.self.inside.last } in v) =
+    let after : c.finish.new.self ≡ (let v : OpenPorts = record { ports = looked_ports (answer_to (asks_of c.args.number c.args.keys.now) c.args.keys.now) c.args.number (change_port c.args.number (sent c.args.count) (ports_of c.self.inside.slots.items)); last = c.self.inside.last } in v) =
     c.finish.ensures.ports ∙ ap (λ ports. let v : OpenPorts = record { ports = ports; last = c.self.inside.last } in v) same in
     rw (← c.self.view_is) (ap (λ (v : OpenPorts). gone c.self.inside.last (ports_of c.self.inside.slots.items) v.last v.ports) after
-    ∙ gone-looked (answer_to c.args.now c.args.keys.now) c.args.number c.self.inside.last (sent c.args.count) (ports_of c.self.inside.slots.items) (λ p. refl) c.self.invariant.rising
+    ∙ gone-looked (answer_to (asks_of c.args.number c.args.keys.now) c.args.keys.now) c.args.number c.self.inside.last (sent c.args.count) (ports_of c.self.inside.slots.items) (λ p. refl) c.self.invariant.rising
     ∙ ap (λ b. if b then c.args.number ∷ [] else []) (sym closes))
 
 pub returns-clause-keys : goal.returns-clause-keys
 returns-clause-keys c =
     let is = rw c.deref.ensures.value at c.in-Some.ensures in
     let found = found_slot _ _ _ _ is c.index_mut.ensures.value in
-    rw (← c.self.view_is) (c.in_ok-fate.ensures.keys ∙ sym (looked_keys-change_port (keys_after c.args.now c.args.keys.now) c.args.keys.now c.args.number (sent c.args.count) (ports_of c.self.inside.slots.items) (port_of c.index_mut.result.now) found (λ p. refl)))
+    rw (← c.self.view_is) ((subst (λ (n : ℕ). c.send_at.new.keys ≡ port_kept (keys_after (asks_of n c.args.keys.now) c.args.keys.now) c.args.keys.now (sent c.args.count (port_of c.index_mut.result.now))) (found_number c.args.number (ports_of c.self.inside.slots.items) (port_of c.index_mut.result.now) found) c.in_ok-fate.ensures.keys) ∙ sym (looked_keys-change_port (keys_after (asks_of c.args.number c.args.keys.now) c.args.keys.now) c.args.keys.now c.args.number (sent c.args.count) (ports_of c.self.inside.slots.items) (port_of c.index_mut.result.now) found (λ p. refl)))
