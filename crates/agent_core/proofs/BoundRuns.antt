@@ -10,12 +10,13 @@ use Rattle.agent_core.specs.declared.slot.Fate.TheVariants.{Stays, Owes, Closes}
 use Rattle.agent_core.specs.Bounds.{AreBounded, AreOfBytes, HasHeardBytes, IsOfBytes}
 use Rattle.agent_core.specs.KeyStates.{KeyState}
 use Rattle.agent_core.specs.Dispatch.{Asking, asking}
-use Rattle.agent_core.specs.PortLook.{fate_of, fated_ports, found_looked, front_kept, found_kept, front_looked, keys_after, owed_kept, owed_looked, port_looked}
+use Rattle.agent_core.specs.PortLook.{fate_of, fated_ports, found_looked, front_kept, found_kept, front_looked, keys_after, port_looked}
 use Rattle.agent_core.specs.Runs.{Timed, run}
 use Rattle.agent_core.specs.State.{Port, State, find_port, change_port, remove_port, new_client, client_count, opening_state}
-use Rattle.agent_core.specs.Step.{Happening, Joined, Heard, Ended, Took, Started, StartFailed, Tick, admitted, changed, heard, longest_body, looked, most_clients, opened, sent, step}
+use Rattle.agent_core.specs.Step.{Happening, Joined, Heard, Ended, Took, Started, StartFailed, Tick, admitted, changed, heard, due, due_by, longest_body, looked, most_clients, opened, sent, step}
 use Rattle.agent_core.proofs.BoundLemmas.{IsBytes-front_body, IsBytes-after_front, front_body-within}
 use Rattle.agent_core.proofs.ServeLemmas.{bounded-none, bounded-expired, bounded-serve}
+use Rattle.agent_core.proofs.LookLemmas.{due-whole}
 use Rattle.agent_core.proofs.StepLemmas.{looked-state, replies}
 
 -- ---- what the ports heard
@@ -81,18 +82,12 @@ heard_by_front reply (Whole body_len) port each = IsBytes-after_front body_len p
 heard_by_front reply (Bad announced) port each = each
 heard_by_front reply More port each = each
 
--- and nothing is taken of a port that is owed bytes
-heard_by_owed : (reply : List ℕ → List ℕ) (owed : List ℕ) (port : Port) → IsBytes port.heard →
-    IsBytes (owed_looked reply owed port).heard
-heard_by_owed reply [] port each = heard_by_front reply (front longest_body port.heard) port each
-heard_by_owed reply (byte ∷ bytes) port each = each
-
 -- by what the look brings, all ports heard bytes after it
 heard_bytes-fated : (reply : List ℕ → List ℕ) (number : ℕ) (fate : Fate) (ports : List Port) →
     HasHeardBytes ports → HasHeardBytes (fated_ports reply number fate ports)
 heard_bytes-fated reply number Closes ports each = heard_bytes-removed number ports each
 heard_bytes-fated reply number Owes ports each =
-    heard_bytes-changed number (port_looked reply) ports (λ port bytes. heard_by_owed reply port.owed port bytes) each
+    heard_bytes-changed number (port_looked reply) ports (λ port bytes. heard_by_front reply (due port) port bytes) each
 heard_bytes-fated reply number Stays ports each = each
 
 -- whether the port is open or not
@@ -102,26 +97,20 @@ heard_bytes-found reply number None ports each = each
 heard_bytes-found reply number (Some port) ports each = heard_bytes-fated reply number (fate_of port) ports each
 
 -- the request that a look takes, if a whole one is there, leaves what is held bounded
-bounded-front : (asks : Asking) (keys : KeyState) (bytes : List ℕ) (answer : Front) → IsBytes bytes →
-    front longest_body bytes ≡ answer → AreBounded keys →
+bounded-front : (asks : Asking) (keys : KeyState) (owed bytes : List ℕ) (answer : Front) → IsBytes bytes →
+    due_by owed bytes ≡ answer → AreBounded keys →
     AreBounded (front_kept (keys_after asks keys) keys bytes answer)
-bounded-front asks keys bytes (Whole body_len) each is held =
+bounded-front asks keys owed bytes (Whole body_len) each is held =
     let is_bytes = IsBytes-front_body body_len bytes each in
-    bounded-serve (front_body body_len bytes) asks keys is_bytes (front_body-within body_len bytes is) held
-bounded-front asks keys bytes (Bad announced) each is held = held
-bounded-front asks keys bytes More each is held = held
-
--- where bytes are owed none is taken
-bounded-owed : (asks : Asking) (keys : KeyState) (owed bytes : List ℕ) → IsBytes bytes →
-    AreBounded keys → AreBounded (owed_kept (keys_after asks keys) keys owed bytes)
-bounded-owed asks keys [] bytes each held = bounded-front asks keys bytes (front longest_body bytes) each refl held
-bounded-owed asks keys (byte ∷ owed) bytes each held = held
+    bounded-serve (front_body body_len bytes) asks keys is_bytes (front_body-within body_len bytes (due-whole owed bytes body_len is).1) held
+bounded-front asks keys owed bytes (Bad announced) each is held = held
+bounded-front asks keys owed bytes More each is held = held
 
 -- and none where the port is not open
 bounded-found : (asks : Asking) (keys : KeyState) (found : Option Port) → FoundBytes found →
     AreBounded keys → AreBounded (found_kept (keys_after asks keys) keys found)
 bounded-found asks keys None each held = held
-bounded-found asks keys (Some port) each held = bounded-owed asks keys port.owed port.heard each held
+bounded-found asks keys (Some port) each held = bounded-front asks keys port.owed port.heard (due port) each refl held
 
 -- ---- states
 

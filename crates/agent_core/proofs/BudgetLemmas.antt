@@ -10,7 +10,8 @@ use Rattle.agent_core.specs.State.{Port, State, IsRising, find_port, change_port
 use Rattle.agent_msg.specs.Reading.{request_of}
 use Rattle.agent_core.specs.Dispatch.{serve, reply_of, reply_text}
 use Rattle.agent_core.specs.Dispatch.{asking}
-use Rattle.agent_core.specs.Step.{step, Took, sent, take_frame, owe, changed, opened, look_front, look_owed, look_port, longest_body}
+use Rattle.agent_core.proofs.LookLemmas.{due-whole}
+use Rattle.agent_core.specs.Step.{step, Took, sent, take_frame, owe, changed, opened, look_front, look_port, due, longest_body}
 use Rattle.agent_core.specs.Budget.{port_budget, ports_budget, budget}
 
 -- a change of the port of this number changes its part of the budget alone
@@ -72,25 +73,20 @@ served_lowers number body text port ports found some =
     omega arith
 
 -- by what stands at the front of the bytes of a port
-front_lowers : (number : ℕ) (port : Port) (state : State) (at : Front) → front longest_body port.heard ≡ at → find_port number state.ports ≡ Some port → budget (look_front number port.heard at state).state ≤ ports_budget state.ports
+front_lowers : (number : ℕ) (port : Port) (state : State) (at : Front) → due port ≡ at → find_port number state.ports ≡ Some port → budget (look_front number port.heard at state).state ≤ ports_budget state.ports
 front_lowers number port state (Whole body) at found =
     served_lowers number body
     (reply_text (reply_of (serve (request_of (front_body body port.heard)) (asking number state.moment.mono) state.keys).verdict))
-    port state.ports found (whole_has_length longest_body body port.heard at)
+    port state.ports found (whole_has_length longest_body body port.heard (due-whole port.owed port.heard body at).1)
 front_lowers number port state (Bad announced) at found = omega (arith, budget-remove number state.ports port found)
 front_lowers number port state More at found = omega arith
-
--- a look never adds to the budget of a port that is owed nothing
-owed_lowers : (number : ℕ) (port : Port) (state : State) (owed : List ℕ) → owed ≡ [] → find_port number state.ports ≡ Some port → budget (look_owed number owed port.heard state).state ≤ ports_budget state.ports
-owed_lowers number port state [] none found = front_lowers number port state (front longest_body port.heard) refl found
-owed_lowers number port state (byte ∷ bytes) none found = absurd (cc)
 
 -- the same, where the port is found
 found_lowers : (number : ℕ) (port : Port) (state : State) (found : Option Port) → find_port number state.ports ≡ found → found ≡ Some port → port.owed ≡ [] → budget (look_port number found state).state ≤ ports_budget state.ports
 found_lowers number port state None is found none = absurd (cc)
 found_lowers number port state (Some other) is found none =
     let same : other ≡ port = cc in
-    owed_lowers number other state other.owed (ap (λ (p : Port). p.owed) same ∙ none) is
+    front_lowers number other state (due other) refl is
 
 -- a port takes all that it is owed: the budget falls
 pub taking_lowers : (number : ℕ) (port : Port) (moment : Moment) (state : State) → find_port number state.ports ≡ Some port → is_some_bytes port.owed ≡ true → budget (step state moment (Took number (length (owed_at number state.ports)))).state < budget state

@@ -11,8 +11,8 @@ use Rattle.agent_core.specs.declared.slot.Slot.{Slot}
 use Rattle.wire_text.specs.Frames.{Front, front, Whole, Bad, More}
 use Rattle.agent_core.specs.declared.slot.Fate.{Fate}
 use Rattle.agent_core.specs.declared.slot.Fate.TheVariants.{Stays, Owes, Closes}
-use Rattle.agent_core.specs.Step.{longest_body}
-use Rattle.agent_core.specs.PortLook.{port_looked, port_kept, looked_keys, found_kept, fate_of, fate_at, found_fate, closes_at, closes_by, found_closes, finished_ports, fated_ports, found_looked, looked_ports, front_fate, front_looked, owed_fate, owed_looked}
+use Rattle.agent_core.specs.Step.{due}
+use Rattle.agent_core.specs.PortLook.{port_looked, port_kept, looked_keys, found_kept, fate_of, fate_at, found_fate, closes_at, closes_by, found_closes, finished_ports, fated_ports, found_looked, looked_ports, front_fate, front_looked}
 use Rattle.agent_core.proofs.LookLemmas.{port_looked-number}
 use Rattle.agent_core.specs.KeyStates.{KeyState}
 use Rattle.agent_core.specs.Owing.{IsRisingNumbers, owing_of, inserted, removed, noted}
@@ -192,14 +192,10 @@ stays_by_front reply (Whole body_len) port stays = absurd (cc)
 stays_by_front reply (Bad announced) port stays = refl
 stays_by_front reply More port stays = refl
 
-stays_by_owed : (reply : List ℕ → List ℕ) (owed : List ℕ) (port : Port) → owed_fate owed port.heard ≡ Stays → owed_looked reply owed port ≡ port
-stays_by_owed reply [] port stays = stays_by_front reply (front longest_body port.heard) port stays
-stays_by_owed reply (byte ∷ bytes) port stays = refl
-
 finished_by : (reply : List ℕ → List ℕ) (number : ℕ) (fate : Fate) (port : Port) (ports : List Port) → find_port number ports ≡ Some port → fate_of port ≡ fate → finished_ports number fate (change_port number (port_looked reply) ports) ≡ fated_ports reply number fate ports
 finished_by reply number Closes port ports found is = remove_port-change_port number (port_looked reply) ports (port_looked-number reply)
 finished_by reply number Owes port ports found is = refl
-finished_by reply number Stays port ports found is = change_port-same number (port_looked reply) ports port found (stays_by_owed reply port.owed port is)
+finished_by reply number Stays port ports found is = change_port-same number (port_looked reply) ports port found (stays_by_front reply (due port) port is)
 
 -- a change, a look and what the look says of the port are the look at the changed port
 pub finished_looked : (reply : List ℕ → List ℕ) (slots : List Slot) (number place : ℕ) (slot : Slot) (port : Port) (f : Port → Port) (fate : Fate) → IsPlace number (ports_of slots) place → find_port number (ports_of slots) ≡ Some port → ((p : Port) → (f p).number ≡ p.number) → port_of slot ≡ port_looked reply (f port) → fate ≡ fate_of (f port) → finished_ports number fate (ports_of (set slots place slot)) ≡ looked_ports reply number (change_port number f (ports_of slots))

@@ -14,10 +14,10 @@ use Rattle.agent_msg.specs.Reading.{request_of}
 use Rattle.agent_msg.specs.Replies.{entries}
 use Rattle.agent_core.specs.Dispatch.{Asking, Reply, Failure, Success, Identities, serve, reply_of, reply_text}
 use Rattle.agent_core.specs.KeyStates.{KeyState}
-use Rattle.agent_core.specs.PortLook.{answer_to, fate_of, fated_ports, found_looked, looked_ports, owed_fate, port_looked, served_port}
+use Rattle.agent_core.specs.PortLook.{answer_to, fate_of, fated_ports, found_looked, looked_ports, front_fate, port_looked, served_port}
 use Rattle.agent_core.specs.State.{Port, IsRising, find_port, change_port, remove_port}
-use Rattle.agent_core.specs.Step.{longest_body, heard}
-use Rattle.agent_core.proofs.LookLemmas.{fate_of-front, port_looked-front, port_looked-number, whole_within}
+use Rattle.agent_core.specs.Step.{due_by, longest_body, heard}
+use Rattle.agent_core.proofs.LookLemmas.{due-owed, fate_of-front, port_looked-front, port_looked-number, whole_within}
 use Rattle.agent_core.proofs.PortsLemmas.{change_port-by, change_port-twice, find_port-below, find_port-change_port, remove_port-change_port}
 
 -- ---- one port
@@ -46,9 +46,8 @@ pub answers_are_some : (asks : Asking) (keys : KeyState) → AreSome (answer_to 
 answers_are_some asks keys body = text_is_some (reply_of (serve (request_of body) asks keys).verdict)
 
 -- what a port that is owed bytes meets
-pub stays_while_owed : (owed heard : List ℕ) → 0 < length owed → owed_fate owed heard ≡ Stays
-stays_while_owed [] heard some = absurd (omega (arith, some))
-stays_while_owed (byte ∷ bytes) heard some = refl
+pub stays_while_owed : (owed heard : List ℕ) → 0 < length owed → front_fate (due_by owed heard) ≡ Stays
+stays_while_owed owed heard some = ap front_fate (due-owed owed heard some)
 
 -- the first frame is the same whatever follows
 served-append : (reply : List ℕ → List ℕ) (body_len : ℕ) (port : Port) (piece : List ℕ) → front longest_body port.heard ≡ Whole body_len → served_port reply body_len (heard piece port) ≡ heard piece (served_port reply body_len port)

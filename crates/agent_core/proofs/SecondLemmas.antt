@@ -2,16 +2,16 @@
 use Rattle.std.proofs.Common.{◌≡◌, ℕ, List, [], ◌∷◌, refl, Bool, true, false, Option, Some, None, Result, Ok, Err, nat_lt, ◌==◌, ◌^◌, ◌-◌}
 use Rattle.std.specs.Str.{bytes_eq}
 use Rattle.constraint_rec.specs.declared.constraint.Constraint.{Constraint}
-use Rattle.wire_text.specs.Frames.{Front, front, front_body, Whole, Bad, More}
+use Rattle.wire_text.specs.Frames.{Front, front_body, Whole, Bad, More}
 use Rattle.identity_table.specs.Identities.{HeldKey, find_identity, max_answer}
 use Rattle.agent_msg.specs.declared.fault.MsgFault.{MsgFault}
 use Rattle.agent_msg.specs.Reading.{request_of}
 use Rattle.agent_msg.specs.Requests.{Addition, ClientRequest, ListIdentities, Sign, Add, Remove, RemoveAll, Lock, Unlock, OtherExtension, Unsupported}
 use Rattle.agent_core.specs.Dispatch.{Asking, add_numbered, add_listed, add_under, length_with, lock_by, remove_by, serve, serve_by, serve_locked, serve_open, sign_by, unlock_by}
 use Rattle.agent_core.specs.KeyStates.{KeyState}
-use Rattle.agent_core.specs.PortLook.{asks_of, front_kept, found_kept, keys_after, looked_keys, owed_kept}
+use Rattle.agent_core.specs.PortLook.{asks_of, front_kept, found_kept, keys_after, looked_keys}
 use Rattle.agent_core.specs.State.{Port, find_port}
-use Rattle.agent_core.specs.Step.{longest_body}
+use Rattle.agent_core.specs.Step.{due}
 
 second-sign : (found : Option HeldKey) (keys : KeyState) → (sign_by found keys).keys.table.greatest ≡ keys.table.greatest
 second-sign None keys = refl
@@ -76,13 +76,9 @@ second-front number keys bytes (Whole body_len) = second-serve (request_of (fron
 second-front number keys bytes (Bad announced) = refl
 second-front number keys bytes More = refl
 
-second-owed : (number : ℕ) (keys : KeyState) (owed bytes : List ℕ) → (owed_kept (keys_after (asks_of number keys) keys) keys owed bytes).table.greatest ≡ keys.table.greatest
-second-owed number keys [] bytes = second-front number keys bytes (front longest_body bytes)
-second-owed number keys (byte ∷ owed) bytes = refl
-
 second-found : (number : ℕ) (keys : KeyState) (found : Option Port) → (found_kept (keys_after (asks_of number keys) keys) keys found).table.greatest ≡ keys.table.greatest
 second-found number keys None = refl
-second-found number keys (Some port) = second-owed number keys port.owed port.heard
+second-found number keys (Some port) = second-front number keys port.heard (due port)
 
 -- a look leaves it
 pub second-looked : (number : ℕ) (keys : KeyState) (ports : List Port) → (looked_keys (keys_after (asks_of number keys) keys) keys number ports).table.greatest ≡ keys.table.greatest

@@ -5,10 +5,10 @@ use Rattle.agent_core.specs.declared.slot.Fate.{Fate}
 use Rattle.agent_core.specs.declared.slot.Fate.TheVariants.{Stays, Owes, Closes}
 use Rattle.agent_core.specs.KeyStates.{KeyState, expired}
 use Rattle.agent_core.specs.State.{State, Port, IsRising, find_port, change_port, remove_port, numbers, new_client, client_count}
-use Rattle.agent_core.specs.Step.{longest_body, looked, look_port, look_owed, look_front, take_frame, owe, changed, without, gone, heard, sent, admitted, most_clients, opened, closed_between, step, handle, Happening, Joined, Heard, Ended, Took}
+use Rattle.agent_core.specs.Step.{longest_body, looked, look_port, due, look_front, take_frame, owe, changed, without, gone, heard, sent, admitted, most_clients, opened, closed_between, step, handle, Happening, Joined, Heard, Ended, Took}
 use Rattle.agent_core.specs.Dispatch.{asking}
 use Rattle.agent_core.proofs.SecondLemmas.{second-looked}
-use Rattle.agent_core.specs.PortLook.{asks_of, port_looked, looked_ports, found_looked, fated_ports, looked_keys, found_kept, owed_kept, front_kept, fate_of, owed_fate, front_fate, answer_to, keys_after, served_port, closes_by, closes_at, found_closes}
+use Rattle.agent_core.specs.PortLook.{front_looked, asks_of, port_looked, looked_ports, found_looked, fated_ports, looked_keys, found_kept, front_kept, fate_of, front_fate, answer_to, keys_after, served_port, closes_by, closes_at, found_closes}
 use Rattle.agent_core.proofs.LookLemmas.{port_looked-front, port_looked-number}
 use Rattle.agent_core.proofs.ClosesLemmas.{without-same, without-remove_port, without-behind, has-above, numbers-append}
 use Rattle.agent_core.proofs.PortsLemmas.{change_port-twice, change_port-by, numbers-change_port, rising-change_port}
@@ -30,25 +30,21 @@ leaves number state = keys_after (asking number state.moment.mono) state.keys
 abbrev pub with_both : State → KeyState → List Port → State
 with_both state keys ports = record state { keys = keys; ports = ports }
 
-looked_by_front : (number : ℕ) (port : Port) (state : State) (answer : Front) → find_port number state.ports ≡ Some port → port.owed ≡ [] → front longest_body port.heard ≡ answer → (look_front number port.heard answer state).state ≡ with_both state (front_kept (leaves number state) state.keys port.heard answer) (fated_ports (replies number state) number (front_fate answer) state.ports)
-looked_by_front number port state (Whole body_len) found empty is =
+looked_by_front : (number : ℕ) (port : Port) (state : State) (answer : Front) → find_port number state.ports ≡ Some port → due port ≡ answer → (look_front number port.heard answer state).state ≡ with_both state (front_kept (leaves number state) state.keys port.heard answer) (fated_ports (replies number state) number (front_fate answer) state.ports)
+looked_by_front number port state (Whole body_len) found is =
     let reply : List ℕ = replies number state (front_body body_len port.heard) in
     let twice : change_port number (owe reply) (change_port number (take_frame body_len) state.ports) ≡ change_port number (λ p. owe reply (take_frame body_len p)) state.ports =
     change_port-twice number (take_frame body_len) (owe reply) state.ports (λ p. refl) in
-    let whole : port_looked (replies number state) port ≡ served_port (replies number state) body_len port = port_looked-front (replies number state) port (Whole body_len) empty is in
+    let whole : port_looked (replies number state) port ≡ served_port (replies number state) body_len port = ap (λ f. front_looked (replies number state) f port) is in
     let as_looked : change_port number (λ p. owe reply (take_frame body_len p)) state.ports ≡ change_port number (port_looked (replies number state)) state.ports =
     change_port-by number (λ p. owe reply (take_frame body_len p)) (port_looked (replies number state)) state.ports port found (sym whole) in
     ap (with_both state (leaves number state (front_body body_len port.heard))) (twice ∙ as_looked)
-looked_by_front number port state (Bad announced) found empty is = refl
-looked_by_front number port state More found empty is = refl
-
-looked_by_owed : (number : ℕ) (port : Port) (state : State) (owed : List ℕ) → find_port number state.ports ≡ Some port → port.owed ≡ owed → (look_owed number owed port.heard state).state ≡ with_both state (owed_kept (leaves number state) state.keys owed port.heard) (fated_ports (replies number state) number (owed_fate owed port.heard) state.ports)
-looked_by_owed number port state [] found is = looked_by_front number port state (front longest_body port.heard) found is refl
-looked_by_owed number port state (byte ∷ bytes) found is = refl
+looked_by_front number port state (Bad announced) found is = refl
+looked_by_front number port state More found is = refl
 
 looked_by_port : (number : ℕ) (state : State) (found : Option Port) → find_port number state.ports ≡ found → (look_port number found state).state ≡ with_both state (found_kept (leaves number state) state.keys found) (found_looked (replies number state) number found state.ports)
 looked_by_port number state None is = refl
-looked_by_port number state (Some port) is = looked_by_owed number port state port.owed is refl
+looked_by_port number state (Some port) is = looked_by_front number port state (due port) is refl
 
 -- a look changes what is held and the ports alone
 pub looked-state : (number : ℕ) (state : State) → (looked number state).state ≡ with_both state (looked_keys (leaves number state) state.keys number state.ports) (looked_ports (replies number state) number state.ports)

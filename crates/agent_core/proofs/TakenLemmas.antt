@@ -10,12 +10,12 @@ use Rattle.agent_core.specs.declared.slot.Fate.{Fate}
 use Rattle.agent_core.specs.declared.slot.Fate.TheVariants.{Stays, Owes, Closes}
 use Rattle.agent_core.specs.Dispatch.{Asking, Verdict, asking, serve}
 use Rattle.agent_core.specs.KeyStates.{KeyState, expired}
-use Rattle.agent_core.specs.PortLook.{answer_to, keys_after, fate_of, fated_ports, found_looked, found_kept, owed_kept, front_kept, looked_keys, owed_fate, port_looked}
+use Rattle.agent_core.specs.PortLook.{answer_to, keys_after, fate_of, fated_ports, found_looked, found_kept, front_kept, looked_keys, front_fate, port_looked}
 use Rattle.agent_core.specs.Runs.{forget_closes}
 use Rattle.agent_core.specs.State.{Port, State, IsRising, IsSound, find_port, change_port}
-use Rattle.agent_core.specs.Step.{Action, Requested, Heard, longest_body, step, opened, changed, heard, look_port, look_owed, look_front}
+use Rattle.agent_core.specs.Step.{Action, Requested, Heard, longest_body, step, opened, changed, heard, look_port, due, due_by, look_front}
 use Rattle.agent_core.proofs.HeldLemmas.{expired-twice}
-use Rattle.agent_core.proofs.LookLemmas.{fate_of-front, port_kept-front, port_looked-number, whole_within}
+use Rattle.agent_core.proofs.LookLemmas.{due-bad, due-front, due-owed, due-whole, fate_of-front, port_kept-front, port_looked-number, whole_within}
 use Rattle.agent_core.proofs.PortsLemmas.{find_port-change_port, rising-change_port}
 use Rattle.agent_core.proofs.StepLemmas.{looked-state}
 use Rattle.agent_core.proofs.PiecesLemmas.{left, left_by, heard-twice, whole_longer, bad_longer, answers_are_some, owes_reply, hear_ports, hear-none, hear-owes, hear-closes, hear-nothing, find_port-remove_port}
@@ -36,35 +36,19 @@ front_acts verdict number heard (Whole body_len) =
 front_acts verdict number heard (Bad announced) = []
 front_acts verdict number heard More = []
 
-abbrev pub owed_acts : (List ℕ → Verdict) → ℕ → List ℕ → List ℕ → List Action
-owed_acts verdict number [] heard = front_acts verdict number heard (front longest_body heard)
-owed_acts verdict number (byte ∷ bytes) heard = []
-
 -- the actions of a look
 abbrev pub acts : (List ℕ → Verdict) → ℕ → Option Port → List Action
 acts verdict number None = []
-acts verdict number (Some port) = owed_acts verdict number port.owed port.heard
+acts verdict number (Some port) = front_acts verdict number port.heard (due port)
 
 look_front-acts : (number : ℕ) (heard : List ℕ) (answer : Front) (state : State) → (look_front number heard answer state).actions ≡ front_acts (verdict_on (asking number state.moment.mono) state.keys) number heard answer
 look_front-acts number heard (Whole body_len) state = refl
 look_front-acts number heard (Bad announced) state = refl
 look_front-acts number heard More state = refl
 
-look_owed-acts : (number : ℕ) (owed heard : List ℕ) (state : State) → (look_owed number owed heard state).actions ≡ owed_acts (verdict_on (asking number state.moment.mono) state.keys) number owed heard
-look_owed-acts number [] heard state = look_front-acts number heard (front longest_body heard) state
-look_owed-acts number (byte ∷ bytes) heard state = refl
-
 look_port-acts : (number : ℕ) (found : Option Port) (state : State) → (look_port number found state).actions ≡ acts (verdict_on (asking number state.moment.mono) state.keys) number found
 look_port-acts number None state = refl
-look_port-acts number (Some port) state = look_owed-acts number port.owed port.heard state
-
-acts-owed : (verdict : List ℕ → Verdict) (number : ℕ) (owed heard : List ℕ) → 0 < length owed → owed_acts verdict number owed heard ≡ []
-acts-owed verdict number [] heard some = absurd (omega (arith, some))
-acts-owed verdict number (byte ∷ bytes) heard some = refl
-
-kept-owed : (after : List ℕ → KeyState) (keys : KeyState) (owed heard : List ℕ) → 0 < length owed → owed_kept after keys owed heard ≡ keys
-kept-owed after keys [] heard some = absurd (omega (arith, some))
-kept-owed after keys (byte ∷ bytes) heard some = refl
+look_port-acts number (Some port) state = look_front-acts number port.heard (due port) state
 
 -- the first body is the same whatever follows
 body_longer : (heard a b : List ℕ) (body_len : ℕ) → front longest_body (heard ++ a) ≡ Whole body_len → front_body body_len (heard ++ (a ++ b)) ≡ front_body body_len (heard ++ a)
@@ -104,8 +88,11 @@ parts-nothing now keys next number a b port same stays none =
           ∙ ap (λ xs. xs ++ acts (verdict_on (asking number now) next) number (option_map (heard b) (left_after (asking number now) keys a (Some port)))) (sym none);
     }
 
-parts-by_front : (now : ℕ) (keys next : KeyState) (number : ℕ) (a b : List ℕ) (port : Port) (answer : Front) → expired now keys ≡ keys → next ≡ expired now (front_kept (keys_after (asking number now) keys) keys (port.heard ++ a) answer) → port.owed ≡ [] → front longest_body (port.heard ++ a) ≡ answer → PortParts now keys next number a b (Some port)
-parts-by_front now keys next number a b port (Whole body_len) settled is empty whole =
+parts-by_front : (now : ℕ) (keys next : KeyState) (number : ℕ) (a b : List ℕ) (port : Port) (answer : Front) → expired now keys ≡ keys → next ≡ expired now (front_kept (keys_after (asking number now) keys) keys (port.heard ++ a) answer) → due_by port.owed (port.heard ++ a) ≡ answer → PortParts now keys next number a b (Some port)
+parts-by_front now keys next number a b port (Whole body_len) settled is due_is =
+    let says = due-whole port.owed (port.heard ++ a) _ due_is in
+    let empty = says.0 in
+    let whole = says.1 in
     let longer : front longest_body (port.heard ++ (a ++ b)) ≡ Whole body_len = whole_longer port.heard a b body_len whole in
     let body : front_body body_len (port.heard ++ (a ++ b)) ≡ front_body body_len (port.heard ++ a) = body_longer port.heard a b body_len whole in
     let some = owes_reply (answer_to (asking number now) keys) body_len (heard a port) (answers_are_some (asking number now) keys) empty whole in
@@ -115,34 +102,33 @@ parts-by_front now keys next number a b port (Whole body_len) settled is empty w
     let all : kept_by (asking number now) keys (a ++ b) (Some port) ≡ keys_after (asking number now) keys (front_body body_len (port.heard ++ a)) =
     port_kept-front (keys_after (asking number now) keys) keys (heard (a ++ b) port) (Whole body_len) empty longer ∙ ap (keys_after (asking number now) keys) body in
     let first : acts (verdict_on (asking number now) keys) number (Some (heard a port)) ≡ front_acts (verdict_on (asking number now) keys) number (port.heard ++ a) (Whole body_len) =
-    ap (λ owed. owed_acts (verdict_on (asking number now) keys) number owed (port.heard ++ a)) empty
-    ∙ ap (front_acts (verdict_on (asking number now) keys) number (port.heard ++ a)) whole in
+    ap (front_acts (verdict_on (asking number now) keys) number (port.heard ++ a)) (due-front port.owed (port.heard ++ a) _ empty whole) in
     let second : acts (verdict_on (asking number now) next) number (option_map (heard b) (left_after (asking number now) keys a (Some port))) ≡ [] =
     ap (λ o. acts (verdict_on (asking number now) next) number (option_map (heard b) o)) there
-    ∙ acts-owed (verdict_on (asking number now) next) number after.owed after.heard some in
+    ∙ ap (front_acts (verdict_on (asking number now) next) number after.heard) (due-owed after.owed after.heard some) in
     record {
       kept = ap (λ o. expired now (kept_by (asking number now) next b o)) there
-          ∙ ap (expired now) (kept-owed (keys_after (asking number now) next) next after.owed after.heard some)
+          ∙ ap (expired now) (ap (front_kept (keys_after (asking number now) next) next after.heard) (due-owed after.owed after.heard some))
           ∙ ap (expired now) is
           ∙ expired-twice now (keys_after (asking number now) keys (front_body body_len (port.heard ++ a)))
           ∙ ap (expired now) (sym all);
-      taken = ap (λ owed. owed_acts (verdict_on (asking number now) keys) number owed (port.heard ++ (a ++ b))) empty
-          ∙ ap (front_acts (verdict_on (asking number now) keys) number (port.heard ++ (a ++ b))) longer
+      taken = ap (front_acts (verdict_on (asking number now) keys) number (port.heard ++ (a ++ b))) (due-front port.owed (port.heard ++ (a ++ b)) _ empty longer)
           ∙ ap (λ bytes. Requested (record { port = number; body = bytes; verdict = verdict_on (asking number now) keys bytes }) ∷ []) body
           ∙ sym first
           ∙ sym (ap (λ xs. acts (verdict_on (asking number now) keys) number (Some (heard a port)) ++ xs) second ∙ append-nil (acts (verdict_on (asking number now) keys) number (Some (heard a port))));
     }
-parts-by_front now keys next number a b port (Bad announced) settled is empty bad =
+parts-by_front now keys next number a b port (Bad announced) settled is due_is =
+    let says = due-bad port.owed (port.heard ++ a) _ due_is in
+    let empty = says.0 in
+    let bad = says.1 in
     let longer : front longest_body (port.heard ++ (a ++ b)) ≡ Bad announced = bad_longer port.heard a b announced bad in
     let there : left_after (asking number now) keys a (Some port) ≡ None =
     ap (λ f. left_by (answer_to (asking number now) keys) f (heard a port)) (fate_of-front (heard a port) (Bad announced) empty bad) in
     let all : kept_by (asking number now) keys (a ++ b) (Some port) ≡ keys = port_kept-front (keys_after (asking number now) keys) keys (heard (a ++ b) port) (Bad announced) empty longer in
     let first : acts (verdict_on (asking number now) keys) number (Some (heard a port)) ≡ [] =
-    ap (λ owed. owed_acts (verdict_on (asking number now) keys) number owed (port.heard ++ a)) empty
-    ∙ ap (front_acts (verdict_on (asking number now) keys) number (port.heard ++ a)) bad in
+    ap (front_acts (verdict_on (asking number now) keys) number (port.heard ++ a)) (due-front port.owed (port.heard ++ a) _ empty bad) in
     let whole : acts (verdict_on (asking number now) keys) number (Some (heard (a ++ b) port)) ≡ [] =
-    ap (λ owed. owed_acts (verdict_on (asking number now) keys) number owed (port.heard ++ (a ++ b))) empty
-    ∙ ap (front_acts (verdict_on (asking number now) keys) number (port.heard ++ (a ++ b))) longer in
+    ap (front_acts (verdict_on (asking number now) keys) number (port.heard ++ (a ++ b))) (due-front port.owed (port.heard ++ (a ++ b)) _ empty longer) in
     let second : acts (verdict_on (asking number now) next) number (option_map (heard b) (left_after (asking number now) keys a (Some port))) ≡ [] =
     ap (λ o. acts (verdict_on (asking number now) next) number (option_map (heard b) o)) there in
     record {
@@ -150,45 +136,34 @@ parts-by_front now keys next number a b port (Bad announced) settled is empty ba
           ∙ ap (expired now) is ∙ expired-twice now keys ∙ ap (expired now) (sym all);
       taken = whole ∙ sym (ap (λ xs. xs ++ acts (verdict_on (asking number now) next) number (option_map (heard b) (left_after (asking number now) keys a (Some port)))) first ∙ second);
     }
-parts-by_front now keys next number a b port More settled is empty more =
-    parts-nothing now keys next number a b port (is ∙ settled) (fate_of-front (heard a port) More empty more)
-    (ap (λ owed. owed_acts (verdict_on (asking number now) keys) number owed (port.heard ++ a)) empty
-    ∙ ap (front_acts (verdict_on (asking number now) keys) number (port.heard ++ a)) more)
-
-parts-by_owed : (now : ℕ) (keys next : KeyState) (number : ℕ) (a b : List ℕ) (port : Port) (owed : List ℕ) → expired now keys ≡ keys → next ≡ expired now (owed_kept (keys_after (asking number now) keys) keys owed (port.heard ++ a)) → port.owed ≡ owed → PortParts now keys next number a b (Some port)
-parts-by_owed now keys next number a b port [] settled is empty =
-    parts-by_front now keys next number a b port (front longest_body (port.heard ++ a)) settled is empty refl
-parts-by_owed now keys next number a b port (byte ∷ bytes) settled is owes =
-    parts-nothing now keys next number a b port (is ∙ settled)
-    (ap (λ owed. owed_fate owed (port.heard ++ a)) owes)
-    (ap (λ owed. owed_acts (verdict_on (asking number now) keys) number owed (port.heard ++ a)) owes)
+parts-by_front now keys next number a b port More settled is more =
+    parts-nothing now keys next number a b port (is ∙ settled) (ap front_fate more) (ap (front_acts (verdict_on (asking number now) keys) number (port.heard ++ a)) more)
 
 parts-by_port : (now : ℕ) (keys next : KeyState) (number : ℕ) (a b : List ℕ) (found : Option Port) → expired now keys ≡ keys → next ≡ expired now (kept_by (asking number now) keys a found) → PortParts now keys next number a b found
 parts-by_port now keys next number a b None settled is = record {
   kept = ap (expired now) (is ∙ settled);
   taken = refl;
 }
-parts-by_port now keys next number a b (Some port) settled is = parts-by_owed now keys next number a b port port.owed settled is refl
+parts-by_port now keys next number a b (Some port) settled is = parts-by_front now keys next number a b port (due (heard a port)) settled is refl
 
 -- ---- all ports
 
 -- the ports that two parts lead to
-ports-by_front : (now : ℕ) (keys next : KeyState) (number last : ℕ) (a b : List ℕ) (ports : List Port) (port : Port) (answer : Front) → expired now keys ≡ keys → next ≡ expired now (front_kept (keys_after (asking number now) keys) keys (port.heard ++ a) answer) → IsRising 0 last ports → find_port number ports ≡ Some port → port.owed ≡ [] → front longest_body (port.heard ++ a) ≡ answer → hear_ports (answer_to (asking number now) next) number b (hear_ports (answer_to (asking number now) keys) number a ports) ≡ hear_ports (answer_to (asking number now) keys) number (a ++ b) ports
-ports-by_front now keys next number last a b ports port (Whole body_len) settled is rising found empty whole =
+ports-by_front : (now : ℕ) (keys next : KeyState) (number last : ℕ) (a b : List ℕ) (ports : List Port) (port : Port) (answer : Front) → expired now keys ≡ keys → next ≡ expired now (front_kept (keys_after (asking number now) keys) keys (port.heard ++ a) answer) → IsRising 0 last ports → find_port number ports ≡ Some port → due_by port.owed (port.heard ++ a) ≡ answer → hear_ports (answer_to (asking number now) next) number b (hear_ports (answer_to (asking number now) keys) number a ports) ≡ hear_ports (answer_to (asking number now) keys) number (a ++ b) ports
+ports-by_front now keys next number last a b ports port (Whole body_len) settled is rising found due_is =
+    let says = due-whole port.owed (port.heard ++ a) _ due_is in
+    let empty = says.0 in
+    let whole = says.1 in
     hear-owes (answer_to (asking number now) keys) (answer_to (asking number now) next) number a b body_len ports port (answers_are_some (asking number now) keys) found empty whole
-ports-by_front now keys next number last a b ports port (Bad announced) settled is rising found empty bad =
+ports-by_front now keys next number last a b ports port (Bad announced) settled is rising found due_is =
+    let says = due-bad port.owed (port.heard ++ a) _ due_is in
+    let empty = says.0 in
+    let bad = says.1 in
     ap (λ k. hear_ports (answer_to (asking number now) k) number b (hear_ports (answer_to (asking number now) keys) number a ports)) (is ∙ settled)
     ∙ hear-closes (answer_to (asking number now) keys) number last a b announced ports port rising found empty bad
-ports-by_front now keys next number last a b ports port More settled is rising found empty more =
+ports-by_front now keys next number last a b ports port More settled is rising found more =
     ap (λ k. hear_ports (answer_to (asking number now) k) number b (hear_ports (answer_to (asking number now) keys) number a ports)) (is ∙ settled)
-    ∙ hear-nothing (answer_to (asking number now) keys) number a b ports port found (fate_of-front (heard a port) More empty more)
-
-ports-by_owed : (now : ℕ) (keys next : KeyState) (number last : ℕ) (a b : List ℕ) (ports : List Port) (port : Port) (owed : List ℕ) → expired now keys ≡ keys → next ≡ expired now (owed_kept (keys_after (asking number now) keys) keys owed (port.heard ++ a)) → IsRising 0 last ports → find_port number ports ≡ Some port → port.owed ≡ owed → hear_ports (answer_to (asking number now) next) number b (hear_ports (answer_to (asking number now) keys) number a ports) ≡ hear_ports (answer_to (asking number now) keys) number (a ++ b) ports
-ports-by_owed now keys next number last a b ports port [] settled is rising found empty =
-    ports-by_front now keys next number last a b ports port (front longest_body (port.heard ++ a)) settled is rising found empty refl
-ports-by_owed now keys next number last a b ports port (byte ∷ bytes) settled is rising found owes =
-    ap (λ k. hear_ports (answer_to (asking number now) k) number b (hear_ports (answer_to (asking number now) keys) number a ports)) (is ∙ settled)
-    ∙ hear-nothing (answer_to (asking number now) keys) number a b ports port found (ap (λ owed. owed_fate owed (port.heard ++ a)) owes)
+    ∙ hear-nothing (answer_to (asking number now) keys) number a b ports port found (ap front_fate more)
 
 ports-by_port : (now : ℕ) (keys next : KeyState) (number last : ℕ) (a b : List ℕ) (ports : List Port) (found : Option Port) → expired now keys ≡ keys → next ≡ expired now (kept_by (asking number now) keys a found) → IsRising 0 last ports → find_port number ports ≡ found → hear_ports (answer_to (asking number now) next) number b (hear_ports (answer_to (asking number now) keys) number a ports) ≡ hear_ports (answer_to (asking number now) keys) number (a ++ b) ports
 ports-by_port now keys next number last a b ports None settled is rising absent =
@@ -196,7 +171,7 @@ ports-by_port now keys next number last a b ports None settled is rising absent 
     ∙ hear-none (answer_to (asking number now) next) number b ports absent
     ∙ sym (hear-none (answer_to (asking number now) keys) number (a ++ b) ports absent)
 ports-by_port now keys next number last a b ports (Some port) settled is rising found =
-    ports-by_owed now keys next number last a b ports port port.owed settled is rising found refl
+    ports-by_front now keys next number last a b ports port (due (heard a port)) settled is rising found refl
 
 -- the port after a look
 find-fated : (reply : List ℕ → List ℕ) (number last : ℕ) (port : Port) (fate : Fate) (ports : List Port) → IsRising 0 last ports → find_port number ports ≡ Some port → find_port number (fated_ports reply number fate ports) ≡ left_by reply fate port

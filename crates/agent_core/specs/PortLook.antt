@@ -1,13 +1,13 @@
 -- What a look does to one port, apart from the others.
 use Rattle.std.specs.Prelude.{ℕ, Bool, true, false, Option, Some, None, List, [], ◌∷◌}
-use Rattle.wire_text.specs.Frames.{Front, front, front_body, Whole, Bad, More}
+use Rattle.wire_text.specs.Frames.{Front, front_body, Whole, Bad, More}
 use Rattle.agent_core.specs.declared.slot.Fate.{Fate}
 use Rattle.agent_core.specs.declared.slot.Fate.TheVariants.{Stays, Owes, Closes}
 use Rattle.agent_msg.specs.Reading.{request_of}
 use Rattle.agent_core.specs.Dispatch.{Asking, asking, serve, reply_of, reply_text}
 use Rattle.agent_core.specs.KeyStates.{KeyState}
 use Rattle.agent_core.specs.State.{Port, find_port, remove_port, change_port}
-use Rattle.agent_core.specs.Step.{longest_body, owe, take_frame}
+use Rattle.agent_core.specs.Step.{due, owe, take_frame}
 
 -- the text of the reply to a request with this body, at this second, of an agent that holds these
 abbrev pub answer_to : Asking → KeyState → List ℕ → List ℕ
@@ -27,14 +27,9 @@ front_fate (Whole body_len) = Owes
 front_fate (Bad announced) = Closes
 front_fate More = Stays
 
--- by whether a reply is owed already
-abbrev pub owed_fate : List ℕ → List ℕ → Fate
-owed_fate [] heard = front_fate (front longest_body heard)
-owed_fate (byte ∷ bytes) heard = Stays
-
 -- what a look brings to this port
 abbrev pub fate_of : Port → Fate
-fate_of port = owed_fate port.owed port.heard
+fate_of port = front_fate (due port)
 
 -- ---- the port, by the texts that answer requests
 
@@ -47,13 +42,9 @@ front_looked answer (Whole body_len) port = served_port answer body_len port
 front_looked answer (Bad announced) port = port
 front_looked answer More port = port
 
-abbrev pub owed_looked : (List ℕ → List ℕ) → List ℕ → Port → Port
-owed_looked answer [] port = front_looked answer (front longest_body port.heard) port
-owed_looked answer (byte ∷ bytes) port = port
-
 -- the port after the look
 abbrev pub port_looked : (List ℕ → List ℕ) → Port → Port
-port_looked answer port = owed_looked answer port.owed port
+port_looked answer port = front_looked answer (due port) port
 
 -- ---- what is held, by what requests leave of it
 
@@ -62,13 +53,9 @@ front_kept after keys heard (Whole body_len) = after (front_body body_len heard)
 front_kept after keys heard (Bad announced) = keys
 front_kept after keys heard More = keys
 
-abbrev pub owed_kept : (List ℕ → KeyState) → KeyState → List ℕ → List ℕ → KeyState
-owed_kept after keys [] heard = front_kept after keys heard (front longest_body heard)
-owed_kept after keys (byte ∷ bytes) heard = keys
-
 -- what is held after a look at this port
 abbrev pub port_kept : (List ℕ → KeyState) → KeyState → Port → KeyState
-port_kept after keys port = owed_kept after keys port.owed port.heard
+port_kept after keys port = front_kept after keys port.heard (due port)
 
 abbrev pub found_kept : (List ℕ → KeyState) → KeyState → Option Port → KeyState
 found_kept after keys None = keys

@@ -124,21 +124,24 @@ taken number body_len heard state =
     concluded number body (serve (request_of body) (asking number state.moment.mono) state.keys)
     (changed number (take_frame body_len) state)
 
--- by what stands at the front of the client's bytes
+-- what is to be taken of a client: nothing while it is owed bytes
+abbrev pub due_by : List ℕ → List ℕ → Front
+due_by [] heard = front longest_body heard
+due_by (byte ∷ bytes) heard = More
+
+abbrev pub due : Port → Front
+due port = due_by port.owed port.heard
+
+-- by what is to be taken of the client
 abbrev pub look_front : ℕ → List ℕ → Front → State → Outcome
 look_front number heard (Whole body_len) state = taken number body_len heard state
 look_front number heard (Bad announced) state = stay (closed number state)
 look_front number heard More state = stay state
 
--- a client that is owed a reply isn't served
-abbrev pub look_owed : ℕ → List ℕ → List ℕ → State → Outcome
-look_owed number [] heard state = look_front number heard (front longest_body heard) state
-look_owed number (byte ∷ bytes) heard state = stay state
-
 -- by whether the port is open
 abbrev pub look_port : ℕ → Option Port → State → Outcome
 look_port number None state = stay state
-look_port number (Some port) state = look_owed number port.owed port.heard state
+look_port number (Some port) state = look_front number port.heard (due port) state
 
 -- a port is looked at: a client that is owed nothing has its first request taken where that is whole, and is
 -- closed where its length is bad

@@ -121,12 +121,7 @@ impl Ports {
     }
 
     /// Appends the piece to what was heard of an open port, and looks. Answers whether the port was closed.
-    pub fn hear(
-        &mut self,
-        keys: &mut Keys,
-        number: u64,
-        piece: &[u8],
-    ) -> Result<bool, CoreMemory>
+    pub fn hear(&mut self, keys: &mut Keys, number: u64, piece: &[u8]) -> Result<bool, CoreMemory>
         requires is_open { IsOpen number self.old.ports }
         ensures closes { IfOk result (λ closes. closes ≡ closes_at number (change_port number (heard piece.now) self.old.ports)) }
         ensures ports { OnOk result (self.new ≡ record self.old {
@@ -146,12 +141,7 @@ impl Ports {
     }
 
     /// Drops the first `count` bytes that an open port is owed, and looks. Answers whether the port was closed.
-    pub fn send(
-        &mut self,
-        keys: &mut Keys,
-        number: u64,
-        count: usize,
-    ) -> Result<bool, CoreMemory>
+    pub fn send(&mut self, keys: &mut Keys, number: u64, count: usize) -> Result<bool, CoreMemory>
         requires is_open { IsOpen number self.old.ports }
         requires count { count ≤ length (owed_at number self.old.ports) }
         ensures closes { IfOk result (λ closes. closes ≡ closes_at number (change_port number (sent count) self.old.ports)) }

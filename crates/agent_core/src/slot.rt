@@ -71,7 +71,11 @@ fn look_at(slot: &mut Slot, keys: &mut Keys) -> Result<Fate, CoreMemory>
     }
     match look(slot.heard.live(), LONGEST_BODY) {
         Look::Whole { body } => {
-            keys.serve(slot.number, first_body(slot.heard.live(), body), &mut slot.owed)?;
+            keys.serve(
+                slot.number,
+                first_body(slot.heard.live(), body),
+                &mut slot.owed,
+            )?;
             drop_frame(&mut slot.heard, body);
             Ok(Fate::Owes)
         }
