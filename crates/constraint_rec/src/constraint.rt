@@ -1,9 +1,5 @@
-ghost use Rattle.std.specs.Prelude.{◌≡◌, ◌↔◌, IsTrue, length, []};
-
-use crate::key_spec::KeySpecs;
-use plain_lists::Bytes;
-use std::alloc::Global;
-use std::marker::Model;
+use crate::key_spec::KeySpec;
+use plain_lists::{Bytes, PlainList};
 
 /// A host on the way of a signature request, and who may be logged in to there.
 #[derive(Debug, Drop)]
@@ -13,7 +9,7 @@ pub struct Hop {
     /// The name of the host. Empty where the hop is the host of the agent itself.
     pub host: Bytes,
     /// The keys by which the host is known.
-    pub keys: KeySpecs,
+    pub keys: PlainList<KeySpec>,
 }
 
 /// A destination constraint: the key may be used by a request from one host to another.
@@ -23,67 +19,4 @@ pub struct Constraint {
     pub from: Hop,
     /// The hop that is entered.
     pub to: Hop,
-}
-
-/// Destination constraints in order, seen as the list of them. Made from a `Vec` and given back as
-/// one, with no memory taken.
-#[derive(Debug, Drop)]
-pub struct Constraints {
-    inner: Vec<Constraint>,
-}
-
-impl Model for Constraints {
-    ghost use Rattle.std.specs.Prelude.{List};
-    ghost use Rattle.constraint_rec.specs.declared.constraint.Constraint.{Constraint};
-
-    ghost Value = { List Constraint };
-
-    ghost view = { λ constraints. constraints.inner.items };
-}
-
-impl Constraints {
-    /// No constraints. Takes no memory.
-    pub fn new(alloc: Global) -> Constraints
-        ensures { result ≡ [] }
-    {
-        Constraints {
-            inner: Vec::new(alloc),
-        }
-    }
-
-    /// The constraints of `inner`.
-    pub fn from_vec(inner: Vec<Constraint>) -> Constraints
-        ensures { result ≡ inner.items }
-    {
-        Constraints { inner }
-    }
-
-    /// The vector that the constraints are kept in.
-    pub fn into_vec(self) -> Vec<Constraint>
-        ensures { result.items ≡ self }
-    {
-        let Constraints { inner } = self;
-        inner
-    }
-
-    /// The constraints, lent.
-    pub fn as_slice(&self) -> &[Constraint]
-        ensures { result.now ≡ self.now }
-    {
-        self.inner.as_slice()
-    }
-
-    /// How many constraints there are.
-    pub fn len(&self) -> usize
-        ensures { result ≡ length self.now }
-    {
-        self.inner.len()
-    }
-
-    /// Whether there are none.
-    pub fn is_empty(&self) -> bool
-        ensures { IsTrue result ↔ (self.now ≡ []) }
-    {
-        self.inner.is_empty()
-    }
 }

@@ -4,11 +4,11 @@ ghost use Rattle.std.specs.Prelude.{◌≡◌, ◌<◌, ◌⊎◌, length, IfOk,
 ghost use Rattle.constraint_rec.specs.declared.fault.TermFault.TheVariants.{Memory};
 ghost use Rattle.constraint_rec.specs.HopReading.{IsReadingOf, key_at, after_reserved, all_of, hop_in, as_from, as_to, hop_at, constraint_in, constraint_at, rules_in};
 
-use crate::constraint::{Constraint, Constraints, Hop};
+use crate::constraint::{Constraint, Hop};
 use crate::fault::TermFault;
-use crate::key_spec::{KeySpec, KeySpecs};
+use crate::key_spec::KeySpec;
 use key_blob::read_public;
-use plain_lists::Bytes;
+use plain_lists::{Bytes, PlainList};
 use std::alloc::{AllocError, Global};
 use wire_core::Cursor;
 
@@ -47,7 +47,7 @@ fn take_reserved(from: &mut Cursor<'_>) -> Result<(), TermFault>
 }
 
 /// Reads keys to the end of `bytes`.
-fn keys_in(alloc: Global, bytes: &[u8]) -> Result<KeySpecs, TermFault>
+fn keys_in(alloc: Global, bytes: &[u8]) -> Result<PlainList<KeySpec>, TermFault>
     ensures { IsReadingOf (all_of key_at bytes.now) result }
 {
     let mut keys = Vec::new(alloc);
@@ -55,7 +55,7 @@ fn keys_in(alloc: Global, bytes: &[u8]) -> Result<KeySpecs, TermFault>
     'keys: while !from.at_end() {
         keys.push(take_key(alloc, &mut from)?)?;
     }
-    Ok(KeySpecs::from_vec(keys))
+    Ok(PlainList::from_vec(keys))
 }
 
 /// Reads a hop, all of `bytes`.
@@ -144,7 +144,7 @@ fn take_destination(alloc: Global, from: &mut Cursor<'_>) -> Result<Constraint, 
 }
 
 /// Reads constraints to the end of `bytes`.
-fn destinations_in(alloc: Global, bytes: &[u8]) -> Result<Constraints, TermFault>
+fn destinations_in(alloc: Global, bytes: &[u8]) -> Result<PlainList<Constraint>, TermFault>
     ensures { IsReadingOf (all_of constraint_at bytes.now) result }
 {
     let mut rules = Vec::new(alloc);
@@ -152,12 +152,12 @@ fn destinations_in(alloc: Global, bytes: &[u8]) -> Result<Constraints, TermFault
     'rules: while !from.at_end() {
         rules.push(take_destination(alloc, &mut from)?)?;
     }
-    Ok(Constraints::from_vec(rules))
+    Ok(PlainList::from_vec(rules))
 }
 
 /// Reads constraints to the end of `bytes`, of which there have to be some.
 #[tactic(auto, unfolding(crate::specs::HopReading::rules_in))]
-pub fn read_destinations(alloc: Global, bytes: &[u8]) -> Result<Constraints, TermFault>
+pub fn read_destinations(alloc: Global, bytes: &[u8]) -> Result<PlainList<Constraint>, TermFault>
     ensures { IsReadingOf (rules_in bytes.now) result }
 {
     let rules = destinations_in(alloc, bytes)?;

@@ -15,9 +15,9 @@ mod terms;
 mod tests;
 mod write;
 
-pub use constraint::{Constraint, Constraints, Hop};
+pub use constraint::{Constraint, Hop};
 pub use fault::TermFault;
-pub use key_spec::{KeySpec, KeySpecs};
+pub use key_spec::KeySpec;
 pub use read::read_constraints;
 pub use terms::Terms;
 pub use write::write_constraints;

@@ -1,7 +1,8 @@
 ghost use Rattle.std.specs.Prelude.{◌≡◌};
 ghost use Rattle.constraint_rec.specs.Constraints.{no_terms};
 
-use crate::constraint::Constraints;
+use crate::constraint::Constraint;
+use plain_lists::PlainList;
 use std::alloc::Global;
 
 /// What a client asks of an agent about a key that it adds.
@@ -12,7 +13,7 @@ pub struct Terms {
     /// Whether each use is to be confirmed.
     pub confirm: bool,
     /// Where the key may be used. Empty where it may be used anywhere.
-    pub rules: Constraints,
+    pub rules: PlainList<Constraint>,
 }
 
 impl Terms {
@@ -23,7 +24,7 @@ impl Terms {
         Terms {
             life: None,
             confirm: false,
-            rules: Constraints::new(alloc),
+            rules: PlainList::new(alloc),
         }
     }
 }

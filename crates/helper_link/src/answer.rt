@@ -1,6 +1,5 @@
 use crate::fault::LinkFault;
-use crate::settled_list::SettledList;
-use plain_lists::Bytes;
+use plain_lists::{Bytes, PlainList};
 
 /// What the helper answers to an ask.
 #[derive(Debug, Drop, PartialEq, Eq)]
@@ -27,7 +26,7 @@ pub struct Settled {
 #[derive(Debug, Drop)]
 pub struct Told {
     /// The asks that were answered, in the order of the answers.
-    pub settled: SettledList,
+    pub settled: PlainList<Settled>,
     /// The fault of the first faulty frame, behind which nothing is read. The link is to be lost.
     pub fault: Option<LinkFault>,
 }

@@ -9,7 +9,6 @@ mod fault;
 mod laws;
 mod link;
 mod settle;
-mod settled_list;
 mod state;
 mod stop;
 #[cfg(test)]
@@ -20,5 +19,4 @@ pub use ask::{Ask, AskKind};
 pub use fault::{AskFault, LinkFault};
 pub use laws::{asks_stay_in_order, cuts_of_the_stream_do_not_matter};
 pub use link::Link;
-pub use settled_list::SettledList;
 pub use state::LinkState;

@@ -8,8 +8,8 @@ use crate::answer::Told;
 use crate::ask::{Ask, AskKind};
 use crate::fault::AskFault;
 use crate::settle::settle_stream;
-use crate::settled_list::SettledList;
 use crate::state::LinkState;
+use plain_lists::PlainList;
 use child_msg::{ToChild, write_to_child};
 use secret_buf::{ScrubBuf, SecretBytes};
 use std::alloc::{AllocError, Global};
@@ -192,7 +192,7 @@ impl Link {
         let end = settle_stream(alloc, self.heard.live(), &mut self.asks)?;
         self.heard.consume(end.read);
         Ok(Told {
-            settled: SettledList::from_vec(end.settled),
+            settled: PlainList::from_vec(end.settled),
             fault: end.fault,
         })
     }

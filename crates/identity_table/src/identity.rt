@@ -3,9 +3,9 @@ ghost use Rattle.identity_table.specs.Identities.{identity_of};
 ghost use Rattle.identity_table.specs.Deaths.{lives_at, on_clock};
 
 use crate::deadline::Deadline;
-use constraint_rec::{Constraint, Constraints, Terms};
+use constraint_rec::{Constraint, Terms};
 use key_blob::AddedKey;
-use plain_lists::Bytes;
+use plain_lists::{Bytes, PlainList};
 use secret_buf::SecretBytes;
 use std::marker::Model;
 
@@ -20,7 +20,7 @@ pub struct Identity {
     comment: Bytes,
     deadline: Option<Deadline>,
     confirm: bool,
-    rules: Constraints,
+    rules: PlainList<Constraint>,
 }
 
 impl Model for Identity {

@@ -4,9 +4,9 @@
 ghost use Rattle.std.specs.Prelude.{◌≡◌};
 
 use super::*;
-use constraint_rec::{Constraints, Terms};
+use constraint_rec::Terms;
 use key_blob::AddedKey;
-use plain_lists::Bytes;
+use plain_lists::{Bytes, PlainList};
 use secret_buf::SecretBytes;
 use std::alloc::Global;
 use std::test::Fail;
@@ -22,7 +22,7 @@ fn terms(alloc: Global, life: Option<u32>, confirm: bool) -> Terms {
     Terms {
         life,
         confirm,
-        rules: Constraints::new(alloc),
+        rules: PlainList::new(alloc),
     }
 }
 

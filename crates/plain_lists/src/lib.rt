@@ -3,8 +3,8 @@
 //! Stands on std alone.
 #![tactic(auto)]
 
-mod bytes;
+mod list;
 #[cfg(test)]
 mod tests;
 
-pub use crate::bytes::Bytes;
+pub use crate::list::{Bytes, PlainList};

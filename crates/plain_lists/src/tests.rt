@@ -19,6 +19,6 @@ fn bytes_are_lent_counted_and_given_back(rt: HostRuntime) -> Result<(), Fail> {
 fn bytes_are_printed_with_their_name(rt: HostRuntime) -> Result<(), Fail> {
     let bytes = Bytes::from_vec(Vec::from_slice(rt.alloc(), &[3, 255])?);
     let printed = format!(in rt.alloc(); "{bytes:?}")?;
-    assert_eq!(rt; printed.as_str(), "Bytes { inner: [3, 255] }");
+    assert_eq!(rt; printed.as_str(), "PlainList { inner: [3, 255] }");
     Ok(())
 }
