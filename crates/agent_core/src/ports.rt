@@ -13,14 +13,13 @@ use crate::places::place_of;
 use crate::slot::{self, Fate, Slot};
 use crate::{CoreMemory, owing};
 use secret_buf::ScrubBuf;
-use std::alloc::Global;
+use std::alloc::{AllocFailed, Global};
 use std::marker::Model;
 
 /// The most clients that may be open at once.
 const MOST_CLIENTS: usize = 128;
 
 /// The open ports in the order of their numbers.
-#[derive(Drop)]
 pub struct Ports {
     slots: Vec<Slot>,
     // The numbers of those that are owed bytes, rising.
@@ -111,11 +110,15 @@ impl Ports {
         let alloc = *self.slots.allocator();
         let owed = Owed::new(alloc)?;
         self.owing.reserve(MOST_CLIENTS)?;
-        self.slots.push(Slot {
+        let slot = Slot {
             number: self.last + 1,
             heard: ScrubBuf::new(alloc),
             owed,
-        })?;
+        };
+        if let Err(AllocFailed { value }) = self.slots.push(slot) {
+            value.close();
+            return Err(CoreMemory);
+        }
         self.last += 1;
         Ok(true)
     }
@@ -170,8 +173,24 @@ impl Ports {
         let Some(place) = place_of(&self.slots, number) else {
             unreachable!()
         };
-        self.slots.remove(place);
+        self.slots.remove(place).close();
         owing::take_out(&mut self.owing, number);
+    }
+}
+
+impl Drop for Ports {
+    fn drop(self)
+        requires { self ≡ self }
+    {
+        let Ports {
+            mut slots,
+            owing: _,
+            last: _,
+        } = self;
+        'slots: while let Some(slot) = slots.pop() {
+            slot.close();
+        }
+        slots.destroy_empty();
     }
 }
 

@@ -16,12 +16,22 @@ pub const LONGEST_BODY: u32 = 262_144;
 /// The storage of a request with a longer body isn't kept for the next one, in bytes.
 const LONG: u32 = 4096;
 
-/// An open port of a client.
-#[derive(Drop)]
+/// An open port of a client. It has no `Drop`, so each is to be closed.
 pub struct Slot {
     pub number: u64,
     pub heard: ScrubBuf,
     pub owed: Owed,
+}
+
+impl Slot {
+    /// Wipes what was heard of it and what it is owed.
+    pub fn close(self) {
+        let Slot {
+            number: _,
+            heard: _,
+            owed: _,
+        } = self;
+    }
 }
 
 /// What a look at a port brought.

@@ -145,7 +145,11 @@ impl ScrubBuf {
 }
 
 impl Drop for ScrubBuf {
-    fn drop(self) {
+    // What asks something before it is dropped can't be given to `forget`, or to any other call that
+    // drops or leaks what it is given.
+    fn drop(self)
+        requires { self ≡ self }
+    {
         let ScrubBuf {
             mut storage,
             start,

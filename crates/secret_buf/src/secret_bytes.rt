@@ -61,7 +61,11 @@ impl SecretBytes {
 }
 
 impl Drop for SecretBytes {
-    fn drop(self) {
+    // What asks something before it is dropped can't be given to `forget`, or to any other call that
+    // drops or leaks what it is given.
+    fn drop(self)
+        requires { self ≡ self }
+    {
         self.wipe();
     }
 }
