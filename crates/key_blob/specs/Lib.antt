@@ -7,3 +7,4 @@ pub mod PublicKeys
 pub mod AddedKeys
 pub mod Fingerprints
 pub mod KeySizes
+pub mod Validity

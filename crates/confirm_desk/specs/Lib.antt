@@ -1,0 +1,2 @@
+pub mod Confirmations
+pub mod Prompt
