@@ -3,7 +3,7 @@ use Rattle.std.proofs.Common.{◌≡◌, ℕ, ◌+◌, ◌<◌, ◌≤◌, List,
 use Rattle.std.proofs.Math.Seq.{drop-length}
 use Rattle.std.proofs.lemmas.Bool.{cases_lt}
 use Rattle.std.proofs.lemmas.Bool.Decides.{nat_tests}
-use Rattle.world_ports.specs.declared.plain.Moment.{Moment}
+use Rattle.world_ports.specs.declared.Moment.{Moment}
 use Rattle.wire_text.specs.Frames.{Front, front, front_body, after_front, Whole, Bad, More}
 use Rattle.wire_text.proofs.FrontLemmas.{front_says}
 use Rattle.agent_core.specs.State.{Port, State, IsRising, find_port, change_port, remove_port, next_owed, owed_at, owed_by, is_some_bytes}

@@ -1,3 +1,5 @@
 pub mod Causes
+pub mod Journal
 pub mod Memory
 pub mod Streams
+pub mod Worlds

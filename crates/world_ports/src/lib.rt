@@ -3,22 +3,28 @@
 //! Stands on std alone; docs/DEFINITIONS.md says what a count of faults means.
 #![tactic(auto)]
 
+mod answers;
 mod calls;
+mod entry;
+mod events;
 mod mem_peer;
-mod plain;
 mod slice_source;
 mod std_streams;
 mod stream;
 mod vec_sink;
 mod whole;
+mod world;
 
+pub use answers::{Accepted, Got, Polled, Ready, Spot, WorldFault, Wrote};
+pub use entry::Entry;
+pub use events::{Door, Job, JobKind, Moment};
 pub use mem_peer::MemPeer;
-pub use plain::{Door, Job, JobKind, Moment};
 pub use slice_source::SliceSource;
 pub use std_streams::{Reading, Writing};
 pub use stream::{Fault, Pulled, Sink, Source, Stream};
 pub use vec_sink::VecSink;
 pub use whole::write_all;
+pub use world::World;
 
 #[cfg(test)]
 mod tests;
