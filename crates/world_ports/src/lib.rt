@@ -5,9 +5,13 @@
 
 mod answers;
 mod calls;
+mod cue;
 mod entry;
 mod events;
 mod mem_peer;
+mod outside;
+mod pipe;
+mod script_world;
 mod slice_source;
 mod std_streams;
 mod stream;
@@ -16,9 +20,11 @@ mod whole;
 mod world;
 
 pub use answers::{Accepted, Got, Polled, Ready, Spot, WorldFault, Wrote};
+pub use cue::Cue;
 pub use entry::Entry;
 pub use events::{Door, Job, JobKind, Moment};
 pub use mem_peer::MemPeer;
+pub use script_world::ScriptWorld;
 pub use slice_source::SliceSource;
 pub use std_streams::{Reading, Writing};
 pub use stream::{Fault, Pulled, Sink, Source, Stream};
