@@ -1,6 +1,11 @@
 // A world in memory that plays a script.
-ghost use Rattle.std.specs.Prelude.{◌≡◌, ◌++◌, ◌∷◌, ◌≤◌, ◌<◌, ◌-◌, ◌^◌, [], OnOk, OnErr, Some, length};
+ghost use Rattle.std.specs.Prelude.{◌≡◌, ◌++◌, ◌∷◌, ◌≤◌, ◌<◌, ◌-◌, ◌^◌, [], IfOk, OnOk, OnErr, Some, length, take};
 ghost use Rattle.world_ports.specs.declared.entry.Entry.{Entry};
+ghost use Rattle.world_ports.specs.declared.entry.Entry.TheVariants as entry;
+ghost use Rattle.world_ports.specs.Journal.{Tells, got_of, is_short};
+ghost use Rattle.world_ports.specs.Memory.{FailsAsListed};
+ghost use Rattle.world_ports.specs.Script.{next_accepted, next_got, next_wrote, pipe_of, waiting_at};
+ghost use Rattle.world_ports.specs.Worlds.{IsCounted, GotWithin, KeepsRest, NumbersPort, TookWithin};
 
 use crate::calls::Calls;
 use crate::outside::Outside;
@@ -86,7 +91,14 @@ impl World for ScriptWorld {
 
     ghost greatest = { λ w. w.greatest };
 
-    fn bind(&mut self, door: Door, path: &str) -> Result<(), WorldFault> {
+    fn bind(&mut self, door: Door, path: &str) -> Result<(), WorldFault>
+        ensures told { Tells (Some self.old.journal.items) (Some self.new.journal.items)
+            (is_short result) (entry.Bind door path.now result) }
+        ensures cause { IsCounted self.old.calls.failed self.new.calls.failed result }
+        ensures ports { self.new.outside.last_port ≡ self.old.outside.last_port }
+        ensures moment { self.new.greatest ≡ self.old.greatest }
+        ensures fails { FailsAsListed self.old.calls result }
+    {
         let answer = match self.calls.begin(false) {
             Ok(()) => Ok(()),
             Err(_) => Err(WorldFault::Failed),
@@ -96,7 +108,14 @@ impl World for ScriptWorld {
         answer
     }
 
-    fn poll(&mut self, wait: Option<u64>, out: &mut Vec<Ready>) -> Result<Polled, WorldFault> {
+    fn poll(&mut self, wait: Option<u64>, out: &mut Vec<Ready>) -> Result<Polled, WorldFault>
+        ensures told { Tells (Some self.old.journal.items) (Some self.new.journal.items)
+            (is_short result) (entry.Poll wait out.new.items result) }
+        ensures cause { IsCounted self.old.calls.failed self.new.calls.failed result }
+        ensures ports { self.new.outside.last_port ≡ self.old.outside.last_port }
+        ensures moment { self.new.greatest ≡ self.old.greatest }
+        ensures fails { FailsAsListed self.old.calls result }
+    {
         out.clear();
         let answer = match self.calls.begin(false) {
             Ok(()) => Ok(self.play(out)?),
@@ -111,7 +130,18 @@ impl World for ScriptWorld {
         answer
     }
 
-    fn accept(&mut self, door: Door) -> Result<Accepted, WorldFault> {
+    fn accept(&mut self, door: Door) -> Result<Accepted, WorldFault>
+        requires { self.old.outside.last_port < 2 ^ 64 - 1 }
+        ensures told { Tells (Some self.old.journal.items) (Some self.new.journal.items)
+            (is_short result) (entry.Accept door result) }
+        ensures cause { IsCounted self.old.calls.failed self.new.calls.failed result }
+        ensures ports { NumbersPort result self.old.outside.last_port self.new.outside.last_port }
+        ensures moment { self.new.greatest ≡ self.old.greatest }
+        ensures fails { FailsAsListed self.old.calls result }
+        ensures answer { IfOk result (λ accepted. accepted ≡ next_accepted
+            (waiting_at self.old.outside.waiting_clients self.old.outside.waiting_children door)
+            self.old.outside.last_port) }
+    {
         let answer = match self.calls.begin(false) {
             Ok(()) => Ok(self.outside.next_accepted(door)),
             Err(_) => Err(WorldFault::Failed),
@@ -124,7 +154,21 @@ impl World for ScriptWorld {
         answer
     }
 
-    fn read(&mut self, port: u64, room: &mut [u8]) -> Result<Got, WorldFault> {
+    fn read(&mut self, port: u64, room: &mut [u8]) -> Result<Got, WorldFault>
+        requires { 0 < length room.old }
+        ensures told { Tells (Some self.old.journal.items) (Some self.new.journal.items)
+            (is_short result) (entry.Read port (length room.old) (got_of result room.new) result) }
+        ensures within { GotWithin result (length room.old) }
+        ensures rest { KeepsRest result room.old room.new }
+        ensures cause { IsCounted self.old.calls.failed self.new.calls.failed result }
+        ensures ports { self.new.outside.last_port ≡ self.old.outside.last_port }
+        ensures moment { self.new.greatest ≡ self.old.greatest }
+        ensures fails { FailsAsListed self.old.calls result }
+        ensures answer { IfOk result (λ got. got ≡ next_got
+            (pipe_of self.old.outside.pipes port) (length room.old)) }
+        ensures bytes { IfOk result (λ _. got_of result room.new ≡ take (length (got_of result room.new))
+            (pipe_of self.old.outside.pipes port).left) }
+    {
         let answer = match self.calls.begin(false) {
             Ok(()) => Ok(self.outside.next_got(port, room.len())),
             Err(_) => Err(WorldFault::Failed),
@@ -146,7 +190,18 @@ impl World for ScriptWorld {
         answer
     }
 
-    fn write(&mut self, port: u64, bytes: &[u8]) -> Result<Wrote, WorldFault> {
+    fn write(&mut self, port: u64, bytes: &[u8]) -> Result<Wrote, WorldFault>
+        requires { 0 < length bytes.now }
+        ensures told { Tells (Some self.old.journal.items) (Some self.new.journal.items)
+            (is_short result) (entry.Write port bytes.now result) }
+        ensures within { TookWithin result (length bytes.now) }
+        ensures cause { IsCounted self.old.calls.failed self.new.calls.failed result }
+        ensures ports { self.new.outside.last_port ≡ self.old.outside.last_port }
+        ensures moment { self.new.greatest ≡ self.old.greatest }
+        ensures fails { FailsAsListed self.old.calls result }
+        ensures answer { IfOk result (λ wrote. wrote ≡ next_wrote
+            (pipe_of self.old.outside.pipes port) (length bytes.now)) }
+    {
         let answer = match self.calls.begin(false) {
             Ok(()) => Ok(self.outside.next_wrote(port, bytes.len())),
             Err(_) => Err(WorldFault::Failed),
@@ -173,7 +228,14 @@ impl World for ScriptWorld {
         Ok(())
     }
 
-    fn start(&mut self, job: Job) -> Result<[u8; 16], WorldFault> {
+    fn start(&mut self, job: Job) -> Result<[u8; 16], WorldFault>
+        ensures told { Tells (Some self.old.journal.items) (Some self.new.journal.items)
+            (is_short result) (entry.Start job result) }
+        ensures cause { IsCounted self.old.calls.failed self.new.calls.failed result }
+        ensures ports { self.new.outside.last_port ≡ self.old.outside.last_port }
+        ensures moment { self.new.greatest ≡ self.old.greatest }
+        ensures fails { FailsAsListed self.old.calls result }
+    {
         let answer = match self.calls.begin(false) {
             Ok(()) => Ok(self.outside.next_ticket()),
             Err(_) => Err(WorldFault::Failed),
