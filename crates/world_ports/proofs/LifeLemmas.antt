@@ -26,9 +26,9 @@ sum_of-at_least : (n : ℕ) (text : List ℕ) → IfSome (sum_of (Some n) text) 
 sum_of-at_least n [] = omega arith
 sum_of-at_least n (byte ∷ text) =
     let more : IfSome (sum_of (Some (n * 10 + (byte - 48))) text) (λ s. n ≤ s) =
-        at_least-less n (n * 10 + (byte - 48)) (omega arith) (sum_of (Some (n * 10 + (byte - 48))) text) (sum_of-at_least (n * 10 + (byte - 48)) text) in
+    at_least-less n (n * 10 + (byte - 48)) (omega arith) (sum_of (Some (n * 10 + (byte - 48))) text) (sum_of-at_least (n * 10 + (byte - 48)) text) in
     let part : IfSome (part_and_rest (Some n) (unit_of byte) (sum_of None text)) (λ s. n ≤ s) =
-        part-at_least n (unit_of byte) (sum_of None text) (some_seconds (to_ascii_lowercase byte)) in
+    part-at_least n (unit_of byte) (sum_of None text) (some_seconds (to_ascii_lowercase byte)) in
     elim (is_ascii_digit byte) as (λ b. IfSome (if b then sum_of (Some (n * 10 + (byte - 48))) text else part_and_rest (Some n) (unit_of byte) (sum_of None text)) (λ s. n ≤ s)) [
       | true ↦ more
       | false ↦ part

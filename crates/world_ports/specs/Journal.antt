@@ -1,19 +1,18 @@
--- The journal of a world: the list of its calls. `None` claims nothing (ours).
+-- Journals: lists of calls with their answers. `None` claims nothing (ours).
 use Rattle.std.specs.Prelude.{◌≡◌, ◌⊎◌, ◌∷◌, ◌++◌, Bool, true, false, ℕ, List, [], take, Option, Some, None, Result, Ok, Err}
 use Rattle.world_ports.specs.declared.answers.Got.{Got}
 use Rattle.world_ports.specs.declared.answers.Got.TheVariants.{Bytes, End, NotNow}
 use Rattle.world_ports.specs.declared.answers.WorldFault.{WorldFault}
 use Rattle.world_ports.specs.declared.answers.WorldFault.TheVariants.{Failed, Memory}
-use Rattle.world_ports.specs.declared.entry.Entry.{Entry}
 
 -- these entries were appended, where the journal is told
-abbrev pub Grows : Option (List Entry) → Option (List Entry) → List Entry → Type 0
+abbrev pub Grows : {A : Type 0} → Option (List A) → Option (List A) → List A → Type 0
 Grows None now added = Unit {0}
 Grows (Some before) None added = ⊥
 Grows (Some before) (Some now) added = now ≡ before ++ added
 
 -- a call's own entry was appended. Where the call wants memory, it may be missing
-abbrev pub Tells : Option (List Entry) → Option (List Entry) → Bool → Entry → Type 0
+abbrev pub Tells : {A : Type 0} → Option (List A) → Option (List A) → Bool → A → Type 0
 Tells before now false entry = Grows before now (entry ∷ [])
 Tells before now true entry = Grows before now (entry ∷ []) ⊎ Grows before now []
 
