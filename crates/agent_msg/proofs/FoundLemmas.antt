@@ -5,9 +5,10 @@ use Rattle.std.proofs.lemmas.List.Elements.{All-cons, All-nil, All-tail}
 use Rattle.wire_text.specs.Wire.{IsBytes, uint32, string}
 use Rattle.wire_core.specs.Fields.{uint32_at, string_at}
 use Rattle.wire_core.proofs.Theorems.{uint32_is_front, string_is_front}
-use Rattle.agent_msg.specs.Reading.{field_then, ended, text_then, text_at_end, sign_at, extension_at, request_of, request_of_number}
-use Rattle.agent_msg.specs.Requests.{ClientRequest, ListIdentities, Sign, Remove, RemoveAll, Lock, Unlock, OtherExtension, Unsupported, numbers, IsText, IsRequest}
+use Rattle.agent_msg.specs.Reading.{field_then, ended, text_then, text_at_end, sign_at, request_of, request_of_number}
+use Rattle.agent_msg.specs.Requests.{ClientRequest, ListIdentities, Sign, Remove, RemoveAll, Lock, Unlock, Unsupported, numbers, IsText, IsRequest}
 use Rattle.agent_msg.proofs.AdditionLemmas.{addition_is, constrained_addition_is}
+use Rattle.agent_msg.proofs.BindLemmas.{extension_is}
 use Rattle.agent_msg.proofs.FieldLemmas.{field_then_is, ended_is, text_then_is, last, behind, after_number}
 
 -- a request of a number alone that was read
@@ -63,18 +64,6 @@ sign_is bytes request each h =
       blob_fits = blob.1;
       message_fits = message.1;
       flags_fit = flags.1;
-    }
-
--- EXTENSION that was read
-extension_is : (bytes : List ℕ) (request : ClientRequest) → IsBytes bytes → extension_at bytes ≡ Ok request → IsRequest (27 ∷ bytes) request
-extension_is bytes request each h =
-    let one = field_then_is (string_at bytes) (λ name _. Ok (OtherExtension name)) request h in
-    let name = string_is_front bytes one.field one.rest each one.there in
-    let same : OtherExtension one.field ≡ request = cc in
-    subst (IsRequest (27 ∷ bytes)) {x = OtherExtension one.field} same record {
-      contents = one.rest;
-      printed = after_number 27 bytes (string one.field ++ one.rest) name.0.parts;
-      fits = name.1;
     }
 
 -- a number that is known

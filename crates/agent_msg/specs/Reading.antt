@@ -1,6 +1,7 @@
 -- What a body is, field by field: its request, or the first fault.
-use Rattle.std.specs.Prelude.{◌≡◌, ◌==◌, ◌||◌, ℕ, Bool, false, List, [], ◌∷◌, Option, Some, None, Result, Ok, Err, ◌⊎◌, MatchResult, if◌then◌else◌}
-use Rattle.wire_core.specs.Fields.{uint32_at, string_at}
+use Rattle.std.specs.Prelude.{◌≡◌, ◌==◌, ◌||◌, ℕ, Bool, true, false, List, [], ◌∷◌, Option, Some, None, Result, Ok, Err, ◌⊎◌, MatchResult, if◌then◌else◌}
+use Rattle.std.specs.Str.{bytes_eq}
+use Rattle.wire_core.specs.Fields.{boolean_at, uint32_at, string_at}
 use Rattle.constraint_rec.specs.Constraints.{no_terms}
 use Rattle.constraint_rec.specs.Reading.{terms_of}
 use Rattle.constraint_rec.specs.declared.fault.TermFault.{TermFault}
@@ -12,7 +13,7 @@ use Rattle.agent_msg.specs.declared.fault.MsgFault.{MsgFault}
 use Rattle.agent_msg.specs.declared.fault.MsgFault.TheVariants.{Empty, Short, Trailing, Memory}
 use Rattle.agent_msg.specs.declared.request.Request.{Request}
 use Rattle.agent_msg.specs.Faults.{key_fault, term_fault}
-use Rattle.agent_msg.specs.Requests.{ClientRequest, ListIdentities, Sign, Add, Remove, RemoveAll, Lock, Unlock, OtherExtension, Unsupported, client_request}
+use Rattle.agent_msg.specs.Requests.{ClientRequest, ListIdentities, Sign, Add, Remove, RemoveAll, Lock, Unlock, Bind, OtherExtension, Unsupported, client_request, session_bind}
 
 -- ---- fields
 
@@ -68,9 +69,28 @@ abbrev pub constrained_at : List ℕ → Result ClientRequest MsgFault
 constrained_at bytes = key_then (added_key_at bytes) (λ key after_key.
     field_then (string_at after_key) (λ comment rest. constrained key comment (terms_of rest)))
 
--- EXTENSION: a name, and then what is not looked at
+-- the extension that binds: host key, session identifier, signature, whether the agent is forwarded
+abbrev pub bind_at : List ℕ → Result ClientRequest MsgFault
+bind_at bytes = field_then (string_at bytes) (λ host_key after_key.
+    field_then (string_at after_key) (λ session after_session.
+    field_then (string_at after_session) (λ signature after_signature.
+    field_then (boolean_at after_signature) (λ forwarding rest.
+    ended (Bind record {
+      host_key = host_key;
+      session = session;
+      signature = signature;
+      forwarding = forwarding;
+    }) rest))))
+
+-- by whether the name is that of the extension that binds; another one's contents are not looked at
+abbrev pub extension_by : Bool → List ℕ → List ℕ → Result ClientRequest MsgFault
+extension_by true name contents = bind_at contents
+extension_by false name contents = Ok (OtherExtension name)
+
+-- EXTENSION: a name, and then its contents
 abbrev pub extension_at : List ℕ → Result ClientRequest MsgFault
-extension_at bytes = field_then (string_at bytes) (λ name _. Ok (OtherExtension name))
+extension_at bytes = field_then (string_at bytes)
+    (λ name contents. extension_by (bytes_eq name session_bind) name contents)
 
 -- what follows a number
 unfoldable pub request_of_number : ℕ → List ℕ → Result ClientRequest MsgFault

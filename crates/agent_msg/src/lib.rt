@@ -3,6 +3,7 @@
 //! Stands on `key_blob` and `constraint_rec` for added keys, and on `secret_buf` for replies.
 #![tactic(auto)]
 
+mod bind;
 mod fault;
 mod laws;
 mod read;
@@ -11,6 +12,7 @@ mod request;
 #[cfg(test)]
 mod tests;
 
+pub use bind::names_bind;
 pub use fault::MsgFault;
 pub use laws::a_head_and_its_entries_are_the_list;
 pub use read::read_request;

@@ -2,9 +2,10 @@
 
 ghost use Rattle.std.specs.Prelude.{◌≡◌, ◌≢◌, ◌⊎◌, [], Ok, Err, IfOk, IsTrue, MatchResult};
 ghost use Rattle.agent_msg.specs.declared.fault.MsgFault.TheVariants.{Trailing, Memory};
-ghost use Rattle.agent_msg.specs.Reading.{IsAnswer, IsAnswerOrMemory, is_addition, text_at_end, sign_at, extension_at, request_of, request_of_number};
+ghost use Rattle.agent_msg.specs.Reading.{IsAnswer, IsAnswerOrMemory, is_addition, text_at_end, sign_at, bind_at, extension_at, request_of, request_of_number};
 ghost use Rattle.agent_msg.specs.Requests.{ClientRequest, client_request, IsRequest};
 
+use crate::bind::session_bind;
 use crate::fault::MsgFault;
 use crate::request::Request;
 use constraint_rec::{Terms, read_constraints};
@@ -15,6 +16,7 @@ use wire_core::Cursor;
 /// The request that `body` is. Only an added key takes memory.
 ///
 /// An extension of any name is read, and so is a request of any number; the agent refuses them.
+/// So is a request to bind with any bytes as its host key.
 pub fn read_request<'a>(alloc: Global, body: &'a [u8]) -> Result<Request<'a>, MsgFault>
     ensures found { IfOk result (λ read. IsRequest body.now (client_request read)) }
     ensures only { (request : ClientRequest) → IsRequest body.now request
@@ -112,8 +114,30 @@ fn read_sign(bytes: &[u8]) -> Result<Request<'_>, MsgFault>
 fn read_extension(bytes: &[u8]) -> Result<Request<'_>, MsgFault>
     ensures { IsAnswer result (extension_at bytes.now) }
 {
-    let name = Cursor::new(bytes).take_string()?;
-    Ok(Request::OtherExtension { name })
+    let mut cursor = Cursor::new(bytes);
+    let name = cursor.take_string()?;
+    if name == session_bind() {
+        read_bind(cursor.rest())
+    } else {
+        Ok(Request::OtherExtension { name })
+    }
+}
+
+fn read_bind(bytes: &[u8]) -> Result<Request<'_>, MsgFault>
+    ensures { IsAnswer result (bind_at bytes.now) }
+{
+    let mut cursor = Cursor::new(bytes);
+    let host_key = cursor.take_string()?;
+    let session = cursor.take_string()?;
+    let signature = cursor.take_string()?;
+    let forwarding = cursor.take_bool()?;
+    end(&cursor)?;
+    Ok(Request::Bind {
+        host_key,
+        session,
+        signature,
+        forwarding,
+    })
 }
 
 /// Reads what follows the number of an addition without constraints.
