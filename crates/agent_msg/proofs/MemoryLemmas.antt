@@ -3,11 +3,12 @@ use Rattle.std.proofs.Common.{◌≡◌, ◌≢◌, ℕ, Bool, true, false, cond
 use Rattle.std.proofs.lemmas.Bool.{ne_eqb}
 use Rattle.std.specs.Str.{bytes_eq}
 use Rattle.wire_core.specs.Fields.{boolean_at, uint32_at, string_at}
+use Rattle.wire_core.specs.Readings.{IsAnswer}
 use Rattle.agent_msg.specs.declared.fault.MsgFault.{MsgFault}
 use Rattle.agent_msg.specs.declared.fault.MsgFault.TheVariants.{Memory}
 use Rattle.agent_msg.specs.declared.request.Request.{Request}
-use Rattle.agent_msg.specs.Reading.{field_then, ended, text_then, text_at_end, sign_at, bind_at, extension_by, extension_at, request_of_number, IsAnswer}
-use Rattle.agent_msg.specs.Requests.{ClientRequest, ListIdentities, Sign, Remove, RemoveAll, Lock, Unlock, Bind, session_bind}
+use Rattle.agent_msg.specs.Reading.{field_then, ended, text_then, text_at_end, sign_at, bind_at, extension_by, extension_at, request_of_number}
+use Rattle.agent_msg.specs.Requests.{ClientRequest, ListIdentities, Sign, Remove, RemoveAll, Lock, Unlock, Bind, session_bind, client_request}
 
 -- it is no answer that memory ran out
 abbrev NeedsNone : {R : Type 0} → Result R MsgFault → Type 0
@@ -95,7 +96,7 @@ number_needs_none number bytes n17 n25 =
 
 -- nor does the code say that memory ran out
 pub plain_needs_none : (number : ℕ) (bytes : List ℕ) (answer : Result Request MsgFault) → number ≢ 17 → number ≢ 25
-    → IsAnswer answer (request_of_number number bytes) → answer ≡ Err Memory → ⊥
+    → IsAnswer client_request answer (request_of_number number bytes) → answer ≡ Err Memory → ⊥
 plain_needs_none number bytes (Ok request) n17 n25 is h = cc
 plain_needs_none number bytes (Err fault) n17 n25 is h =
     let same : fault ≡ Memory = cc in

@@ -8,7 +8,7 @@ use Rattle.key_blob.proofs.Theorems.{added_is_read}
 use Rattle.agent_msg.specs.Reading.{text_at_end, request_of, request_of_number}
 use Rattle.agent_msg.specs.Requests.{Signing, Addition, ClientRequest, ListIdentities, Sign, Add, Remove, RemoveAll, Lock, Unlock, Bind, OtherExtension, Unsupported, IsPlainAddition, IsConstrainedAddition, IsOfOtherNumber, IsRequest, session_bind}
 use Rattle.agent_msg.proofs.BindLemmas.{bind_is_read, extension_is_read}
-use Rattle.agent_msg.proofs.FieldLemmas.{uint32_at-alone, string_at-alone}
+use Rattle.wire_core.proofs.ReadingLemmas.{uint32_at-alone, string_at-alone}
 
 -- a string alone is read
 text_at_end-string : (text : List ℕ) → length text < 2 ^ 32 → text_at_end (string text) ≡ Ok text

@@ -2,8 +2,9 @@
 
 ghost use Rattle.std.specs.Prelude.{◌≡◌, ◌≢◌, ◌⊎◌, [], Ok, Err, IfOk, IsTrue, MatchResult};
 ghost use Rattle.agent_msg.specs.declared.fault.MsgFault.TheVariants.{Trailing, Memory};
-ghost use Rattle.agent_msg.specs.Reading.{IsAnswer, IsAnswerOrMemory, is_addition, text_at_end, sign_at, bind_at, extension_at, request_of, request_of_number};
+ghost use Rattle.agent_msg.specs.Reading.{is_addition, text_at_end, sign_at, bind_at, extension_at, request_of, request_of_number};
 ghost use Rattle.agent_msg.specs.Requests.{ClientRequest, client_request, IsRequest};
+ghost use Rattle.wire_core.specs.Readings.{IsAnswer, IsAnswerUnless};
 
 use crate::bind::session_bind;
 use crate::fault::MsgFault;
@@ -21,7 +22,7 @@ pub fn read_request<'a>(alloc: Global, body: &'a [u8]) -> Result<Request<'a>, Ms
     ensures found { IfOk result (λ read. IsRequest body.now (client_request read)) }
     ensures only { (request : ClientRequest) → IsRequest body.now request
         → MatchResult result (λ read. client_request read ≡ request) (λ fault. fault ≡ Memory) }
-    ensures exact { IsAnswerOrMemory result (request_of body.now) }
+    ensures exact { IsAnswerUnless Memory client_request result (request_of body.now) }
     ensures memory { result ≡ Err Memory → IsTrue (is_addition body.now) }
 {
     request_in(alloc, body)
@@ -29,7 +30,7 @@ pub fn read_request<'a>(alloc: Global, body: &'a [u8]) -> Result<Request<'a>, Ms
 
 #[tactic(auto, unfolding(crate::specs::Reading::request_of, crate::specs::Reading::is_addition))]
 fn request_in<'a>(alloc: Global, body: &'a [u8]) -> Result<Request<'a>, MsgFault>
-    ensures exact { IsAnswerOrMemory result (request_of body.now) }
+    ensures exact { IsAnswerUnless Memory client_request result (request_of body.now) }
     ensures memory { result ≡ Err Memory → IsTrue (is_addition body.now) }
 {
     let mut cursor = Cursor::new(body);
@@ -49,7 +50,7 @@ fn request_in<'a>(alloc: Global, body: &'a [u8]) -> Result<Request<'a>, MsgFault
 fn read_plain(number: u8, bytes: &[u8]) -> Result<Request<'_>, MsgFault>
     requires plain { number ≢ 17 }
     requires unconstrained { number ≢ 25 }
-    ensures { IsAnswer result (request_of_number number bytes.now) }
+    ensures { IsAnswer client_request result (request_of_number number bytes.now) }
 {
     match number {
         11 => {
@@ -97,7 +98,7 @@ fn read_text(bytes: &[u8]) -> Result<&[u8], MsgFault>
 }
 
 fn read_sign(bytes: &[u8]) -> Result<Request<'_>, MsgFault>
-    ensures { IsAnswer result (sign_at bytes.now) }
+    ensures { IsAnswer client_request result (sign_at bytes.now) }
 {
     let mut cursor = Cursor::new(bytes);
     let blob = cursor.take_string()?;
@@ -112,7 +113,7 @@ fn read_sign(bytes: &[u8]) -> Result<Request<'_>, MsgFault>
 }
 
 fn read_extension(bytes: &[u8]) -> Result<Request<'_>, MsgFault>
-    ensures { IsAnswer result (extension_at bytes.now) }
+    ensures { IsAnswer client_request result (extension_at bytes.now) }
 {
     let mut cursor = Cursor::new(bytes);
     let name = cursor.take_string()?;
@@ -124,7 +125,7 @@ fn read_extension(bytes: &[u8]) -> Result<Request<'_>, MsgFault>
 }
 
 fn read_bind(bytes: &[u8]) -> Result<Request<'_>, MsgFault>
-    ensures { IsAnswer result (bind_at bytes.now) }
+    ensures { IsAnswer client_request result (bind_at bytes.now) }
 {
     let mut cursor = Cursor::new(bytes);
     let host_key = cursor.take_string()?;
@@ -143,7 +144,7 @@ fn read_bind(bytes: &[u8]) -> Result<Request<'_>, MsgFault>
 /// Reads what follows the number of an addition without constraints.
 #[tactic(auto, unfolding(crate::specs::Reading::request_of_number))]
 fn read_addition<'a>(alloc: Global, bytes: &'a [u8]) -> Result<Request<'a>, MsgFault>
-    ensures { IsAnswerOrMemory result (request_of_number 17 bytes.now) }
+    ensures { IsAnswerUnless Memory client_request result (request_of_number 17 bytes.now) }
 {
     let mut cursor = Cursor::new(bytes);
     let key = read_added(alloc, &mut cursor)?;
@@ -160,7 +161,7 @@ fn read_addition<'a>(alloc: Global, bytes: &'a [u8]) -> Result<Request<'a>, MsgF
 /// Reads what follows the number of an addition with constraints.
 #[tactic(auto, unfolding(crate::specs::Reading::request_of_number))]
 fn read_constrained<'a>(alloc: Global, bytes: &'a [u8]) -> Result<Request<'a>, MsgFault>
-    ensures { IsAnswerOrMemory result (request_of_number 25 bytes.now) }
+    ensures { IsAnswerUnless Memory client_request result (request_of_number 25 bytes.now) }
 {
     let mut cursor = Cursor::new(bytes);
     let key = read_added(alloc, &mut cursor)?;
