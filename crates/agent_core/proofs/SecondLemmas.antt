@@ -6,7 +6,7 @@ use Rattle.wire_text.specs.Frames.{Front, front_body, Whole, Bad, More}
 use Rattle.identity_table.specs.Identities.{HeldKey, find_identity, max_answer}
 use Rattle.agent_msg.specs.declared.fault.MsgFault.{MsgFault}
 use Rattle.agent_msg.specs.Reading.{request_of}
-use Rattle.agent_msg.specs.Requests.{Addition, ClientRequest, ListIdentities, Sign, Add, Remove, RemoveAll, Lock, Unlock, OtherExtension, Unsupported}
+use Rattle.agent_msg.specs.Requests.{Addition, ClientRequest, ListIdentities, Sign, Add, Remove, RemoveAll, Lock, Unlock, Bind, OtherExtension, Unsupported}
 use Rattle.agent_core.specs.Dispatch.{Asking, add_numbered, add_listed, add_under, length_with, lock_by, remove_by, serve, serve_by, serve_locked, serve_open, sign_by, unlock_by}
 use Rattle.agent_core.specs.KeyStates.{KeyState}
 use Rattle.agent_core.specs.PortLook.{asks_of, front_kept, found_kept, keys_after, looked_keys}
@@ -49,6 +49,7 @@ second-open (Remove blob) asks keys same = second-remove (find_identity blob key
 second-open RemoveAll asks keys same = refl
 second-open (Lock passphrase) asks keys same = second-lock passphrase keys
 second-open (Unlock passphrase) asks keys same = refl
+second-open (Bind bind) asks keys same = refl
 second-open (OtherExtension name) asks keys same = refl
 second-open (Unsupported number) asks keys same = refl
 
@@ -60,6 +61,7 @@ second-locked held (Remove blob) keys = refl
 second-locked held RemoveAll keys = refl
 second-locked held (Lock passphrase) keys = refl
 second-locked held (Unlock passphrase) keys = second-unlock (bytes_eq held passphrase) keys
+second-locked held (Bind bind) keys = refl
 second-locked held (OtherExtension name) keys = refl
 second-locked held (Unsupported number) keys = refl
 

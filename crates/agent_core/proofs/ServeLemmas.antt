@@ -8,7 +8,7 @@ use Rattle.identity_table.specs.Identities.{HeldKey, find_identity, new_identity
 use Rattle.identity_table.proofs.Theorems.{IsSound-none, IsSound-put, IsSound-remove, IsSound-alive}
 use Rattle.agent_msg.specs.declared.fault.MsgFault.{MsgFault}
 use Rattle.agent_msg.specs.Reading.{request_of}
-use Rattle.agent_msg.specs.Requests.{Addition, ClientRequest, ListIdentities, Sign, Add, Remove, RemoveAll, Lock, Unlock, OtherExtension, Unsupported, IsRequest}
+use Rattle.agent_msg.specs.Requests.{Addition, ClientRequest, ListIdentities, Sign, Add, Remove, RemoveAll, Lock, Unlock, Bind, OtherExtension, Unsupported, IsRequest}
 use Rattle.agent_msg.proofs.FoundLemmas.{request_is_found}
 use Rattle.agent_core.specs.Bounds.{AreBounded, IsShort}
 use Rattle.agent_core.specs.Dispatch.{Asking, sign_by, add_under, add_listed, add_numbered, length_with, remove_by, lock_by, unlock_by, serve_open, serve_locked, serve_by, serve}
@@ -110,6 +110,7 @@ bounded-serve_open body RemoveAll asks keys is within held =
 bounded-serve_open body (Lock passphrase) asks keys is within held =
     bounded-lock_by passphrase keys (text-within 22 body passphrase is within) held
 bounded-serve_open body (Unlock passphrase) asks keys is within held = held
+bounded-serve_open body (Bind bind) asks keys is within held = held
 bounded-serve_open body (OtherExtension name) asks keys is within held = held
 bounded-serve_open body (Unsupported number) asks keys is within held = held
 
@@ -123,6 +124,7 @@ bounded-serve_locked locked (Remove blob) keys held = held
 bounded-serve_locked locked RemoveAll keys held = held
 bounded-serve_locked locked (Lock passphrase) keys held = held
 bounded-serve_locked locked (Unlock passphrase) keys held = bounded-unlock_by (bytes_eq locked passphrase) keys held
+bounded-serve_locked locked (Bind bind) keys held = held
 bounded-serve_locked locked (OtherExtension name) keys held = held
 bounded-serve_locked locked (Unsupported number) keys held = held
 

@@ -8,7 +8,7 @@ use Rattle.identity_table.specs.Identities.{HeldKey, added, answer_len, find_ide
 use Rattle.agent_msg.specs.declared.fault.MsgFault.{MsgFault}
 use Rattle.agent_msg.specs.declared.fault.MsgFault.TheVariants as fault
 use Rattle.agent_msg.specs.Replies.{failure, success, identities_answer}
-use Rattle.agent_msg.specs.Requests.{Addition, ClientRequest, ListIdentities, Sign, Add, Remove, RemoveAll, Lock, Unlock, OtherExtension, Unsupported}
+use Rattle.agent_msg.specs.Requests.{Addition, ClientRequest, ListIdentities, Sign, Add, Remove, RemoveAll, Lock, Unlock, Bind, OtherExtension, Unsupported}
 use Rattle.agent_core.specs.KeyStates.{KeyState, listing}
 
 -- who asks, and when
@@ -129,6 +129,7 @@ serve_open RemoveAll asks keys =
     answers Success (record keys { table = record keys.table { identities = [] } })
 serve_open (Lock passphrase) asks keys = lock_by passphrase keys
 serve_open (Unlock passphrase) asks keys = refuses NotLocked keys
+serve_open (Bind bind) asks keys = refuses Unserved keys
 serve_open (OtherExtension name) asks keys = refuses Unserved keys
 serve_open (Unsupported number) asks keys = refuses Unserved keys
 
@@ -141,6 +142,7 @@ serve_locked held (Remove blob) keys = refuses Locked keys
 serve_locked held RemoveAll keys = refuses Locked keys
 serve_locked held (Lock passphrase) keys = refuses Locked keys
 serve_locked held (Unlock passphrase) keys = unlock_by (bytes_eq held passphrase) keys
+serve_locked held (Bind bind) keys = refuses Locked keys
 serve_locked held (OtherExtension name) keys = refuses Locked keys
 serve_locked held (Unsupported number) keys = refuses Locked keys
 

@@ -146,9 +146,11 @@ impl Keys {
                 let passphrase = SecretBytes::from_slice(self.alloc, passphrase)?;
                 Ok(self.lock.lock(passphrase))
             }
-            // No signature is waited for, the agent isn't locked, and no extension is served.
+            // No signature is waited for, the agent isn't locked, and no extension is served, also
+            // not the one that binds.
             Request::Sign { .. }
             | Request::Unlock { .. }
+            | Request::Bind { .. }
             | Request::OtherExtension { .. }
             | Request::Unsupported { .. } => Ok(false),
             // `serve` owes the list.

@@ -12,12 +12,14 @@ use Rattle.wire_core.specs.Fields.{string_at}
 use Rattle.wire_core.proofs.Theorems.{string_is_front}
 use Rattle.key_blob.specs.PublicKeys.{public_key_of}
 use Rattle.userauth_blob.specs.declared.fault.AuthFault.{AuthFault}
-use Rattle.userauth_blob.specs.declared.fault.AuthFault.TheVariants.{Short, NotRequest, Service, Method, NoSignatureFlag, OtherKey, Algorithm, HostKey}
+use Rattle.userauth_blob.specs.declared.fault.AuthFault.TheVariants.{Short, NotRequest, Service, Method, NoSignatureFlag, OtherKey, Algorithm, HostKey, Trailing}
 use Rattle.userauth_blob.specs.declared.method.AuthMethod.{AuthMethod}
 use Rattle.userauth_blob.specs.declared.method.AuthMethod.TheVariants.{PublicKey, HostBound}
-use Rattle.userauth_blob.specs.UserAuths.{Login, connection, method_name, host_field, Fits, IsHostKey, IsUserAuth}
-use Rattle.userauth_blob.specs.Reading.{◌>>=◌, text_at, after_byte, if_text, after_text, if_some, session_at, method_named, method_at, fits, after_key, if_key, host_key_at, ended, auth_of}
-use Rattle.userauth_blob.proofs.FieldLemmas.{bind_ok, ok_or_ok, guard_ok, bytes_inside, fits_is, key_is}
+use Rattle.userauth_blob.specs.UserAuths.{Login, connection, method_name, host_field, signed_text, Fits, IsHostKey, IsUserAuth}
+use Rattle.wire_core.specs.Readings.{◌>>=◌}
+use Rattle.userauth_blob.specs.Reading.{text_at, after_byte, if_text, after_text, if_some, session_at, method_named, method_at, fits, after_key, if_key, host_key_at, opening_at, signer_at, auth_of}
+use Rattle.wire_core.proofs.ReadingLemmas.{bind_ok, bytes_inside, ended_or_is, guard_ok, ok_or_ok}
+use Rattle.userauth_blob.proofs.FieldLemmas.{fits_is, key_is}
 
 -- a string at the front of bytes, and its text
 record IsText (bytes text rest : List ℕ) : Type 0 where
@@ -135,59 +137,104 @@ host_key_is HostBound bytes x small read =
     subst (λ (y : Option (List ℕ) × List ℕ). IsHostField HostBound bytes y.0 y.1) g.1
     (record { parts = text.parts; name = refl; is = (text.small, key_is a.0.0 text.inside g.0) })
 
-ended_is : (made auth : Login) (rest : List ℕ) → ended made rest ≡ Ok auth → (rest ≡ []) × (made ≡ auth)
-ended_is made auth [] e = (refl, cc)
-ended_is made auth (byte ∷ rest) e = absurd cc
-
 -- ---- the whole
 
 -- the field of a host key that nothing follows
 host_ends : (bytes rest : List ℕ) (host_key : Option (List ℕ)) → bytes ≡ host_field host_key ++ rest → rest ≡ [] → bytes ≡ host_field host_key
 host_ends bytes rest host_key parts none = parts ∙ ap (λ (left : List ℕ). host_field host_key ++ left) none ∙ append-nil (host_field host_key)
 
--- parts one after another
-joined : (message session user method algorithm blob host a b c d e f g h : List ℕ) → message ≡ string session ++ a → a ≡ 50 ∷ b →
-    b ≡ string user ++ c → c ≡ string connection ++ d → d ≡ string method ++ e → e ≡ 1 ∷ f → f ≡ string algorithm ++ g → g ≡ string blob ++ h →
-    h ≡ host →
-    message ≡ string session ++ 50 ∷ (string user ++ (string connection ++ (string method ++ 1 ∷ (string algorithm ++ (string blob ++ host)))))
-joined message session user method algorithm blob host a b c d e f g h at_a at_b at_c at_d at_e at_f at_g at_h at_end =
-    rw (at_a, at_b, at_c, at_d, at_e, at_f, at_g, at_h, at_end) refl
+-- a string, a byte and two more parts, one after another
+joined : (byte : ℕ) (whole first second third rest a b c : List ℕ) → whole ≡ first ++ a → a ≡ byte ∷ b → b ≡ second ++ c
+    → c ≡ third ++ rest → whole ≡ first ++ byte ∷ (second ++ (third ++ rest))
+joined byte whole first second third rest a b c at_a at_b at_c at_rest = rw (at_a, at_b, at_c, at_rest) refl
+
+-- the front of a message: session identifier, user, service
+record IsOpening (bytes session user rest : List ℕ) : Type 0 where
+  pub parts : bytes ≡ string session ++ 50 ∷ (string user ++ (string connection ++ rest))
+  pub left : IsBytes rest
+  pub some_session : session ≢ []
+  pub short_session : length session < 2 ^ 32
+  pub short_user : length user < 2 ^ 32
+
+opening_is : (bytes : List ℕ) (x : (List ℕ × List ℕ) × List ℕ) → IsBytes bytes → opening_at bytes ≡ Ok x →
+    IsOpening bytes x.0.0 x.0.1 x.1
+opening_is bytes x small read =
+    let a = bind_ok (session_at bytes) _ x read in
+    let b = bind_ok (after_byte 50 NotRequest a.0.1) _ x a.2 in
+    let c = bind_ok (text_at b.0) _ x b.2 in
+    let d = bind_ok (after_text connection Service c.0.1) _ x c.2 in
+    let session = session_is bytes a.0 small a.1 in
+    let number = byte_is 50 NotRequest a.0.1 b.0 session.0.left b.1 in
+    let user = text_is b.0 c.0 number.left c.1 in
+    let service = this_text_is connection Service c.0.1 d.0 user.left d.1 in
+    let made : (List ℕ × List ℕ) × List ℕ = ((a.0.0, c.0.0), d.0) in
+    let same : made ≡ x = cc in
+    subst (λ (y : (List ℕ × List ℕ) × List ℕ). IsOpening bytes y.0.0 y.0.1 y.1) same (record {
+      parts = joined 50 bytes _ _ _ d.0 a.0.1 b.0 c.0.1 session.0.parts number.parts user.parts service.parts;
+      left = service.left;
+      some_session = session.1;
+      short_session = session.0.small;
+      short_user = user.small;
+    })
+
+-- the method, the algorithm and the key of this blob
+record IsSigner (blob bytes : List ℕ) (method : AuthMethod) (rest : List ℕ) : Type 0 where
+  pub algorithm : List ℕ
+  pub parts : bytes ≡ string (name_of method) ++ 1 ∷ (string algorithm ++ (string blob ++ rest))
+  pub left : IsBytes rest
+  pub fits : Fits blob algorithm
+  pub short_algorithm : length algorithm < 2 ^ 32
+  pub short_blob : length blob < 2 ^ 32
+
+signer_is : (blob bytes : List ℕ) (x : AuthMethod × List ℕ) → IsBytes bytes → signer_at blob bytes ≡ Ok x → IsSigner blob bytes x.0 x.1
+signer_is blob bytes x small read =
+    let a = bind_ok (method_at bytes) _ x read in
+    let b = bind_ok (after_byte 1 NoSignatureFlag a.0.1) _ x a.2 in
+    let c = bind_ok (text_at b.0) _ x b.2 in
+    let d = bind_ok (after_key blob c.0.0 c.0.1) _ x c.2 in
+    let method = method_is bytes a.0 small a.1 in
+    let flag = byte_is 1 NoSignatureFlag a.0.1 b.0 method.left b.1 in
+    let algorithm = text_is b.0 c.0 flag.left c.1 in
+    let key = key_blob_is blob c.0.0 c.0.1 d.0 algorithm.left d.1 in
+    let made : AuthMethod × List ℕ = (a.0.0, d.0) in
+    let same : made ≡ x = cc in
+    subst (λ (y : AuthMethod × List ℕ). IsSigner blob bytes y.0 y.1) same (record {
+      algorithm = c.0.0;
+      parts = joined 1 bytes _ _ _ d.0 a.0.1 b.0 c.0.1 method.parts flag.parts algorithm.parts key.0.parts;
+      left = key.0.left;
+      fits = key.1;
+      short_algorithm = algorithm.small;
+      short_blob = key.0.small;
+    })
+
+-- the front, the key and the host key are what is signed
+signed : (message blob name algorithm a b : List ℕ) (auth : Login)
+    → message ≡ string auth.session ++ 50 ∷ (string auth.user ++ (string connection ++ a))
+    → a ≡ string name ++ 1 ∷ (string algorithm ++ (string blob ++ b)) → name ≡ method_name auth.host_key
+    → b ≡ host_field auth.host_key → message ≡ signed_text auth algorithm blob
+signed message blob name algorithm a b auth at_a at_b named last = rw (at_a, at_b, named, last) refl
 
 -- what is read is signed for the login
 pub auth_is_found : (message blob : List ℕ) (auth : Login) → IsBytes message → auth_of message blob ≡ Ok auth → IsUserAuth message blob auth
 unfolding auth_of
 auth_is_found message blob auth small read =
-    let a = bind_ok (session_at message) _ auth read in
-    let b = bind_ok (after_byte 50 NotRequest a.0.1) _ auth a.2 in
-    let c = bind_ok (text_at b.0) _ auth b.2 in
-    let d = bind_ok (after_text connection Service c.0.1) _ auth c.2 in
-    let e = bind_ok (method_at d.0) _ auth d.2 in
-    let f = bind_ok (after_byte 1 NoSignatureFlag e.0.1) _ auth e.2 in
-    let g = bind_ok (text_at f.0) _ auth f.2 in
-    let h = bind_ok (after_key blob g.0.0 g.0.1) _ auth g.2 in
-    let i = bind_ok (host_key_at e.0.0 h.0) _ auth h.2 in
-    let made : Login = record { session = a.0.0; user = c.0.0; host_key = i.0.0 } in
-    let end = ended_is made auth i.0.1 i.2 in
-    let session = session_is message a.0 small a.1 in
-    let number = byte_is 50 NotRequest a.0.1 b.0 session.0.left b.1 in
-    let user = text_is b.0 c.0 number.left c.1 in
-    let service = this_text_is connection Service c.0.1 d.0 user.left d.1 in
-    let method = method_is d.0 e.0 service.left e.1 in
-    let flag = byte_is 1 NoSignatureFlag e.0.1 f.0 method.left f.1 in
-    let algorithm = text_is f.0 g.0 flag.left g.1 in
-    let key = key_blob_is blob g.0.0 g.0.1 h.0 algorithm.left h.1 in
-    let host = host_key_is e.0.0 h.0 i.0 key.0.left i.1 in
-    let host_is_last = host_ends h.0 i.0.1 i.0.0 host.parts end.0 in
-    let named = subst (λ (name : List ℕ). IsText d.0 name e.0.1) host.name method in
+    let a = bind_ok (opening_at message) _ auth read in
+    let b = bind_ok (signer_at blob a.0.1) _ auth a.2 in
+    let c = bind_ok (host_key_at b.0.0 b.0.1) _ auth b.2 in
+    let made : Login = record { session = a.0.0.0; user = a.0.0.1; host_key = c.0.0 } in
+    let end = ended_or_is Trailing made auth c.0.1 c.2 in
+    let opening = opening_is message a.0 small a.1 in
+    let signer = signer_is blob a.0.1 b.0 opening.left b.1 in
+    let host = host_key_is b.0.0 b.0.1 c.0 signer.left c.1 in
     subst (λ (made_auth : Login). IsUserAuth message blob made_auth) end.1 (record {
-      algorithm = g.0.0;
-      text = joined message a.0.0 c.0.0 (method_name i.0.0) g.0.0 blob (host_field i.0.0) a.0.1 b.0 c.0.1 d.0 e.0.1 f.0 g.0.1 h.0
-          session.0.parts number.parts user.parts service.parts named.parts flag.parts algorithm.parts key.0.parts host_is_last;
-      some_session = session.1;
-      fits = key.1;
+      algorithm = signer.algorithm;
+      text = signed message blob (name_of b.0.0) signer.algorithm a.0.1 b.0.1 made opening.parts signer.parts host.name
+          (host_ends b.0.1 c.0.1 c.0.0 host.parts end.0);
+      some_session = opening.some_session;
+      fits = signer.fits;
       host = host.is;
-      short_session = session.0.small;
-      short_user = user.small;
-      short_algorithm = algorithm.small;
-      short_blob = key.0.small;
+      short_session = opening.short_session;
+      short_user = opening.short_user;
+      short_algorithm = signer.short_algorithm;
+      short_blob = signer.short_blob;
     })
