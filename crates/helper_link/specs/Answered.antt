@@ -16,8 +16,8 @@ kind_answered answer.Refused = Signing
 kind_answered answer.True = Verifying
 kind_answered answer.False = Verifying
 
--- each answer is that to the unanswered ask of its number, goes to the asker of this ask, and is of its kind; the ask
--- is unanswered no more, and the others are left
+-- each answer is one to the unanswered ask of its number, goes to the asker of that ask, and is of
+-- its kind; the ask is unanswered no more, and the others are left
 abbrev pub LeadTo : List Settled → List Ask → List Ask → Type 0
 LeadTo [] asks left = left ≡ asks
 LeadTo (one ∷ later) asks left =

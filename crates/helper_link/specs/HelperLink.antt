@@ -89,7 +89,7 @@ ask_fault_by false false = None
 abbrev pub ask_fault : HelperLink → Option AskFault
 ask_fault link = ask_fault_by (nat_lt (most_asks - 1) (length link.asks)) (link.last == 2 ^ 64 - 1)
 
--- an ask is refused with this fault: memory is wanting only where nothing else stands against the ask
+-- an ask is refused with this fault: memory is wanting only where nothing else stands against it
 abbrev pub IsRefusedWith : Option AskFault → AskFault → Type 0
 IsRefusedWith why Full = why ≡ Some Full
 IsRefusedWith why NumbersSpent = why ≡ Some NumbersSpent

@@ -11,8 +11,8 @@ abbrev pub RiseTo : ℕ → List Ask → ℕ → Type 0
 RiseTo below [] last = below ≤ last
 RiseTo below (ask ∷ asks) last = (below < ask.number) × RiseTo ask.number asks last
 
--- where no helper is there or being started, nothing is unanswered, to be sent or heard; before one is there, nothing
--- is heard
+-- where no helper is there or being started, nothing is unanswered, to be sent or heard; before one
+-- is there, nothing is heard
 abbrev pub IsQuiet : LinkState → HelperLink → Type 0
 IsQuiet states.None link = (link.asks ≡ []) × (link.owed ≡ []) × (link.heard ≡ [])
 IsQuiet (states.Starting job) link = link.heard ≡ []

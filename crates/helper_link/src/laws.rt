@@ -18,9 +18,9 @@ pub fn cuts_of_the_stream_do_not_matter()
         → told_in_turn piece pieces link ≡ telling (joined piece pieces) link }
 {}
 
-/// What holds of the first link holds after each call that may be made: while no helper is there or
-/// being started, nothing is unanswered, to be sent or heard; at most 256 asks are unanswered, in the
-/// order of their numbers; and what was heard is less than a frame.
+/// What holds of the first link holds after each call that may be made: while no helper is there
+/// or being started, nothing is unanswered, to be sent or heard; at most 256 asks are unanswered, in
+/// the order of their numbers; and what was heard is less than a frame.
 pub fn links_stay_sound()
     ensures first { IsSound no_link }
     ensures begun { (job : ℕ) (link : HelperLink) → IsSound link → IsSound (begun job link) }
@@ -36,7 +36,8 @@ pub fn links_stay_sound()
     ensures handed_out { (link : HelperLink) → IsSound link → IsSound (handed_out link) }
 {}
 
-/// No number of an ask is given twice, whatever is called in between, the loss of the helper among it.
+/// No number of an ask is given twice, whatever is called in between, the loss of the helper among
+/// it.
 pub fn ask_numbers_never_begin_again()
     ensures { (calls : List Call) (link : HelperLink) → RiseFrom link.last (numbers_of calls link) }
 {}
@@ -52,8 +53,8 @@ pub fn an_ask_has_a_number_of_its_own()
         else find_ask number link.asks) }
 {}
 
-/// Each answer goes to the asker of the unanswered ask of its number and is of its kind. That ask is
-/// unanswered no more, and all others are left.
+/// Each answer goes to the asker of the unanswered ask of its number and is of its kind. That ask
+/// is unanswered no more, and all others are left.
 pub fn answers_go_to_who_asked()
     ensures askers { (piece : List ℕ) (link : HelperLink)
         → LeadTo (telling piece link).settled link.asks (telling piece link).link.asks }
