@@ -62,6 +62,9 @@ fn a_key_that_is_added_again_keeps_its_place(rt: HostRuntime) -> Result<(), Fail
     assert!(rt; table.find(b"k2").is_some());
     table.remove_all();
     assert!(rt; table.at(0).is_none());
+    assert_eq!(rt; add(alloc, &mut table, b"k1", b"new")?, 4);
+    assert_eq!(rt; listed_len(table.as_slice()), 18);
+    assert!(rt; table.default_life().is_none());
     Ok(())
 }
 
