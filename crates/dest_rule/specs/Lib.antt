@@ -1,2 +1,4 @@
 pub mod Chains
 pub mod Rules
+pub mod HostKeys
+pub mod GroundsOf

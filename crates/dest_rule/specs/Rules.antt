@@ -16,6 +16,9 @@ use Rattle.userauth_blob.specs.Reading.{auth_of}
 use Rattle.userauth_blob.specs.declared.fault.AuthFault.{AuthFault}
 use Rattle.dest_rule.specs.Chains.{Binding, newest_after}
 use Rattle.key_blob.specs.Validity.{is_valid}
+-- why an identity under constraints isn't used
+pub use Rattle.dest_rule.specs.declared.denial.Denial.{Denial}
+pub use Rattle.dest_rule.specs.declared.denial.Denial.TheVariants.{Unbound, NotUserAuth, Hop as BadHop, OtherSession, NoHostKey, OtherHostKey}
 
 -- ---- a hop
 
@@ -82,6 +85,11 @@ abbrev pub is_good_newest : Grounds → Option (List ℕ) → Binding → Bool
 is_good_newest grounds previous binding =
     ends grounds.user binding.forwarding && is_pair grounds previous binding.host_key
 
+-- a binding is good behind the previous host key, by whether it is the newest
+abbrev pub is_good : Bool → Grounds → Option (List ℕ) → Binding → Bool
+is_good true grounds previous binding = is_good_newest grounds previous binding
+is_good false grounds previous binding = is_good_between grounds previous binding
+
 -- the first place that isn't good, counted from this one, of a binding and those behind it
 abbrev pub bad_place_from : Grounds → ℕ → Option (List ℕ) → Binding → List Binding → Option ℕ
 bad_place_from grounds place previous binding [] =
@@ -94,6 +102,11 @@ bad_place_from grounds place previous binding (next ∷ later) =
 -- the first place of a chain that isn't good, from 0
 unfoldable pub bad_place : Grounds → Binding → List Binding → Option ℕ
 bad_place grounds binding later = bad_place_from grounds 0 None binding later
+
+-- the same of a chain that may be empty
+abbrev pub bad_place_in : Grounds → List Binding → Option ℕ
+bad_place_in grounds [] = None
+bad_place_in grounds (binding ∷ later) = bad_place grounds binding later
 
 -- some constraint permits to leave the host of this key
 abbrev pub leads_on : Grounds → List ℕ → Bool
@@ -121,33 +134,25 @@ unfoldable pub visible : List Constraint → List Binding → Bool → ℕ → B
 visible [] chain attempted wall = true
 visible (rule ∷ rules) chain attempted wall = visible_from (rule ∷ rules) chain attempted wall
 
--- why an identity under constraints isn't used
-pub data Denial : Type 0 where
-  Unbound : Denial
-  NotUserAuth : (fault : AuthFault) → Denial
-  BadHop : (place : ℕ) → Denial
-  OtherSession : Denial
-  NoHostKey : Denial
-  OtherHostKey : Denial
+-- the login is bound to the newest host's key, or to none where there is no other host
+abbrev pub denial_of_key : Option (List ℕ) → List ℕ → Bool → Option Denial
+denial_of_key (Some host_key) newest is_only =
+    if bytes_eq host_key newest then None else Some OtherHostKey
+denial_of_key None newest is_only = if is_only then None else Some NoHostKey
 
--- the login is bound to the newest host, or there is no other one
-abbrev pub denial_of_host : Option (List ℕ) → Binding → List Binding → Option Denial
-denial_of_host (Some host_key) binding later =
-    if bytes_eq host_key (newest_after binding later).host_key then None else Some OtherHostKey
-denial_of_host None binding [] = None
-denial_of_host None binding (next ∷ later) = Some NoHostKey
-
--- the login is to the newest session
-abbrev pub denial_of_session : Login → Binding → List Binding → Option Denial
-denial_of_session login binding later =
-    if bytes_eq login.session (newest_after binding later).session
-    then denial_of_host login.host_key binding later
+-- the login is to the newest binding's session, and bound to its host key, which it has to be
+-- where there are others
+abbrev pub denial_of_newest : Login → Binding → Bool → Option Denial
+denial_of_newest login newest is_only =
+    if bytes_eq login.session newest.session
+    then denial_of_key login.host_key newest.host_key is_only
     else Some OtherSession
 
 -- the chain is permitted for the login's user
 abbrev pub denial_of_place : Option ℕ → Login → Binding → List Binding → Option Denial
 denial_of_place (Some place) login binding later = Some (BadHop place)
-denial_of_place None login binding later = denial_of_session login binding later
+denial_of_place None login binding later =
+    denial_of_newest login (newest_after binding later) (is_empty later)
 
 -- the message is a login
 abbrev pub denial_of_login : Result Login AuthFault → List Constraint → ℕ → Binding → List Binding → Option Denial
