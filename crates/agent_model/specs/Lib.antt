@@ -1,0 +1,15 @@
+pub mod Events
+pub mod Limits
+pub mod NumberLists
+pub mod KeyStates
+pub mod Binds
+pub mod State
+pub mod Verdicts
+pub mod Actions
+pub mod Errands
+pub mod Dispatch
+pub mod Answers
+pub mod Consents
+pub mod Children
+pub mod Step
+pub mod Runs
