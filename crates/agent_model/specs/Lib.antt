@@ -13,3 +13,6 @@ pub mod Consents
 pub mod Children
 pub mod Step
 pub mod Runs
+pub mod Looks
+pub mod Sound
+pub mod Bounds

@@ -183,14 +183,15 @@ at_moment moment state = record state {
   held = expired (max state.moment.mono moment.mono) state.held;
 }
 
--- the number of the port that joined, if one did
-abbrev pub joined_between : ℕ → ℕ → List ℕ
-joined_between old_last new_last = if nat_lt old_last new_last then new_last ∷ [] else []
+-- the ports that were open or joined and aren't open after, by the numbers of the last ones before and after, rising;
+-- an event lets at most one join
+abbrev pub gone : ℕ → List Port → ℕ → List Port → List ℕ
+gone old_last old new_last new =
+    without (numbers old ++ (if nat_lt old_last new_last then new_last ∷ [] else [])) (numbers new)
 
--- the ports that were open or joined and aren't open any more, rising
+-- those that an event closed
 abbrev pub closed_between : State → State → List ℕ
-closed_between old new =
-    without (numbers old.ports ++ joined_between old.last_port new.last_port) (numbers new.ports)
+closed_between old new = gone old.last_port old.ports new.last_port new.ports
 
 -- the state tells which ports the event closed
 abbrev pub settle_closes : State → Outcome → Outcome
