@@ -34,7 +34,7 @@ class Run:
         self.moment = (0, 0)
         self.held: set[int] = set()
         self.known_starts: set[int] = set()
-        self.size = 0
+        self.lines = self.size = self.status = 0
         self.printed: list[str] = []
 
     def fields(self, line: bytes) -> tuple[bytes, list]:
@@ -46,8 +46,21 @@ class Run:
         return word, [value(kind, text) for kind, text in zip(kinds, texts)]
 
     def line(self, line: bytes, ended: bool = True) -> None:
-        """Runs a line, and settles."""
+        """Runs a line; behind a refused one none is run."""
+        self.lines += 1
         self.size += len(line) + ended
+        try:
+            self.run(line)
+        except Fault as fault:
+            self.printed.append(f"refused {self.lines} {fault}")
+            self.status = 1
+
+    def output(self) -> bytes:
+        printed = self.printed if self.status else [*self.printed, "end"]
+        return "".join(line + "\n" for line in printed).encode()
+
+    def run(self, line: bytes) -> None:
+        """Runs a line, and settles."""
         demand(len(line) <= LONGEST_LINE and self.size <= LONGEST_SCHEDULE, "long")
         if line == b"" or line.startswith(b"#"):
             return self.settle([])
@@ -94,16 +107,11 @@ def replay(
     text: bytes, stages: Iterable[str] = (), default_life: int | None = None
 ) -> tuple[bytes, int]:
     """What a schedule prints, and the status."""
-    run, status = Run(stages, default_life), 0
+    run = Run(stages, default_life)
     *lines, rest = text.split(b"\n")
-    try:
-        for number, line in enumerate(lines, 1):
+    for line in lines:
+        if not run.status:
             run.line(line)
-        if rest:
-            number = len(lines) + 1
-            run.line(rest, ended=False)
-        run.printed.append("end")
-    except Fault as fault:
-        run.printed.append(f"refused {number} {fault}")
-        status = 1
-    return "".join(each + "\n" for each in run.printed).encode(), status
+    if rest and not run.status:
+        run.line(rest, ended=False)
+    return run.output(), run.status
