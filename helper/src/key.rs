@@ -44,7 +44,8 @@ impl<'a> KeyType<'a> {
     }
 }
 
-/// A key blob whose key is one of its algorithm. What certifies it is the agent's matter, and not read.
+/// A key blob whose key is one of its algorithm. What certifies the key is the agent's matter, and
+/// isn't read.
 pub struct Blob<'a> {
     bytes: &'a [u8],
     name: &'a [u8],

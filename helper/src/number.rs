@@ -12,7 +12,7 @@ pub fn public(mpint: &[u8]) -> Result<BigNum, Refused> {
     Ok(BigNum::from_slice(magnitude(mpint)?)?)
 }
 
-/// A number that stays secret: on the secure heap, wiped when freed, computed with in constant time.
+/// A number that stays secret: on the secure heap, and wiped when it is freed.
 pub fn secret(mpint: &[u8]) -> Result<BigNum, Refused> {
     let mut number = BigNum::new_secure()?;
     number.copy_from_slice(magnitude(mpint)?)?;

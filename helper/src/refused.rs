@@ -1,7 +1,7 @@
 use crate::wire::Malformed;
 use openssl::error::ErrorStack;
 
-/// A key that doesn't fit, or a signature that can't be made. Why isn't kept: the answer is the same.
+/// A key that doesn't fit, or a signature that can't be made. Why isn't kept.
 pub struct Refused;
 
 impl From<Malformed> for Refused {

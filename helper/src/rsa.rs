@@ -129,7 +129,7 @@ impl PrivateKey {
         })
     }
 
-    /// A signature that doesn't verify stays here: of a wrong d or iqmp it would give a factor away.
+    /// A signature that doesn't verify stays here: with wrong numbers it can give a factor away.
     pub fn sign(&self, message: &[u8], digest: Digest) -> Result<Vec<u8>, Refused> {
         let bytes = Signer::new(digest.function(), &self.key)?.sign_oneshot_to_vec(message)?;
         Refused::unless(verifies(&self.key, digest, message, &bytes)?)?;

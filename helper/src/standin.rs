@@ -3,8 +3,10 @@
 use crate::refused::Refused;
 use crate::signature::Signature;
 use crate::wire::Reader;
+use openssl::hash::MessageDigest;
 use openssl::memcmp;
-use openssl::sha::Sha256;
+use openssl::pkey::PKey;
+use openssl::sign::Signer;
 use zeroize::Zeroizing;
 
 const NAME: &[u8] = b"keyed-sha256@example.com";
@@ -20,7 +22,7 @@ pub fn sign(added: &[u8], blob: &[u8], message: &[u8]) -> Result<Vec<u8>, Refuse
     let secret = fields.string()?;
     fields.end()?;
     Refused::unless(tag_of(blob)? == tag && secret.len() == SECRET)?;
-    Ok(signature(secret, message))
+    signature(secret, message)
 }
 
 /// Hosts' tags and secrets, tag before secret. These are kept for as long as the program runs.
@@ -58,7 +60,7 @@ impl Hosts {
         let secret = hosts
             .find_map(|record| record.strip_prefix(tag))
             .ok_or(Refused)?;
-        let own = signature(secret, message);
+        let own = signature(secret, message)?;
         Ok(own.len() == given.len() && memcmp::eq(&own, given))
     }
 }
@@ -73,31 +75,14 @@ fn tag_of(blob: &[u8]) -> Result<&[u8], Refused> {
     Ok(tag)
 }
 
-fn signature(secret: &[u8], message: &[u8]) -> Vec<u8> {
-    Signature {
+fn signature(secret: &[u8], message: &[u8]) -> Result<Vec<u8>, Refused> {
+    let key = PKey::hmac(secret)?;
+    let bytes = Signer::new(MessageDigest::sha256(), &key)?.sign_oneshot_to_vec(message)?;
+    Ok(Signature {
         algorithm: NAME,
-        bytes: &hmac(secret, message),
+        bytes: &bytes,
     }
-    .to_vec()
-}
-
-/// HMAC-SHA-256 (RFC 2104) of a key that isn't longer than a block. libcrypto's own leaves a copy
-/// of the key in memory.
-fn hmac(key: &[u8], message: &[u8]) -> [u8; 32] {
-    let mut pad = Zeroizing::new([0; 64]);
-    for (byte, key) in pad.iter_mut().zip(key) {
-        *byte = *key;
-    }
-    let mut hash = |mask: u8, text: &[u8]| {
-        let mut hash = Sha256::new();
-        pad.iter_mut().for_each(|byte| *byte ^= mask);
-        hash.update(&*pad);
-        pad.iter_mut().for_each(|byte| *byte ^= mask);
-        hash.update(text);
-        hash.finish()
-    };
-    let inner = hash(0x36, message);
-    hash(0x5c, &inner)
+    .to_vec())
 }
 
 /// Fills the bytes from two hexadecimal digits each.

@@ -12,7 +12,7 @@ from peer import PROGRAM, Helper, string
 
 CONTROL = os.environ.get("HELPER_LEAVING", "")
 PIECE = 12
-SECRET = bytes(range(100, 132))
+SECRET = os.urandom(32)
 
 
 def private_numbers(key):
