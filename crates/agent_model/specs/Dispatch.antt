@@ -13,7 +13,7 @@ use Rattle.agent_model.specs.KeyStates.{KeyState, shown}
 use Rattle.agent_model.specs.Actions.{Work, settles}
 use Rattle.agent_model.specs.Errands.{Signs, ask_user, put_ask}
 use Rattle.agent_model.specs.Limits.{last_number}
-use Rattle.dest_rule.specs.Chains.{Binding}
+use Rattle.dest_rule.specs.declared.binding.Binding.{Binding}
 use Rattle.agent_model.specs.State.{UnderWay}
 use Rattle.agent_model.specs.Verdicts.{Cause, Identities, Malformed, Locked, Unserved, NotHeld, NotVisible, DestinationsUnserved, Constraints, ListFull, NoPassphrase, WrongPassphrase, NotLocked, AdditionsSpent, Refuses, Replies, Reply, Success}
 

@@ -12,7 +12,7 @@ use Rattle.helper_link.specs.declared.state.LinkState.{LinkState}
 use Rattle.helper_link.specs.declared.state.LinkState.TheVariants as states
 use Rattle.identity_table.specs.Identities.{HeldKey}
 use Rattle.agent_model.specs.Binds.{BindRequest}
-use Rattle.dest_rule.specs.Chains.{Binding}
+use Rattle.dest_rule.specs.declared.binding.Binding.{Binding}
 use Rattle.confirm_desk.specs.Confirmations.{Held, raise}
 use Rattle.confirm_desk.specs.Prompt.{prompt_for}
 use Rattle.agent_model.specs.Limits.{last_number, most_asks, most_confirmations}
