@@ -5,9 +5,9 @@ use world_ports::{Door, Moment};
 
 /// What one line of a schedule asks for. Ports and jobs are numbers as the run counts them, from 1.
 ///
-/// Has no `Debug`, since what a port sends may hold a private key or a passphrase. `put_step` writes
-/// each of them; `read_line` reads all but `join child`, `started` and `failed`, which it refuses as
-/// `LineFault::Word`.
+/// Has no `Debug`, since what a port sends may hold a private key or a passphrase. `put_step`
+/// writes each of them; `read_line` reads all but `join child`, `started` and `failed`, which it
+/// refuses as `LineFault::Word`.
 #[derive(PartialEq, Eq, Drop)]
 pub enum Step {
     /// A line that is empty or begins with `#`. It is counted and does nothing else.

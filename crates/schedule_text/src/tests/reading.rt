@@ -1,4 +1,4 @@
-//! That the definitions say what docs/PROTOCOL.md says of lines that are read, on lines written out.
+//! That the definitions say what docs/PROTOCOL.md says of lines that are read.
 
 use crate::{LineFault, Step, read_line};
 use plain_lists::Bytes;
