@@ -70,10 +70,10 @@ def try_rows(program: str, stages: list[str]) -> bool:
     good, tried = True, 0
     for row in ROWS:
         wanted = (row.printed, row.status)
-        seen = {"the model": replay(row.schedule, row.needs)}
-        seen["the model of this stage"] = replay(row.schedule, {*row.needs, *stages})
+        seen = {"the model": replay(row.schedule, row.needs, row.life)}
+        seen["the model of this stage"] = replay(row.schedule, {*row.needs, *stages}, row.life)
         if set(row.needs) <= set(stages):
-            seen["the program"] = run_program(program, row.schedule)
+            seen["the program"] = run_program(program, row.schedule, row.life)
             tried += 1
         for name, result in seen.items():
             if result != wanted:

@@ -1,7 +1,5 @@
 """The run of a schedule (docs/PROTOCOL.md, "Schedules" and "Output")."""
 
-from __future__ import annotations
-
 import re
 from collections.abc import Iterable
 
@@ -47,6 +45,8 @@ class Run:
 
     def line(self, line: bytes, ended: bool = True) -> None:
         """Runs a line; behind a refused one none is run."""
+        if self.status:
+            return
         self.lines += 1
         self.size += len(line) + ended
         try:
@@ -110,8 +110,7 @@ def replay(
     run = Run(stages, default_life)
     *lines, rest = text.split(b"\n")
     for line in lines:
-        if not run.status:
-            run.line(line)
-    if rest and not run.status:
+        run.line(line)
+    if rest:
         run.line(rest, ended=False)
     return run.output(), run.status

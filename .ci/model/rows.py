@@ -17,21 +17,29 @@ class Row:
     schedule: bytes
     printed: bytes
     status: int
+    life: int | None
 
 
 ROWS: list[Row] = []
+LIFE = ("life",)
 ASKS = ("asks",)
 BINDINGS = ("asks", "bindings")
 RULES = ("asks", "bindings", "rules")
 ALL = ("asks", "bindings", "rules", "confirmations")
 
 
-def row(name: str, needs: tuple[str, ...], schedule: list[str], printed: list[str]) -> None:
+def row(
+    name: str,
+    needs: tuple[str, ...],
+    schedule: list[str],
+    printed: list[str],
+    life: int | None = None,
+) -> None:
     """A row without a refused line prints `end` at last."""
     refused = printed != [] and printed[-1].startswith("refused")
     output = printed if refused else [*printed, "end"]
     texts = ["".join(line + "\n" for line in lines).encode() for lines in (schedule, output)]
-    ROWS.append(Row(name, needs, texts[0], texts[1], int(refused)))
+    ROWS.append(Row(name, needs, texts[0], texts[1], int(refused), life))
 
 
 def u32(number: int) -> bytes:
@@ -232,6 +240,22 @@ row(
     [to(1, OK), to(1, OK), to(1, listing(ONE))],
 )
 row(
+    "a default lifetime, and another one",
+    LIFE,
+    ["join client", *hear(1, ADD1, b"\x19" + added(0x12, b"two") + b"\x01" + u32(9), LIST)]
+    + ["at 5 0", *hear(1, LIST), "at 9 0", *hear(1, LIST)],
+    [to(1, OK), to(1, OK), to(1, listing(ONE, (K2, b"two"))), to(1, listing((K2, b"two")))]
+    + [to(1, NOTHING)],
+    life=5,
+)
+row(
+    "a default lifetime of 0 is none",
+    LIFE,
+    ["join client", *hear(1, ADD1), "at 5 0", *hear(1, LIST)],
+    [to(1, OK), to(1, listing(ONE))],
+    life=0,
+)
+row(
     "the lock",
     (),
     ["join client"]
@@ -284,16 +308,32 @@ row(
 row(
     "an RSA addition has n first, and its blob e",
     (),
-    ["join client", *hear(1, b"\x11" + st(b"ssh-rsa") + b"".join(map(st, (b"n", b"e", b"d", b"i")))
-                          + st(b"p") + st(b"q") + st(b"c"), LIST)],
+    [
+        "join client",
+        *hear(
+            1,
+            b"\x11"
+            + st(b"ssh-rsa")
+            + b"".join(map(st, (b"n", b"e", b"d", b"i")))
+            + st(b"p")
+            + st(b"q")
+            + st(b"c"),
+            LIST,
+        ),
+    ],
     [to(1, OK), to(1, listing((st(b"ssh-rsa") + st(b"e") + st(b"n"), b"c")))],
 )
 row(
     "a curve's name is that of the type",
     (),
     ["join client"]
-    + [line for curve in (b"nistp256", b"nistp384") for line in
-       hear(1, b"\x11" + st(b"ecdsa-sha2-nistp256") + st(curve) + st(b"Q") + st(b"d") + st(b""))],
+    + [
+        line
+        for curve in (b"nistp256", b"nistp384")
+        for line in hear(
+            1, b"\x11" + st(b"ecdsa-sha2-nistp256") + st(curve) + st(b"Q") + st(b"d") + st(b"")
+        )
+    ],
     [to(1, OK), to(1, NO)],
 )
 BIG1, BIG2 = b"a" * 131000, b"b" * 130995
@@ -409,8 +449,9 @@ row(
     [to(1, OK), "start 1 helper", to(2, OK), to(2, OK), to(3, put1(1, b"abc"))]
     + [to(1, b"\x0e" + st(b"s"))],
 )
-LEAVING = [line for n in range(2, 257) for line in
-           ("join client", *hear(n, sign(K1, b"")), f"end {n}")]
+LEAVING = [
+    line for n in range(2, 257) for line in ("join client", *hear(n, sign(K1, b"")), f"end {n}")
+]
 row(
     "256 asks are unanswered, and one more",
     ASKS,
@@ -431,7 +472,11 @@ row(
 
 def bind(host_key: bytes, session: bytes, forwarding: int) -> bytes:
     return (
-        b"\x1b" + st(b"session-bind@openssh.com") + st(host_key) + st(session) + st(b"sg")
+        b"\x1b"
+        + st(b"session-bind@openssh.com")
+        + st(host_key)
+        + st(session)
+        + st(b"sg")
         + bytes([forwarding])
     )
 
@@ -499,15 +544,28 @@ def restrict(*rules: bytes) -> bytes:
 
 def bound_login(session: bytes, user: bytes, host_key: bytes) -> bytes:
     return (
-        st(session) + b"\x32" + st(user) + st(b"ssh-connection")
-        + st(b"publickey-hostbound-v00@openssh.com") + b"\x01" + st(T) + st(K1) + st(host_key)
+        st(session)
+        + b"\x32"
+        + st(user)
+        + st(b"ssh-connection")
+        + st(b"publickey-hostbound-v00@openssh.com")
+        + b"\x01"
+        + st(T)
+        + st(K1)
+        + st(host_key)
     )
 
 
 def plain_login(session: bytes, user: bytes) -> bytes:
     return (
-        st(session) + b"\x32" + st(user) + st(b"ssh-connection") + st(b"publickey") + b"\x01"
-        + st(T) + st(K1)
+        st(session)
+        + b"\x32"
+        + st(user)
+        + st(b"ssh-connection")
+        + st(b"publickey")
+        + b"\x01"
+        + st(T)
+        + st(K1)
     )
 
 
