@@ -6,6 +6,7 @@ import argparse
 import importlib
 import multiprocessing
 import os
+import re
 import subprocess
 import sys
 import tempfile
@@ -29,9 +30,9 @@ def run_program(program: str, text: bytes, life: int | None = None) -> Result:
     return done.stdout, done.returncode
 
 
-def shorten(text: bytes, differs: Callable[[bytes], bool]) -> bytes:
+def fewer_lines(lines: list[bytes], differs: Callable[[bytes], bool]) -> list[bytes]:
     """Leaves out lines as long as the rest still differs."""
-    lines, size = text.split(b"\n"), text.count(b"\n")
+    size = len(lines) - 1
     while size >= 1:
         at = 0
         while at < len(lines):
@@ -41,6 +42,32 @@ def shorten(text: bytes, differs: Callable[[bytes], bool]) -> bytes:
             else:
                 at += size
         size //= 2
+    return lines
+
+
+def line_by_frame(lines: list[bytes]) -> list[bytes]:
+    """What comes from a port in lines behind each other, with a line for each whole frame."""
+    told: list[tuple[bytes, bytes]] = []
+    for line in lines:
+        heard = re.fullmatch(rb"(hear [0-9]+ )([0-9a-fA-F]+)", line)
+        if heard and told and told[-1][0] == heard[1]:
+            told[-1] = (heard[1], told[-1][1] + heard[2])
+        else:
+            told.append((heard[1], heard[2]) if heard else (line, b""))
+    split = []
+    for start, text in told:
+        while len(text) >= 8 and len(text) > (end := 8 + 2 * int(text[:8], 16)):
+            split.append(start + text[:end])
+            text = text[end:]
+        split.append(start + text)
+    return split
+
+
+def shorten(text: bytes, differs: Callable[[bytes], bool]) -> bytes:
+    lines = fewer_lines(text.split(b"\n"), differs)
+    split = line_by_frame(lines)
+    if differs(b"\n".join(split)):
+        lines = fewer_lines(split, differs)
     return b"\n".join(lines)
 
 

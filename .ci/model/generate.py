@@ -362,6 +362,9 @@ class Writer:
                 port, hello = agent.last["port"], b"\x01" + uint64(job) + string(ticket)
                 if port not in agent.ports:
                     continue
+                if not self.chance((3 + well) / 4):
+                    self.hear(port, random.choice(BAD_LENGTHS))
+                    continue
                 if not self.chance((1 + well) / 2):
                     wrong = [string(bytes(16)), string(ticket[1:]), string(ticket) + b"x"]
                     wrong = [b"\x01" + uint64(job) + each for each in wrong]
