@@ -180,9 +180,8 @@ class Agent:
         kind, *fields = within("malformed", formats.request, body)
         demand(self.passphrase is None or kind in (11, 23), "locked")
         demand(kind in REQUESTS, "unknown request")
-        reply = getattr(self, REQUESTS[kind])(number, client, *fields)
         self.seen[f"request {kind}"] += 1
-        return reply
+        return getattr(self, REQUESTS[kind])(number, client, *fields)
 
     def may_see(self, client: Port, identity: Identity) -> bool:
         return visible(identity.rules, client.chain, client.attempted, self.wall)

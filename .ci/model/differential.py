@@ -16,7 +16,7 @@ from collections.abc import Callable
 from pathlib import Path
 
 from agent import STAGES
-from generate import Writer, goals
+from generate import Case, Writer, goals
 from replay import LONGEST_LINE, LONGEST_SCHEDULE, replay
 from rows import ROWS
 
@@ -139,9 +139,8 @@ def try_examples(program: str, stages: list[str]) -> bool:
 def try_one(task: tuple[str, str, list[str]]) -> tuple[bool, Counter[str], int]:
     program, seed, stages = task
     writer = Writer(seed, stages)
-    text = writer.write()
-    same = run_program(program, text, writer.life) == (writer.run.output(), writer.run.status)
-    return same, writer.seen(), len(writer.lines)
+    text, life, wanted = writer.case()
+    return run_program(program, text, life) == wanted, writer.seen(), text.count(b"\n")
 
 
 def try_schedules(program: str, count: int, seed: str, stages: list[str]) -> bool:
@@ -151,10 +150,9 @@ def try_schedules(program: str, count: int, seed: str, stages: list[str]) -> boo
         for task, (same, reached, length) in zip(tasks, pool.imap(try_one, tasks, 8)):
             if not same:
                 pool.terminate()
-                writer = Writer(task[1], stages)
-                text = writer.write()
+                text, life, _ = Writer(task[1], stages).case()
                 print(f"schedule {task[1]}:")
-                show_mismatch(program, text, stages, writer.life)
+                show_mismatch(program, text, stages, life)
                 return False
             seen += reached
             lines += length
@@ -192,14 +190,11 @@ def read_wrong() -> list[dict[str, str]]:
     return edits
 
 
-Case = tuple[bytes, int | None, Result]
 CASES: list[Case] = []
 
 
 def write_case(seed: str) -> Case:
-    writer = Writer(seed, STAGES)
-    text = writer.write()
-    return text, writer.life, (writer.run.output(), writer.run.status)
+    return Writer(seed, STAGES).case()
 
 
 def first_found(edit: dict[str, str]) -> int | None:

@@ -20,6 +20,9 @@ SESSIONS = [bytes([n]) * size for n, size in enumerate((32, 32, 20, 1, 128, 64),
 PASSPHRASES = [b"a", b"ab", b"passphrase"]
 
 
+Case = tuple[bytes, int | None, tuple[bytes, int]]
+
+
 class Over(Exception):
     """A line was refused, so the schedule ends."""
 
@@ -38,6 +41,18 @@ class Writer:
         self.reached: Counter[str] = Counter({f"default lifetime {self.life}": 1})
         self.tickets: dict[int, bytes] = {}  # of each start, also where the agent forgot it
 
+    def case(self) -> Case:
+        """A schedule, the default lifetime, and what the model prints, with the status."""
+        text = self.write()
+        if text and self.chance(0.1):
+            text = garbled_text(self.random, text)
+            self.run = Run(self.stages, self.life)
+            self.run.text(text)
+            self.reached = Counter({"text garbled": 1, f"default lifetime {self.life}": 1})
+        if self.run.status:
+            self.reached["refused " + self.run.printed[-1].split(" ")[2]] += 1
+        return text, self.life, (self.run.output(), self.run.status)
+
     def write(self) -> bytes:
         random = self.random
         try:
@@ -54,7 +69,7 @@ class Writer:
         return text
 
     def seen(self) -> Counter[str]:
-        return self.agent.seen + self.reached
+        return self.run.agent.seen + self.reached
 
     # Small words
 
@@ -79,7 +94,6 @@ class Writer:
         self.lines.append(line)
         self.run.line(line)
         if self.run.status:
-            self.reached["refused " + self.run.printed[-1].split(" ")[2]] += 1
             raise Over
         word = "comment" if line.startswith(b"#") else line.split(b" ")[0].decode() or "empty"
         if word == "at":
@@ -681,6 +695,30 @@ class Writer:
                 self.tend(well=1)
 
 
+def garbled_text(random: Random, text: bytes) -> bytes:
+    """A schedule in which some bytes or lines are other ones, doubled, missing or moved."""
+    for _ in range(random.randrange(1, 4)):
+        lines = text.split(b"\n")
+        kind, at = random.randrange(6), random.randrange(len(text) + 1)
+        first, second = random.randrange(len(lines)), random.randrange(len(lines))
+        some = random.choice([b" ", b"\n", b"\r", b"0", b"9", b"a", b"F", b"#", b"\x00", b"\xff"])
+        if kind == 0:
+            text = text[:at] + some + text[at:]
+        elif kind == 1:
+            text = text[:at] + text[at + 1 :]
+        elif kind == 2:
+            text = text[:at] + some + text[at + 1 :]
+        else:
+            if kind == 3:
+                lines[first], lines[second] = lines[second], lines[first]
+            elif kind == 4:
+                lines.insert(first, lines[second])
+            else:
+                del lines[first]
+            text = b"\n".join(lines)
+    return text
+
+
 def plain_with_long_secret() -> bytes:
     """An RSA key one of whose numbers is long."""
     return (
@@ -724,7 +762,7 @@ LONG_MOVES: dict[str, tuple[int, str]] = {
 # What the schedules of each stage are to reach, in the words of the model and of `reached`.
 GOALS: dict[str, str] = {
     "": """request 11; request 17; request 18; request 19; request 22; request 23; request 25
-        add: replaced; lifetime ends; list: locked; client: bad length; frame in pieces
+        add: replaced; lifetime ends; list: locked; client: bad length; frame in pieces; text garbled
         cause: malformed Short; cause: malformed UnknownType; cause: malformed BadLength
         cause: malformed Mismatch; cause: malformed Trailing; cause: locked
         cause: unknown request; cause: unknown extension; cause: sign: not held

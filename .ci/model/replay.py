@@ -55,6 +55,13 @@ class Run:
             self.printed.append(f"refused {self.lines} {fault}")
             self.status = 1
 
+    def text(self, text: bytes) -> None:
+        *lines, rest = text.split(b"\n")
+        for line in lines:
+            self.line(line)
+        if rest:
+            self.line(rest, ended=False)
+
     def output(self) -> bytes:
         printed = self.printed if self.status else [*self.printed, "end"]
         return "".join(line + "\n" for line in printed).encode()
@@ -108,9 +115,5 @@ def replay(
 ) -> tuple[bytes, int]:
     """What a schedule prints, and the status."""
     run = Run(stages, default_life)
-    *lines, rest = text.split(b"\n")
-    for line in lines:
-        run.line(line)
-    if rest:
-        run.line(rest, ended=False)
+    run.text(text)
     return run.output(), run.status
