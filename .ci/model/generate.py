@@ -762,7 +762,8 @@ LONG_MOVES: dict[str, tuple[int, str]] = {
 # What the schedules of each stage are to reach, in the words of the model and of `reached`.
 GOALS: dict[str, str] = {
     "": """request 11; request 17; request 18; request 19; request 22; request 23; request 25
-        add: replaced; lifetime ends; list: locked; client: bad length; frame in pieces; text garbled
+        add: replaced; lifetime ends; list: locked; client: bad length
+        frame in pieces; text garbled
         cause: malformed Short; cause: malformed UnknownType; cause: malformed BadLength
         cause: malformed Mismatch; cause: malformed Trailing; cause: locked
         cause: unknown request; cause: unknown extension; cause: sign: not held

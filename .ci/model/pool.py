@@ -1,4 +1,4 @@
-"""What random schedules are made of: keys, hosts, certificates, constraints, logins, and their faults."""
+"""What random schedules are made of: keys, hosts, constraints, logins, and their faults."""
 
 from __future__ import annotations
 
