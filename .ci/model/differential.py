@@ -6,6 +6,7 @@ import argparse
 import importlib
 import multiprocessing
 import os
+import re
 import subprocess
 import sys
 import tempfile
@@ -15,7 +16,7 @@ from collections.abc import Callable
 from pathlib import Path
 
 from agent import STAGES
-from generate import Writer, goals
+from generate import Case, Writer, goals
 from replay import LONGEST_LINE, LONGEST_SCHEDULE, replay
 from rows import ROWS
 
@@ -29,9 +30,9 @@ def run_program(program: str, text: bytes, life: int | None = None) -> Result:
     return done.stdout, done.returncode
 
 
-def shorten(text: bytes, differs: Callable[[bytes], bool]) -> bytes:
+def fewer_lines(lines: list[bytes], differs: Callable[[bytes], bool]) -> list[bytes]:
     """Leaves out lines as long as the rest still differs."""
-    lines, size = text.split(b"\n"), text.count(b"\n")
+    size = len(lines) - 1
     while size >= 1:
         at = 0
         while at < len(lines):
@@ -41,6 +42,32 @@ def shorten(text: bytes, differs: Callable[[bytes], bool]) -> bytes:
             else:
                 at += size
         size //= 2
+    return lines
+
+
+def line_by_frame(lines: list[bytes]) -> list[bytes]:
+    """What comes from a port in lines behind each other, with a line for each whole frame."""
+    told: list[tuple[bytes, bytes]] = []
+    for line in lines:
+        heard = re.fullmatch(rb"(hear [0-9]+ )([0-9a-fA-F]+)", line)
+        if heard and told and told[-1][0] == heard[1]:
+            told[-1] = (heard[1], told[-1][1] + heard[2])
+        else:
+            told.append((heard[1], heard[2]) if heard else (line, b""))
+    split = []
+    for start, text in told:
+        while len(text) >= 8 and len(text) > (end := 8 + 2 * int(text[:8], 16)):
+            split.append(start + text[:end])
+            text = text[end:]
+        split.append(start + text)
+    return split
+
+
+def shorten(text: bytes, differs: Callable[[bytes], bool]) -> bytes:
+    lines = fewer_lines(text.split(b"\n"), differs)
+    split = line_by_frame(lines)
+    if differs(b"\n".join(split)):
+        lines = fewer_lines(split, differs)
     return b"\n".join(lines)
 
 
@@ -70,10 +97,10 @@ def try_rows(program: str, stages: list[str]) -> bool:
     good, tried = True, 0
     for row in ROWS:
         wanted = (row.printed, row.status)
-        seen = {"the model": replay(row.schedule, row.needs)}
-        seen["the model of this stage"] = replay(row.schedule, {*row.needs, *stages})
+        seen = {"the model": replay(row.schedule, row.needs, row.life)}
+        seen["the model of this stage"] = replay(row.schedule, {*row.needs, *stages}, row.life)
         if set(row.needs) <= set(stages):
-            seen["the program"] = run_program(program, row.schedule)
+            seen["the program"] = run_program(program, row.schedule, row.life)
             tried += 1
         for name, result in seen.items():
             if result != wanted:
@@ -112,9 +139,8 @@ def try_examples(program: str, stages: list[str]) -> bool:
 def try_one(task: tuple[str, str, list[str]]) -> tuple[bool, Counter[str], int]:
     program, seed, stages = task
     writer = Writer(seed, stages)
-    text = writer.write()
-    same = run_program(program, text, writer.life) == (writer.run.output(), writer.run.status)
-    return same, writer.seen(), len(writer.lines)
+    text, life, wanted = writer.case()
+    return run_program(program, text, life) == wanted, writer.seen(), text.count(b"\n")
 
 
 def try_schedules(program: str, count: int, seed: str, stages: list[str]) -> bool:
@@ -124,10 +150,9 @@ def try_schedules(program: str, count: int, seed: str, stages: list[str]) -> boo
         for task, (same, reached, length) in zip(tasks, pool.imap(try_one, tasks, 8)):
             if not same:
                 pool.terminate()
-                writer = Writer(task[1], stages)
-                text = writer.write()
+                text, life, _ = Writer(task[1], stages).case()
                 print(f"schedule {task[1]}:")
-                show_mismatch(program, text, stages, writer.life)
+                show_mismatch(program, text, stages, life)
                 return False
             seen += reached
             lines += length
@@ -165,14 +190,11 @@ def read_wrong() -> list[dict[str, str]]:
     return edits
 
 
-Case = tuple[bytes, int | None, Result]
 CASES: list[Case] = []
 
 
 def write_case(seed: str) -> Case:
-    writer = Writer(seed, STAGES)
-    text = writer.write()
-    return text, writer.life, (writer.run.output(), writer.run.status)
+    return Writer(seed, STAGES).case()
 
 
 def first_found(edit: dict[str, str]) -> int | None:

@@ -20,6 +20,9 @@ SESSIONS = [bytes([n]) * size for n, size in enumerate((32, 32, 20, 1, 128, 64),
 PASSPHRASES = [b"a", b"ab", b"passphrase"]
 
 
+Case = tuple[bytes, int | None, tuple[bytes, int]]
+
+
 class Over(Exception):
     """A line was refused, so the schedule ends."""
 
@@ -27,14 +30,28 @@ class Over(Exception):
 class Writer:
     def __init__(self, seed: str, stages: Iterable[str] = ()) -> None:
         self.random = random = Random(seed)
-        self.life = random.choice([None] * 8 + [0, 1, 3, 2**32 - 1])
+        lives = [None] * 8 + [0, 1, 3, 2**32 - 1] if "life" in stages else [None]
+        self.life = random.choice(lives)
         self.run = Run(stages, self.life)
         self.agent = self.run.agent
         self.stages = self.agent.stages
         self.lines: list[bytes] = []
         self.unsent: dict[int, bytes] = {}  # the rest of a frame that was cut
         self.keys = random.sample(pool.KEYS, 3) + pool.KEYS[:2]
-        self.reached: Counter[str] = Counter()
+        self.reached: Counter[str] = Counter({f"default lifetime {self.life}": 1})
+        self.tickets: dict[int, bytes] = {}  # of each start, also where the agent forgot it
+
+    def case(self) -> Case:
+        """A schedule, the default lifetime, and what the model prints, with the status."""
+        text = self.write()
+        if text and self.chance(0.1):
+            text = garbled_text(self.random, text)
+            self.run = Run(self.stages, self.life)
+            self.run.text(text)
+            self.reached = Counter({"text garbled": 1, f"default lifetime {self.life}": 1})
+        if self.run.status:
+            self.reached["refused " + self.run.printed[-1].split(" ")[2]] += 1
+        return text, self.life, (self.run.output(), self.run.status)
 
     def write(self) -> bytes:
         random = self.random
@@ -52,7 +69,7 @@ class Writer:
         return text
 
     def seen(self) -> Counter[str]:
-        return self.agent.seen + self.reached
+        return self.run.agent.seen + self.reached
 
     # Small words
 
@@ -63,8 +80,11 @@ class Writer:
         return self.random.choice(list(choices))
 
     def one_of(self, moves: dict[str, tuple[int, str]]) -> None:
-        known = {name: weight for name, (weight, stage) in moves.items()
-                 if not stage or stage in self.stages}
+        known = {
+            name: weight
+            for name, (weight, stage) in moves.items()
+            if not stage or stage in self.stages
+        }
         name = self.random.choices(list(known), list(known.values()))[0]
         getattr(self, name)()
 
@@ -74,7 +94,6 @@ class Writer:
         self.lines.append(line)
         self.run.line(line)
         if self.run.status:
-            self.reached["refused " + self.run.printed[-1].split(" ")[2]] += 1
             raise Over
         word = "comment" if line.startswith(b"#") else line.split(b" ")[0].decode() or "empty"
         if word == "at":
@@ -87,8 +106,11 @@ class Writer:
 
     def client(self, fresh: float = 0.1) -> int:
         """An open client, a new one so often, and else one that waits for nothing."""
-        idle = [n for n in self.ports("client")
-                if not self.agent.ports[n].waits and n not in self.unsent]
+        idle = [
+            n
+            for n in self.ports("client")
+            if not self.agent.ports[n].waits and n not in self.unsent
+        ]
         if not idle or self.chance(fresh):
             self.join("client")
             if self.agent.last["port"] in self.agent.ports:
@@ -127,9 +149,20 @@ class Writer:
         key = self.pick(self.keys)
         rules = 0.4 if "rules" in self.stages else 0.1
         kinds: dict[str, float] = {
-            "list": 4, "add": 4, "terms": 4, "remove": 2.5, "remove all": 0.7, "lock": 0.5,
-            "unlock": 0.7, "sign": 3, "bind": 0.8, "extension": 0.4, "other": 0.5,
-            "faulty": 1.2, "garbled": 1.5, "login": 0.4 if rules < 0.4 else 2,
+            "list": 4,
+            "add": 4,
+            "terms": 4,
+            "remove": 2.5,
+            "remove all": 0.7,
+            "lock": 0.5,
+            "unlock": 0.7,
+            "sign": 3,
+            "bind": 0.8,
+            "extension": 0.4,
+            "other": 0.5,
+            "faulty": 1.2,
+            "garbled": 1.5,
+            "login": 0.4 if rules < 0.4 else 2,
         }
         if self.agent.passphrase is not None:
             kinds |= {"unlock": 6}
@@ -178,6 +211,8 @@ class Writer:
         user = random.choice(pool.USERS)
         if chain and self.chance(0.85):
             session, host_key = chain[-1].session, chain[-1].host_key
+        if len(chain) > 1 and self.chance(0.25):
+            session = chain[-2].session
         if self.chance(0.3):
             return pool.login(random, key, session, user, None)
         if self.chance(0.25):
@@ -270,16 +305,54 @@ class Writer:
         while gone in self.agent.ports:
             gone += 1
         lines = [
-            f"end {gone}", f"hear {gone} 00", f"hold {gone}", f"free {gone}", f"take {gone} 1",
-            f"take {port} 999999", f"take {port} 0", f"take {port} 18446744073709551616",
-            f"hear {port} 0", f"hear {port} ", f"hear {port} 0x00", f"hear {gone} 0g",
-            f"hear {port}  00", f"hear 0{port} 00", f"end {port} ", f"end {port}\r", f"end -{port}",
-            "at 1", "at 1 18446744073709551616", "at 01 1", "at 1 1 1", "at  1", "at a b",
-            f"take {port} +1", "join", "join client ", "join Client", "join child", " ", "x",
-            "joinclient", "#\n ", "\t", "hold", "started 9 " + "00" * 16, "started 9 00", "failed 9",
-            "failed", "started 1 " + "0" * 31, "started x " + "00" * 16, "failed 1 1", "failed 01",
-            b"hear \xff 00", b"hear %d \xd9\xa0" % port, "#" * (LONGEST_LINE + 1),
-            f"hear {port} " + "0" * LONGEST_LINE, "x" * LONGEST_LINE, "end " + "1" * 5000,
+            f"end {gone}",
+            f"hear {gone} 00",
+            f"hold {gone}",
+            f"free {gone}",
+            f"take {gone} 1",
+            f"take {port} 999999",
+            f"take {port} 0",
+            f"take {port} 18446744073709551616",
+            f"hear {port} 0",
+            f"hear {port} ",
+            f"hear {port} 0x00",
+            f"hear {gone} 0g",
+            f"hear {port}  00",
+            f"hear 0{port} 00",
+            f"end {port} ",
+            f"end {port}\r",
+            f"end -{port}",
+            "at 1",
+            "at 1 18446744073709551616",
+            "at 01 1",
+            "at 1 1 1",
+            "at  1",
+            "at a b",
+            f"take {port} +1",
+            "join",
+            "join client ",
+            "join Client",
+            "join child",
+            " ",
+            "x",
+            "joinclient",
+            "#\n ",
+            "\t",
+            "hold",
+            "started 9 " + "00" * 16,
+            "started 9 00",
+            "failed 9",
+            "failed",
+            "started 1 " + "0" * 31,
+            "started x " + "00" * 16,
+            "failed 1 1",
+            "failed 01",
+            b"hear \xff 00",
+            b"hear %d \xd9\xa0" % port,
+            "#" * (LONGEST_LINE + 1),
+            f"hear {port} " + "0" * LONGEST_LINE,
+            "x" * LONGEST_LINE,
+            "end " + "1" * 5000,
         ]
         for line in [self.pick(lines)] if self.chance(0.5) else []:
             pieces = line.split("\n") if isinstance(line, str) else [line]
@@ -293,13 +366,18 @@ class Writer:
         random, agent = self.random, self.agent
         for job in list(agent.starts):
             if self.chance(0.9):
-                good = self.chance((1 + well) / 2)
-                self.say(f"started {job} {random.randbytes(16).hex()}" if good else f"failed {job}")
+                if self.chance((1 + well) / 2):
+                    self.starts(job)
+                else:
+                    self.say(f"failed {job}")
         for job, ticket in list(agent.tickets.items()):
             if self.chance(0.9) and job in agent.tickets:
                 self.join("child")
                 port, hello = agent.last["port"], b"\x01" + uint64(job) + string(ticket)
                 if port not in agent.ports:
+                    continue
+                if not self.chance((3 + well) / 4):
+                    self.hear(port, random.choice(BAD_LENGTHS))
                     continue
                 if not self.chance((1 + well) / 2):
                     wrong = [string(bytes(16)), string(ticket[1:]), string(ticket) + b"x"]
@@ -316,13 +394,18 @@ class Writer:
         for job, confirmation in list(agent.confirmations.items()):
             port = confirmation.port
             if port in agent.ports and self.chance(0.7):
-                body = bytes([random.choice([105, 105, 105, 106])]) + uint64(job)
+                named = job if self.chance(0.97) else job + random.choice([1, -1])
+                body = bytes([random.choice([105, 105, 105, 106])]) + uint64(named)
                 if self.chance((9 + well) / 10):
                     self.send(port, body if self.chance(well) else self.child_body(), cut=0.1)
                 elif self.chance(0.5):
                     self.hear(port, random.choice(BAD_LENGTHS))
                 else:
                     self.say(f"end {port}")
+
+    def starts(self, job: int) -> None:
+        self.tickets[job] = self.random.randbytes(16)
+        self.say(f"started {job} {self.tickets[job].hex()}")
 
     def answer(self, ask: int) -> bytes:
         number, yes = uint64(ask), self.chance(0.85)
@@ -342,8 +425,15 @@ class Writer:
         if self.chance(0.2):
             return kind + uint64(random.choice(numbers)) + (text if kind == b"e" else b"")
         bodies = [
-            body, body, body + text, body[:5], body + b"\x00", b"\x00", b"\x02" + body[1:],
-            b"\x01" + uint64(random.choice(numbers)) + text, b"\x01" + body[1:],
+            body,
+            body[:-1] + bytes([body[-1] ^ 1]),
+            body + text,
+            body[:5],
+            body + b"\x00",
+            b"\x00",
+            b"\x02" + body[1:],
+            b"\x01" + uint64(random.choice(numbers)) + text,
+            b"\x01" + body[1:],
             b"\x01" + uint64(self.agent.last["job"]) + string(bytes(16)),
             b"\x01" + uint64(self.agent.last["job"]) + string(bytes(16)) + b"\x00",
         ]
@@ -355,8 +445,13 @@ class Writer:
     def strays(self) -> None:
         """A child comes unasked; a child says anything, with a bad length, or ends."""
         ports = self.ports("child")
-        if not ports or self.chance(0.3):
-            return self.join("child")
+        if not ports or self.chance(0.4):
+            self.join("child")
+            port, jobs = self.agent.last["port"], list(self.tickets)
+            if port in self.agent.ports and jobs:
+                job = self.random.choice(jobs)
+                self.send(port, b"\x01" + uint64(job) + string(self.tickets[job]))
+            return
         named = [port for port in ports if self.agent.ports[port].job is not None]
         port = self.random.choice(named if named and self.chance(0.5) else ports)
         kind = self.random.randrange(6)
@@ -444,16 +539,17 @@ class Writer:
         comment = random.choice([b"one", b"x" * 256 + b"y", b"\x1f\x20\x7e\x7f\xff", b""])
         add = b"\x19" + key.added + string(comment) + b"\x02"
         if self.chance(0.7):
-            self.send(port, add, cut=0)
+            self.send(port, *random.choice([[add], [add], [b"\x13", add]]), cut=0)
         if port in self.agent.ports:
             self.send(port, b"\x0d" + string(key.blob) + string(b"m") + uint32(4), cut=0)
         if self.chance(0.3):
             self.tend(well=0.95)
         if self.chance(0.6):
             other = self.client(fresh=0.3)
-            bodies = [b"\x12" + string(key.blob), add, b"\x16" + string(b"a"), b"\x13" + b"", b"\x0b"]
+            remove, lock = b"\x12" + string(key.blob), b"\x16" + string(b"a")
+            bodies = [[remove], [remove, add], [lock], [b"\x13"], [b"\x13", add], [b"\x0b"]]
             if other in self.agent.ports:
-                self.send(other, random.choice(bodies), cut=0)
+                self.send(other, *random.choice(bodies), cut=0)
         if self.chance(0.15) and port in self.agent.ports:
             self.say(f"end {port}")
         if self.chance(0.7):
@@ -512,6 +608,8 @@ class Writer:
         size = left - 8 - len(keys[-1].blob) + self.random.choice([-1, 0, 0, 1, 1])
         number, rest = self.random.choice([(b"\x11", b""), (b"\x19", b"\x01" + uint32(3))])
         self.send(port, number + keys[-1].added + string(b"z" * size) + rest, b"\x0b", cut=0)
+        size += self.random.choice([-1, 0, 0, 1])
+        self.send(port, number + keys[-1].added + string(b"y" * size) + rest, b"\x0b", cut=0)
 
     def long_line(self) -> None:
         self.say("#" * (LONGEST_LINE - self.random.choice([0, 1])))
@@ -550,7 +648,7 @@ class Writer:
     def raise_children(self) -> None:
         """Each job is started, and each child says hello."""
         for job in list(self.agent.starts):
-            self.say(f"started {job} {self.random.randbytes(16).hex()}")
+            self.starts(job)
         for job, ticket in list(self.agent.tickets.items()):
             self.join("child")
             if self.agent.last["port"] in self.agent.ports:
@@ -567,7 +665,9 @@ class Writer:
         sign = b"\x0d" + string(key.blob) + string(b"") + uint32(0)
         self.send(client, b"\x11" + key.added + string(b"c"), sign, cut=0)
         self.raise_children()
-        port, asks = self.agent.helper_port, [n for n, a in self.agent.asks.items() if not a.binding]
+        port, asks = self.agent.helper_port, [
+            n for n, a in self.agent.asks.items() if not a.binding
+        ]
         if port is None or not asks:
             return
         size = LIMITS["body of a child"] - 13 - self.random.choice([0, 0, 1])
@@ -595,30 +695,75 @@ class Writer:
                 self.tend(well=1)
 
 
+def garbled_text(random: Random, text: bytes) -> bytes:
+    """A schedule in which some bytes or lines are other ones, doubled, missing or moved."""
+    for _ in range(random.randrange(1, 4)):
+        lines = text.split(b"\n")
+        kind, at = random.randrange(6), random.randrange(len(text) + 1)
+        first, second = random.randrange(len(lines)), random.randrange(len(lines))
+        some = random.choice([b" ", b"\n", b"\r", b"0", b"9", b"a", b"F", b"#", b"\x00", b"\xff"])
+        if kind == 0:
+            text = text[:at] + some + text[at:]
+        elif kind == 1:
+            text = text[:at] + text[at + 1 :]
+        elif kind == 2:
+            text = text[:at] + some + text[at + 1 :]
+        else:
+            if kind == 3:
+                lines[first], lines[second] = lines[second], lines[first]
+            elif kind == 4:
+                lines.insert(first, lines[second])
+            else:
+                del lines[first]
+            text = b"\n".join(lines)
+    return text
+
+
 def plain_with_long_secret() -> bytes:
     """An RSA key one of whose numbers is long."""
-    return string(b"ssh-rsa") + string(b"n") + string(b"e") + string(bytes(100000)) + string(b"") * 3
+    return (
+        string(b"ssh-rsa") + string(b"n") + string(b"e") + string(bytes(100000)) + string(b"") * 3
+    )
 
 
 # Each move's weight, and the stage from which on it is made.
 MOVES: dict[str, tuple[int, str]] = {
-    "joins": (4, ""), "requests": (30, ""), "in_one_piece": (6, ""), "goes_on": (5, ""),
-    "bad_length": (1, ""), "ends": (2, ""), "clock": (8, ""), "holds": (3, ""), "takes": (8, ""),
-    "comments": (2, ""), "mistakes": (1, ""),
-    "children": (12, "asks"), "strays": (3, "asks"), "ask": (10, "asks"),
-    "binds": (8, "bindings"), "walk": (10, "rules"), "confirm": (8, "confirmations"),
+    "joins": (4, ""),
+    "requests": (30, ""),
+    "in_one_piece": (6, ""),
+    "goes_on": (5, ""),
+    "bad_length": (1, ""),
+    "ends": (2, ""),
+    "clock": (8, ""),
+    "holds": (3, ""),
+    "takes": (8, ""),
+    "comments": (2, ""),
+    "mistakes": (1, ""),
+    "children": (12, "asks"),
+    "strays": (3, "asks"),
+    "ask": (10, "asks"),
+    "binds": (8, "bindings"),
+    "walk": (10, "rules"),
+    "confirm": (8, "confirmations"),
     "late_grant": (3, "confirmations"),
 }
 LONG_MOVES: dict[str, tuple[int, str]] = {
-    "many_clients": (2, ""), "long_body": (4, ""), "full_list": (6, ""), "long_line": (1, ""),
-    "many_asks": (5, "asks"), "many_children": (2, "asks"), "long_answer": (7, "asks"),
-    "many_bindings": (4, "bindings"), "many_confirmations": (6, "confirmations"),
+    "many_clients": (3, ""),
+    "long_body": (4, ""),
+    "full_list": (6, ""),
+    "long_line": (2, ""),
+    "many_asks": (5, "asks"),
+    "many_children": (3, "asks"),
+    "long_answer": (7, "asks"),
+    "many_bindings": (4, "bindings"),
+    "many_confirmations": (6, "confirmations"),
 }
 
 # What the schedules of each stage are to reach, in the words of the model and of `reached`.
 GOALS: dict[str, str] = {
     "": """request 11; request 17; request 18; request 19; request 22; request 23; request 25
-        add: replaced; lifetime ends; list: locked; client: bad length; frame in pieces
+        add: replaced; lifetime ends; list: locked; client: bad length
+        frame in pieces; text garbled
         cause: malformed Short; cause: malformed UnknownType; cause: malformed BadLength
         cause: malformed Mismatch; cause: malformed Trailing; cause: locked
         cause: unknown request; cause: unknown extension; cause: sign: not held
@@ -631,7 +776,9 @@ GOALS: dict[str, str] = {
         line at later; line at again; line at earlier; line hold; line free; line take; line end
         line empty; line comment; line join; line hear; refused long; refused word; refused number
         refused hex; refused port; refused order""",
-    "asks": """request 13; cause: helper lost; cause: helper: REFUSED; helper: SIGNED; hello
+    "life": """default lifetime 0; default lifetime 1; default lifetime 3
+        default lifetime 4294967295""",
+    "asks": """request 13; cause: helper lost; helper: REFUSED; helper: SIGNED; hello
         answer: asker left; cause: asks; limit: asks; limit: asks + 1; limit: child
         limit: child + 1; limit: body of a child; line started; line failed
         hello: Short; hello: Kind; hello: TicketLength; hello: Trailing; hello: bad length
@@ -639,7 +786,7 @@ GOALS: dict[str, str] = {
         helper lost: Short; helper lost: Kind; helper lost: TicketLength; helper lost: Trailing
         helper lost: bad length; helper lost: no answer; helper lost: not pending
         helper lost: wrong kind; helper lost: ended; helper lost: start failed""",
-    "bindings": """request 27; helper: TRUE, new; helper: TRUE, same; cause: helper: FALSE
+    "bindings": """request 27; helper: TRUE; helper: TRUE again; helper: FALSE
         cause: bind: empty session; cause: bind: long session; cause: bind: bound for a login
         cause: bind: another host key; cause: bind: full; limit: bindings; limit: bindings + 1
         limit: session; limit: session + 1""",

@@ -17,21 +17,29 @@ class Row:
     schedule: bytes
     printed: bytes
     status: int
+    life: int | None
 
 
 ROWS: list[Row] = []
+LIFE = ("life",)
 ASKS = ("asks",)
 BINDINGS = ("asks", "bindings")
 RULES = ("asks", "bindings", "rules")
 ALL = ("asks", "bindings", "rules", "confirmations")
 
 
-def row(name: str, needs: tuple[str, ...], schedule: list[str], printed: list[str]) -> None:
+def row(
+    name: str,
+    needs: tuple[str, ...],
+    schedule: list[str],
+    printed: list[str],
+    life: int | None = None,
+) -> None:
     """A row without a refused line prints `end` at last."""
     refused = printed != [] and printed[-1].startswith("refused")
     output = printed if refused else [*printed, "end"]
     texts = ["".join(line + "\n" for line in lines).encode() for lines in (schedule, output)]
-    ROWS.append(Row(name, needs, texts[0], texts[1], int(refused)))
+    ROWS.append(Row(name, needs, texts[0], texts[1], int(refused), life))
 
 
 def u32(number: int) -> bytes:
@@ -76,6 +84,16 @@ S1, S2 = b"\xc1" * 32, b"\xc2" * 32
 ONE = (K1, b"one")
 ADD1, ADD1B = b"\x11" + added(0x11, b"one"), b"\x11" + added(0x11, b"uno")
 TERMS1 = b"\x19" + added(0x11, b"one")
+
+
+ED25519_CERT = st(b"ssh-ed25519-cert-v01@openssh.com")
+
+
+def cert(kind: int, names: bytes, critical: bytes = b"", signer: bytes = H2) -> bytes:
+    """A certificate of these kind, names, critical options and signer, good from 100 to 200."""
+    text = ED25519_CERT + st(b"\x05" * 32) + st(b"\x31" * 32) + u64(1)
+    text += u32(kind) + st(b"id") + st(names) + u64(100) + u64(200) + st(critical) + st(b"") * 2
+    return text + st(signer) + st(b"x")
 
 
 def lock(text: bytes) -> bytes:
@@ -214,6 +232,21 @@ row(
     [to(1, OK), to(1, listing(ONE)), to(1, listing(ONE)), to(1, NOTHING)],
 )
 row(
+    "a lifetime that begins while the clock is behind",
+    (),
+    ["join client", "at 14 0", "at 3 0", *hear(1, TERMS1 + b"\x01" + u32(2)), "at 15 0"]
+    + [*hear(1, LIST), "at 16 0", *hear(1, LIST)],
+    [to(1, OK), to(1, listing(ONE)), to(1, NOTHING)],
+)
+row(
+    "constraints that come twice, are unknown or are cut off",
+    (),
+    ["join client", *hear(1, TERMS1 + b"\x01" + u32(9) + b"\x01" + u32(9), TERMS1 + b"\x02\x02")]
+    + hear(1, TERMS1 + b"\x03", TERMS1 + b"\x00", TERMS1 + b"\x01\x00", TERMS1 + b"\xff")
+    + hear(1, LIST, TERMS1 + b"\x02\x01" + u32(9), LIST),
+    [*[to(1, NO)] * 6, to(1, NOTHING), to(1, OK), to(1, listing(ONE))],
+)
+row(
     "a lifetime of 0",
     (),
     ["join client", *hear(1, TERMS1 + b"\x01" + u32(0), LIST)],
@@ -232,6 +265,22 @@ row(
     [to(1, OK), to(1, OK), to(1, listing(ONE))],
 )
 row(
+    "a default lifetime, and another one",
+    LIFE,
+    ["join client", *hear(1, ADD1, b"\x19" + added(0x12, b"two") + b"\x01" + u32(9), LIST)]
+    + ["at 5 0", *hear(1, LIST), "at 9 0", *hear(1, LIST)],
+    [to(1, OK), to(1, OK), to(1, listing(ONE, (K2, b"two"))), to(1, listing((K2, b"two")))]
+    + [to(1, NOTHING)],
+    life=5,
+)
+row(
+    "a default lifetime of 0 is none",
+    LIFE,
+    ["join client", *hear(1, ADD1), "at 5 0", *hear(1, LIST)],
+    [to(1, OK), to(1, listing(ONE))],
+    life=0,
+)
+row(
     "the lock",
     (),
     ["join client"]
@@ -247,6 +296,12 @@ row(
     + hear(1, unlock(b"a"), unlock(b"")),
     [to(1, OK), to(1, NO), to(1, listing(ONE)), to(1, OK), to(1, NO), to(1, NO)]
     + [to(1, OK), to(1, NO)],
+)
+row(
+    "a passphrase's beginning doesn't unlock, nor does a longer one",
+    (),
+    ["join client", *hear(1, lock(b"ab"), unlock(b"a"), unlock(b"abc"), unlock(b"ab"))],
+    [to(1, OK), to(1, NO), to(1, NO), to(1, OK)],
 )
 row(
     "what a locked agent refuses",
@@ -284,16 +339,32 @@ row(
 row(
     "an RSA addition has n first, and its blob e",
     (),
-    ["join client", *hear(1, b"\x11" + st(b"ssh-rsa") + b"".join(map(st, (b"n", b"e", b"d", b"i")))
-                          + st(b"p") + st(b"q") + st(b"c"), LIST)],
+    [
+        "join client",
+        *hear(
+            1,
+            b"\x11"
+            + st(b"ssh-rsa")
+            + b"".join(map(st, (b"n", b"e", b"d", b"i")))
+            + st(b"p")
+            + st(b"q")
+            + st(b"c"),
+            LIST,
+        ),
+    ],
     [to(1, OK), to(1, listing((st(b"ssh-rsa") + st(b"e") + st(b"n"), b"c")))],
 )
 row(
     "a curve's name is that of the type",
     (),
     ["join client"]
-    + [line for curve in (b"nistp256", b"nistp384") for line in
-       hear(1, b"\x11" + st(b"ecdsa-sha2-nistp256") + st(curve) + st(b"Q") + st(b"d") + st(b""))],
+    + [
+        line
+        for curve in (b"nistp256", b"nistp384")
+        for line in hear(
+            1, b"\x11" + st(b"ecdsa-sha2-nistp256") + st(curve) + st(b"Q") + st(b"d") + st(b"")
+        )
+    ],
     [to(1, OK), to(1, NO)],
 )
 BIG1, BIG2 = b"a" * 131000, b"b" * 130995
@@ -304,6 +375,23 @@ row(
     + [*hear(1, b"\x11" + added(0x13), LIST), *hear(1, b"\x11" + added(0x12, BIG2 + b"b"), LIST)],
     [to(1, OK), to(1, OK), to(1, NO), to(1, listing((K1, BIG1), (K2, BIG2)))]
     + [to(1, NO), to(1, listing((K1, BIG1), (K2, BIG2)))],
+)
+row(
+    "a key is replaced in a full list",
+    (),
+    ["join client", *hear(1, b"\x11" + added(0x11, BIG1)), *hear(1, b"\x11" + added(0x12, BIG2))]
+    + hear(1, b"\x11" + added(0x12, BIG2)),
+    [to(1, OK), to(1, OK), to(1, OK)],
+)
+CERT = cert(2, st(b"*.example.org"))
+row(
+    "a certificate of the type that is named, and of another",
+    (),
+    ["join client"]
+    + hear(1, b"\x11" + st(b"ssh-rsa-cert-v01@openssh.com") + st(CERT) + st(b"") * 5)
+    + hear(1, b"\x11" + ED25519_CERT + st(CERT) + st(b"\x31" * 32) + st(b"\x32" * 64) + st(b"c"))
+    + hear(1, LIST),
+    [to(1, NO), to(1, OK), to(1, listing((CERT, b"c")))],
 )
 row(
     "128 clients, one more, and one in a left one's place",
@@ -383,9 +471,29 @@ row(
 row(
     "a client that waits is heard later",
     ASKS,
-    ["join client", *hear(1, ADD1, sign(K1, b"abc"), LIST), *helper(2), *hear(2, signed(1, b"s"))],
+    ["join client", *hear(1, ADD1, sign(K1, b"abc"), LIST), *hear(1, LIST), *helper(2)]
+    + hear(2, signed(1, b"s")),
     [to(1, OK), "start 1 helper", to(2, put1(1, b"abc")), to(1, b"\x0e" + st(b"s"))]
-    + [to(1, listing(ONE))],
+    + [to(1, listing(ONE)), to(1, listing(ONE))],
+)
+row(
+    "a start that failed takes its frames along",
+    ASKS,
+    ["join client", *hear(1, ADD1, sign(K1, b"abc")), "failed 1", *hear(1, sign(K1, b"xyz"))]
+    + ["started 2 " + "00" * 16, "join child", *hear(2, hello(2))],
+    [to(1, OK), "start 1 helper", to(1, NO), "start 2 helper", to(2, put1(2, b"xyz"))],
+)
+row(
+    "a second hello for a job",
+    ASKS,
+    [*TWO, "join child", *hear(4, hello(1)), *hear(3, signed(1, b"s"))],
+    [*TWO_PRINT, "close 4", to(1, b"\x0e" + st(b"s"))],
+)
+row(
+    "a signature as long as it may be, and one that is longer",
+    ASKS,
+    [*TWO, *hear(3, signed(1, b"s" * 262131)), "hear 3 00040001"],
+    [*TWO_PRINT, to(1, b"\x0e" + st(b"s" * 262131)), "close 3", to(2, NO)],
 )
 row(
     "no hello, another ticket, and another job close a child",
@@ -409,8 +517,9 @@ row(
     [to(1, OK), "start 1 helper", to(2, OK), to(2, OK), to(3, put1(1, b"abc"))]
     + [to(1, b"\x0e" + st(b"s"))],
 )
-LEAVING = [line for n in range(2, 257) for line in
-           ("join client", *hear(n, sign(K1, b"")), f"end {n}")]
+LEAVING = [
+    line for n in range(2, 257) for line in ("join client", *hear(n, sign(K1, b"")), f"end {n}")
+]
 row(
     "256 asks are unanswered, and one more",
     ASKS,
@@ -418,6 +527,12 @@ row(
     + ["join client", *hear(257, sign(K1, b""), LIST)],
     [to(1, OK), "start 1 helper", *[f"close {n}" for n in range(2, 257)]]
     + [to(257, NO), to(257, listing(ONE))],
+)
+row(
+    "a child that said hello isn't among the 32",
+    ASKS,
+    ["join client", *hear(1, ADD1, sign(K1, b"abc")), *helper(2), *["join child"] * 33],
+    [to(1, OK), "start 1 helper", to(2, put1(1, b"abc")), "close 35"],
 )
 row(
     "32 children without a hello, and one more",
@@ -431,7 +546,11 @@ row(
 
 def bind(host_key: bytes, session: bytes, forwarding: int) -> bytes:
     return (
-        b"\x1b" + st(b"session-bind@openssh.com") + st(host_key) + st(session) + st(b"sg")
+        b"\x1b"
+        + st(b"session-bind@openssh.com")
+        + st(host_key)
+        + st(session)
+        + st(b"sg")
         + bytes([forwarding])
     )
 
@@ -499,15 +618,28 @@ def restrict(*rules: bytes) -> bytes:
 
 def bound_login(session: bytes, user: bytes, host_key: bytes) -> bytes:
     return (
-        st(session) + b"\x32" + st(user) + st(b"ssh-connection")
-        + st(b"publickey-hostbound-v00@openssh.com") + b"\x01" + st(T) + st(K1) + st(host_key)
+        st(session)
+        + b"\x32"
+        + st(user)
+        + st(b"ssh-connection")
+        + st(b"publickey-hostbound-v00@openssh.com")
+        + b"\x01"
+        + st(T)
+        + st(K1)
+        + st(host_key)
     )
 
 
 def plain_login(session: bytes, user: bytes) -> bytes:
     return (
-        st(session) + b"\x32" + st(user) + st(b"ssh-connection") + st(b"publickey") + b"\x01"
-        + st(T) + st(K1)
+        st(session)
+        + b"\x32"
+        + st(user)
+        + st(b"ssh-connection")
+        + st(b"publickey")
+        + b"\x01"
+        + st(T)
+        + st(K1)
     )
 
 
@@ -534,7 +666,78 @@ def first_bind(key: bytes, session: bytes, onward: int) -> tuple[list[str], list
     return lines, ["start 1 helper", to(2, verify(1, key, session)), to(1, OK)]
 
 
+TO = hop(b"", b"h", (H1, 0))
+row(
+    "constraints that aren't rules",
+    RULES,
+    ["join client"]
+    + [
+        line
+        for text in [
+            restrict(),
+            restrict(rule(hop(b"u", b"h", (H1, 0)), TO)),
+            restrict(rule(hop(b"", b"h"), TO)),
+            restrict(rule(hop(b"", b"", (H1, 0)), TO)),
+            restrict(rule(ORIGIN, hop(b"", b"h"))),
+            restrict(rule(ORIGIN, hop(b"", b"", (H1, 0)))),
+            restrict(rule(ORIGIN, hop(b"", b"h", (H1[:-1], 0)))),
+            restrict(st(st(ORIGIN) + st(TO) + st(b"r"))),
+            restrict(st(st(ORIGIN) + st(TO) + st(b"") + b"x")),
+            restrict(rule(ORIGIN, TO)) * 2,
+        ]
+        for line in hear(1, TERMS1 + text)
+    ]
+    + hear(1, LIST, ruled(rule(ORIGIN, TO))),
+    [*[to(1, NO)] * 10, to(1, NOTHING), to(1, OK)],
+)
+way = first_bind(H2, S1, 0)
+row(
+    "a rule from another host isn't for the way from here",
+    RULES,
+    ["join client", *hear(1, ruled(RULE_TWO[1])), *way[0], *hear(1, LIST)],
+    [to(1, OK), *way[1], to(1, NOTHING)],
+)
+onward = first_bind(H1, S1, 1)
+row(
+    "a login where the connection is only forwarded",
+    RULES,
+    ["join client", *hear(1, ruled(*RULE_TWO)), *onward[0], *hear(1, LIST)]
+    + hear(1, sign(K1, bound_login(S1, b"u", H1))),
+    [to(1, OK), *onward[1], to(1, listing(ONE)), to(1, NO)],
+)
 one = first_bind(H1, S1, 0)
+some = asked(1, 2, 2, bound_login(S1, b"perseus", H1))
+row(
+    "a user as a pattern, and logins that aren't well made",
+    RULES,
+    ["join client", *hear(1, ruled(rule(ORIGIN, hop(b"per*", b"cetus", (H1, 0))))), *one[0]]
+    + some[0]
+    + hear(1, sign(K1, bound_login(S1, b"xper", H1)), sign(K1, b"\0" * 4 + b"\x32"))
+    + hear(1, sign(K1, bound_login(S1, b"perseus", H1) + b"x"))
+    + hear(1, sign(K1, bound_login(S1, b"perseus", H1).replace(b"com\x01", b"com\x02"))),
+    [to(1, OK), *one[1], *some[1], *[to(1, NO)] * 4],
+)
+RSA_CERT = st(b"ssh-rsa-cert-v01@openssh.com")
+RSA_KEY = RSA_CERT + st(b"nonce") + st(b"e") + st(b"n") + u64(1) + u32(1) + st(b"id") + st(b"")
+RSA_KEY += u64(0) + u64(9) + st(b"") * 4 + st(b"x")
+RSA_ADDED = RSA_CERT + st(RSA_KEY) + st(b"d") + st(b"") * 3
+
+
+def rsa_login(algorithm: bytes) -> bytes:
+    text = st(S1) + b"\x32" + st(b"u") + st(b"ssh-connection") + st(b"publickey") + b"\x01"
+    return text + st(algorithm) + st(RSA_KEY)
+
+
+good = rsa_login(b"rsa-sha2-256-cert-v01@openssh.com")
+row(
+    "the algorithms of an RSA certificate",
+    RULES,
+    ["join client", *hear(1, b"\x19" + RSA_ADDED + st(b"") + restrict(RULE_TWO[0])), *one[0]]
+    + [*hear(1, sign(RSA_KEY, rsa_login(b"rsa-sha2-256")), sign(RSA_KEY, rsa_login(b"ssh-rsa")))]
+    + hear(1, sign(RSA_KEY, good)),
+    [to(1, OK), *one[1], to(1, NO), to(1, NO)]
+    + [to(2, b"\x01" + u64(2) + st(RSA_ADDED) + st(RSA_KEY) + st(good) + u32(0))],
+)
 perseus = asked(1, 2, 2, bound_login(S1, b"perseus", H1))
 row(
     "a rule for one user at one host",
@@ -569,9 +772,44 @@ row(
     + hear(1, b"\x1b" + st(b"session-bind@openssh.com"), LIST),
     [to(1, OK), to(1, OK), to(1, NO), to(1, OK), to(1, listing(ONE)), to(1, NO), to(1, NOTHING)],
 )
-CERT = st(b"ssh-ed25519-cert-v01@openssh.com") + st(b"\x05" * 32) + st(b"\x31" * 32) + u64(1)
-CERT += u32(2) + st(b"id") + st(st(b"*.example.org")) + u64(100) + u64(200) + st(b"") * 3
-CERT += st(H2) + st(b"x")
+row(
+    "what is hidden is removed with all others",
+    RULES,
+    ["join client", "join client", *hear(1, ruled(RULE_USER))]
+    + hear(1, b"\x1b" + st(b"session-bind@openssh.com"), LIST, b"\x13")
+    + hear(2, LIST),
+    [to(1, OK), to(1, NO), to(1, NOTHING), to(1, OK), to(2, NOTHING)],
+)
+ORG = st(b"*.example.org")
+for what, host_key, entry, fits in [
+    ("an authority", CERT, (H2, 1), True),
+    ("an authority of another key", CERT, (H1, 1), False),
+    ("the signer, but no authority", CERT, (H2, 0), False),
+    ("the certificate", CERT, (CERT, 0), False),
+    ("an authority, and no names", cert(2, b""), (H2, 1), True),
+    ("an authority, and two names", cert(2, st(b"x") + st(b"w?b.*")), (H2, 1), True),
+    ("an authority, and another name", cert(2, st(b"example.org")), (H2, 1), False),
+    ("an authority, and a name in capitals", cert(2, st(b"WEB.example.org")), (H2, 1), False),
+    (
+        "an authority, and a name with one byte more",
+        cert(2, st(b"web.?example.org")),
+        (H2, 1),
+        False,
+    ),
+    ("an authority, and a user's certificate", cert(1, ORG), (H2, 1), False),
+    ("an authority, and critical options", cert(2, ORG, critical=b"o"), (H2, 1), False),
+    ("a plain key", H2, (H2, 0), True),
+    ("a plain key, but as an authority", H2, (H2, 1), False),
+]:
+    bound = first_bind(host_key, S1, 0)
+    row(
+        f"a rule's key is {what}",
+        RULES,
+        ["at 0 150", "join client"]
+        + hear(1, ruled(rule(ORIGIN, hop(b"", b"web.example.org", entry))))
+        + [*bound[0], *hear(1, LIST)],
+        [to(1, OK), *bound[1], to(1, listing(ONE) if fits else NOTHING)],
+    )
 web = first_bind(CERT, S1, 0)
 inside = asked(1, 2, 2, bound_login(S1, b"u", CERT))
 again = asked(1, 2, 3, bound_login(S1, b"u", CERT))
@@ -586,11 +824,10 @@ row(
 
 # Confirmation
 
-PRINT = base64.b64encode(hashlib.sha256(K1).digest()).rstrip(b"=")
 
-
-def confirm(job: int, comment: bytes = b"one") -> bytes:
-    text = b"Allow use of key " + comment + b"?\nKey fingerprint SHA256:" + PRINT + b"."
+def confirm(job: int, comment: bytes = b"one", blob: bytes = K1) -> bytes:
+    digest = base64.b64encode(hashlib.sha256(blob).digest()).rstrip(b"=")
+    text = b"Allow use of key " + comment + b"?\nKey fingerprint SHA256:" + digest + b"."
     return b"\x03" + u64(job) + st(text)
 
 
@@ -620,6 +857,42 @@ row(
     ALL,
     [*RAISED, *hear(3, lock(b"a")), GRANT1],
     [*RAISED_PRINT, to(3, OK), "close 2", to(1, NO)],
+)
+row(
+    "a prompt shows 256 bytes that can be printed, and the fingerprint of the plain key",
+    ALL,
+    [
+        "join client",
+        *hear(
+            1,
+            b"\x19"
+            + ED25519_CERT
+            + st(CERT)
+            + st(b"\x31" * 32)
+            + st(b"s" * 64)
+            + st(b"\x1f\x20\x7e\x7f\xff" + b"a" * 252)
+            + b"\x02",
+            sign(CERT, b""),
+        ),
+    ]
+    + helper(2),
+    [to(1, OK), "start 1 confirm", to(2, confirm(1, b"? ~??" + b"a" * 251, E1))],
+)
+looking = first_bind(CERT, S1, 0)
+answered = ["started 2 " + "00" * 16, "join child", *hear(3, hello(2))]
+row(
+    "a grant behind a certificate's time",
+    ALL,
+    ["at 0 150", "join client", *hear(1, ruled(RULE_CA) + b"\x02"), *looking[0]]
+    + [*hear(1, sign(K1, plain_login(S1, b"u"))), *answered, "at 0 200"]
+    + ["hear 3 00000009690000000000000002"],
+    [to(1, OK), *looking[1], "start 2 confirm", to(3, confirm(2)), "close 3", to(1, NO)],
+)
+row(
+    "a start that is too late",
+    ALL,
+    ["join client", *hear(1, TERMS1 + b"\x02", sign(K1, b"abc")), "end 1", *helper(2)],
+    [to(1, OK), "start 1 confirm", "close 1", "close 2"],
 )
 row(
     "denied",
