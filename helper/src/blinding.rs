@@ -1,8 +1,8 @@
 //! Blinding of RSA's private operation, so that its time tells nothing of the key: the operation is
 //! done to the number times r^e, and its result is divided by r, which is drawn anew.
 //!
-//! libcrypto blinds by itself, with a factor as long as the modulus. To make one takes it almost as
-//! long as a signature, which pays for a key that is kept; here each request brings its key. A
+//! libcrypto blinds by itself, with a factor as long as the modulus. To make one takes it most of a
+//! signature's time, which pays for a key that is kept; here each request brings its key. A
 //! factor of 128 bits is as little to be guessed, and its inverse is found at once.
 
 use openssl::bn::{BigNum, BigNumContext, BigNumRef, MsbOption};

@@ -28,10 +28,12 @@ pub enum Digest {
 impl Digest {
     /// The one that a request's flags ask for: SHA-256 where both are asked for, as OpenSSH has it.
     pub fn asked(flags: u32) -> Self {
-        match flags {
-            _ if flags & 2 != 0 => Digest::Sha256,
-            _ if flags & 4 != 0 => Digest::Sha512,
-            _ => Digest::Sha1,
+        if flags & 2 != 0 {
+            Digest::Sha256
+        } else if flags & 4 != 0 {
+            Digest::Sha512
+        } else {
+            Digest::Sha1
         }
     }
 
