@@ -1,9 +1,13 @@
-//! What keeps private bytes within the process. The only module with unsafe code.
+//! What keeps private bytes within the process, and what the crate of libcrypto lacks. The only
+//! module with unsafe code.
 
 #![allow(unsafe_code)]
 
 use crate::fault::Fault;
+use foreign_types::ForeignTypeRef;
 use libc::{c_int, c_ulong, c_void, rlimit, size_t};
+use openssl::pkey::Private;
+use openssl::rsa::Rsa;
 
 /// Bytes of libcrypto's secure heap: several times what the longest key takes.
 const SECURE_HEAP: size_t = 512 * 1024;
@@ -12,9 +16,13 @@ const LEAST_BLOCK: size_t = 32;
 /// libcrypto is to read no configuration file: such a file can name code that is loaded.
 const OPENSSL_INIT_NO_LOAD_CONFIG: u64 = 0x80;
 
+/// The key is used without libcrypto's blinding.
+const RSA_FLAG_NO_BLINDING: c_int = 0x80;
+
 extern "C" {
     fn OPENSSL_init_crypto(options: u64, settings: *const c_void) -> c_int;
     fn CRYPTO_secure_malloc_init(size: size_t, least: size_t) -> c_int;
+    fn RSA_set_flags(key: *mut c_void, flags: c_int);
 }
 
 /// No core file, no look into the process by others of the same user, no environment, no
@@ -43,4 +51,11 @@ pub fn prepare() -> Result<(), Fault> {
         true => Ok(()),
         false => Err(Fault::Memory),
     }
+}
+
+/// Keeps libcrypto from blinding: `Blinding` does it in its place.
+pub fn without_blinding(key: Rsa<Private>) -> Rsa<Private> {
+    // SAFETY: the pointer is to a whole key that this function owns, and the call sets a flag in it.
+    unsafe { RSA_set_flags(key.as_ptr().cast(), RSA_FLAG_NO_BLINDING) };
+    key
 }

@@ -100,13 +100,13 @@ impl<'a> Blob<'a> {
 /// A key that may sign: it belongs to its blob, and its private numbers fit the public ones.
 pub enum PrivateKey<'a> {
     Ed25519(ed25519::PrivateKey),
-    Rsa(rsa::PrivateKey),
+    Rsa(rsa::PrivateKey<'a>),
     Ecdsa(ecdsa::PrivateKey<'a>),
 }
 
 impl<'a> PrivateKey<'a> {
     /// Reads an added key: `string type`, of a certificate `string certificate`, and the fields.
-    pub fn read(added: &[u8], blob: &Blob<'a>) -> Result<Self, Refused> {
+    pub fn read(added: &[u8], blob: &'a Blob<'a>) -> Result<Self, Refused> {
         let mut fields = Reader::new(added);
         fields.expect(blob.name)?;
         if blob.form == Form::Certified {
