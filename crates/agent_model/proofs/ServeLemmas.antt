@@ -44,7 +44,7 @@ bounded-add_unless false false addition now held under_way is short bounded =
     let new : HeldKey = new_identity held.table addition.key addition.terms addition.comment now in
     let listed : length_with addition now held.table ≤ max_answer = ltb-false max_answer (length_with addition now held.table) is in
     record {
-      sound = IsSound-put new held.table.identities held.table.last refl listed bounded.sound;
+      sound = IsSound-put new held.table.identities held.table.last refl listed short.private bounded.sound;
       short = AreShort-put new held.table.identities short bounded.short;
       lock = bounded.lock;
     }
