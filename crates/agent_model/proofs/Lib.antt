@@ -6,3 +6,4 @@ pub mod IdleLemmas
 pub mod BoundLemmas
 pub mod ServeLemmas
 pub mod ClientLemmas
+pub mod LeadLemmas
