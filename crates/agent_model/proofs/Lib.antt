@@ -7,3 +7,4 @@ pub mod BoundLemmas
 pub mod ServeLemmas
 pub mod ClientLemmas
 pub mod LeadLemmas
+pub mod RunLemmas
