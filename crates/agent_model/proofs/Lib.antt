@@ -8,3 +8,4 @@ pub mod ServeLemmas
 pub mod ClientLemmas
 pub mod LeadLemmas
 pub mod RunLemmas
+pub mod BudgetLemmas
