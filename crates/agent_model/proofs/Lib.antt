@@ -6,3 +6,6 @@ pub mod IdleLemmas
 pub mod BoundLemmas
 pub mod ServeLemmas
 pub mod ClientLemmas
+pub mod LeadLemmas
+pub mod RunLemmas
+pub mod BudgetLemmas

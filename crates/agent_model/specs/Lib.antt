@@ -13,5 +13,6 @@ pub mod Children
 pub mod Step
 pub mod Runs
 pub mod Looks
+pub mod Budget
 pub mod Sound
 pub mod Bounds
