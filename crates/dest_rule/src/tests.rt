@@ -11,7 +11,7 @@ mod certificates;
 mod plain_keys;
 
 use super::*;
-use constraint_rec::{Constraint, read_constraints};
+use constraint_rec::{Constraint, TermFault, Terms, read_constraints};
 use key_blob::read_public;
 use std::alloc::{AllocError, Global};
 use std::process::Abort;
@@ -95,6 +95,7 @@ fn check_host(
     requires { place < 3 }
 {
     let hops = way.hops.as_slice();
+    assert_eq!(rt; hops.len(), 3);
     let hop = &hops[place];
     let listed = wanted.listed[place];
     let signed = wanted.signed[place];
@@ -108,12 +109,19 @@ fn check_host(
     Ok(())
 }
 
+/// The constraints of an addition.
+fn terms_of(alloc: Global, constraints: &[u8]) -> Result<Terms, TermFault> {
+    read_constraints(alloc, &mut Cursor::new(constraints))
+}
+
 /// Whether each answer under these constraints is.
 fn check_rules(rt: &impl Abort, alloc: Global, way: &Way, wanted: &Rules) -> Result<(), Fail> {
-    let terms = read_constraints(alloc, &mut Cursor::new(wanted.constraints))?;
-    for place in 0..3 {
-        check_host(rt, alloc, way, terms.rules.as_slice(), wanted, place)?;
-    }
+    let constraints = wanted.constraints;
+    let terms = terms_of(alloc, constraints)?;
+    let rules = terms.rules.as_slice();
+    check_host(rt, alloc, way, rules, wanted, 0)?;
+    check_host(rt, alloc, way, rules, wanted, 1)?;
+    check_host(rt, alloc, way, rules, wanted, 2)?;
     Ok(())
 }
 
@@ -133,62 +141,77 @@ fn hosts_with_certificates_are_answered_as_by_openssh(rt: HostRuntime) -> Result
     Ok(())
 }
 
+/// Whether the first host of the way is another one than that of these constraints.
+fn check_other(rt: &impl Abort, alloc: Global, way: &Way, constraints: &[u8]) -> Result<(), Fail> {
+    let terms = terms_of(alloc, constraints)?;
+    let rules = terms.rules.as_slice();
+    let blob = way.blob;
+    let hops = way.hops.as_slice();
+    assert_eq!(rt; hops.len(), 3);
+    let hop = &hops[0];
+    let chain = chain_to(rt, alloc, &[], hop)?;
+    assert!(rt; !visible(rules, &chain, WALL));
+    let answer = may_sign(rules, blob, &chain, hop.message, WALL);
+    assert_eq!(rt; answer, Err(Denial::Hop { place: 0 }));
+    Ok(())
+}
+
 #[test]
 fn a_key_and_a_certificate_of_it_are_different_hosts(rt: HostRuntime) -> Result<(), Fail> {
-    for (way, other) in [
-        (&plain_keys::WAY, &certificates::WAY),
-        (&certificates::WAY, &plain_keys::WAY),
-    ] {
-        let terms = read_constraints(rt.alloc(), &mut Cursor::new(other.rules[0].constraints))?;
-        let rules = terms.rules.as_slice();
-        let chain = chain_to(&rt, rt.alloc(), &[], &way.hops[0])?;
-        assert!(rt; !visible(rules, &chain, WALL));
-        assert_eq!(rt;
-            may_sign(rules, way.blob, &chain, way.hops[0].message, WALL),
-            Err(Denial::Hop { place: 0 })
-        );
-    }
+    let plain = plain_keys::WAY.rules[0].constraints;
+    let certified = certificates::WAY.rules[0].constraints;
+    check_other(&rt, rt.alloc(), &plain_keys::WAY, certified)?;
+    check_other(&rt, rt.alloc(), &certificates::WAY, plain)
+}
+
+/// Whether the login to the third host is denied at this place.
+fn check_place(rt: &impl Abort, alloc: Global, constraints: &[u8], place: u32) -> Result<(), Fail> {
+    let terms = terms_of(alloc, constraints)?;
+    let rules = terms.rules.as_slice();
+    let way = &plain_keys::WAY;
+    let blob = way.blob;
+    let hops = way.hops.as_slice();
+    let last = &hops[2];
+    let chain = chain_to(rt, alloc, &hops[..2], last)?;
+    let answer = may_sign(rules, blob, &chain, last.message, WALL);
+    assert_eq!(rt; answer, Err(Denial::Hop { place }));
     Ok(())
 }
 
 #[test]
 fn a_denial_tells_the_place_of_the_hop(rt: HostRuntime) -> Result<(), Fail> {
-    let way = &plain_keys::WAY;
-    let last = &way.hops[2];
-    for (rules, place) in [(&way.rules[1], 2), (&way.rules[2], 2), (&way.rules[3], 1)] {
-        let terms = read_constraints(rt.alloc(), &mut Cursor::new(rules.constraints))?;
-        let chain = chain_to(&rt, rt.alloc(), &way.hops[..2], last)?;
-        assert_eq!(rt;
-            may_sign(terms.rules.as_slice(), way.blob, &chain, last.message, WALL),
-            Err(Denial::Hop { place })
-        );
-    }
+    check_place(&rt, rt.alloc(), plain_keys::WAY.rules[1].constraints, 2)?;
+    check_place(&rt, rt.alloc(), plain_keys::WAY.rules[2].constraints, 2)?;
+    check_place(&rt, rt.alloc(), plain_keys::WAY.rules[3].constraints, 1)
+}
+
+/// Whether the certificate of the first host is taken at this second.
+fn check_time(rt: &impl Abort, alloc: Global, wall: u64, is_in_time: bool) -> Result<(), Fail> {
+    let way = &certificates::WAY;
+    let blob = way.blob;
+    let hops = way.hops.as_slice();
+    let hop = &hops[0];
+    let terms = terms_of(alloc, certificates::WAY.rules[0].constraints)?;
+    let rules = terms.rules.as_slice();
+    let chain = chain_to(rt, alloc, &[], hop)?;
+    let answer = may_sign(rules, blob, &chain, hop.message, wall);
+    assert_eq!(rt; answer.is_ok(), is_in_time);
     Ok(())
 }
 
 #[test]
 fn a_certificate_is_refused_outside_its_time(rt: HostRuntime) -> Result<(), Fail> {
-    let way = &certificates::WAY;
-    let hop = &way.hops[0];
-    let terms = read_constraints(rt.alloc(), &mut Cursor::new(way.rules[0].constraints))?;
-    let chain = chain_to(&rt, rt.alloc(), &[], hop)?;
     // From 2020-01-01 to 2040-01-01.
-    for (wall, is_in_time) in [
-        (1_577_836_799, false),
-        (1_577_836_800, true),
-        (2_208_988_799, true),
-        (2_208_988_800, false),
-    ] {
-        let answer = may_sign(terms.rules.as_slice(), way.blob, &chain, hop.message, wall);
-        assert_eq!(rt; answer.is_ok(), is_in_time, "at {wall}");
-    }
-    Ok(())
+    check_time(&rt, rt.alloc(), 1_577_836_799, false)?;
+    check_time(&rt, rt.alloc(), 1_577_836_800, true)?;
+    check_time(&rt, rt.alloc(), 2_208_988_799, true)?;
+    check_time(&rt, rt.alloc(), 2_208_988_800, false)
 }
 
 #[test]
 fn other_messages_are_denied(rt: HostRuntime) -> Result<(), Fail> {
     let way = &plain_keys::WAY;
-    let terms = read_constraints(rt.alloc(), &mut Cursor::new(way.rules[0].constraints))?;
+    let terms = terms_of(rt.alloc(), plain_keys::WAY.rules[0].constraints)?;
     let rules = terms.rules.as_slice();
     let unbound = Chain::new(rt.alloc());
     assert_eq!(rt;
@@ -219,10 +242,7 @@ fn other_messages_are_denied(rt: HostRuntime) -> Result<(), Fail> {
 
 #[test]
 fn a_failed_try_hides_constrained_keys(rt: HostRuntime) -> Result<(), Fail> {
-    let terms = read_constraints(
-        rt.alloc(),
-        &mut Cursor::new(plain_keys::WAY.rules[0].constraints),
-    )?;
+    let terms = terms_of(rt.alloc(), plain_keys::WAY.rules[0].constraints)?;
     let mut chain = Chain::new(rt.alloc());
     assert!(rt; visible(terms.rules.as_slice(), &chain, WALL));
     chain.attempt();
