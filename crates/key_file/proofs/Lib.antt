@@ -2,6 +2,7 @@ pub mod StepLemmas
 pub mod DecodedBytes
 pub mod Base64Lemmas
 pub mod PartLemmas
+pub mod Base64Letters
 pub mod LineLemmas
 pub mod PublicLineLemmas
 pub mod PlainKeyLemmas

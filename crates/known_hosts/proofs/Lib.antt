@@ -1,0 +1,4 @@
+pub mod PartLemmas
+pub mod HostLemmas
+pub mod EntryLemmas
+pub mod KeyLemmas
