@@ -5,8 +5,10 @@ pub mod PartLemmas
 pub mod Base64Letters
 pub mod LineLemmas
 pub mod PublicLineLemmas
+pub mod PublicLineReading
 pub mod PlainKeyLemmas
 pub mod FieldLemmas
+pub mod PrivateLemmas
 pub mod BodyLemmas
 pub mod WritingLemmas
 pub mod MemoryLemmas
