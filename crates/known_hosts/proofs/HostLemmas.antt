@@ -1,6 +1,5 @@
 -- Host fields, by their tests and by the grammar.
-use Rattle.std.proofs.Common.{◌≡◌, ◌≢◌, ◌↔◌, inl, inr, ℕ, ◌<◌, nat_eq, Bool, true, false, cond, List, [], ◌∷◌, ◌++◌, drop, Option, Some, None, refl, sym, ap, subst, ◌∙◌}
-use Rattle.std.specs.Prelude.{IsTrue}
+use Rattle.std.proofs.Common.{◌≡◌, ◌≢◌, inl, inr, ℕ, ◌<◌, nat_eq, Bool, true, false, cond, List, [], ◌∷◌, ◌++◌, drop, Option, Some, None, refl, ap, subst, ◌∙◌}
 use Rattle.std.specs.List.{starts_with}
 use Rattle.std.proofs.lemmas.Bool.Decides.{Decides-eqb}
 use Rattle.std.proofs.lemmas.Slice.Eq.{starts_is, bytes_eq-Decides}
@@ -12,25 +11,9 @@ use Rattle.key_file.proofs.Base64Lemmas.{decoded_is, base64_is_decoded}
 use Rattle.key_file.proofs.Base64Letters.{no_bar}
 use Rattle.key_file.proofs.PartLemmas.{HasNo, cut_cases, parts-at, parts-whole, front_all, rest_all}
 use Rattle.key_file.specs.PublicLines.{parts}
-use Rattle.pattern_core.specs.PatternLists.{MatchesList, lowered, some_element, accepts_host, rejects_host}
-use Rattle.pattern_core.proofs.ListLemmas.{MatchesList-tests}
+use Rattle.pattern_core.specs.PatternLists.{lowered}
+use Rattle.known_hosts.proofs.ListLemmas.{in_list}
 use Rattle.known_hosts.specs.Hosts.{hashed_mark, TakesIn, by_hash, by_list, is_in_list, is_digest, is_hash, is_hash_in, is_hashed, takes_in}
-
--- ---- lists of patterns
-
--- the test takes in the host exactly where the list does
-pub in_list : (host patterns : List ℕ) → (is_in_list host patterns ≡ true) ↔ MatchesList host patterns
-in_list host patterns =
-    MatchesList-tests host patterns (some_element (accepts_host (lowered host)) patterns) (some_element (rejects_host (lowered host)) patterns) refl refl
-
--- two tests of one fact
-same_test : (a b : Bool) (P : Type 0) → (a ≡ true) ↔ P → (b ≡ true) ↔ P → a ≡ b
-same_test true b P x y = sym (y.1 (x.0 refl))
-same_test false true P x y = x.1 (y.0 refl)
-same_test false false P x y = refl
-
-pub list_tested : (host patterns : List ℕ) (found : Bool) → IsTrue found ↔ MatchesList host patterns → found ≡ is_in_list host patterns
-list_tested host patterns found is = same_test found (is_in_list host patterns) (MatchesList host patterns) is (in_list host patterns)
 
 -- ---- hashed hosts
 

@@ -1,4 +1,4 @@
-use Rattle.known_hosts.proofs.HostLemmas.{list_tested}
+use Rattle.known_hosts.proofs.ListLemmas.{list_tested}
 use Rattle.known_hosts.proofs.hosts.list_fits.Goals as goal
 
 pub returns : goal.returns
