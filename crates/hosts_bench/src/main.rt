@@ -1,5 +1,5 @@
-//! Times one look into a file of known hosts: `hosts_bench FILE HOST` prints how many keys the file has for
-//! the host. For bench/known_hosts.sh; proves nothing beyond safety.
+//! Times one look into a file of known hosts: `hosts_bench FILE HOST` prints how many keys the file
+//! has for the host. For bench/known_hosts.sh; proves nothing beyond safety.
 #![tactic(auto)]
 
 use known_hosts::host_keys;

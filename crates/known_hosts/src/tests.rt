@@ -9,7 +9,8 @@ use key_file::decoded;
 use std::alloc::{AllocError, Global};
 use std::test::Fail;
 
-/// Whether the keys are these, in this order: the base64 of each blob, and whether it is an authority.
+/// Whether the keys are these, in this order: the base64 of each blob, and whether it is an
+/// authority.
 fn are(alloc: Global, keys: &[KeySpec], wanted: &[(&str, bool)]) -> Result<bool, AllocError> {
     for (place, (encoded, authority)) in wanted.iter().enumerate() {
         let Some(blob) = decoded(alloc, encoded.as_bytes())? else {
@@ -23,8 +24,8 @@ fn are(alloc: Global, keys: &[KeySpec], wanted: &[(&str, bool)]) -> Result<bool,
     Ok(keys.len() == wanted.len())
 }
 
-/// The keys that `ssh-keygen -F HOST -f FILE` shows, less revoked ones. Of `HASHED` it shows those of
-/// the host as it is given, so those of the host in lower case are wanted: `ssh` lowers it first.
+/// The keys that `ssh-keygen -F HOST -f FILE` shows, less revoked ones. Of `HASHED` it shows those
+/// of the host as it is given, so those of the host in lower case are wanted: `ssh` lowers it first.
 #[test]
 fn the_keys_are_those_that_openssh_finds(rt: HostRuntime) -> Result<(), Fail> {
     let cases: [(&str, &[(&str, bool)]); 7] = [
