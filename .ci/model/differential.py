@@ -112,16 +112,37 @@ def try_rows(program: str, stages: list[str]) -> bool:
     return good
 
 
+def run_long(program: str, line: bytes, count: int, last: bytes) -> Result:
+    """Runs a schedule of one line, so often, and last lines."""
+    with subprocess.Popen(
+        [program, "replay"],
+        stdin=subprocess.PIPE,
+        stdout=subprocess.PIPE,
+        stderr=subprocess.DEVNULL,
+    ) as child:
+        try:
+            for _ in range(count):
+                child.stdin.write(line)
+            child.stdin.write(last)
+            child.stdin.close()
+        except BrokenPipeError:
+            pass
+        output = child.stdout.read()
+    return output, child.returncode
+
+
 def try_longest(program: str) -> bool:
     """A schedule of the longest length, and one with a byte more in its last line."""
-    line = b"#" * (LONGEST_LINE - 1) + b"\n"
-    count = LONGEST_SCHEDULE // len(line)
-    last = b"join client\n"
-    for more, wanted in [(0, (b"end\n", 0)), (1, (b"refused %d long\n" % (count + 1), 1))]:
+    line, last = b"#" * (LONGEST_LINE - 1) + b"\n", b"join client\n"
+    count = LONGEST_SCHEDULE // len(line) - 1
+    for more, wanted in [(0, (b"end\n", 0)), (1, (b"refused %d long\n" % (count + 2), 1))]:
         padding = b"#" * (LONGEST_LINE - 1 - len(last) + more) + b"\n"
-        text = line * (count - 1) + padding + last
-        if len(text) != LONGEST_SCHEDULE + more or run_program(program, text) != wanted:
-            print(f"a schedule of {len(text)} bytes: the program prints something else")
+        size = count * len(line) + len(padding) + len(last)
+        if (
+            size != LONGEST_SCHEDULE + more
+            or run_long(program, line, count, padding + last) != wanted
+        ):
+            print(f"a schedule of {size} bytes: the program prints something else")
             return False
     print(f"schedules of {LONGEST_SCHEDULE} bytes and one more, by the program")
     return True
