@@ -16,9 +16,9 @@ from collections.abc import Callable
 from pathlib import Path
 
 from agent import STAGES
-from generate import Case, Writer, goals
+from generate import Case, Schedule, goals
 from replay import LONGEST_LINE, LONGEST_SCHEDULE, replay
-from rows import ROWS
+from rows_rules import EVERY_ROW
 
 HERE = Path(__file__).parent
 Result = tuple[bytes, int]
@@ -95,7 +95,7 @@ def show_mismatch(program: str, text: bytes, stages: list[str], life: int | None
 def try_rows(program: str, stages: list[str]) -> bool:
     """The literal rows, by the model, and by the program where it does what they need."""
     good, tried = True, 0
-    for row in ROWS:
+    for row in EVERY_ROW:
         wanted = (row.printed, row.status)
         seen = {"the model": replay(row.schedule, row.needs, row.life)}
         seen["the model of this stage"] = replay(row.schedule, {*row.needs, *stages}, row.life)
@@ -108,7 +108,7 @@ def try_rows(program: str, stages: list[str]) -> bool:
                 print(f"row '{row.name}': {name} differs, with status {result[1]}")
                 show("printed", result[0])
                 show("wanted", row.printed)
-    print(f"{len(ROWS)} rows by the model, {tried} by the program")
+    print(f"{len(EVERY_ROW)} rows by the model, {tried} by the program")
     return good
 
 
@@ -159,7 +159,7 @@ def try_examples(program: str, stages: list[str]) -> bool:
 
 def try_one(task: tuple[str, str, list[str]]) -> tuple[bool, Counter[str], int]:
     program, seed, stages = task
-    writer = Writer(seed, stages)
+    writer = Schedule(seed, stages)
     text, life, wanted = writer.case()
     return run_program(program, text, life) == wanted, writer.seen(), text.count(b"\n")
 
@@ -171,7 +171,7 @@ def try_schedules(program: str, count: int, seed: str, stages: list[str]) -> boo
         for task, (same, reached, length) in zip(tasks, pool.imap(try_one, tasks, 8)):
             if not same:
                 pool.terminate()
-                text, life, _ = Writer(task[1], stages).case()
+                text, life, _ = Schedule(task[1], stages).case()
                 print(f"schedule {task[1]}:")
                 show_mismatch(program, text, stages, life)
                 return False
@@ -215,7 +215,7 @@ CASES: list[Case] = []
 
 
 def write_case(seed: str) -> Case:
-    return Writer(seed, STAGES).case()
+    return Schedule(seed, STAGES).case()
 
 
 def first_found(edit: dict[str, str]) -> int | None:

@@ -17,7 +17,8 @@ import add_tool
 import pool
 from add_tool import Talk
 from formats import STAND_IN
-from rows import H1, H2, K1, added, hop, restrict, rule, st
+from rows import H1, H2, K1, added, st
+from rows_rules import hop, restrict, rule
 from tools import Told, helper, relay, signature, verdict
 from wire import string, uint32, uint64
 
