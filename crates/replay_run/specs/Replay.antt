@@ -4,8 +4,8 @@
 -- after it is in specs/Settling.antt.
 use Rattle.std.specs.Prelude.{ℕ, suc, ◌+◌, ◌==◌, ◌||◌, nat_lt, Bool, true, false, if◌then◌else◌, List, [], ◌∷◌, ◌++◌, length, Option, None, Some, Result, Ok, Err}
 use Rattle.std.specs.List.{slice_split}
-use Rattle.world_ports.specs.declared.plain.Door.TheVariants.{Clients, Children}
-use Rattle.world_ports.specs.declared.plain.Moment.{Moment}
+use Rattle.world_ports.specs.declared.Door.TheVariants.{Clients, Children}
+use Rattle.world_ports.specs.declared.Moment.{Moment}
 use Rattle.agent_core.specs.State.{State, Port, opening_state, find_port, owed_of}
 use Rattle.agent_core.specs.Step.{Happening, Joined, Heard, Ended, Tick}
 use Rattle.schedule_text.specs.declared.fault.LineFault.{LineFault}

@@ -1,6 +1,6 @@
 -- Settling: after a line every port that isn't held takes what it is owed (ours: docs/PROTOCOL.md, "Output").
 use Rattle.std.specs.Prelude.{ℕ, zero, suc, List, [], ◌∷◌, ◌++◌, length, take, Option, None, Some}
-use Rattle.world_ports.specs.declared.plain.Moment.{Moment}
+use Rattle.world_ports.specs.declared.Moment.{Moment}
 use Rattle.agent_core.specs.State.{State, owed_of}
 use Rattle.agent_core.specs.Step.{Happening, Took, step}
 use Rattle.agent_core.specs.Budget.{budget}

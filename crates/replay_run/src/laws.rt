@@ -1,7 +1,7 @@
 //! Laws of the runs of specs/.
 
 ghost use Rattle.std.specs.Prelude.{◌≡◌, List, ℕ, [], false};
-ghost use Rattle.world_ports.specs.declared.plain.Moment.{Moment};
+ghost use Rattle.world_ports.specs.declared.Moment.{Moment};
 ghost use Rattle.agent_core.specs.State.{IsRising, State, owed_at};
 ghost use Rattle.replay_run.specs.Holding.{is_held};
 ghost use Rattle.replay_run.specs.Settling.{settled};

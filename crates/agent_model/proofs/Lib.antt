@@ -1,0 +1,11 @@
+pub mod PortsLemmas
+pub mod ClosesLemmas
+pub mod HeldLemmas
+pub mod SecondLemmas
+pub mod IdleLemmas
+pub mod BoundLemmas
+pub mod ServeLemmas
+pub mod ClientLemmas
+pub mod LeadLemmas
+pub mod RunLemmas
+pub mod BudgetLemmas

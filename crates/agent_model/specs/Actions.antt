@@ -1,0 +1,85 @@
+-- What the agent did that a later reader of its history needs (ours).
+use Rattle.std.specs.Prelude.{ℕ, List, [], ◌++◌}
+use Rattle.agent_msg.specs.Requests.{Signing}
+use Rattle.child_msg.specs.Messages.{ToChildMessage}
+use Rattle.helper_link.specs.declared.answer.Settled.{Settled}
+use Rattle.dest_rule.specs.declared.binding.Binding.{Binding}
+use Rattle.agent_model.specs.State.{State, UnderWay}
+use Rattle.agent_model.specs.Verdicts.{Verdict}
+
+-- a request that was taken: who asked, its body, and what came of it
+pub record Requesting : Type 0 where
+  pub port : ℕ
+  pub body : List ℕ
+  pub verdict : Verdict
+
+-- what an ask is for
+pub data Purpose : Type 0 where
+  ForSignature : (signing : Signing) → Purpose
+  ForBinding : (binding : Binding) → Purpose
+
+-- an ask that was put to the helper: its number, who asked, and what for
+pub record Asking : Type 0 where
+  pub ask : ℕ
+  pub port : ℕ
+  pub purpose : Purpose
+
+-- a binding whose signature the helper found right, and whose connection is open
+pub record Proving : Type 0 where
+  pub port : ℕ
+  pub binding : Binding
+
+-- a confirmation that the user was asked for: its job, who asked, the addition of the key, and what is to be signed
+pub record Raising : Type 0 where
+  pub job : ℕ
+  pub port : ℕ
+  pub addition : ℕ
+  pub signing : Signing
+
+-- an action: `Granted` is the user's consent, `Over` another end of a confirmation, `Lost` the loss of the helper
+pub data Action : Type 0 where
+  Requested : (requesting : Requesting) → Action
+  Asked : (asking : Asking) → Action
+  Answered : (settled : Settled) → Action
+  Proved : (proving : Proving) → Action
+  Raised : (raising : Raising) → Action
+  Granted : (job : ℕ) → Action
+  Over : (job : ℕ) → Action
+  Lost : Action
+
+-- the state that something leaves, the actions, oldest first, and the messages that were put to the helper
+pub record Outcome : Type 0 where
+  pub state : State
+  pub actions : List Action
+  pub put : List ToChildMessage
+
+-- nothing was done
+abbrev pub stay : State → Outcome
+stay state = record { state = state; actions = []; put = [] }
+
+-- these actions led to the state, and nothing was put to the helper
+abbrev pub acted : List Action → State → Outcome
+acted actions state = record { state = state; actions = actions; put = [] }
+
+-- behind what was done before
+abbrev pub behind : Outcome → Outcome → Outcome
+behind first later = record {
+  state = later.state;
+  actions = first.actions ++ later.actions;
+  put = first.put ++ later.put;
+}
+
+-- one thing, and then another in the state that it leaves
+abbrev pub and_then : Outcome → (State → Outcome) → Outcome
+and_then first next = behind first (next first.state)
+
+-- what comes of a request, or of a grant, of what is under way
+pub record Work : Type 0 where
+  pub under_way : UnderWay
+  pub verdict : Verdict
+  pub actions : List Action
+  pub put : List ToChildMessage
+
+-- nothing more is under way, and the client is told this
+abbrev pub settles : Verdict → UnderWay → Work
+settles verdict under_way = record { under_way = under_way; verdict = verdict; actions = []; put = [] }

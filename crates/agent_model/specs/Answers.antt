@@ -1,0 +1,138 @@
+-- What the helper's answers bring, and what its loss brings (ours).
+use Rattle.std.specs.Prelude.{ℕ, List, [], ◌∷◌, ◌++◌, Option, Some, None, Bool, true, false, ◌==◌, if◌then◌else◌}
+use Rattle.helper_link.specs.HelperLink.{HelperLink, askers, lost}
+use Rattle.helper_link.specs.Telling.{Telling, telling}
+use Rattle.helper_link.specs.declared.answer.Answer.{Answer}
+use Rattle.helper_link.specs.declared.answer.Answer.TheVariants as answer
+use Rattle.helper_link.specs.declared.answer.Settled.{Settled}
+use Rattle.helper_link.specs.declared.fault.LinkFault.{LinkFault}
+use Rattle.helper_link.specs.declared.state.LinkState.{LinkState}
+use Rattle.helper_link.specs.declared.state.LinkState.TheVariants as states
+use Rattle.dest_rule.specs.Chains.{bound}
+use Rattle.dest_rule.specs.declared.binding.Binding.{Binding}
+use Rattle.agent_model.specs.State.{Port, State, Verification, change_port, find_port, remove_port}
+use Rattle.agent_model.specs.Verdicts.{HelperLost, HelperRefused, Refuses, Replies, Signature, SignatureWrong, Success, Verdict, tell}
+use Rattle.agent_model.specs.Actions.{Action, Answered, Lost, Outcome, Proved, acted, and_then, stay}
+
+-- ---- verifications
+
+-- the verification that this ask is for
+abbrev pub find_verification : ℕ → List Verification → Option Verification
+find_verification ask [] = None
+find_verification ask (one ∷ others) = if one.ask == ask then Some one else find_verification ask others
+
+-- all but that of this ask
+abbrev pub remove_verification : ℕ → List Verification → List Verification
+remove_verification ask [] = []
+remove_verification ask (one ∷ others) = if one.ask == ask then others else one ∷ remove_verification ask others
+
+-- a chain with a binding that is new to it
+abbrev pub chain_with : Bool → Binding → List Binding → List Binding
+chain_with true binding chain = bound binding chain
+chain_with false binding chain = chain
+
+-- the connection is bound
+abbrev pub bind_port : Verification → Port → Port
+bind_port verification port =
+    record port { chain = chain_with verification.is_new verification.binding port.chain }
+
+-- the client is told that it is
+abbrev pub prove : Verification → Port → Port
+prove verification port = tell (Replies Success) (bind_port verification port)
+
+-- that a binding is right counts where the asker is open
+abbrev pub proved_at : Option Port → Verification → List Action
+proved_at None verification = []
+proved_at (Some port) verification =
+    Proved (record { port = port.number; binding = verification.binding }) ∷ []
+
+-- ---- answers
+
+-- what answers change, and the actions
+pub record Answering : Type 0 where
+  pub ports : List Port
+  pub verifications : List Verification
+  pub actions : List Action
+
+-- an asker is told what came of its ask: nobody is, where it has left
+abbrev pub answer_asker : Verdict → Settled → Answering → Answering
+answer_asker verdict one before = record {
+  ports = change_port one.asker (tell verdict) before.ports;
+  verifications = remove_verification one.ask before.verifications;
+  actions = before.actions ++ Answered one ∷ [];
+}
+
+-- the signature of a binding is right
+abbrev pub answer_true : Option Verification → Settled → Answering → Answering
+answer_true None one before = answer_asker (Replies Success) one before
+answer_true (Some verification) one before = record {
+  ports = change_port one.asker (prove verification) before.ports;
+  verifications = remove_verification one.ask before.verifications;
+  actions = before.actions ++ Answered one ∷ proved_at (find_port one.asker before.ports) verification;
+}
+
+-- by what the helper says
+abbrev pub answer_by : Answer → Settled → Answering → Answering
+answer_by (answer.Signed signature) one before = answer_asker (Replies (Signature signature)) one before
+answer_by answer.Refused one before = answer_asker (Refuses HelperRefused) one before
+answer_by answer.True one before = answer_true (find_verification one.ask before.verifications) one before
+answer_by answer.False one before = answer_asker (Refuses SignatureWrong) one before
+
+-- answers, one after another
+abbrev pub answer_all : List Settled → Answering → Answering
+answer_all [] before = before
+answer_all (one ∷ later) before = answer_all later (answer_by one.answer one before)
+
+-- what answers change in a state
+abbrev pub answers_in : List Settled → State → Answering
+answers_in settled state = answer_all settled
+    (record { ports = state.ports; verifications = state.under_way.verifications; actions = [] })
+
+-- the state after answers, with the link that they leave
+abbrev pub with_answers : HelperLink → Answering → State → State
+with_answers new_link answers state = record state {
+  ports = answers.ports;
+  under_way = record state.under_way { link = new_link; verifications = answers.verifications };
+}
+
+-- ---- the loss of the helper
+
+-- each of these clients is told
+abbrev pub tell_each : Verdict → List ℕ → List Port → List Port
+tell_each verdict [] ports = ports
+tell_each verdict (number ∷ others) ports = tell_each verdict others (change_port number (tell verdict) ports)
+
+-- without the helper's port
+abbrev pub close_helper : LinkState → List Port → List Port
+close_helper states.None ports = ports
+close_helper (states.Starting job) ports = ports
+close_helper (states.Linked port) ports = remove_port port ports
+
+-- the link that was lost, once all whose asks failed were told
+abbrev pub link_lost : HelperLink → HelperLink
+link_lost old = record (lost old) { failed = [] }
+
+-- the helper is lost: its port is closed, and each client that waits for an answer of it is told
+abbrev pub lose : State → Outcome
+lose state = acted (Lost ∷ []) (record state {
+  ports = tell_each (Refuses HelperLost) (askers state.under_way.link.asks)
+      (close_helper state.under_way.link.state state.ports);
+  under_way = record state.under_way { link = link_lost state.under_way.link; verifications = [] };
+})
+
+-- by the fault of the helper's stream
+abbrev pub lose_if : Option LinkFault → State → Outcome
+lose_if None state = stay state
+lose_if (Some fault) state = lose state
+
+-- ---- what the helper sends
+
+-- its answers count up to the first faulty frame
+abbrev pub helper_tells : Telling → State → Outcome
+helper_tells told state = and_then
+    (acted (answers_in told.settled state).actions (with_answers told.link (answers_in told.settled state) state))
+    (lose_if told.fault)
+
+-- the helper sent more
+abbrev pub helper_heard : List ℕ → State → Outcome
+helper_heard piece state = helper_tells (telling piece state.under_way.link) state

@@ -1,0 +1,154 @@
+-- Child processes, from the start of their job until they named themselves by its ticket (ours).
+use Rattle.std.specs.Prelude.{ℕ, List, [], ◌∷◌, ◌++◌, Option, Some, None, Bool, true, false, Result, Ok, Err, ◌==◌, if◌then◌else◌}
+use Rattle.std.specs.Str.{bytes_eq}
+use Rattle.world_ports.specs.declared.Job.{Job}
+use Rattle.world_ports.specs.declared.JobKind.{JobKind}
+use Rattle.world_ports.specs.declared.JobKind.TheVariants as kinds
+use Rattle.wire_text.specs.Frames.{Bad, Front, More, Whole, after_front, front, front_body}
+use Rattle.child_msg.specs.Messages.{Denied, False, FromChildMessage, Granted, Hello, Refused, Signed, True}
+use Rattle.child_msg.specs.Reading.{from_child_of}
+use Rattle.child_msg.specs.declared.fault.ChildFault.{ChildFault}
+use Rattle.helper_link.specs.HelperLink.{linked_to}
+use Rattle.agent_model.specs.Actions.{Outcome, stay}
+use Rattle.agent_model.specs.Answers.{helper_heard, lose}
+use Rattle.confirm_desk.specs.Confirmations.{Confirmation, find_job, linked}
+use Rattle.agent_model.specs.Consents.{confirmer_heard, find_started, over_if, remove_started}
+use Rattle.agent_model.specs.State.{Port, StartedJob, State, change_port, find_to_start, remove_port}
+
+-- ---- the start of a job
+
+-- the jobs but for that of this number
+abbrev pub remove_to_start : ℕ → List Job → List Job
+remove_to_start number [] = []
+remove_to_start number (job ∷ jobs) = if job.number == number then jobs else job ∷ remove_to_start number jobs
+
+-- the job isn't to be started any more
+abbrev pub job_left : ℕ → State → State
+job_left number state = record state {
+  under_way = record state.under_way { to_start = remove_to_start number state.under_way.to_start };
+}
+
+-- the job of a confirmation that is waited for; that of one that is over is named by no child process
+abbrev pub started_for : Option Confirmation → Job → List ℕ → List StartedJob
+started_for None job ticket = []
+started_for (Some confirmation) job ticket = record { job = job; ticket = ticket } ∷ []
+
+-- the job, to be named by its child process
+abbrev pub started_by : JobKind → Job → List ℕ → List Confirmation → List StartedJob
+started_by kinds.Helper job ticket confirmations = record { job = job; ticket = ticket } ∷ []
+started_by kinds.Confirm job ticket confirmations = started_for (find_job job.number confirmations) job ticket
+
+-- the job was started, if it was to be
+abbrev pub started_if : Option Job → List ℕ → List Confirmation → List StartedJob
+started_if None ticket confirmations = []
+started_if (Some job) ticket confirmations = started_by job.kind job ticket confirmations
+
+-- the job of this number was started, and its child process has this ticket
+abbrev pub job_started : ℕ → List ℕ → State → State
+job_started number ticket state = record state {
+  under_way = record state.under_way {
+    to_start = remove_to_start number state.under_way.to_start;
+    started = state.under_way.started
+        ++ started_if (find_to_start number state.under_way.to_start) ticket state.under_way.confirmations;
+  };
+}
+
+-- the start of a helper failed, or of a child process that asks the user
+abbrev pub failed_by : JobKind → ℕ → State → Outcome
+failed_by kinds.Helper number state = lose state
+failed_by kinds.Confirm number state = over_if (find_job number state.under_way.confirmations) state
+
+-- by the job, if it was to be started
+abbrev pub failed_if : Option Job → State → Outcome
+failed_if None state = stay state
+failed_if (Some job) state = failed_by job.kind job.number (job_left job.number state)
+
+-- the start of the job of this number failed
+abbrev pub job_failed : ℕ → State → Outcome
+job_failed number state = failed_if (find_to_start number state.under_way.to_start) state
+
+-- ---- how a child process names itself
+
+-- more bytes of the port
+abbrev pub heard_more : List ℕ → Port → Port
+heard_more piece port = record port { heard = port.heard ++ piece }
+
+-- the bytes of the port stand elsewhere from now on
+abbrev pub unheard : Port → Port
+unheard port = record port { heard = [] }
+
+-- one port changed
+abbrev pub changed : ℕ → (Port → Port) → State → State
+changed number f state = record state { ports = change_port number f state.ports }
+
+-- one port closed: what it was owed goes with it
+abbrev pub closed : ℕ → State → State
+closed number state = record state { ports = remove_port number state.ports }
+
+-- the helper came to this port
+abbrev pub helper_named : ℕ → ℕ → State → State
+helper_named job number state = record state {
+  ports = change_port number unheard state.ports;
+  under_way = record state.under_way {
+    link = linked_to number state.under_way.link;
+    started = remove_started job state.under_way.started;
+  };
+}
+
+-- the child process that asks the user, by this job, came to this port
+abbrev pub confirmer_named : ℕ → ℕ → State → State
+confirmer_named job number state = record state {
+  ports = change_port number unheard state.ports;
+  under_way = record state.under_way {
+    started = remove_started job state.under_way.started;
+    confirmations = linked job number state.under_way.confirmations;
+  };
+}
+
+-- the confirmation of a job hears what came behind its child process's name
+abbrev pub confirmer_goes_on : Option Confirmation → List ℕ → State → Outcome
+confirmer_goes_on None rest state = stay state
+confirmer_goes_on (Some confirmation) rest state = confirmer_heard confirmation rest state
+
+-- the same in a state
+abbrev pub confirmer_hears : ℕ → List ℕ → State → Outcome
+confirmer_hears job rest state = confirmer_goes_on (find_job job state.under_way.confirmations) rest state
+
+-- a child process named itself, and what it sent behind its name counts at once
+abbrev pub named_by : JobKind → ℕ → ℕ → List ℕ → State → Outcome
+named_by kinds.Helper job number rest state = helper_heard rest (helper_named job number state)
+named_by kinds.Confirm job number rest state = confirmer_hears job rest (confirmer_named job number state)
+
+-- by whether the ticket is the job's own
+abbrev pub ticket_by : Bool → Job → ℕ → List ℕ → State → Outcome
+ticket_by true job number rest state = named_by job.kind job.number number rest state
+ticket_by false job number rest state = stay (closed number state)
+
+-- by the started job that it names
+abbrev pub hello_by : Option StartedJob → List ℕ → ℕ → List ℕ → State → Outcome
+hello_by None ticket number rest state = stay (closed number state)
+hello_by (Some one) ticket number rest state = ticket_by (bytes_eq one.ticket ticket) one.job number rest state
+
+-- by its first message: all but HELLO is refused
+abbrev pub first_message : Result FromChildMessage ChildFault → ℕ → List ℕ → State → Outcome
+first_message (Ok (Hello job ticket)) number rest state =
+    hello_by (find_started job state.under_way.started) ticket number rest state
+first_message (Ok (Signed ask signature)) number rest state = stay (closed number state)
+first_message (Ok (Refused ask)) number rest state = stay (closed number state)
+first_message (Ok (True ask)) number rest state = stay (closed number state)
+first_message (Ok (False ask)) number rest state = stay (closed number state)
+first_message (Ok (Granted job)) number rest state = stay (closed number state)
+first_message (Ok (Denied job)) number rest state = stay (closed number state)
+first_message (Err fault) number rest state = stay (closed number state)
+
+-- by what stands at the front of its bytes
+abbrev pub first_frame : Front → ℕ → List ℕ → State → Outcome
+first_frame (Whole body_len) number heard state =
+    first_message (from_child_of (front_body body_len heard)) number (after_front body_len heard) state
+first_frame (Bad announced) number heard state = stay (closed number state)
+first_frame More number heard state = stay state
+
+-- a child process that hasn't named itself sent more behind what was heard of it
+abbrev pub unnamed_heard : (heard piece : List ℕ) → ℕ → State → Outcome
+unnamed_heard heard piece number state =
+    first_frame (front 262144 (heard ++ piece)) number (heard ++ piece) (changed number (heard_more piece) state)

@@ -1,0 +1,120 @@
+-- What the user's consent brings, and what it brings that a confirmation ends without it (ours).
+use Rattle.std.specs.Prelude.{ℕ, List, [], ◌∷◌, ◌++◌, Option, Some, None, ◌==◌, if◌then◌else◌}
+use Rattle.agent_msg.specs.Requests.{Signing}
+use Rattle.identity_table.specs.Identities.{HeldKey, find_number}
+use Rattle.agent_model.specs.KeyStates.{KeyState}
+use Rattle.dest_rule.specs.declared.binding.Binding.{Binding}
+use Rattle.confirm_desk.specs.Confirmations.{Confirmation, Consent, No, NotYet, Yes, consent, find_asker, told}
+use Rattle.confirm_desk.specs.Confirmations as desk
+use Rattle.dest_rule.specs.Rules.{denial_under}
+use Rattle.dest_rule.specs.declared.denial.Denial.{Denial}
+use Rattle.agent_model.specs.State.{Port, StartedJob, State, UnderWay, change_port, find_port, remove_port}
+use Rattle.agent_model.specs.Verdicts.{NoLongerAllowed, NotConfirmed, Refuses, tell}
+use Rattle.agent_model.specs.Actions.{Granted, Outcome, Over, Work, acted, settles, stay}
+use Rattle.agent_model.specs.Errands.{Signs, put_ask}
+
+-- ---- the end of a confirmation
+
+-- the started job of this number
+abbrev pub find_started : ℕ → List StartedJob → Option StartedJob
+find_started number [] = None
+find_started number (one ∷ others) = if one.job.number == number then Some one else find_started number others
+
+-- all but that of this number
+abbrev pub remove_started : ℕ → List StartedJob → List StartedJob
+remove_started number [] = []
+remove_started number (one ∷ others) = if one.job.number == number then others else one ∷ remove_started number others
+
+-- what is under way without the confirmation of this job: no child process can name the job from then on
+abbrev pub without_confirmation : ℕ → UnderWay → UnderWay
+without_confirmation job under_way = record under_way {
+  started = remove_started job under_way.started;
+  confirmations = desk.lose job under_way.confirmations;
+}
+
+-- without the port of its child process, where that came
+abbrev pub close_confirmer : Option ℕ → List Port → List Port
+close_confirmer None ports = ports
+close_confirmer (Some port) ports = remove_port port ports
+
+-- a confirmation ends without consent: its child process's port is closed, and the client, where it is open, is told
+abbrev pub over : Confirmation → State → Outcome
+over confirmation state = acted (Over confirmation.job ∷ []) (record state {
+  ports = change_port confirmation.asker (tell (Refuses NotConfirmed)) (close_confirmer confirmation.port state.ports);
+  under_way = without_confirmation confirmation.job state.under_way;
+})
+
+-- where there is one
+abbrev pub over_if : Option Confirmation → State → Outcome
+over_if None state = stay state
+over_if (Some confirmation) state = over confirmation state
+
+-- ---- consent
+
+-- what is to be signed, with this key
+abbrev pub signing_of : HeldKey → Confirmation → Signing
+signing_of key confirmation =
+    record { blob = key.blob; message = confirmation.message; flags = confirmation.flags }
+
+-- by what the key's destination constraints say by now
+abbrev pub grant_unless : Option Denial → HeldKey → Confirmation → UnderWay → Work
+grant_unless (Some denial) key confirmation under_way = settles (Refuses NoLongerAllowed) under_way
+grant_unless None key confirmation under_way =
+    put_ask (Signs key (signing_of key confirmation)) confirmation.asker under_way
+
+-- by whether the addition is held yet
+abbrev pub grant_with : Option HeldKey → List Binding → Confirmation → ℕ → UnderWay → Work
+grant_with None chain confirmation wall under_way = settles (Refuses NoLongerAllowed) under_way
+grant_with (Some key) chain confirmation wall under_way =
+    grant_unless (denial_under key.rules key.blob chain confirmation.message wall) key confirmation under_way
+
+-- by the lock
+abbrev pub grant_by : Option (List ℕ) → KeyState → List Binding → Confirmation → ℕ → UnderWay → Work
+grant_by (Some passphrase) held chain confirmation wall under_way = settles (Refuses NoLongerAllowed) under_way
+grant_by None held chain confirmation wall under_way =
+    grant_with (find_number confirmation.addition held.table.identities) chain confirmation wall under_way
+
+-- what comes of the consent for a client with this chain: the agent, the key and the destination are tested again
+abbrev pub grant_work : List Binding → Confirmation → State → Work
+grant_work chain confirmation state =
+    grant_by state.held.lock state.held chain confirmation state.moment.wall
+    (without_confirmation confirmation.job state.under_way)
+
+-- the confirmation ends, its child process's port is closed, and the client gets what comes of it
+abbrev pub grant_concluded : Work → Confirmation → State → Outcome
+grant_concluded work confirmation state = record {
+  state = record state {
+    ports = change_port confirmation.asker (tell work.verdict) (close_confirmer confirmation.port state.ports);
+    under_way = work.under_way;
+  };
+  actions = Granted confirmation.job ∷ work.actions;
+  put = work.put;
+}
+
+-- by the client that waits; it is always open
+abbrev pub grant_to : Option Port → Confirmation → State → Outcome
+grant_to None confirmation state = stay state
+grant_to (Some port) confirmation state = grant_concluded (grant_work port.chain confirmation state) confirmation state
+
+-- the user consents
+abbrev pub grant : Confirmation → State → Outcome
+grant confirmation state = grant_to (find_port confirmation.asker state.ports) confirmation state
+
+-- ---- what a confirmer sends
+
+-- more was heard at the confirmation of this job
+abbrev pub with_heard : ℕ → List ℕ → State → State
+with_heard job piece state = record state {
+  under_way = record state.under_way { confirmations = told job piece state.under_way.confirmations };
+}
+
+-- by what the user says
+abbrev pub consent_by : Consent → Confirmation → List ℕ → State → Outcome
+consent_by NotYet confirmation piece state = stay (with_heard confirmation.job piece state)
+consent_by Yes confirmation piece state = grant confirmation state
+consent_by No confirmation piece state = over confirmation state
+
+-- the child process of this confirmation sent more
+abbrev pub confirmer_heard : Confirmation → List ℕ → State → Outcome
+confirmer_heard confirmation piece state =
+    consent_by (consent confirmation.job (confirmation.heard ++ piece)) confirmation piece state

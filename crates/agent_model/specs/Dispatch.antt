@@ -1,0 +1,190 @@
+-- What the agent answers to a request: the table of requests, a line a row.
+-- Source: draft-miller-ssh-agent, "Protocol Messages"; OpenSSH's agent for what isn't served; OpenSSH's PROTOCOL.agent
+-- for the request that binds a connection. Who sees which identity, and who is asked, is ours.
+use Rattle.std.specs.Prelude.{ℕ, ◌==◌, nat_lt, Bool, true, false, List, [], ◌∷◌, map, filter, Option, Some, None, Result, Ok, Err}
+use Rattle.std.specs.Str.{bytes_eq}
+use Rattle.constraint_rec.specs.declared.constraint.Constraint.{Constraint}
+use Rattle.constraint_rec.specs.declared.fault.TermFault.{TermFault}
+use Rattle.identity_table.specs.Identities.{HeldKey, TableState, added, answer_len, find_identity, identities_with, max_answer, remove_identity}
+use Rattle.agent_msg.specs.declared.fault.MsgFault.{MsgFault}
+use Rattle.agent_msg.specs.declared.fault.MsgFault.TheVariants as fault
+use Rattle.agent_msg.specs.Requests.{Addition, ClientRequest, Signing, ListIdentities, Sign, Add, Remove, RemoveAll, Lock, Unlock, Bind, OtherExtension, Unsupported}
+use Rattle.agent_model.specs.KeyStates.{KeyState, shown}
+use Rattle.agent_model.specs.Actions.{Work, settles}
+use Rattle.agent_model.specs.Errands.{Signs, ask_user, put_ask}
+use Rattle.agent_model.specs.Limits.{last_number}
+use Rattle.dest_rule.specs.declared.binding.Binding.{Binding}
+use Rattle.agent_model.specs.State.{UnderWay}
+use Rattle.agent_model.specs.Verdicts.{Cause, Identities, Malformed, Locked, Unserved, NotHeld, NotVisible, DestinationsUnserved, Constraints, ListFull, NoPassphrase, WrongPassphrase, NotLocked, AdditionsSpent, Refuses, Replies, Reply, Success}
+
+-- who asks, and when: the port, the hosts that its connection was bound to, whether it tried to bind it, the greatest
+-- monotonic second so far, and the wall clock
+pub record Asker : Type 0 where
+  pub port : ℕ
+  pub chain : List Binding
+  pub attempted : Bool
+  pub mono : ℕ
+  pub wall : ℕ
+
+-- what is held after a request, what is under way, and what the client gets
+pub record Served : Type 0 where
+  pub held : KeyState
+  pub work : Work
+
+-- the client is answered at once
+abbrev pub answers : Reply → KeyState → UnderWay → Served
+answers reply held under_way = record { held = held; work = settles (Replies reply) under_way }
+
+-- the client is refused
+abbrev pub refuses : Cause → KeyState → UnderWay → Served
+refuses cause held under_way = record { held = held; work = settles (Refuses cause) under_way }
+
+-- what is held stays
+abbrev pub keeps : KeyState → Work → Served
+keeps held work = record { held = held; work = work }
+
+-- ---- who sees what
+
+-- the asker sees this identity: none that is held has destination constraints yet
+abbrev pub sees : Asker → HeldKey → Bool
+sees asker key = true
+
+-- the identities that it sees, as a list shows them
+abbrev pub seen_by : Asker → KeyState → List (List ℕ × List ℕ)
+seen_by asker held = map shown (filter (sees asker) held.table.identities)
+
+-- ---- requests to sign
+
+-- by whether the user is to be asked
+abbrev pub sign_with : Bool → Asker → HeldKey → Signing → UnderWay → Work
+sign_with true asker key signing under_way = ask_user key signing asker.port under_way
+sign_with false asker key signing under_way = put_ask (Signs key signing) asker.port under_way
+
+-- by the identity that has the blob
+abbrev pub sign_by : Option HeldKey → Asker → Signing → UnderWay → Work
+sign_by None asker signing under_way = settles (Refuses NotHeld) under_way
+sign_by (Some key) asker signing under_way = sign_with key.confirm asker key signing under_way
+
+-- ---- additions
+
+-- the table with one identity more
+abbrev pub with_addition : Addition → ℕ → TableState → TableState
+with_addition addition now table = added table addition.key addition.terms addition.comment now
+
+-- the length of the list that would answer after the addition
+abbrev pub length_with : Addition → ℕ → TableState → ℕ
+length_with addition now table =
+    answer_len (identities_with table addition.key addition.terms addition.comment now)
+
+-- why the table doesn't take it: one message would not list all identities, or all numbers were given
+abbrev pub add_fault : Bool → Bool → Option Cause
+add_fault true spent = Some ListFull
+add_fault false true = Some AdditionsSpent
+add_fault false false = None
+
+-- unless the table doesn't take it
+abbrev pub add_unless : Option Cause → Addition → ℕ → KeyState → UnderWay → Served
+add_unless (Some cause) addition now held under_way = refuses cause held under_way
+add_unless None addition now held under_way =
+    answers Success (record held { table = with_addition addition now held.table }) under_way
+
+-- by whether the asker sees the identity that it replaces
+abbrev pub add_seen : Bool → Addition → ℕ → KeyState → UnderWay → Served
+add_seen false addition now held under_way = refuses NotVisible held under_way
+add_seen true addition now held under_way =
+    add_unless (add_fault (nat_lt max_answer (length_with addition now held.table)) (held.table.last == last_number))
+    addition now held under_way
+
+-- by the identity that has the blob
+abbrev pub add_by : Option HeldKey → Asker → Addition → KeyState → UnderWay → Served
+add_by None asker addition held under_way = add_seen true addition asker.mono held under_way
+add_by (Some key) asker addition held under_way = add_seen (sees asker key) addition asker.mono held under_way
+
+-- by its destination constraints: none is held yet
+abbrev pub add_under : List Constraint → Asker → Addition → KeyState → UnderWay → Served
+add_under [] asker addition held under_way =
+    add_by (find_identity addition.key.blob held.table.identities) asker addition held under_way
+add_under (rule ∷ rules) asker addition held under_way = refuses DestinationsUnserved held under_way
+
+-- ---- removals
+
+-- the identities changed
+abbrev pub with_identities : List HeldKey → KeyState → KeyState
+with_identities identities held = record held { table = record held.table { identities = identities } }
+
+-- by whether the asker sees it
+abbrev pub remove_seen : Bool → List ℕ → KeyState → UnderWay → Served
+remove_seen false blob held under_way = refuses NotVisible held under_way
+remove_seen true blob held under_way =
+    answers Success (with_identities (remove_identity blob held.table.identities) held) under_way
+
+-- by the identity that has the blob
+abbrev pub remove_by : Option HeldKey → Asker → List ℕ → KeyState → UnderWay → Served
+remove_by None asker blob held under_way = refuses NotHeld held under_way
+remove_by (Some key) asker blob held under_way = remove_seen (sees asker key) blob held under_way
+
+-- ---- the lock
+
+-- by whether there is a passphrase
+abbrev pub lock_by : List ℕ → KeyState → UnderWay → Served
+lock_by [] held under_way = refuses NoPassphrase held under_way
+lock_by (byte ∷ bytes) held under_way = answers Success (record held { lock = Some (byte ∷ bytes) }) under_way
+
+-- by whether the passphrase is the one that locked it
+abbrev pub unlock_by : Bool → KeyState → UnderWay → Served
+unlock_by true held under_way = answers Success (record held { lock = None }) under_way
+unlock_by false held under_way = refuses WrongPassphrase held under_way
+
+-- ---- the table of requests
+
+-- of an agent that isn't locked
+abbrev pub serve_unlocked : ClientRequest → Asker → KeyState → UnderWay → Served
+serve_unlocked ListIdentities asker held under_way = answers (Identities (seen_by asker held)) held under_way
+serve_unlocked (Sign signing) asker held under_way =
+    keeps held (sign_by (find_identity signing.blob held.table.identities) asker signing under_way)
+serve_unlocked (Add addition) asker held under_way = add_under addition.terms.rules asker addition held under_way
+serve_unlocked (Remove blob) asker held under_way =
+    remove_by (find_identity blob held.table.identities) asker blob held under_way
+serve_unlocked RemoveAll asker held under_way = answers Success (with_identities [] held) under_way
+serve_unlocked (Lock passphrase) asker held under_way = lock_by passphrase held under_way
+serve_unlocked (Unlock passphrase) asker held under_way = refuses NotLocked held under_way
+serve_unlocked (OtherExtension name) asker held under_way = refuses Unserved held under_way
+serve_unlocked (Unsupported number) asker held under_way = refuses Unserved held under_way
+serve_unlocked (Bind bind) asker held under_way = refuses Unserved held under_way
+
+-- of an agent that is locked with this passphrase
+abbrev pub serve_locked : List ℕ → ClientRequest → KeyState → UnderWay → Served
+serve_locked passphrase ListIdentities held under_way = answers (Identities []) held under_way
+serve_locked passphrase (Sign signing) held under_way = refuses Locked held under_way
+serve_locked passphrase (Add addition) held under_way = refuses Locked held under_way
+serve_locked passphrase (Remove blob) held under_way = refuses Locked held under_way
+serve_locked passphrase RemoveAll held under_way = refuses Locked held under_way
+serve_locked passphrase (Lock other) held under_way = refuses Locked held under_way
+serve_locked passphrase (Unlock other) held under_way = unlock_by (bytes_eq passphrase other) held under_way
+serve_locked passphrase (OtherExtension name) held under_way = refuses Locked held under_way
+serve_locked passphrase (Unsupported number) held under_way = refuses Locked held under_way
+serve_locked passphrase (Bind bind) held under_way = refuses Locked held under_way
+
+-- by the lock
+abbrev pub serve_by : Option (List ℕ) → ClientRequest → Asker → KeyState → UnderWay → Served
+serve_by None request asker held under_way = serve_unlocked request asker held under_way
+serve_by (Some passphrase) request asker held under_way = serve_locked passphrase request held under_way
+
+-- constraints that don't read, by the lock: what else doesn't read is malformed even where the agent is locked
+abbrev pub constraints_by : Option (List ℕ) → TermFault → Cause
+constraints_by None term_fault = Constraints term_fault
+constraints_by (Some passphrase) term_fault = Locked
+
+-- why a body that doesn't read is refused
+abbrev pub unread : MsgFault → Option (List ℕ) → Cause
+unread fault.Empty lock = Malformed fault.Empty
+unread fault.Short lock = Malformed fault.Short
+unread fault.Trailing lock = Malformed fault.Trailing
+unread (fault.Key key_fault) lock = Malformed (fault.Key key_fault)
+unread (fault.Terms term_fault) lock = constraints_by lock term_fault
+unread fault.Memory lock = Malformed fault.Memory
+
+-- a request, as its body reads
+abbrev pub serve : Result ClientRequest MsgFault → Asker → KeyState → UnderWay → Served
+serve (Ok request) asker held under_way = serve_by held.lock request asker held under_way
+serve (Err fault) asker held under_way = refuses (unread fault held.lock) held under_way

@@ -1,0 +1,26 @@
+-- The limits of the agent (ours: docs/DECISIONS.md, "Limits of the agent").
+use Rattle.std.specs.Prelude.{ℕ, ◌-◌, ◌^◌}
+
+-- the longest body of a client's message
+abbrev pub longest_body : ℕ
+longest_body = 262144
+
+-- the most clients that may be open at once
+abbrev pub most_clients : ℕ
+most_clients = 128
+
+-- the most child processes that are open and haven't named themselves
+abbrev pub most_unnamed : ℕ
+most_unnamed = 32
+
+-- the most asks that are unanswered at once: none is put yet
+abbrev pub most_asks : ℕ
+most_asks = 0
+
+-- the most confirmations that the user is asked for at once: none is asked for yet
+abbrev pub most_confirmations : ℕ
+most_confirmations = 0
+
+-- the last number that is given: of ports, additions, jobs and asks
+abbrev pub last_number : ℕ
+last_number = 2 ^ 64 - 1

@@ -1,0 +1,21 @@
+-- What is to be taken of a port (ours).
+use Rattle.std.specs.Prelude.{List, [], ◌∷◌, ℕ, Option, Some, None}
+use Rattle.wire_text.specs.Frames.{Front, More, front}
+use Rattle.agent_model.specs.Limits.{longest_body}
+use Rattle.agent_model.specs.State.{Nothing, OnAsk, OnConfirmation, Port, Waits}
+
+-- nothing while the client waits or is owed bytes, else what stands at the front of its bytes
+abbrev pub due_at : Waits → List ℕ → List ℕ → Front
+due_at Nothing [] heard = front longest_body heard
+due_at Nothing (byte ∷ bytes) heard = More
+due_at (OnAsk ask) owed heard = More
+due_at (OnConfirmation job) owed heard = More
+
+-- the same of a client's port
+abbrev pub due : Port → Front
+due port = due_at port.waits port.owed port.heard
+
+-- where it is open
+abbrev pub due_by : Option Port → Front
+due_by None = More
+due_by (Some port) = due port

@@ -1,0 +1,13 @@
+-- What holds of every state that events lead to: the ports' numbers rise, and not too many are open.
+use Rattle.std.specs.Prelude.{ℕ, ◌<◌, ◌≤◌, List, [], ◌∷◌}
+use Rattle.agent_model.specs.State.{Port, State, client_count}
+
+-- the numbers rise, each above `low` and none above `high`; so they are distinct, and the last one bounds them
+abbrev pub IsRising : ℕ → ℕ → List Port → Type 0
+IsRising low high [] = low ≤ high
+IsRising low high (port ∷ ports) = (low < port.number) × IsRising port.number high ports
+
+-- the numbers of the open ports rise up to the last one, and no more than 128 clients are open
+pub record IsSound (state : State) : Type 0 where
+  pub rising : IsRising 0 state.last_port state.ports
+  pub few : client_count state.ports ≤ 128
