@@ -3,8 +3,8 @@ use Rattle.std.specs.Prelude.{ℕ, suc, ◌+◌, ◌==◌, ◌||◌, nat_lt, Boo
 use Rattle.std.specs.List.{slice_split}
 use Rattle.world_ports.specs.declared.plain.Door.TheVariants.{Clients, Children}
 use Rattle.world_ports.specs.declared.plain.Moment.{Moment}
-use Rattle.agent_core.specs.State.{State, Port, opening_state, find_port, owed_of}
-use Rattle.agent_core.specs.Step.{Happening, Joined, Heard, Ended, Tick}
+use Rattle.agent_model.specs.Events.{Happening, Joined, Heard, Ended, Tick}
+use Rattle.agent_model.specs.State.{State, Port, first_state, find_port, owed_of}
 use Rattle.schedule_text.specs.declared.fault.LineFault.{LineFault}
 use Rattle.schedule_text.specs.declared.fault.LineFault.TheVariants.{Word, UnknownPort, Order, TooLong}
 use Rattle.schedule_text.specs.declared.step.Step.{Step}
@@ -27,7 +27,7 @@ pub record Run : Type 0 where
 -- the run before the first line
 abbrev pub start_run : Run
 start_run = record {
-  agent = opening_state None;
+  agent = first_state None;
   moment = record { mono = 0; wall = 0 };
   held = [];
   line = 0;
