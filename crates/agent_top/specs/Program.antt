@@ -4,8 +4,8 @@
 --   replay_run, specs/Replay.antt: what a schedule prints, by what each line brings
 --   replay_run, specs/Settling.antt: what ports take after each line
 --   schedule_text, specs/Lines.antt and Deeds.antt: the lines that are read, and those that are printed
---   agent_core, specs/Step.antt: one step of the abstract agent
---   agent_core, specs/Dispatch.antt: the table of requests
+--   agent_model, specs/Step.antt: one step of the abstract agent
+--   agent_model, specs/Dispatch.antt: the table of requests
 use Rattle.std.specs.Prelude.{◌≡◌, ℕ, None, IfSome}
 use Rattle.world_ports.specs.Causes.{Rose}
 use Rattle.agent_top.specs.declared.status.Status.{Status}
