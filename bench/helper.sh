@@ -43,10 +43,9 @@ def helper_time(body, count):
 def agent_time(folder, key, flags, count):
     path = f"{folder}/agent"
     agent = subprocess.Popen(["ssh-agent", "-D", "-a", path], stdout=subprocess.DEVNULL)
-    while not os.path.exists(path):
-        time.sleep(0.01)
     with socket.socket(socket.AF_UNIX) as peer:
-        peer.connect(path)
+        while peer.connect_ex(path) != 0:
+            time.sleep(0.01)
         ask(peer, b"\x11" + key.private + string(b""))
         for _ in range(count):
             body = b"\x0d" + string(key.blob) + string(MESSAGE) + struct.pack(">I", flags)

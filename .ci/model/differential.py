@@ -16,9 +16,9 @@ from collections.abc import Callable
 from pathlib import Path
 
 from agent import STAGES
-from generate import Case, Writer, goals
+from generate import Case, Schedule, goals
 from replay import LONGEST_LINE, LONGEST_SCHEDULE, replay
-from rows import ROWS
+from rows_rules import EVERY_ROW
 
 HERE = Path(__file__).parent
 Result = tuple[bytes, int]
@@ -95,7 +95,7 @@ def show_mismatch(program: str, text: bytes, stages: list[str], life: int | None
 def try_rows(program: str, stages: list[str]) -> bool:
     """The literal rows, by the model, and by the program where it does what they need."""
     good, tried = True, 0
-    for row in ROWS:
+    for row in EVERY_ROW:
         wanted = (row.printed, row.status)
         seen = {"the model": replay(row.schedule, row.needs, row.life)}
         seen["the model of this stage"] = replay(row.schedule, {*row.needs, *stages}, row.life)
@@ -108,20 +108,41 @@ def try_rows(program: str, stages: list[str]) -> bool:
                 print(f"row '{row.name}': {name} differs, with status {result[1]}")
                 show("printed", result[0])
                 show("wanted", row.printed)
-    print(f"{len(ROWS)} rows by the model, {tried} by the program")
+    print(f"{len(EVERY_ROW)} rows by the model, {tried} by the program")
     return good
+
+
+def run_long(program: str, line: bytes, count: int, last: bytes) -> Result:
+    """Runs a schedule of one line, so often, and last lines."""
+    with subprocess.Popen(
+        [program, "replay"],
+        stdin=subprocess.PIPE,
+        stdout=subprocess.PIPE,
+        stderr=subprocess.DEVNULL,
+    ) as child:
+        try:
+            for _ in range(count):
+                child.stdin.write(line)
+            child.stdin.write(last)
+            child.stdin.close()
+        except BrokenPipeError:
+            pass
+        output = child.stdout.read()
+    return output, child.returncode
 
 
 def try_longest(program: str) -> bool:
     """A schedule of the longest length, and one with a byte more in its last line."""
-    line = b"#" * (LONGEST_LINE - 1) + b"\n"
-    count = LONGEST_SCHEDULE // len(line)
-    last = b"join client\n"
-    for more, wanted in [(0, (b"end\n", 0)), (1, (b"refused %d long\n" % (count + 1), 1))]:
+    line, last = b"#" * (LONGEST_LINE - 1) + b"\n", b"join client\n"
+    count = LONGEST_SCHEDULE // len(line) - 1
+    for more, wanted in [(0, (b"end\n", 0)), (1, (b"refused %d long\n" % (count + 2), 1))]:
         padding = b"#" * (LONGEST_LINE - 1 - len(last) + more) + b"\n"
-        text = line * (count - 1) + padding + last
-        if len(text) != LONGEST_SCHEDULE + more or run_program(program, text) != wanted:
-            print(f"a schedule of {len(text)} bytes: the program prints something else")
+        size = count * len(line) + len(padding) + len(last)
+        if (
+            size != LONGEST_SCHEDULE + more
+            or run_long(program, line, count, padding + last) != wanted
+        ):
+            print(f"a schedule of {size} bytes: the program prints something else")
             return False
     print(f"schedules of {LONGEST_SCHEDULE} bytes and one more, by the program")
     return True
@@ -138,7 +159,7 @@ def try_examples(program: str, stages: list[str]) -> bool:
 
 def try_one(task: tuple[str, str, list[str]]) -> tuple[bool, Counter[str], int]:
     program, seed, stages = task
-    writer = Writer(seed, stages)
+    writer = Schedule(seed, stages)
     text, life, wanted = writer.case()
     return run_program(program, text, life) == wanted, writer.seen(), text.count(b"\n")
 
@@ -150,7 +171,7 @@ def try_schedules(program: str, count: int, seed: str, stages: list[str]) -> boo
         for task, (same, reached, length) in zip(tasks, pool.imap(try_one, tasks, 8)):
             if not same:
                 pool.terminate()
-                text, life, _ = Writer(task[1], stages).case()
+                text, life, _ = Schedule(task[1], stages).case()
                 print(f"schedule {task[1]}:")
                 show_mismatch(program, text, stages, life)
                 return False
@@ -194,7 +215,7 @@ CASES: list[Case] = []
 
 
 def write_case(seed: str) -> Case:
-    return Writer(seed, STAGES).case()
+    return Schedule(seed, STAGES).case()
 
 
 def first_found(edit: dict[str, str]) -> int | None:

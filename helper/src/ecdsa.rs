@@ -136,10 +136,10 @@ impl<'a> PrivateKey<'a> {
         let curve = public.curve;
         let d = number::secret(fields.string()?)?;
         Refused::unless(d < curve.order)?;
-        let mut scratch = BigNumContext::new_secure()?;
         let mut point = EcPoint::new(&curve.group)?;
-        point.mul_generator(&curve.group, &d, &scratch)?;
-        Refused::unless(point.eq(&curve.group, &public.point, &mut scratch)?)?;
+        point.mul_generator(&curve.group, &d, &*BigNumContext::new_secure()?)?;
+        let fits = point.eq(&curve.group, &public.point, &mut *BigNumContext::new()?)?;
+        Refused::unless(fits)?;
         let key = EcKey::from_private_components(&curve.group, &d, &public.point)?;
         Ok(PrivateKey { curve, key })
     }

@@ -29,14 +29,13 @@ extern "C" {
 /// configuration of libcrypto, and a heap for secret numbers that isn't swapped where the limit on
 /// locked memory permits.
 pub fn prepare() -> Result<(), Fault> {
-    for (name, _) in std::env::vars_os() {
-        std::env::remove_var(name);
-    }
     let none = rlimit {
         rlim_cur: 0,
         rlim_max: 0,
     };
     let (no, unused): (c_ulong, c_ulong) = (0, 0);
+    // SAFETY: there is one thread, and nothing borrows from the environment.
+    let cleared = unsafe { libc::clearenv() } == 0;
     // SAFETY: the limits are valid for the call, which keeps no pointer to them.
     let limited = unsafe { libc::setrlimit(libc::RLIMIT_CORE, &none) } == 0;
     // SAFETY: PR_SET_DUMPABLE takes a number and touches no memory of the program.
@@ -47,7 +46,7 @@ pub fn prepare() -> Result<(), Fault> {
         OPENSSL_init_crypto(OPENSSL_INIT_NO_LOAD_CONFIG, std::ptr::null()) == 1
             && CRYPTO_secure_malloc_init(SECURE_HEAP, LEAST_BLOCK) != 0
     };
-    match limited && hidden && heap {
+    match cleared && limited && hidden && heap {
         true => Ok(()),
         false => Err(Fault::Memory),
     }

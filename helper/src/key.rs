@@ -15,33 +15,24 @@ pub enum Form {
     Certified,
 }
 
-/// The type that a blob and an added key begin with.
-#[derive(Clone, Copy)]
-struct KeyType<'a> {
-    algorithm: Algorithm<'a>,
-    form: Form,
-}
-
-#[derive(Clone, Copy)]
 enum Algorithm<'a> {
     Ed25519,
     Rsa,
     Ecdsa(&'a Curve),
 }
 
-impl<'a> KeyType<'a> {
-    fn named(name: &[u8], curves: &'a Curves) -> Result<Self, Refused> {
-        let (plain, form) = match name.strip_suffix(CERTIFIED) {
-            Some(plain) => (plain, Form::Certified),
-            None => (name, Form::Plain),
-        };
-        let algorithm = match plain {
-            ed25519::NAME => Algorithm::Ed25519,
-            rsa::NAME => Algorithm::Rsa,
-            _ => Algorithm::Ecdsa(curves.of(plain).ok_or(Refused)?),
-        };
-        Ok(KeyType { algorithm, form })
-    }
+/// What the name of a key type tells.
+fn key_type<'a>(name: &[u8], curves: &'a Curves) -> Result<(Algorithm<'a>, Form), Refused> {
+    let (plain, form) = match name.strip_suffix(CERTIFIED) {
+        Some(plain) => (plain, Form::Certified),
+        None => (name, Form::Plain),
+    };
+    let algorithm = match plain {
+        ed25519::NAME => Algorithm::Ed25519,
+        rsa::NAME => Algorithm::Rsa,
+        _ => Algorithm::Ecdsa(curves.of(plain).ok_or(Refused)?),
+    };
+    Ok((algorithm, form))
 }
 
 /// A key blob whose key is one of its algorithm. What certifies the key is the agent's matter, and
@@ -64,7 +55,7 @@ impl<'a> Blob<'a> {
     pub fn read(bytes: &'a [u8], curves: &'a Curves) -> Result<Self, Refused> {
         let mut fields = Reader::new(bytes);
         let name = fields.string()?;
-        let KeyType { algorithm, form } = KeyType::named(name, curves)?;
+        let (algorithm, form) = key_type(name, curves)?;
         if form == Form::Certified {
             fields.string()?;
         }

@@ -4,7 +4,7 @@ ghost use Rattle.std.specs.Prelude.{◌≡◌, ◌↔◌, List, ℕ, [], IsSome,
 ghost use Rattle.world_ports.specs.declared.Door.TheVariants.{Clients};
 ghost use Rattle.agent_model.specs.Bounds.{AreBounded};
 ghost use Rattle.agent_model.specs.Events.{Ended, Heard, Joined, Took};
-ghost use Rattle.agent_model.specs.Sound.{IsRising};
+ghost use Rattle.agent_model.specs.Sound.{IsSteady};
 ghost use Rattle.agent_model.specs.State.{Fits, client_count, find_port, first_state, next_due, next_owed, nothing_under_way, owed_of, starts, wants};
 ghost use Rattle.agent_model.specs.Step.{closed_between, handle, looked, step};
 ghost use Rattle.agent_core.specs.Happenings.{happening};
@@ -99,7 +99,7 @@ impl Agent {
     /// The open port of the least number above `after` that is owed bytes.
     pub fn next_owed(&self, after: u64) -> Option<u64>
         ensures next { result ≡ next_owed after self.now }
-        ensures rising { IsRising 0 self.now.last_port self.now.ports }
+        ensures steady { IsSteady self.now }
     {
         self.ports.next_owed(after)
     }

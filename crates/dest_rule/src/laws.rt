@@ -1,11 +1,12 @@
 //! Laws of chains and constraints, beside the calls.
 
-ghost use Rattle.std.specs.Prelude.{◌≡◌, ◌≢◌, ◌↔◌, ◌<◌, ℕ, Bool, true, List, [], ◌∷◌, length, Contains, Option, Some, None, Ok, suc};
+ghost use Rattle.std.specs.Prelude.{◌≡◌, ◌≢◌, ◌↔◌, ◌<◌, ℕ, Bool, true, List, [], ◌∷◌, length, Contains, Option, Some, None, Ok, IsOk};
 ghost use Rattle.std.specs.List.{slice_get};
+ghost use Rattle.key_blob.specs.PublicKeys.{public_key_of};
 ghost use Rattle.userauth_blob.specs.UserAuths.{Login};
 ghost use Rattle.userauth_blob.specs.Reading.{auth_of};
 ghost use Rattle.constraint_rec.specs.declared.constraint.Constraint.{Constraint};
-ghost use Rattle.dest_rule.specs.Chains.{Binding, Judgement, New, Same, newest, newest_after, is_open, is_session, find_session, judge};
+ghost use Rattle.dest_rule.specs.Chains.{Binding, Judgement, New, Same, newest, newest_after, is_open, is_session, find_session, judge, bound, IsChain};
 ghost use Rattle.dest_rule.specs.Rules.{Grounds, is_pair, on_the_way, bad_place, permits_way, visible, denial};
 ghost use Rattle.dest_rule.specs.Places.{key_before, IsPlaceIn};
 
@@ -45,6 +46,13 @@ pub fn a_known_session_is_never_new()
         → find_session session chain ≡ Some known → is_session session ≡ true
         → (judge host_key session chain ≡ Same)
         ↔ ((known.host_key ≡ host_key) × (is_open (newest chain) ≡ true)) }
+{}
+
+/// With a new binding of a host key that is read a chain stays one: it has room for it.
+pub fn a_chain_has_room_for_what_is_new()
+    ensures { (chain : List Binding) (binding : Binding) → IsChain chain
+        → judge binding.host_key binding.session chain ≡ New
+        → IsOk (public_key_of binding.host_key) → IsChain (bound binding chain) }
 {}
 
 /// One constraint that begins at the agent's own host permits no second hop, whoever logs in.

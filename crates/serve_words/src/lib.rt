@@ -4,6 +4,8 @@
 
 mod args;
 mod command;
+#[cfg(test)]
+mod tests;
 mod words;
 
 pub use words::{ServeFault, ServeWords, read_serve};
