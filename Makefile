@@ -1,9 +1,9 @@
-# make            proves each crate, a line for each, and builds the programs into bin/
+# make            proves each crate, a line for each, and builds the programs into bin/, the helper too where it can
 # make demo       runs the agent on a schedule of examples/, built without proofs where it isn't proved yet
 # make check      proves and tests everything: the gate
 # make bench      measures, beside other programs of the same machine
-# make helper     builds the helper that signs, which isn't proved
-# make install    copies the programs to $(DESTDIR)$(PREFIX)
+# make helper     builds the helper that signs, which isn't proved, or says which packages it wants
+# make install    copies what was built to $(DESTDIR)$(PREFIX)
 # make picture    draws the crates anew: docs/crates.svg (needs graphviz)
 
 RT ?= rt
@@ -12,9 +12,10 @@ PROGRAMS := $(patsubst crates/%/src/main.rt,%,$(wildcard crates/*/src/main.rt))
 INSTALLED := agent_prog
 SOURCES := crates.txt $(shell find crates -name out -prune -o \( -name '*.rt' -o -name '*.antt' \) -print)
 
-.PHONY: all proofs demo check bench install picture clean
+.PHONY: all proofs helper demo check bench install picture clean
 
 all: proofs $(PROGRAMS:%=bin/%)
+	@helper/build || true
 
 proofs:
 	@RT='$(RT)' scripts/prove
@@ -31,6 +32,9 @@ bin/$(1): crates/$(1)/out/$(1)
 endef
 $(foreach name,$(PROGRAMS),$(eval $(call program,$(name))))
 
+helper:
+	@helper/build
+
 demo:
 	@RT='$(RT)' scripts/demo
 
@@ -43,6 +47,10 @@ bench: $(PROGRAMS:%=bin/%)
 install: $(INSTALLED:%=bin/%)
 	install -d $(DESTDIR)$(PREFIX)/bin
 	install -m 755 $(INSTALLED:%=bin/%) $(DESTDIR)$(PREFIX)/bin
+	if [ -x bin/mortarleek-helper ]; then \
+	    install -d $(DESTDIR)$(PREFIX)/libexec && \
+	    install -m 711 bin/mortarleek-helper $(DESTDIR)$(PREFIX)/libexec; \
+	fi
 
 picture:
 	scripts/crates-dot > docs/crates.dot
