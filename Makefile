@@ -57,4 +57,4 @@ picture:
 	dot -Tsvg docs/crates.dot > docs/crates.svg
 
 clean:
-	rm -rf bin crates/*/out
+	rm -rf bin crates/*/out helper/target
