@@ -12,13 +12,13 @@ use Rattle.world_ports.specs.Life.{life_of}
 unfoldable pub serve_app : App
 serve_app =
     with_rule (with_rule (with_rule (with_rule (with_rule (with_rule (with_rule (new_app (codes "serve"))
-      (short_rule (codes "path") 97 true))
-      (long_rule (codes "helper") true))
-      (long_rule (codes "helper-data") false))
-      (long_rule (codes "relay") false))
-      (long_rule (codes "askpass") false))
-      (short_rule (codes "lifetime") 116 false))
-      (flag_rule (codes "until-idle"))
+    (short_rule (codes "path") 97 true))
+    (long_rule (codes "helper") true))
+    (long_rule (codes "helper-data") false))
+    (long_rule (codes "relay") false))
+    (long_rule (codes "askpass") false))
+    (short_rule (codes "lifetime") 116 false))
+    (flag_rule (codes "until-idle"))
 
 -- clap takes the words, of which the first is the command's own
 unfoldable pub is_taken : List (List ℕ) → Bool

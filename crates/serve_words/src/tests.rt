@@ -14,8 +14,19 @@ fn read(alloc: Global, words: &[&str]) -> Result<Result<ServeWords, ServeFault>,
 #[test]
 fn all_words_are_read(rt: HostRuntime) -> Result<(), Fail> {
     let words = [
-        "serve", "--helper=/bin/h", "-a", "s", "--until-idle", "-t", "1h", "--relay", "r",
-        "--askpass", "ask", "--helper-data", "d",
+        "serve",
+        "--helper=/bin/h",
+        "-a",
+        "s",
+        "--until-idle",
+        "-t",
+        "1h",
+        "--relay",
+        "r",
+        "--askpass",
+        "ask",
+        "--helper-data",
+        "d",
     ];
     let served = read(rt.alloc(), &words)??;
     assert_eq!(rt; served.path.as_str(), "s");
@@ -55,7 +66,16 @@ fn other_words_are_refused(rt: HostRuntime) -> Result<(), Fail> {
         ["serve", "-a", "s", "--helper", "h", "--relay", "r"].as_slice(),
         ["serve", "-a", "s", "--helper", "h", "--askpass", "k"].as_slice(),
         ["serve", "-a", "s", "--helper", "h", "-t", "1x"].as_slice(),
-        ["serve", "-a", "s", "--helper", "h", "--until-idle", "--until-idle"].as_slice(),
+        [
+            "serve",
+            "-a",
+            "s",
+            "--helper",
+            "h",
+            "--until-idle",
+            "--until-idle",
+        ]
+        .as_slice(),
         ["serve", "--help"].as_slice(),
     ];
     for words in cases {

@@ -104,7 +104,7 @@ fn begins_with_serve(words: &[String]) -> bool
 fn read_default(word: Option<&str>) -> Result<Option<u32>, ServeFault>
     ensures { MatchResult result
         (λ life. (is_no_life (option_map (λ w. w.now) word.entry) ≡ false)
-            × (life ≡ default_life (option_map (λ w. w.now) word.entry)))
+        × (life ≡ default_life (option_map (λ w. w.now) word.entry)))
         (λ _. is_no_life (option_map (λ w. w.now) word.entry) ≡ true) }
 {
     let Some(text) = word else {

@@ -31,7 +31,7 @@ returns-in-Ok-clause-values c =
     let app : app_of c.in_ok-command.command ≡ serve_app = c.in_ok-command.ensures in
     let words = map string_bytes c.args.words.now in
     λ id. first_value-rows (found_of c.in-Ok.matches) id
-        ∙ ap (first_of id) ((c.in-Ok.ensures.matches (ap is_simple app ∙ serve_app-simple)).0 ∙ ap (λ a. matches_of a words) app)
+    ∙ ap (first_of id) ((c.in-Ok.ensures.matches (ap is_simple app ∙ serve_app-simple)).0 ∙ ap (λ a. matches_of a words) app)
 
 pub returns : goal.returns
 unfolding is_taken
