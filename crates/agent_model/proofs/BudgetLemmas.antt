@@ -5,7 +5,7 @@ use Rattle.std.proofs.lemmas.Bool.{cases_lt}
 use Rattle.std.proofs.lemmas.Bool.Decides.{nat_tests}
 use Rattle.world_ports.specs.declared.Door.{Door}
 use Rattle.world_ports.specs.declared.Door.TheVariants.{Clients, Children}
-use Rattle.world_ports.specs.declared.plain.Moment.{Moment}
+use Rattle.world_ports.specs.declared.events.Moment.{Moment}
 use Rattle.wire_text.specs.Frames.{Front, front, front_body, after_front, Whole, Bad, More}
 use Rattle.wire_text.proofs.FrontLemmas.{front_says}
 use Rattle.agent_model.specs.Actions.{Outcome}

@@ -8,7 +8,7 @@ use Rattle.identity_table.specs.Identities.{HeldKey, find_identity, new_identity
 use Rattle.identity_table.proofs.Theorems.{IsSound-none, IsSound-put, IsSound-remove, IsSound-alive}
 use Rattle.agent_msg.specs.declared.fault.MsgFault.{MsgFault}
 use Rattle.agent_msg.specs.Reading.{request_of}
-use Rattle.agent_msg.specs.Requests.{Addition, ClientRequest, ListIdentities, Sign, Add, Remove, RemoveAll, Lock, Unlock, OtherExtension, Unsupported, IsRequest}
+use Rattle.agent_msg.specs.Requests.{Addition, ClientRequest, ListIdentities, Sign, Add, Remove, RemoveAll, Lock, Unlock, Bind, OtherExtension, Unsupported, IsRequest}
 use Rattle.agent_msg.proofs.FoundLemmas.{request_is_found}
 use Rattle.agent_model.specs.Bounds.{AreBounded, IsShort}
 use Rattle.agent_model.specs.Dispatch.{Asker, add_by, add_fault, add_seen, add_under, add_unless, length_with, remove_by, remove_seen, lock_by, unlock_by, sees, serve_unlocked, serve_locked, serve_by, serve}
@@ -44,7 +44,7 @@ bounded-add_unless false false addition now held under_way is short bounded =
     let new : HeldKey = new_identity held.table addition.key addition.terms addition.comment now in
     let listed : length_with addition now held.table ≤ max_answer = ltb-false max_answer (length_with addition now held.table) is in
     record {
-      sound = IsSound-put new held.table.identities held.table.last refl listed bounded.sound;
+      sound = IsSound-put new held.table.identities held.table.last refl listed short.private bounded.sound;
       short = AreShort-put new held.table.identities short bounded.short;
       lock = bounded.lock;
     }
@@ -122,6 +122,7 @@ bounded-serve_unlocked body (Lock passphrase) asker held under_way is within bou
 bounded-serve_unlocked body (Unlock passphrase) asker held under_way is within bounded = bounded
 bounded-serve_unlocked body (OtherExtension name) asker held under_way is within bounded = bounded
 bounded-serve_unlocked body (Unsupported number) asker held under_way is within bounded = bounded
+bounded-serve_unlocked body (Bind bind) asker held under_way is within bounded = bounded
 
 -- of an agent that is locked
 bounded-serve_locked : (passphrase : List ℕ) (request : ClientRequest) (held : KeyState) (under_way : UnderWay) →
@@ -135,6 +136,7 @@ bounded-serve_locked passphrase (Lock other) held under_way bounded = bounded
 bounded-serve_locked passphrase (Unlock other) held under_way bounded = bounded-unlock_by (bytes_eq passphrase other) held under_way bounded
 bounded-serve_locked passphrase (OtherExtension name) held under_way bounded = bounded
 bounded-serve_locked passphrase (Unsupported number) held under_way bounded = bounded
+bounded-serve_locked passphrase (Bind bind) held under_way bounded = bounded
 
 -- of either
 bounded-serve_by : (body : List ℕ) (lock : Option (List ℕ)) (request : ClientRequest) (asker : Asker) (held : KeyState) (under_way : UnderWay) →

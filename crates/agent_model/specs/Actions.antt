@@ -3,7 +3,7 @@ use Rattle.std.specs.Prelude.{ℕ, List, [], ◌++◌}
 use Rattle.agent_msg.specs.Requests.{Signing}
 use Rattle.child_msg.specs.Messages.{ToChildMessage}
 use Rattle.helper_link.specs.declared.answer.Settled.{Settled}
-use Rattle.dest_rule.specs.Chains.{Binding}
+use Rattle.dest_rule.specs.declared.binding.Binding.{Binding}
 use Rattle.agent_model.specs.State.{State, UnderWay}
 use Rattle.agent_model.specs.Verdicts.{Verdict}
 

@@ -8,7 +8,8 @@ use Rattle.helper_link.specs.declared.answer.Settled.{Settled}
 use Rattle.helper_link.specs.declared.fault.LinkFault.{LinkFault}
 use Rattle.helper_link.specs.declared.state.LinkState.{LinkState}
 use Rattle.helper_link.specs.declared.state.LinkState.TheVariants as states
-use Rattle.dest_rule.specs.Chains.{Binding, bound}
+use Rattle.dest_rule.specs.Chains.{bound}
+use Rattle.dest_rule.specs.declared.binding.Binding.{Binding}
 use Rattle.agent_model.specs.State.{Port, State, Verification, change_port, find_port, remove_port}
 use Rattle.agent_model.specs.Verdicts.{HelperLost, HelperRefused, Refuses, Replies, Signature, SignatureWrong, Success, Verdict, tell}
 use Rattle.agent_model.specs.Actions.{Action, Answered, Lost, Outcome, Proved, acted, and_then, stay}

@@ -3,10 +3,11 @@ use Rattle.std.specs.Prelude.{ℕ, List, [], ◌∷◌, ◌++◌, Option, Some, 
 use Rattle.agent_msg.specs.Requests.{Signing}
 use Rattle.identity_table.specs.Identities.{HeldKey, find_number}
 use Rattle.agent_model.specs.KeyStates.{KeyState}
-use Rattle.dest_rule.specs.Chains.{Binding}
+use Rattle.dest_rule.specs.declared.binding.Binding.{Binding}
 use Rattle.confirm_desk.specs.Confirmations.{Confirmation, Consent, No, NotYet, Yes, consent, find_asker, told}
 use Rattle.confirm_desk.specs.Confirmations as desk
-use Rattle.dest_rule.specs.Rules.{Denial, denial_under}
+use Rattle.dest_rule.specs.Rules.{denial_under}
+use Rattle.dest_rule.specs.declared.denial.Denial.{Denial}
 use Rattle.agent_model.specs.State.{Port, StartedJob, State, UnderWay, change_port, find_port, remove_port}
 use Rattle.agent_model.specs.Verdicts.{NoLongerAllowed, NotConfirmed, Refuses, tell}
 use Rattle.agent_model.specs.Actions.{Granted, Outcome, Over, Work, acted, settles, stay}

@@ -12,7 +12,7 @@ use Rattle.agent_model.specs.Limits.{longest_body}
 use Rattle.helper_link.specs.HelperLink.{HelperLink, no_link, sendable}
 use Rattle.helper_link.specs.declared.state.LinkState.{LinkState}
 use Rattle.helper_link.specs.declared.state.LinkState.TheVariants as states
-use Rattle.dest_rule.specs.Chains.{Binding}
+use Rattle.dest_rule.specs.declared.binding.Binding.{Binding}
 use Rattle.confirm_desk.specs.Confirmations.{Confirmation, find_linked}
 
 -- ---- what it holds

@@ -3,8 +3,8 @@ use Rattle.std.specs.Prelude.{ℕ, List, [], ◌++◌}
 use Rattle.constraint_rec.specs.declared.fault.TermFault.{TermFault}
 use Rattle.agent_msg.specs.declared.fault.MsgFault.{MsgFault}
 use Rattle.agent_msg.specs.Replies.{failure, success, identities_answer, sign_response}
-use Rattle.dest_rule.specs.Chains.{ChainFault}
-use Rattle.dest_rule.specs.Rules.{Denial}
+use Rattle.dest_rule.specs.declared.fault.ChainFault.{ChainFault}
+use Rattle.dest_rule.specs.declared.denial.Denial.{Denial}
 use Rattle.agent_model.specs.State.{Port, Waits, Nothing}
 
 -- a reply that isn't a failure: SSH_AGENT_SUCCESS, SSH_AGENT_IDENTITIES_ANSWER or SSH_AGENT_SIGN_RESPONSE

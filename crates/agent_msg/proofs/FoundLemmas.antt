@@ -5,27 +5,30 @@ use Rattle.std.proofs.lemmas.List.Elements.{All-cons, All-nil, All-tail}
 use Rattle.wire_text.specs.Wire.{IsBytes, uint32, string}
 use Rattle.wire_core.specs.Fields.{uint32_at, string_at}
 use Rattle.wire_core.proofs.Theorems.{uint32_is_front, string_is_front}
-use Rattle.agent_msg.specs.Reading.{field_then, ended, text_then, text_at_end, sign_at, extension_at, request_of, request_of_number}
-use Rattle.agent_msg.specs.Requests.{ClientRequest, ListIdentities, Sign, Remove, RemoveAll, Lock, Unlock, OtherExtension, Unsupported, numbers, IsText, IsRequest}
+use Rattle.agent_msg.specs.declared.fault.MsgFault.TheVariants.{Short, Trailing}
+use Rattle.agent_msg.specs.Reading.{field_then, ended, text_then, text_at_end, sign_at, request_of, request_of_number}
+use Rattle.agent_msg.specs.Requests.{ClientRequest, ListIdentities, Sign, Remove, RemoveAll, Lock, Unlock, Unsupported, numbers, IsText, IsRequest}
 use Rattle.agent_msg.proofs.AdditionLemmas.{addition_is, constrained_addition_is}
-use Rattle.agent_msg.proofs.FieldLemmas.{field_then_is, ended_is, text_then_is, last, behind, after_number}
+use Rattle.agent_msg.proofs.BindLemmas.{extension_is}
+use Rattle.wire_core.proofs.ReadingLemmas.{field_or_is, ended_or_is, last, behind, after_byte}
+use Rattle.agent_msg.proofs.FieldLemmas.{text_then_is}
 
 -- a request of a number alone that was read
 nothing_is : (number : ℕ) (made request : ClientRequest) (bytes : List ℕ) → IsRequest (number ∷ []) made
     → ended made bytes ≡ Ok request → IsRequest (number ∷ bytes) request
 nothing_is number made request bytes is h =
-    let end = ended_is made request bytes h in
+    let end = ended_or_is Trailing made request bytes h in
     let P : List ℕ → Type 0 = λ rest. IsRequest (number ∷ rest) request in
     subst P (sym end.0) (subst (IsRequest (number ∷ [])) end.1 is)
 
 -- a string that was read up to the end
 text_is : (number : ℕ) (bytes text : List ℕ) → IsBytes bytes → text_at_end bytes ≡ Ok text → IsText number (number ∷ bytes) text
 text_is number bytes text each h =
-    let one = field_then_is (string_at bytes) (λ value rest. ended value rest) text h in
+    let one = field_or_is Short (string_at bytes) (λ value rest. ended value rest) text h in
     let value = string_is_front bytes one.field one.rest each one.there in
-    let end = ended_is one.field text one.rest one.read in
+    let end = ended_or_is Trailing one.field text one.rest one.read in
     subst (IsText number (number ∷ bytes)) end.1 record {
-      printed = after_number number bytes (string one.field) (last _ _ _ value.0.parts end.0);
+      printed = after_byte number bytes (string one.field) (last _ _ _ value.0.parts end.0);
       fits = value.1;
     }
 
@@ -44,37 +47,25 @@ signing blob message flags = Sign record { blob = blob; message = message; flags
 -- SIGN_REQUEST that was read
 sign_is : (bytes : List ℕ) (request : ClientRequest) → IsBytes bytes → sign_at bytes ≡ Ok request → IsRequest (13 ∷ bytes) request
 sign_is bytes request each h =
-    let one = field_then_is (string_at bytes) (λ blob after_blob. field_then (string_at after_blob) (λ message after_message.
+    let one = field_or_is Short (string_at bytes) (λ blob after_blob. field_then (string_at after_blob) (λ message after_message.
     field_then (uint32_at after_message) (λ flags rest. ended (signing blob message flags) rest))) request h in
     let blob = string_is_front bytes one.field one.rest each one.there in
-    let two = field_then_is (string_at one.rest) (λ message after_message.
+    let two = field_or_is Short (string_at one.rest) (λ message after_message.
     field_then (uint32_at after_message) (λ flags rest. ended (signing one.field message flags) rest)) request one.read in
     let message = string_is_front one.rest two.field two.rest blob.0.left two.there in
-    let three = field_then_is (uint32_at two.rest) (λ flags rest. ended (signing one.field two.field flags) rest) request two.read in
+    let three = field_or_is Short (uint32_at two.rest) (λ flags rest. ended (signing one.field two.field flags) rest) request two.read in
     let flags = uint32_is_front two.rest three.field three.rest message.0.left three.there in
-    let end = ended_is (signing one.field two.field three.field) request three.rest three.read in
+    let end = ended_or_is Trailing (signing one.field two.field three.field) request three.rest three.read in
     let c : two.rest ≡ uint32 three.field = last two.rest (uint32 three.field) three.rest flags.0.parts end.0 in
     let b : one.rest ≡ string two.field ++ uint32 three.field =
     behind one.rest (string two.field) two.rest (uint32 three.field) message.0.parts c in
     let a : bytes ≡ string one.field ++ (string two.field ++ uint32 three.field) =
     behind bytes (string one.field) one.rest (string two.field ++ uint32 three.field) blob.0.parts b in
     subst (IsRequest (13 ∷ bytes)) {x = signing one.field two.field three.field} end.1 record {
-      printed = after_number 13 bytes (string one.field ++ (string two.field ++ uint32 three.field)) a;
+      printed = after_byte 13 bytes (string one.field ++ (string two.field ++ uint32 three.field)) a;
       blob_fits = blob.1;
       message_fits = message.1;
       flags_fit = flags.1;
-    }
-
--- EXTENSION that was read
-extension_is : (bytes : List ℕ) (request : ClientRequest) → IsBytes bytes → extension_at bytes ≡ Ok request → IsRequest (27 ∷ bytes) request
-extension_is bytes request each h =
-    let one = field_then_is (string_at bytes) (λ name _. Ok (OtherExtension name)) request h in
-    let name = string_is_front bytes one.field one.rest each one.there in
-    let same : OtherExtension one.field ≡ request = cc in
-    subst (IsRequest (27 ∷ bytes)) {x = OtherExtension one.field} same record {
-      contents = one.rest;
-      printed = after_number 27 bytes (string one.field ++ one.rest) name.0.parts;
-      fits = name.1;
     }
 
 -- a number that is known

@@ -1,4 +1,5 @@
 pub mod AdditionLemmas
+pub mod BindLemmas
 pub mod FieldLemmas
 pub mod FoundLemmas
 pub mod MemoryLemmas

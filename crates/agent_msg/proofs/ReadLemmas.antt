@@ -6,8 +6,9 @@ use Rattle.wire_core.proofs.Theorems.{string_at-string}
 use Rattle.constraint_rec.proofs.Theorems.{terms_are_read}
 use Rattle.key_blob.proofs.Theorems.{added_is_read}
 use Rattle.agent_msg.specs.Reading.{text_at_end, request_of, request_of_number}
-use Rattle.agent_msg.specs.Requests.{Signing, Addition, ClientRequest, ListIdentities, Sign, Add, Remove, RemoveAll, Lock, Unlock, OtherExtension, Unsupported, IsPlainAddition, IsConstrainedAddition, IsOfOtherNumber, IsRequest}
-use Rattle.agent_msg.proofs.FieldLemmas.{uint32_at-alone, string_at-alone}
+use Rattle.agent_msg.specs.Requests.{Signing, Addition, ClientRequest, ListIdentities, Sign, Add, Remove, RemoveAll, Lock, Unlock, Bind, OtherExtension, Unsupported, IsPlainAddition, IsConstrainedAddition, IsOfOtherNumber, IsRequest, session_bind}
+use Rattle.agent_msg.proofs.BindLemmas.{bind_is_read, extension_is_read}
+use Rattle.wire_core.proofs.ReadingLemmas.{uint32_at-alone, string_at-alone}
 
 -- a string alone is read
 text_at_end-string : (text : List ℕ) → length text < 2 ^ 32 → text_at_end (string text) ≡ Ok text
@@ -60,7 +61,7 @@ other_is_read body number is =
 
 -- a request is read
 pub request_is_read : (body : List ℕ) (request : ClientRequest) → IsRequest body request → request_of body ≡ Ok request
-unfolding request_of request_of_number
+unfolding request_of request_of_number session_bind
 request_is_read body ListIdentities is = ap request_of is
 request_is_read body (Sign signing) is =
     ap request_of is.printed ∙ signing_is_read signing is.blob_fits is.message_fits is.flags_fit
@@ -73,5 +74,6 @@ request_is_read body (Remove blob) is = rw (is.printed, text_at_end-string blob 
 request_is_read body RemoveAll is = ap request_of is
 request_is_read body (Lock passphrase) is = rw (is.printed, text_at_end-string passphrase is.fits) refl
 request_is_read body (Unlock passphrase) is = rw (is.printed, text_at_end-string passphrase is.fits) refl
-request_is_read body (OtherExtension name) is = rw (is.printed, string_at-string name is.contents is.fits) refl
+request_is_read body (Bind bind) is = bind_is_read body bind (lit< tt) is
+request_is_read body (OtherExtension name) is = extension_is_read body name is
 request_is_read body (Unsupported number) is = other_is_read body number is

@@ -1,6 +1,8 @@
 -- What a body is, field by field: its request, or the first fault.
-use Rattle.std.specs.Prelude.{◌≡◌, ◌==◌, ◌||◌, ℕ, Bool, false, List, [], ◌∷◌, Option, Some, None, Result, Ok, Err, ◌⊎◌, MatchResult, if◌then◌else◌}
-use Rattle.wire_core.specs.Fields.{uint32_at, string_at}
+use Rattle.std.specs.Prelude.{◌==◌, ◌||◌, ℕ, Bool, true, false, List, [], ◌∷◌, Option, Result, Ok, Err, if◌then◌else◌}
+use Rattle.std.specs.Str.{bytes_eq}
+use Rattle.wire_core.specs.Fields.{boolean_at, uint32_at, string_at}
+use Rattle.wire_core.specs.Readings.{field_or, ended_or}
 use Rattle.constraint_rec.specs.Constraints.{no_terms}
 use Rattle.constraint_rec.specs.Reading.{terms_of}
 use Rattle.constraint_rec.specs.declared.fault.TermFault.{TermFault}
@@ -9,18 +11,16 @@ use Rattle.key_blob.specs.AddedKeys.{added_key_at}
 use Rattle.key_blob.specs.declared.added.AddedKey.{AddedKey}
 use Rattle.key_blob.specs.declared.fault.KeyFault.{KeyFault}
 use Rattle.agent_msg.specs.declared.fault.MsgFault.{MsgFault}
-use Rattle.agent_msg.specs.declared.fault.MsgFault.TheVariants.{Empty, Short, Trailing, Memory}
-use Rattle.agent_msg.specs.declared.request.Request.{Request}
+use Rattle.agent_msg.specs.declared.fault.MsgFault.TheVariants.{Empty, Short, Trailing}
 use Rattle.agent_msg.specs.Faults.{key_fault, term_fault}
-use Rattle.agent_msg.specs.Requests.{ClientRequest, ListIdentities, Sign, Add, Remove, RemoveAll, Lock, Unlock, OtherExtension, Unsupported, client_request}
+use Rattle.agent_msg.specs.Requests.{ClientRequest, ListIdentities, Sign, Add, Remove, RemoveAll, Lock, Unlock, Bind, OtherExtension, Unsupported, session_bind}
 
 -- ---- fields
 
 -- the field at the front, and what the bytes behind it are; Short where the field isn't there
 abbrev pub field_then : {A R : Type 0} → Option (A × List ℕ) → (A → List ℕ → Result R MsgFault)
     → Result R MsgFault
-field_then None later = Err Short
-field_then (Some field) later = later field.0 field.1
+field_then at later = field_or Short at later
 
 -- the added key at the front, and what the bytes behind it are, or the key's own fault
 abbrev pub key_then : {R : Type 0} → Result (AddedKey × List ℕ) KeyFault
@@ -35,8 +35,7 @@ constrained key comment (Err fault) = Err (term_fault fault)
 
 -- the value, where no byte follows
 abbrev pub ended : {R : Type 0} → R → List ℕ → Result R MsgFault
-ended value [] = Ok value
-ended value (_ ∷ _) = Err Trailing
+ended value rest = ended_or Trailing value rest
 
 -- ---- what follows a number
 
@@ -68,9 +67,28 @@ abbrev pub constrained_at : List ℕ → Result ClientRequest MsgFault
 constrained_at bytes = key_then (added_key_at bytes) (λ key after_key.
     field_then (string_at after_key) (λ comment rest. constrained key comment (terms_of rest)))
 
--- EXTENSION: a name, and then what is not looked at
+-- the extension that binds: host key, session identifier, signature, whether the agent is forwarded
+abbrev pub bind_at : List ℕ → Result ClientRequest MsgFault
+bind_at bytes = field_then (string_at bytes) (λ host_key after_key.
+    field_then (string_at after_key) (λ session after_session.
+    field_then (string_at after_session) (λ signature after_signature.
+    field_then (boolean_at after_signature) (λ forwarding rest.
+    ended (Bind record {
+      host_key = host_key;
+      session = session;
+      signature = signature;
+      forwarding = forwarding;
+    }) rest))))
+
+-- by whether the name is that of the extension that binds; another one's contents are not looked at
+abbrev pub extension_by : Bool → List ℕ → List ℕ → Result ClientRequest MsgFault
+extension_by true name contents = bind_at contents
+extension_by false name contents = Ok (OtherExtension name)
+
+-- EXTENSION: a name, and then its contents
 abbrev pub extension_at : List ℕ → Result ClientRequest MsgFault
-extension_at bytes = field_then (string_at bytes) (λ name _. Ok (OtherExtension name))
+extension_at bytes = field_then (string_at bytes)
+    (λ name contents. extension_by (bytes_eq name session_bind) name contents)
 
 -- what follows a number
 unfoldable pub request_of_number : ℕ → List ℕ → Result ClientRequest MsgFault
@@ -91,20 +109,7 @@ unfoldable pub request_of : List ℕ → Result ClientRequest MsgFault
 request_of [] = Err Empty
 request_of (number ∷ bytes) = request_of_number number bytes
 
--- ---- the code's answers
-
 -- the number is that of an addition, which alone takes memory to be read
 unfoldable pub is_addition : List ℕ → Bool
 is_addition [] = false
 is_addition (number ∷ _) = (number == 17) || (number == 25)
-
--- the code's answer is that of the definition
-abbrev pub IsAnswer : Result Request MsgFault → Result ClientRequest MsgFault → Type 0
-IsAnswer result defined =
-    MatchResult result (λ request. defined ≡ Ok (client_request request)) (λ fault. defined ≡ Err fault)
-
--- the same, unless memory ran out
-abbrev pub IsAnswerOrMemory : Result Request MsgFault → Result ClientRequest MsgFault → Type 0
-IsAnswerOrMemory result defined =
-    MatchResult result (λ request. defined ≡ Ok (client_request request))
-    (λ fault. (fault ≡ Memory) ⊎ (defined ≡ Err fault))

@@ -1,8 +1,9 @@
 -- Requests of a client of an agent, as plain values and as bodies of messages: a number byte, and
 -- the texts of the fields (draft-miller-ssh-agent, "Protocol Messages"). That nothing follows the
 -- last field is ours.
-use Rattle.std.specs.Prelude.{◌≡◌, ◌≢◌, ℕ, ◌^◌, ◌<◌, List, [], ◌∷◌, ◌++◌, length, All, ◌⊎◌}
-use Rattle.wire_text.specs.Wire.{uint32, string}
+use Rattle.std.specs.Prelude.{◌≡◌, ◌≢◌, ◌==◌, ℕ, ◌^◌, ◌<◌, Bool, List, [], ◌∷◌, ◌++◌, length, codes, All, ◌⊎◌}
+use Rattle.std.specs.List.{starts_with}
+use Rattle.wire_text.specs.Wire.{boolean_of, uint32, string}
 use Rattle.constraint_rec.specs.Constraints.{no_terms, IsConstraints}
 use Rattle.constraint_rec.specs.declared.terms.Terms.{Terms}
 use Rattle.key_blob.specs.AddedKeys.{IsAddedKey}
@@ -24,6 +25,14 @@ pub record Addition : Type 0 where
   pub comment : List ℕ
   pub terms : Terms
 
+-- a host key, the session that it signed, its signature, and whether the agent is to be forwarded
+-- to that host
+pub record BindRequest : Type 0 where
+  pub host_key : List ℕ
+  pub session : List ℕ
+  pub signature : List ℕ
+  pub forwarding : Bool
+
 -- what a client asks of an agent
 pub data ClientRequest : Type 0 where
   ListIdentities : ClientRequest
@@ -33,6 +42,7 @@ pub data ClientRequest : Type 0 where
   RemoveAll : ClientRequest
   Lock : (passphrase : List ℕ) → ClientRequest
   Unlock : (passphrase : List ℕ) → ClientRequest
+  Bind : (bind : BindRequest) → ClientRequest
   OtherExtension : (name : List ℕ) → ClientRequest
   Unsupported : (number : ℕ) → ClientRequest
 
@@ -47,6 +57,13 @@ client_request (code.Remove blob) = Remove blob.now
 client_request code.RemoveAll = RemoveAll
 client_request (code.Lock passphrase) = Lock passphrase.now
 client_request (code.Unlock passphrase) = Unlock passphrase.now
+client_request (code.Bind host_key session signature forwarding) =
+    Bind record {
+      host_key = host_key.now;
+      session = session.now;
+      signature = signature.now;
+      forwarding = forwarding;
+    }
 client_request (code.OtherExtension name) = OtherExtension name.now
 client_request (code.Unsupported number) = Unsupported number
 
@@ -80,11 +97,32 @@ pub record IsConstrainedAddition (body : List ℕ) (addition : Addition) : Type 
   pub constrained : IsConstraints constraints addition.terms
   pub printed : body ≡ 25 ∷ (addition.key.private ++ (string addition.comment ++ constraints))
 
--- EXTENSION: a name, and then whatever the extension of that name has
+-- the extension that binds a connection to a host (OpenSSH's PROTOCOL.agent,
+-- "session-bind@openssh.com extension")
+unfoldable pub session_bind : List ℕ
+session_bind = codes "session-bind@openssh.com"
+
+-- how a request to bind begins: EXTENSION, and the extension's name
+unfoldable pub bind_front : List ℕ
+bind_front = 27 ∷ string session_bind
+
+-- EXTENSION of that name: host key, session identifier, signature, and a byte that says whether the
+-- agent is forwarded
+pub record IsBind (body : List ℕ) (bind : BindRequest) : Type 0 where
+  pub forwarding : ℕ
+  pub printed : body ≡ 27 ∷ (string session_bind ++ (string bind.host_key
+      ++ (string bind.session ++ (string bind.signature ++ forwarding ∷ []))))
+  pub host_key_fits : length bind.host_key < 2 ^ 32
+  pub session_fits : length bind.session < 2 ^ 32
+  pub signature_fits : length bind.signature < 2 ^ 32
+  pub forwards : bind.forwarding ≡ boolean_of forwarding
+
+-- EXTENSION of another name, and then whatever the extension of that name has
 pub record IsExtension (body name : List ℕ) : Type 0 where
   pub contents : List ℕ
   pub printed : body ≡ 27 ∷ (string name ++ contents)
   pub fits : length name < 2 ^ 32
+  pub other : name ≢ session_bind
 
 -- the numbers of the requests that are read
 abbrev pub numbers : List ℕ
@@ -105,5 +143,17 @@ IsRequest body (Remove blob) = IsText 18 body blob
 IsRequest body RemoveAll = body ≡ 19 ∷ []
 IsRequest body (Lock passphrase) = IsText 22 body passphrase
 IsRequest body (Unlock passphrase) = IsText 23 body passphrase
+IsRequest body (Bind bind) = IsBind body bind
 IsRequest body (OtherExtension name) = IsExtension body name
 IsRequest body (Unsupported number) = IsOfOtherNumber body number
+
+-- ---- bodies that name the extension that binds
+
+-- the body begins as a request to bind, whatever follows
+pub record NamesBind (body : List ℕ) : Type 0 where
+  pub contents : List ℕ
+  pub begins : body ≡ bind_front ++ contents
+
+-- the same as a test
+unfoldable pub names_bind : List ℕ → Bool
+names_bind body = starts_with (λ x y. x == y) body bind_front

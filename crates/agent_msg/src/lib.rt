@@ -3,6 +3,7 @@
 //! Stands on `key_blob` and `constraint_rec` for added keys, and on `secret_buf` for replies.
 #![tactic(auto)]
 
+mod bind;
 mod fault;
 mod laws;
 mod read;
@@ -11,8 +12,11 @@ mod request;
 #[cfg(test)]
 mod tests;
 
+pub use bind::names_bind;
 pub use fault::MsgFault;
-pub use laws::a_head_and_its_entries_are_the_list;
+pub use laws::{
+    a_body_is_one_request, a_head_and_its_entries_are_the_list, a_request_to_bind_is_named,
+};
 pub use read::read_request;
 pub use reply::{put_list_entry, put_list_head, put_signature, put_status};
 pub use request::Request;

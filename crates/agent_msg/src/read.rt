@@ -2,9 +2,11 @@
 
 ghost use Rattle.std.specs.Prelude.{◌≡◌, ◌≢◌, ◌⊎◌, [], Ok, Err, IfOk, IsTrue, MatchResult};
 ghost use Rattle.agent_msg.specs.declared.fault.MsgFault.TheVariants.{Trailing, Memory};
-ghost use Rattle.agent_msg.specs.Reading.{IsAnswer, IsAnswerOrMemory, is_addition, text_at_end, sign_at, extension_at, request_of, request_of_number};
+ghost use Rattle.agent_msg.specs.Reading.{is_addition, text_at_end, sign_at, bind_at, extension_at, request_of, request_of_number};
 ghost use Rattle.agent_msg.specs.Requests.{ClientRequest, client_request, IsRequest};
+ghost use Rattle.wire_core.specs.Readings.{IsAnswer, IsAnswerUnless};
 
+use crate::bind::session_bind;
 use crate::fault::MsgFault;
 use crate::request::Request;
 use constraint_rec::{Terms, read_constraints};
@@ -15,11 +17,12 @@ use wire_core::Cursor;
 /// The request that `body` is. Only an added key takes memory.
 ///
 /// An extension of any name is read, and so is a request of any number; the agent refuses them.
+/// So is a request to bind with any bytes as its host key.
 pub fn read_request<'a>(alloc: Global, body: &'a [u8]) -> Result<Request<'a>, MsgFault>
     ensures found { IfOk result (λ read. IsRequest body.now (client_request read)) }
     ensures only { (request : ClientRequest) → IsRequest body.now request
         → MatchResult result (λ read. client_request read ≡ request) (λ fault. fault ≡ Memory) }
-    ensures exact { IsAnswerOrMemory result (request_of body.now) }
+    ensures exact { IsAnswerUnless Memory client_request result (request_of body.now) }
     ensures memory { result ≡ Err Memory → IsTrue (is_addition body.now) }
 {
     request_in(alloc, body)
@@ -27,7 +30,7 @@ pub fn read_request<'a>(alloc: Global, body: &'a [u8]) -> Result<Request<'a>, Ms
 
 #[tactic(auto, unfolding(crate::specs::Reading::request_of, crate::specs::Reading::is_addition))]
 fn request_in<'a>(alloc: Global, body: &'a [u8]) -> Result<Request<'a>, MsgFault>
-    ensures exact { IsAnswerOrMemory result (request_of body.now) }
+    ensures exact { IsAnswerUnless Memory client_request result (request_of body.now) }
     ensures memory { result ≡ Err Memory → IsTrue (is_addition body.now) }
 {
     let mut cursor = Cursor::new(body);
@@ -47,7 +50,7 @@ fn request_in<'a>(alloc: Global, body: &'a [u8]) -> Result<Request<'a>, MsgFault
 fn read_plain(number: u8, bytes: &[u8]) -> Result<Request<'_>, MsgFault>
     requires plain { number ≢ 17 }
     requires unconstrained { number ≢ 25 }
-    ensures { IsAnswer result (request_of_number number bytes.now) }
+    ensures { IsAnswer client_request result (request_of_number number bytes.now) }
 {
     match number {
         11 => {
@@ -95,7 +98,7 @@ fn read_text(bytes: &[u8]) -> Result<&[u8], MsgFault>
 }
 
 fn read_sign(bytes: &[u8]) -> Result<Request<'_>, MsgFault>
-    ensures { IsAnswer result (sign_at bytes.now) }
+    ensures { IsAnswer client_request result (sign_at bytes.now) }
 {
     let mut cursor = Cursor::new(bytes);
     let blob = cursor.take_string()?;
@@ -110,16 +113,38 @@ fn read_sign(bytes: &[u8]) -> Result<Request<'_>, MsgFault>
 }
 
 fn read_extension(bytes: &[u8]) -> Result<Request<'_>, MsgFault>
-    ensures { IsAnswer result (extension_at bytes.now) }
+    ensures { IsAnswer client_request result (extension_at bytes.now) }
 {
-    let name = Cursor::new(bytes).take_string()?;
-    Ok(Request::OtherExtension { name })
+    let mut cursor = Cursor::new(bytes);
+    let name = cursor.take_string()?;
+    if name == session_bind() {
+        read_bind(cursor.rest())
+    } else {
+        Ok(Request::OtherExtension { name })
+    }
+}
+
+fn read_bind(bytes: &[u8]) -> Result<Request<'_>, MsgFault>
+    ensures { IsAnswer client_request result (bind_at bytes.now) }
+{
+    let mut cursor = Cursor::new(bytes);
+    let host_key = cursor.take_string()?;
+    let session = cursor.take_string()?;
+    let signature = cursor.take_string()?;
+    let forwarding = cursor.take_bool()?;
+    end(&cursor)?;
+    Ok(Request::Bind {
+        host_key,
+        session,
+        signature,
+        forwarding,
+    })
 }
 
 /// Reads what follows the number of an addition without constraints.
 #[tactic(auto, unfolding(crate::specs::Reading::request_of_number))]
 fn read_addition<'a>(alloc: Global, bytes: &'a [u8]) -> Result<Request<'a>, MsgFault>
-    ensures { IsAnswerOrMemory result (request_of_number 17 bytes.now) }
+    ensures { IsAnswerUnless Memory client_request result (request_of_number 17 bytes.now) }
 {
     let mut cursor = Cursor::new(bytes);
     let key = read_added(alloc, &mut cursor)?;
@@ -136,7 +161,7 @@ fn read_addition<'a>(alloc: Global, bytes: &'a [u8]) -> Result<Request<'a>, MsgF
 /// Reads what follows the number of an addition with constraints.
 #[tactic(auto, unfolding(crate::specs::Reading::request_of_number))]
 fn read_constrained<'a>(alloc: Global, bytes: &'a [u8]) -> Result<Request<'a>, MsgFault>
-    ensures { IsAnswerOrMemory result (request_of_number 25 bytes.now) }
+    ensures { IsAnswerUnless Memory client_request result (request_of_number 25 bytes.now) }
 {
     let mut cursor = Cursor::new(bytes);
     let key = read_added(alloc, &mut cursor)?;

@@ -34,7 +34,16 @@ pub enum Request<'a> {
     Unlock {
         passphrase: &'a [u8],
     },
-    /// An extension, whose contents are not looked at.
+    /// Bind the connection to the host of this key, which signed `session`.
+    ///
+    /// The key and the signature are as the client sent them: neither is read or verified.
+    Bind {
+        host_key: &'a [u8],
+        session: &'a [u8],
+        signature: &'a [u8],
+        forwarding: bool,
+    },
+    /// Another extension, whose contents are not looked at.
     OtherExtension {
         name: &'a [u8],
     },

@@ -66,6 +66,68 @@ fn each_request_without_a_key_is_read(rt: HostRuntime) {
     );
 }
 
+/// EXTENSION and the name by which a connection is bound.
+const BIND: &[u8] = b"\x1b\0\0\0\x18session-bind@openssh.com";
+
+#[test]
+fn a_request_to_bind_is_read(rt: HostRuntime) -> Result<(), Fail> {
+    let alloc = rt.alloc();
+    // A host key that is none, a session identifier and a signature, forwarded or not.
+    let fields = b"\0\0\0\x04host\0\0\0\x02id\0\0\0\x02sg".as_slice();
+    for (byte, want) in [(b"\0", false), (b"\x01", true), (b"\xff", true)] {
+        let body = joined(alloc, &[BIND, fields, byte.as_slice()])?;
+        assert!(rt; names_bind(&body));
+        assert!(rt;
+            matches!(
+            read_request(alloc, &body),
+            Ok(Request::Bind { host_key, session, signature, forwarding })
+                if host_key == b"host".as_slice() && session == b"id".as_slice()
+                    && signature == b"sg".as_slice() && forwarding == want
+        )
+        );
+    }
+    let cases = [
+        (b"".as_slice(), MsgFault::Short),
+        (
+            b"\0\0\0\x04host\0\0\0\x02id\0\0\0\x02sg".as_slice(),
+            MsgFault::Short,
+        ),
+        (
+            b"\0\0\0\0\0\0\0\0\0\0\0\0\x01\0".as_slice(),
+            MsgFault::Trailing,
+        ),
+    ];
+    for (contents, want) in cases {
+        let body = joined(alloc, &[BIND, contents])?;
+        assert!(rt; names_bind(&body), "at {body:?}");
+        assert_eq!(rt; read_request(alloc, &body).err(), Some(want), "at {body:?}");
+    }
+    Ok(())
+}
+
+#[test]
+fn only_the_whole_name_of_an_extension_binds(rt: HostRuntime) {
+    let others = [
+        b"".as_slice(),
+        b"\x1b".as_slice(),
+        b"\x1b\0\0\0\x18session-bind@openssh.co".as_slice(),
+        b"\x1b\0\0\0\x17session-bind@openssh.co".as_slice(),
+        b"\x1b\0\0\0\x19session-bind@openssh.com!".as_slice(),
+        b"\x19\0\0\0\x18session-bind@openssh.com".as_slice(),
+    ];
+    for body in others {
+        assert!(rt; !names_bind(body), "at {body:?}");
+    }
+    // The same bytes read as another extension where its name goes on.
+    let longer = b"\x1b\0\0\0\x19session-bind@openssh.com!".as_slice();
+    assert!(rt;
+        matches!(
+            read_request(rt.alloc(), longer),
+            Ok(Request::OtherExtension { .. })
+        )
+    );
+}
+
 #[test]
 fn an_addition_is_read(rt: HostRuntime) -> Result<(), Fail> {
     let alloc = rt.alloc();
@@ -152,5 +214,9 @@ fn replies_are_written(rt: HostRuntime) -> Result<(), Fail> {
     put_list_entry(&mut out, b"cc", b"")?;
     let list = b"\0\0\0\x1c\x0c\0\0\0\x02\0\0\0\x02bb\0\0\0\x03one\0\0\0\x02cc\0\0\0\0";
     assert_eq!(rt; out.live(), list.as_slice());
+    // A body of 262144 bytes is the longest.
+    out.wipe();
+    put_list_head(&mut out, 262144, 0)?;
+    assert_eq!(rt; out.live(), b"\0\x04\0\0\x0c\0\0\0\0".as_slice());
     Ok(())
 }

@@ -1,5 +1,5 @@
 -- Messages of a child process: what is read was printed.
-use Rattle.std.proofs.Common.{◌≡◌, ◌≢◌, ℕ, ◌^◌, ◌<◌, eqb, List, [], ◌∷◌, length, Result, Ok, Err, refl, subst, ap, sym, ◌∙◌, inl, inr}
+use Rattle.std.proofs.Common.{◌≡◌, ◌≢◌, ℕ, ◌^◌, ◌<◌, Bool, true, false, cond, eqb, ◌⊎◌, List, [], ◌∷◌, length, Result, Ok, Err, refl, subst, ap, sym, ◌∙◌, inl, inr}
 use Rattle.std.proofs.lemmas.Bool.{eqb-true, ne_eqb, cases_eq}
 use Rattle.wire_text.specs.Wire.{IsBytes, uint64}
 use Rattle.wire_core.specs.Fields.{uint64_at, string_at}
@@ -7,18 +7,24 @@ use Rattle.wire_core.proofs.Theorems.{uint64_is_front, string_is_front}
 use Rattle.child_msg.specs.Messages.{FromChildMessage, Hello, Signed, Refused, True, False, Granted, Denied}
 use Rattle.child_msg.specs.ChildFrames.{from_child_body, FromChildFits, IsFromChild}
 use Rattle.child_msg.specs.Reading.{from_child_of, from_child_of_kind, hello_at, signed_at, number_alone, number_at_end, ticket_ended, ended, field_then}
-use Rattle.child_msg.proofs.FieldLemmas.{field_then_is, ended_is, cond_is, last, behind}
-use Rattle.child_msg.specs.declared.fault.ChildFault.TheVariants.{Kind, TicketLength}
+use Rattle.wire_core.proofs.ReadingLemmas.{field_or_is, ended_or_is, last, behind}
+use Rattle.child_msg.specs.declared.fault.ChildFault.TheVariants.{Kind, Short, TicketLength, Trailing}
 use Rattle.child_msg.specs.declared.fault.ChildFault.{ChildFault}
 use Rattle.std.specs.Result.{result_map_both}
 use Rattle.std.proofs.lemmas.List.Elements.{All-drop}
+
+-- one of two readings gave the message
+cond_is : {M : Type 0} (b : Bool) (x y : Result M ChildFault) (message : M) → cond b x y ≡ Ok message
+    → ((b ≡ true) × (x ≡ Ok message)) ⊎ ((b ≡ false) × (y ≡ Ok message))
+cond_is true x y message h = inl (refl, h)
+cond_is false x y message h = inr (refl, h)
 
 -- a ticket that was read
 ticket_ended_is : (job : ℕ) (ticket rest : List ℕ) (message : FromChildMessage) → ticket_ended job ticket rest ≡ Ok message
     → (length ticket ≡ 16) × (rest ≡ []) × (Hello job ticket ≡ message)
 ticket_ended_is job ticket rest message h =
     elim (cond_is (eqb (length ticket) 16) (ended (Hello job ticket) rest) (Err TicketLength) message h) [
-      | inl yes_branch ↦ let end = ended_is (Hello job ticket) message rest yes_branch.1 in
+      | inl yes_branch ↦ let end = ended_or_is Trailing (Hello job ticket) message rest yes_branch.1 in
           (eqb-true (length ticket) 16 yes_branch.0, end.0, end.1)
       | inr other ↦ let e = other.1 in absurd cc
     ]
@@ -26,9 +32,9 @@ ticket_ended_is job ticket rest message h =
 -- HELLO that was read
 hello_is : (bytes : List ℕ) (message : FromChildMessage) → IsBytes bytes → hello_at bytes ≡ Ok message → IsFromChild (1 ∷ bytes) message
 hello_is bytes message each h =
-    let number = field_then_is (uint64_at bytes) (λ job more. field_then (string_at more) (ticket_ended job)) message h in
+    let number = field_or_is Short (uint64_at bytes) (λ job more. field_then (string_at more) (ticket_ended job)) message h in
     let job = uint64_is_front bytes number.field number.rest each number.there in
-    let text = field_then_is (string_at number.rest) (ticket_ended number.field) message number.read in
+    let text = field_or_is Short (string_at number.rest) (ticket_ended number.field) message number.read in
     let ticket = string_is_front number.rest text.field text.rest job.0.left text.there in
     let end = ticket_ended_is number.field text.field text.rest message text.read in
     let P : FromChildMessage → Type 0 = λ m. IsFromChild (1 ∷ bytes) m in
@@ -40,12 +46,12 @@ hello_is bytes message each h =
 -- SIGNED that was read
 signed_is : (bytes : List ℕ) (message : FromChildMessage) → IsBytes bytes → signed_at bytes ≡ Ok message → IsFromChild (101 ∷ bytes) message
 signed_is bytes message each h =
-    let number = field_then_is (uint64_at bytes)
+    let number = field_or_is Short (uint64_at bytes)
     (λ ask more. field_then (string_at more) (λ signature rest. ended (Signed ask signature) rest)) message h in
     let ask = uint64_is_front bytes number.field number.rest each number.there in
-    let text = field_then_is (string_at number.rest) (λ signature rest. ended (Signed number.field signature) rest) message number.read in
+    let text = field_or_is Short (string_at number.rest) (λ signature rest. ended (Signed number.field signature) rest) message number.read in
     let signature = string_is_front number.rest text.field text.rest ask.0.left text.there in
-    let end = ended_is (Signed number.field text.field) message text.rest text.read in
+    let end = ended_or_is Trailing (Signed number.field text.field) message text.rest text.read in
     let P : FromChildMessage → Type 0 = λ m. IsFromChild (101 ∷ bytes) m in
     subst P end.1 record {
       printed = ap (λ (l : List ℕ). 101 ∷ l) (behind _ _ _ _ ask.0.parts (last _ _ _ signature.0.parts end.0));
@@ -69,9 +75,9 @@ alone_is : (made : ℕ → FromChildMessage) (bytes : List ℕ) (message : FromC
     → number_alone made bytes ≡ Ok message → IsAlone made bytes message
 alone_is made bytes message each h =
     let mapped = result_map_is made (number_at_end bytes) message h in
-    let number = field_then_is (uint64_at bytes) (λ value rest. ended value rest) mapped.0 mapped.1 in
+    let number = field_or_is Short (uint64_at bytes) (λ value rest. ended value rest) mapped.0 mapped.1 in
     let value = uint64_is_front bytes number.field number.rest each number.there in
-    let end = ended_is number.field mapped.0 number.rest number.read in
+    let end = ended_or_is Trailing number.field mapped.0 number.rest number.read in
     record {
       number = number.field;
       printed = last _ _ _ value.0.parts end.0;

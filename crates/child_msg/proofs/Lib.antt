@@ -1,4 +1,3 @@
-pub mod FieldLemmas
 pub mod FromChildLemmas
 pub mod PrintedLemmas
 pub mod ToChildLemmas

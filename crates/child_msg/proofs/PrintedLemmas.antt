@@ -5,7 +5,7 @@ use Rattle.wire_core.proofs.Theorems.{uint64_at-uint64, string_at-string}
 use Rattle.child_msg.specs.Messages.{FromChildMessage, Hello, Signed, Refused, True, False, Granted, Denied, ToChildMessage, Sign, Verify, Confirm}
 use Rattle.child_msg.specs.ChildFrames.{from_child_body, FromChildFits, to_child_body, ToChildFits}
 use Rattle.child_msg.specs.Reading.{from_child_of, from_child_of_kind, number_at_end, to_child_of, to_child_of_kind}
-use Rattle.child_msg.proofs.FieldLemmas.{uint32_at-alone, uint64_at-alone, string_at-alone}
+use Rattle.wire_core.proofs.ReadingLemmas.{uint32_at-alone, uint64_at-alone, string_at-alone}
 
 -- a number alone is read
 number_at_end-uint64 : (number : ℕ) → number < 2 ^ 64 → number_at_end (uint64 number) ≡ Ok number

@@ -2,12 +2,13 @@
 use Rattle.std.proofs.Common.{◌≡◌, ℕ, ◌<◌, ◌≤◌, List, length, Result, Ok, Err, IfOk, IsOkAnd, refl, ap, sym, ◌∙◌, lit<, arith}
 use Rattle.wire_text.specs.Wire.{IsBytes}
 use Rattle.wire_text.proofs.FrontLemmas.{front-string}
+use Rattle.wire_core.specs.Readings.{IsAnswer}
 use Rattle.child_msg.specs.declared.fault.ChildFault.{ChildFault}
 use Rattle.child_msg.specs.declared.message.FromChild.{FromChild}
 use Rattle.child_msg.specs.declared.message.ToChild.{ToChild}
 use Rattle.child_msg.specs.Messages.{FromChildMessage, Hello, Signed, Refused, True, False, Granted, Denied, ToChildMessage, Sign, Verify, Confirm, from_child_message, to_child_message}
 use Rattle.child_msg.specs.ChildFrames.{from_child_body, to_child_body, from_child_length, to_child_length, FromChildFits, ToChildFits, IsFromChild, IsToChild}
-use Rattle.child_msg.specs.Reading.{from_child_of, to_child_of, IsFromChildAnswer, IsToChildAnswer}
+use Rattle.child_msg.specs.Reading.{from_child_of, to_child_of}
 use Rattle.child_msg.specs.Writing.{IsFromChildWriting, IsToChildWriting}
 use Rattle.child_msg.proofs.FromChildLemmas.{IsFromChild_from_child_of}
 use Rattle.child_msg.proofs.PrintedLemmas.{from_child_of-from_child_body, to_child_of-to_child_body}
@@ -42,24 +43,24 @@ to_child_is_unique body m n is_m is_n =
 
 -- what the code reads is in the grammar
 pub from_child_found : (body : List ℕ) (answer : Result FromChild ChildFault) → IsBytes body
-    → IsFromChildAnswer answer (from_child_of body) → IfOk answer (λ read. IsFromChild body (from_child_message read))
+    → IsAnswer from_child_message answer (from_child_of body) → IfOk answer (λ read. IsFromChild body (from_child_message read))
 from_child_found body (Ok read) each h = IsFromChild_from_child_of body (from_child_message read) each h
 from_child_found body (Err fault) each h = tt
 
 -- what is in the grammar the code reads
-pub from_child_only : (body : List ℕ) (answer : Result FromChild ChildFault) → IsFromChildAnswer answer (from_child_of body)
+pub from_child_only : (body : List ℕ) (answer : Result FromChild ChildFault) → IsAnswer from_child_message answer (from_child_of body)
     → (message : FromChildMessage) → IsFromChild body message → IsOkAnd answer (λ read. from_child_message read ≡ message)
 from_child_only body (Ok read) h message is = let e = from_child_of_from_IsFromChild body message is in cc
 from_child_only body (Err fault) h message is = let e = from_child_of_from_IsFromChild body message is in absurd cc
 
 -- what the code reads is in the grammar
 pub to_child_found : (body : List ℕ) (answer : Result ToChild ChildFault) → IsBytes body
-    → IsToChildAnswer answer (to_child_of body) → IfOk answer (λ read. IsToChild body (to_child_message read))
+    → IsAnswer to_child_message answer (to_child_of body) → IfOk answer (λ read. IsToChild body (to_child_message read))
 to_child_found body (Ok read) each h = IsToChild_from_to_child_of body (to_child_message read) each h
 to_child_found body (Err fault) each h = tt
 
 -- what is in the grammar the code reads
-pub to_child_only : (body : List ℕ) (answer : Result ToChild ChildFault) → IsToChildAnswer answer (to_child_of body)
+pub to_child_only : (body : List ℕ) (answer : Result ToChild ChildFault) → IsAnswer to_child_message answer (to_child_of body)
     → (message : ToChildMessage) → IsToChild body message → IsOkAnd answer (λ read. to_child_message read ≡ message)
 to_child_only body (Ok read) h message is = let e = to_child_of_from_IsToChild body message is in cc
 to_child_only body (Err fault) h message is = let e = to_child_of_from_IsToChild body message is in absurd cc

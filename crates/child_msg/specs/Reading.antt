@@ -1,22 +1,20 @@
 -- What a body is, field by field: its message, or the first fault.
-use Rattle.std.specs.Prelude.{◌≡◌, ◌==◌, ℕ, List, [], ◌∷◌, length, Option, Some, None, Result, Ok, Err, MatchResult, if◌then◌else◌}
+use Rattle.std.specs.Prelude.{◌==◌, ℕ, List, [], ◌∷◌, length, Option, Result, Err, if◌then◌else◌}
 use Rattle.std.specs.Result.{result_map_both}
 use Rattle.wire_core.specs.Fields.{uint32_at, uint64_at, string_at}
-use Rattle.child_msg.specs.Messages.{FromChildMessage, Hello, Signed, Refused, True, False, Granted, Denied, ToChildMessage, Sign, Verify, Confirm, from_child_message, to_child_message}
+use Rattle.wire_core.specs.Readings.{field_or, ended_or}
+use Rattle.child_msg.specs.Messages.{FromChildMessage, Hello, Signed, Refused, True, False, Granted, Denied, ToChildMessage, Sign, Verify, Confirm}
 use Rattle.child_msg.specs.declared.fault.ChildFault.{ChildFault}
 use Rattle.child_msg.specs.declared.fault.ChildFault.TheVariants.{Short, Kind, Trailing, TicketLength}
-use Rattle.child_msg.specs.declared.message.FromChild.{FromChild}
-use Rattle.child_msg.specs.declared.message.ToChild.{ToChild}
 
 -- the field at the front, and what the bytes behind it are; Short where the field isn't there
-abbrev pub field_then : {A M : Type 0} → Option (A × List ℕ) → (A → List ℕ → Result M ChildFault) → Result M ChildFault
-field_then None later = Err Short
-field_then (Some field) later = later field.0 field.1
+abbrev pub field_then : {A M : Type 0} → Option (A × List ℕ) → (A → List ℕ → Result M ChildFault)
+    → Result M ChildFault
+field_then at later = field_or Short at later
 
 -- the message, where no byte follows
 abbrev pub ended : {M : Type 0} → M → List ℕ → Result M ChildFault
-ended message [] = Ok message
-ended message (_ ∷ _) = Err Trailing
+ended message rest = ended_or Trailing message rest
 
 -- a number, and then the end
 abbrev pub number_at_end : List ℕ → Result ℕ ChildFault
@@ -90,13 +88,3 @@ to_child_of_kind kind bytes =
 unfoldable pub to_child_of : List ℕ → Result ToChildMessage ChildFault
 to_child_of [] = Err Short
 to_child_of (kind ∷ bytes) = to_child_of_kind kind bytes
-
--- the code's answer is that of the definition
-abbrev pub IsFromChildAnswer : Result FromChild ChildFault → Result FromChildMessage ChildFault → Type 0
-IsFromChildAnswer result defined =
-    MatchResult result (λ message. defined ≡ Ok (from_child_message message)) (λ fault. defined ≡ Err fault)
-
--- the code's answer is that of the definition
-abbrev pub IsToChildAnswer : Result ToChild ChildFault → Result ToChildMessage ChildFault → Type 0
-IsToChildAnswer result defined =
-    MatchResult result (λ message. defined ≡ Ok (to_child_message message)) (λ fault. defined ≡ Err fault)

@@ -1,5 +1,7 @@
 /// What a child process sends to the agent.
-#[derive(Clone, Copy, Debug, PartialEq, Eq)]
+///
+/// Has no `Debug`, since it may hold a one-time ticket.
+#[derive(Clone, Copy, PartialEq, Eq)]
 pub enum FromChild<'a> {
     /// The first message of a child: the job that it was started for, and its one-time ticket.
     Hello { job: u64, ticket: [u8; 16] },

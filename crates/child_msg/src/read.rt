@@ -3,7 +3,8 @@
 ghost use Rattle.std.specs.Prelude.{◌≡◌, ◌≢◌, [], Ok, Err, IfOk, IsOkAnd, MatchResult, length};
 ghost use Rattle.child_msg.specs.ChildFrames.{IsFromChild, IsToChild};
 ghost use Rattle.child_msg.specs.Messages.{FromChildMessage, ToChildMessage, from_child_message, to_child_message};
-ghost use Rattle.child_msg.specs.Reading.{IsFromChildAnswer, IsToChildAnswer, from_child_of, to_child_of, hello_at, signed_at, sign_at, verify_at, confirm_at, number_at_end};
+ghost use Rattle.child_msg.specs.Reading.{from_child_of, to_child_of, hello_at, signed_at, sign_at, verify_at, confirm_at, number_at_end};
+ghost use Rattle.wire_core.specs.Readings.{IsAnswer};
 
 use crate::fault::ChildFault;
 use crate::message::{FromChild, ToChild};
@@ -14,7 +15,7 @@ pub fn read_from_child(body: &[u8]) -> Result<FromChild<'_>, ChildFault>
     ensures found { IfOk result (λ read. IsFromChild body.now (from_child_message read)) }
     ensures only { (message : FromChildMessage) → IsFromChild body.now message
         → IsOkAnd result (λ read. from_child_message read ≡ message) }
-    ensures exact { IsFromChildAnswer result (from_child_of body.now) }
+    ensures exact { IsAnswer from_child_message result (from_child_of body.now) }
 {
     from_child(body)
 }
@@ -24,14 +25,14 @@ pub fn read_to_child(body: &[u8]) -> Result<ToChild<'_>, ChildFault>
     ensures found { IfOk result (λ read. IsToChild body.now (to_child_message read)) }
     ensures only { (message : ToChildMessage) → IsToChild body.now message
         → IsOkAnd result (λ read. to_child_message read ≡ message) }
-    ensures exact { IsToChildAnswer result (to_child_of body.now) }
+    ensures exact { IsAnswer to_child_message result (to_child_of body.now) }
 {
     to_child(body)
 }
 
 #[tactic(auto, unfolding(crate::specs::Reading::from_child_of, crate::specs::Reading::from_child_of_kind))]
 fn from_child(body: &[u8]) -> Result<FromChild<'_>, ChildFault>
-    ensures { IsFromChildAnswer result (from_child_of body.now) }
+    ensures { IsAnswer from_child_message result (from_child_of body.now) }
 {
     let mut cursor = Cursor::new(body);
     match cursor.take_u8()? {
@@ -58,7 +59,7 @@ fn from_child(body: &[u8]) -> Result<FromChild<'_>, ChildFault>
 
 #[tactic(auto, unfolding(crate::specs::Reading::to_child_of, crate::specs::Reading::to_child_of_kind))]
 fn to_child(body: &[u8]) -> Result<ToChild<'_>, ChildFault>
-    ensures { IsToChildAnswer result (to_child_of body.now) }
+    ensures { IsAnswer to_child_message result (to_child_of body.now) }
 {
     let mut cursor = Cursor::new(body);
     match cursor.take_u8()? {
@@ -91,7 +92,7 @@ fn read_number(bytes: &[u8]) -> Result<u64, ChildFault>
 }
 
 fn read_hello(bytes: &[u8]) -> Result<FromChild<'_>, ChildFault>
-    ensures { IsFromChildAnswer result (hello_at bytes.now) }
+    ensures { IsAnswer from_child_message result (hello_at bytes.now) }
 {
     let mut cursor = Cursor::new(bytes);
     let job = cursor.take_u64()?;
@@ -113,7 +114,7 @@ fn ticket_of(text: &[u8]) -> Result<[u8; 16], ChildFault>
 }
 
 fn read_signed(bytes: &[u8]) -> Result<FromChild<'_>, ChildFault>
-    ensures { IsFromChildAnswer result (signed_at bytes.now) }
+    ensures { IsAnswer from_child_message result (signed_at bytes.now) }
 {
     let mut cursor = Cursor::new(bytes);
     let ask = cursor.take_u64()?;
@@ -123,7 +124,7 @@ fn read_signed(bytes: &[u8]) -> Result<FromChild<'_>, ChildFault>
 }
 
 fn read_sign(bytes: &[u8]) -> Result<ToChild<'_>, ChildFault>
-    ensures { IsToChildAnswer result (sign_at bytes.now) }
+    ensures { IsAnswer to_child_message result (sign_at bytes.now) }
 {
     let mut cursor = Cursor::new(bytes);
     let ask = cursor.take_u64()?;
@@ -142,7 +143,7 @@ fn read_sign(bytes: &[u8]) -> Result<ToChild<'_>, ChildFault>
 }
 
 fn read_verify(bytes: &[u8]) -> Result<ToChild<'_>, ChildFault>
-    ensures { IsToChildAnswer result (verify_at bytes.now) }
+    ensures { IsAnswer to_child_message result (verify_at bytes.now) }
 {
     let mut cursor = Cursor::new(bytes);
     let ask = cursor.take_u64()?;
@@ -159,7 +160,7 @@ fn read_verify(bytes: &[u8]) -> Result<ToChild<'_>, ChildFault>
 }
 
 fn read_confirm(bytes: &[u8]) -> Result<ToChild<'_>, ChildFault>
-    ensures { IsToChildAnswer result (confirm_at bytes.now) }
+    ensures { IsAnswer to_child_message result (confirm_at bytes.now) }
 {
     let mut cursor = Cursor::new(bytes);
     let job = cursor.take_u64()?;

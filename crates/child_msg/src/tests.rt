@@ -15,15 +15,9 @@ fn a_child_s_bodies_are_read(rt: HostRuntime) {
     hello[28] = 9;
     let mut ticket = [0; 16];
     ticket[15] = 9;
-    assert_eq!(rt;
-        read_from_child(&hello),
-        Ok(FromChild::Hello { job: 7, ticket })
-    );
+    assert!(rt; read_from_child(&hello) == Ok(FromChild::Hello { job: 7, ticket }));
     let signature = b"sig".as_slice();
-    assert_eq!(rt;
-        read_from_child(&SIGNED),
-        Ok(FromChild::Signed { ask: 1, signature })
-    );
+    assert!(rt; read_from_child(&SIGNED) == Ok(FromChild::Signed { ask: 1, signature }));
     let cases = [
         (102, FromChild::Refused { ask: 2 }),
         (103, FromChild::True { ask: 2 }),
@@ -32,9 +26,8 @@ fn a_child_s_bodies_are_read(rt: HostRuntime) {
         (106, FromChild::Denied { job: 2 }),
     ];
     for (kind, want) in cases {
-        assert_eq!(rt;
-            read_from_child(&[kind, 0, 0, 0, 0, 0, 0, 0, 2]),
-            Ok(want),
+        assert!(rt;
+            read_from_child(&[kind, 0, 0, 0, 0, 0, 0, 0, 2]) == Ok(want),
             "kind {kind}"
         );
     }
@@ -42,8 +35,10 @@ fn a_child_s_bodies_are_read(rt: HostRuntime) {
 
 #[test]
 fn the_first_fault_is_told(rt: HostRuntime) {
-    // A ticket of one byte, and a byte behind it.
+    // A ticket of one byte, and a byte behind it; tickets of 15 and of 17 bytes.
     let ticket = [1, 0, 0, 0, 0, 0, 0, 0, 1, 0, 0, 0, 1, 5, 5];
+    let short = b"\x01\0\0\0\0\0\0\0\x01\0\0\0\x0fticket-of-15-by".as_slice();
+    let long = b"\x01\0\0\0\0\0\0\0\x01\0\0\0\x11ticket-of-17-byte".as_slice();
     let cases = [
         ([].as_slice(), ChildFault::Short),
         ([2].as_slice(), ChildFault::Kind),
@@ -53,10 +48,12 @@ fn the_first_fault_is_told(rt: HostRuntime) {
             ChildFault::Trailing,
         ),
         (ticket.as_slice(), ChildFault::TicketLength),
+        (short, ChildFault::TicketLength),
+        (long, ChildFault::TicketLength),
         (&SIGNED[..15], ChildFault::Short),
     ];
     for (body, want) in cases {
-        assert_eq!(rt; read_from_child(body), Err(want), "at {body:?}");
+        assert_eq!(rt; read_from_child(body).err(), Some(want), "at {body:?}");
     }
     assert!(rt; matches!(read_to_child(&[102]), Err(ChildFault::Kind)));
 }

@@ -8,8 +8,10 @@ use Rattle.constraint_rec.specs.declared.fault.TermFault.TheVariants.{Short}
 use Rattle.constraint_rec.specs.declared.constraint.Hop.{Hop}
 use Rattle.constraint_rec.specs.declared.constraint.Constraint.{Constraint}
 use Rattle.constraint_rec.specs.Hops.{SpeltHop, SpeltConstraint, hop_text, constraint_text, list_text, hop_of, constraint_of, IsReadable, IsFromHop, IsToHop, IsDestination}
-use Rattle.constraint_rec.specs.HopReading.{◌>>=◌, is_empty, field_at, all_of, after_reserved, hop_in, as_from, as_to, hop_at, constraint_in, constraint_at, some_rules, rules_in}
-use Rattle.constraint_rec.proofs.FieldLemmas.{bind_ok, guarded, empty_is, field_is, field_again, reserved_is, reserved_last, behind_string}
+use Rattle.wire_core.specs.Readings.{◌>>=◌}
+use Rattle.constraint_rec.specs.HopReading.{is_empty, field_at, all_of, after_reserved, hop_in, as_from, as_to, hop_at, constraint_in, constraint_at, some_rules, rules_in}
+use Rattle.wire_core.proofs.ReadingLemmas.{bind_ok}
+use Rattle.constraint_rec.proofs.FieldLemmas.{guarded, empty_is, field_is, field_again, reserved_is, reserved_last, behind_string}
 use Rattle.constraint_rec.proofs.SizeLemmas.{constraint_fits}
 use Rattle.constraint_rec.proofs.ElementLemmas.{IsElement, elements_are, elements_again}
 use Rattle.constraint_rec.proofs.HopLemmas.{hop_is, hop_again, from_is, from_again, to_is, to_again}

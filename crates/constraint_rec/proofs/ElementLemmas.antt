@@ -6,8 +6,9 @@ use Rattle.std.proofs.lemmas.List.Elements.{All-head, All-tail, All-cons, All-ni
 use Rattle.wire_text.specs.Wire.{IsBytes}
 use Rattle.constraint_rec.specs.declared.fault.TermFault.{TermFault}
 use Rattle.constraint_rec.specs.declared.fault.TermFault.TheVariants.{Memory}
-use Rattle.constraint_rec.specs.HopReading.{◌>>=◌, all_up_to, all_of}
-use Rattle.constraint_rec.proofs.FieldLemmas.{bind_ok}
+use Rattle.wire_core.specs.Readings.{◌>>=◌}
+use Rattle.constraint_rec.specs.HopReading.{all_up_to, all_of}
+use Rattle.wire_core.proofs.ReadingLemmas.{bind_ok}
 
 -- elements behind others
 abbrev pub behind : {A : Type 0} → List A → Result (List A) TermFault → Result (List A) TermFault

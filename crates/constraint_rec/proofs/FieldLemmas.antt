@@ -1,21 +1,15 @@
 -- Fields at the front of bytes: what is read stands there, and what stands there is read.
-use Rattle.std.proofs.Common.{◌≡◌, ℕ, ◌^◌, ◌<◌, Bool, true, false, cond, List, [], ◌++◌, length, take, drop, Option, Some, None, Result, Ok, Err, refl, ap, subst, ◌∙◌, arith, length-append}
-use Rattle.std.specs.Option.{ok_or}
+use Rattle.std.proofs.Common.{◌≡◌, ℕ, ◌^◌, ◌<◌, Bool, true, false, cond, List, [], ◌++◌, length, Result, Ok, Err, refl, ap, subst, ◌∙◌, arith, length-append}
 use Rattle.std.proofs.lemmas.Bool.{eqb-true, ne_eqb}
-use Rattle.std.proofs.lemmas.List.{take_at, append-nil, nil_from_length}
-use Rattle.std.proofs.lemmas.List.Elements.{All-drop, All-take}
+use Rattle.std.proofs.lemmas.List.{append-nil, nil_from_length}
 use Rattle.wire_text.specs.Wire.{IsBytes, string}
-use Rattle.wire_text.proofs.WireLemmas.{drop-string, length-string}
+use Rattle.wire_text.proofs.WireLemmas.{length-string}
 use Rattle.wire_core.specs.Fields.{string_at}
 use Rattle.wire_core.proofs.Theorems.{string_at-string, string_is_front}
+use Rattle.wire_core.proofs.ReadingLemmas.{bind_ok, bytes_inside, ok_or_ok}
 use Rattle.constraint_rec.specs.declared.fault.TermFault.{TermFault}
 use Rattle.constraint_rec.specs.declared.fault.TermFault.TheVariants.{Short, Reserved}
-use Rattle.constraint_rec.specs.HopReading.{◌>>=◌, is_empty, field_at, after_reserved}
-
--- what is read in the end was read first
-pub bind_ok : {A B : Type 0} (r : Result A TermFault) (f : A → Result B TermFault) (y : B) → (r >>= f) ≡ Ok y → (x : A) × (r ≡ Ok x) × (f x ≡ Ok y)
-bind_ok (Ok x) f y e = (x, refl, e)
-bind_ok (Err fault) f y e = absurd cc
+use Rattle.constraint_rec.specs.HopReading.{is_empty, field_at, after_reserved}
 
 -- where there is no fault, the test for one failed
 pub unguarded : {A : Type 0} (b : Bool) (x : Result A TermFault) (y : A) (fault : TermFault) → cond b (Err fault) x ≡ Ok y → (b ≡ false) × (x ≡ Ok y)
@@ -26,11 +20,6 @@ unguarded false x y fault read = (refl, read)
 pub guarded : {A : Type 0} (b : Bool) (x : Result A TermFault) (y : A) (fault : TermFault) → cond b x (Err fault) ≡ Ok y → (b ≡ true) × (x ≡ Ok y)
 guarded true x y fault read = (refl, read)
 guarded false x y fault read = absurd cc
-
--- where there is no fault, the value is there
-pub ok_or_some : {A : Type 0} (o : Option A) (x : A) (fault : TermFault) → ok_or o fault ≡ Ok x → o ≡ Some x
-ok_or_some None x fault read = absurd cc
-ok_or_some (Some y) x fault read = cc
 
 -- ---- empty lists
 
@@ -52,17 +41,10 @@ pub record IsField (bytes text rest : List ℕ) : Type 0 where
   pub inside : IsBytes text
   pub short : length text < 2 ^ 32
 
--- the text inside is bytes
-inside_of : (bytes text rest : List ℕ) → IsBytes bytes → bytes ≡ string text ++ rest → IsBytes text
-inside_of bytes text rest small parts =
-    let dropped : drop 4 bytes ≡ text ++ rest = ap (drop 4) parts ∙ drop-string text rest in
-    subst IsBytes (ap (take (length text)) dropped ∙ take_at text rest (length text) refl)
-    (All-take (λ byte. byte < 256) (length text) (drop 4 bytes) (All-drop (λ byte. byte < 256) 4 bytes small))
-
 pub field_is : (bytes text rest : List ℕ) → IsBytes bytes → field_at bytes ≡ Ok (text, rest) → IsField bytes text rest
 field_is bytes text rest small read =
-    let front = string_is_front bytes text rest small (ok_or_some (string_at bytes) (text, rest) Short read) in
-    record { parts = front.0.parts; left = front.0.left; inside = inside_of bytes text rest small front.0.parts; short = front.1 }
+    let front = string_is_front bytes text rest small (ok_or_ok (string_at bytes) Short (text, rest) read) in
+    record { parts = front.0.parts; left = front.0.left; inside = bytes_inside text rest (subst IsBytes front.0.parts small); short = front.1 }
 
 pub field_again : (text rest : List ℕ) → length text < 2 ^ 32 → field_at (string text ++ rest) ≡ Ok (text, rest)
 field_again text rest short = rw (string_at-string text rest short) refl

@@ -13,8 +13,10 @@ use Rattle.constraint_rec.specs.declared.fault.TermFault.TheVariants.{Short, Fro
 use Rattle.constraint_rec.specs.declared.key_spec.KeySpec.{KeySpec}
 use Rattle.constraint_rec.specs.declared.constraint.Hop.{Hop}
 use Rattle.constraint_rec.specs.Hops.{SpeltKey, SpeltHop, key_text, hop_text, key_of, hop_of, IsReadable, IsFromHop, IsToHop}
-use Rattle.constraint_rec.specs.HopReading.{◌>>=◌, is_empty, field_at, all_of, readable, key_at, after_reserved, hop_in, as_from, as_to}
-use Rattle.constraint_rec.proofs.FieldLemmas.{bind_ok, unguarded, guarded, ok_or_some, empty_is, nonempty_is, nonempty_test, field_is, reserved_is, reserved_again}
+use Rattle.wire_core.specs.Readings.{◌>>=◌}
+use Rattle.constraint_rec.specs.HopReading.{is_empty, field_at, all_of, readable, key_at, after_reserved, hop_in, as_from, as_to}
+use Rattle.wire_core.proofs.ReadingLemmas.{bind_ok, ok_or_ok}
+use Rattle.constraint_rec.proofs.FieldLemmas.{unguarded, guarded, empty_is, nonempty_is, nonempty_test, field_is, reserved_is, reserved_again}
 use Rattle.constraint_rec.proofs.SizeLemmas.{hop_fits}
 use Rattle.constraint_rec.proofs.ElementLemmas.{IsElement, elements_are, elements_again}
 
@@ -40,7 +42,7 @@ key_is bytes key rest small read =
     let tested = guarded (is_ok (public_key_of a.0.0)) (Ok a.0) b.0 Key b.1 in
     let kept : a.0 ≡ b.0 = let e = tested.1 in cc in
     let field = field_is bytes a.0.0 a.0.1 small a.1 in
-    let there = ok_or_some (boolean_at b.0.1) c.0 Short c.1 in
+    let there = ok_or_ok (boolean_at b.0.1) Short c.0 c.1 in
     let byte = boolean_is a.0.1 c.0.1 c.0.0 field.left (ap (λ (x : List ℕ × List ℕ). boolean_at x.1) kept ∙ there) in
     let made : KeySpec × List ℕ = (record { blob = b.0.0; authority = c.0.0 }, c.0.1) in
     let same : made ≡ (key, rest) = let e = c.2 in cc in

@@ -16,9 +16,11 @@ use Rattle.constraint_rec.specs.declared.terms.Terms.{Terms}
 use Rattle.constraint_rec.specs.declared.constraint.Constraint.{Constraint}
 use Rattle.constraint_rec.specs.Hops.{SpeltConstraint, list_text, constraint_of, IsDestination}
 use Rattle.constraint_rec.specs.Constraints.{Item, Life, Confirmation, Rules, restrict_destination, AreRules, item_text, IsItem, with_item}
-use Rattle.constraint_rec.specs.HopReading.{◌>>=◌, field_at, rules_in}
+use Rattle.wire_core.specs.Readings.{◌>>=◌}
+use Rattle.constraint_rec.specs.HopReading.{field_at, rules_in}
 use Rattle.constraint_rec.specs.Reading.{kind_named, extension_at, kind_at, has_kind, with_life, with_rules, contents_at, new_contents_at, next_at}
-use Rattle.constraint_rec.proofs.FieldLemmas.{bind_ok, unguarded, guarded, field_is, field_again}
+use Rattle.wire_core.proofs.ReadingLemmas.{bind_ok}
+use Rattle.constraint_rec.proofs.FieldLemmas.{unguarded, guarded, field_is, field_again}
 use Rattle.constraint_rec.proofs.DestinationLemmas.{rules_are, rules_again}
 
 -- the kind of a constraint

@@ -8,7 +8,7 @@ use Rattle.constraint_rec.specs.declared.fault.TermFault.TheVariants.{Memory}
 use Rattle.constraint_rec.specs.declared.terms.Terms.{Terms}
 use Rattle.constraint_rec.specs.Hops.{constraint_of}
 use Rattle.constraint_rec.specs.Constraints.{no_terms, Item, Life, Confirmation, Rules, item_text, IsItem, is_alike, with_item, with_items, IsConstraints}
-use Rattle.constraint_rec.specs.HopReading.{◌>>=◌}
+use Rattle.wire_core.specs.Readings.{◌>>=◌}
 use Rattle.constraint_rec.specs.Reading.{has_kind, next_at, terms_up_to, terms_of}
 use Rattle.constraint_rec.proofs.FieldLemmas.{nonempty_test}
 use Rattle.constraint_rec.proofs.ReadingLemmas.{kind_of, unmapped, next_is, next_at-item}

@@ -1,8 +1,9 @@
 -- What reading destination constraints from left to right gives: the constraints, or the first fault.
 -- A hop is judged when its keys were read, and a key before the byte behind it is read.
-use Rattle.std.specs.Prelude.{◌≡◌, ◌⊎◌, MatchResult, ℕ, zero, suc, Bool, not, List, [], ◌∷◌, length, Result, Ok, Err, is_ok, ◌==◌, if◌then◌else◌}
+use Rattle.std.specs.Prelude.{ℕ, zero, suc, Bool, not, List, [], ◌∷◌, length, Result, Ok, Err, is_ok, ◌==◌, if◌then◌else◌}
 use Rattle.std.specs.Option.{ok_or}
 use Rattle.wire_core.specs.Fields.{string_at, boolean_at}
+use Rattle.wire_core.specs.Readings.{◌>>=◌, IsAnswerUnless}
 use Rattle.key_blob.specs.PublicKeys.{public_key_of}
 use Rattle.constraint_rec.specs.declared.fault.TermFault.{TermFault}
 use Rattle.constraint_rec.specs.declared.fault.TermFault.TheVariants.{Short, Reserved, FromUser, FromHalf, ToHalf, NoRules, Key, Memory}
@@ -10,16 +11,9 @@ use Rattle.constraint_rec.specs.declared.key_spec.KeySpec.{KeySpec}
 use Rattle.constraint_rec.specs.declared.constraint.Hop.{Hop}
 use Rattle.constraint_rec.specs.declared.constraint.Constraint.{Constraint}
 
-infixl 10 ◌>>=◌
--- the first fault, or what the second reading gives for the value of the first
-abbrev pub ◌>>=◌ : {A B : Type 0} → Result A TermFault → (A → Result B TermFault) → Result B TermFault
-(Ok x) >>= f = f x
-(Err fault) >>= f = Err fault
-
 -- the code's answer is that of the definition, unless memory ran out
 abbrev pub IsReadingOf : {A : Type 0} → Result A TermFault → Result A TermFault → Type 0
-IsReadingOf defined result =
-    MatchResult result (λ value. defined ≡ Ok value) (λ fault. (fault ≡ Memory) ⊎ (defined ≡ Err fault))
+IsReadingOf defined result = IsAnswerUnless Memory (λ value. value) result defined
 
 abbrev pub is_empty : {A : Type 0} → List A → Bool
 is_empty list = length list == 0

@@ -9,7 +9,8 @@ use Rattle.constraint_rec.specs.declared.kind.Kind.{Kind}
 use Rattle.constraint_rec.specs.declared.kind.Kind.TheVariants.{Lifetime, Confirm, Destinations}
 use Rattle.constraint_rec.specs.declared.terms.Terms.{Terms}
 use Rattle.constraint_rec.specs.Constraints.{no_terms, restrict_destination}
-use Rattle.constraint_rec.specs.HopReading.{◌>>=◌, is_empty, field_at, rules_in}
+use Rattle.wire_core.specs.Readings.{◌>>=◌}
+use Rattle.constraint_rec.specs.HopReading.{is_empty, field_at, rules_in}
 
 -- ---- a row for each kind: its byte, whether terms have it, and its contents
 

@@ -1,2 +1,6 @@
 pub mod Chains
 pub mod Rules
+pub mod HostKeys
+pub mod GroundsOf
+pub mod Places
+pub mod Samples

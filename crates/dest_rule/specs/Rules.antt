@@ -1,5 +1,6 @@
--- Whether destination constraints permit a chain of bindings, and with it the use of a key (ours, over the records of
--- OpenSSH's PROTOCOL.agent, "restrict-destination-v00@openssh.com key constraint extension").
+-- Whether destination constraints permit a chain of bindings, and with it the use of a key (ours, over
+-- the records of OpenSSH's PROTOCOL.agent, "restrict-destination-v00@openssh.com key constraint
+-- extension").
 use Rattle.std.specs.Prelude.{ℕ, suc, Bool, true, false, not, List, [], ◌∷◌, Option, Some, None, Result, Ok, Err, is_none, ◌&&◌, ◌||◌, if◌then◌else◌}
 use Rattle.std.specs.List.{list_any}
 use Rattle.std.specs.Str.{bytes_eq}
@@ -16,10 +17,14 @@ use Rattle.userauth_blob.specs.Reading.{auth_of}
 use Rattle.userauth_blob.specs.declared.fault.AuthFault.{AuthFault}
 use Rattle.dest_rule.specs.Chains.{Binding, newest_after}
 use Rattle.key_blob.specs.Validity.{is_valid}
+-- why an identity under constraints isn't used
+pub use Rattle.dest_rule.specs.declared.denial.Denial.{Denial}
+pub use Rattle.dest_rule.specs.declared.denial.Denial.TheVariants.{Unbound, NotUserAuth, Hop as BadHop, OtherSession, NoHostKey, OtherHostKey}
 
 -- ---- a hop
 
--- a host key is one of a hop's keys: it is equal, or its certificate is good for the host and of that authority
+-- a host key is one of a hop's keys: it is equal, or its certificate is good for the host and of that
+-- authority
 abbrev pub fits_key : Option CertificateParts → List ℕ → List ℕ → ℕ → KeySpec → Bool
 fits_key None host_key host wall key = not key.authority && bytes_eq key.blob host_key
 fits_key (Some certificate) host_key host wall key =
@@ -27,7 +32,8 @@ fits_key (Some certificate) host_key host wall key =
 
 -- as the host key reads: one that doesn't is no host's
 abbrev pub fits_hop : Result KeyParts KeyFault → Hop → List ℕ → ℕ → Bool
-fits_hop (Ok key) hop host_key wall = list_any (fits_key key.certificate host_key hop.host wall) hop.keys
+fits_hop (Ok key) hop host_key wall =
+    list_any (fits_key key.certificate host_key hop.host wall) hop.keys
 fits_hop (Err fault) hop host_key wall = false
 
 -- the host key is that of the hop's host, at this wall clock
@@ -55,7 +61,8 @@ admits pattern (Some user) = is_nothing pattern || is_match user pattern
 -- a constraint permits to go from the previous host key, or the agent's own host, to this one
 abbrev pub permits_pair : Grounds → Option (List ℕ) → List ℕ → Constraint → Bool
 permits_pair grounds previous host_key rule =
-    leaves rule.from previous grounds.wall && is_hop rule.to host_key grounds.wall && admits rule.to.user grounds.user
+    leaves rule.from previous grounds.wall && is_hop rule.to host_key grounds.wall
+    && admits rule.to.user grounds.user
 
 -- some constraint does
 abbrev pub is_pair : Grounds → Option (List ℕ) → List ℕ → Bool
@@ -82,6 +89,11 @@ abbrev pub is_good_newest : Grounds → Option (List ℕ) → Binding → Bool
 is_good_newest grounds previous binding =
     ends grounds.user binding.forwarding && is_pair grounds previous binding.host_key
 
+-- a binding is good behind the previous host key, by whether it is the newest
+abbrev pub is_good : Bool → Grounds → Option (List ℕ) → Binding → Bool
+is_good true grounds previous binding = is_good_newest grounds previous binding
+is_good false grounds previous binding = is_good_between grounds previous binding
+
 -- the first place that isn't good, counted from this one, of a binding and those behind it
 abbrev pub bad_place_from : Grounds → ℕ → Option (List ℕ) → Binding → List Binding → Option ℕ
 bad_place_from grounds place previous binding [] =
@@ -95,6 +107,11 @@ bad_place_from grounds place previous binding (next ∷ later) =
 unfoldable pub bad_place : Grounds → Binding → List Binding → Option ℕ
 bad_place grounds binding later = bad_place_from grounds 0 None binding later
 
+-- the same of a chain that may be empty
+abbrev pub bad_place_in : Grounds → List Binding → Option ℕ
+bad_place_in grounds [] = None
+bad_place_in grounds (binding ∷ later) = bad_place grounds binding later
+
 -- some constraint permits to leave the host of this key
 abbrev pub leads_on : Grounds → List ℕ → Bool
 leads_on grounds host_key = list_any (λ rule. is_hop rule.from host_key grounds.wall) grounds.rules
@@ -103,63 +120,61 @@ leads_on grounds host_key = list_any (λ rule. is_hop rule.from host_key grounds
 abbrev pub goes_on : Grounds → Binding → Bool
 goes_on grounds binding = not binding.forwarding || leads_on grounds binding.host_key
 
--- every place is good, and the newest host may be left again where the agent is forwarded to it; nobody is to log in
+-- every place is good, and the newest host may be left again where the agent is forwarded to it;
+-- nobody is to log in
 abbrev pub permits_way : Grounds → Binding → List Binding → Bool
 permits_way grounds binding later =
     is_none (bad_place grounds binding later) && goes_on grounds (newest_after binding later)
 
 -- ---- what a connection sees, and what it may have signed
 
--- of a connection with these bindings, by whether it tried to bind: nothing is seen where every try failed
+-- of a connection with these bindings, by whether it tried to bind: nothing is seen where every try
+-- failed
 abbrev pub visible_from : List Constraint → List Binding → Bool → ℕ → Bool
 visible_from rules [] attempted wall = not attempted
 visible_from rules (binding ∷ later) attempted wall =
     permits_way (record { rules = rules; user = None; wall = wall }) binding later
 
--- an identity under these constraints is listed to the connection, and may be replaced and removed by it
+-- an identity under these constraints is listed to the connection, and may be replaced and removed by
+-- it
 unfoldable pub visible : List Constraint → List Binding → Bool → ℕ → Bool
 visible [] chain attempted wall = true
 visible (rule ∷ rules) chain attempted wall = visible_from (rule ∷ rules) chain attempted wall
 
--- why an identity under constraints isn't used
-pub data Denial : Type 0 where
-  Unbound : Denial
-  NotUserAuth : (fault : AuthFault) → Denial
-  BadHop : (place : ℕ) → Denial
-  OtherSession : Denial
-  NoHostKey : Denial
-  OtherHostKey : Denial
+-- the login is bound to the newest host's key, or to none where there is no other host
+abbrev pub denial_of_key : Option (List ℕ) → List ℕ → Bool → Option Denial
+denial_of_key (Some host_key) newest is_only =
+    if bytes_eq host_key newest then None else Some OtherHostKey
+denial_of_key None newest is_only = if is_only then None else Some NoHostKey
 
--- the login is bound to the newest host, or there is no other one
-abbrev pub denial_of_host : Option (List ℕ) → Binding → List Binding → Option Denial
-denial_of_host (Some host_key) binding later =
-    if bytes_eq host_key (newest_after binding later).host_key then None else Some OtherHostKey
-denial_of_host None binding [] = None
-denial_of_host None binding (next ∷ later) = Some NoHostKey
-
--- the login is to the newest session
-abbrev pub denial_of_session : Login → Binding → List Binding → Option Denial
-denial_of_session login binding later =
-    if bytes_eq login.session (newest_after binding later).session
-    then denial_of_host login.host_key binding later
+-- the login is to the newest binding's session, and bound to its host key, which it has to be
+-- where there are others
+abbrev pub denial_of_newest : Login → Binding → Bool → Option Denial
+denial_of_newest login newest is_only =
+    if bytes_eq login.session newest.session
+    then denial_of_key login.host_key newest.host_key is_only
     else Some OtherSession
 
 -- the chain is permitted for the login's user
 abbrev pub denial_of_place : Option ℕ → Login → Binding → List Binding → Option Denial
 denial_of_place (Some place) login binding later = Some (BadHop place)
-denial_of_place None login binding later = denial_of_session login binding later
+denial_of_place None login binding later =
+    denial_of_newest login (newest_after binding later) (is_empty later)
 
 -- the message is a login
-abbrev pub denial_of_login : Result Login AuthFault → List Constraint → ℕ → Binding → List Binding → Option Denial
+abbrev pub denial_of_login : Result Login AuthFault → List Constraint → ℕ → Binding → List Binding
+    → Option Denial
 denial_of_login (Err fault) rules wall binding later = Some (NotUserAuth fault)
 denial_of_login (Ok login) rules wall binding later =
-    denial_of_place (bad_place (record { rules = rules; user = Some login.user; wall = wall }) binding later)
-    login binding later
+    let grounds : Grounds = record { rules = rules; user = Some login.user; wall = wall } in
+    denial_of_place (bad_place grounds binding later) login binding later
 
--- why the key of this blob, under these constraints, isn't to sign the message for a connection so bound
+-- why the key of this blob, under these constraints, isn't to sign the message for a connection so
+-- bound
 unfoldable pub denial : List Constraint → List ℕ → List Binding → List ℕ → ℕ → Option Denial
 denial rules blob [] message wall = Some Unbound
-denial rules blob (binding ∷ later) message wall = denial_of_login (auth_of message blob) rules wall binding later
+denial rules blob (binding ∷ later) message wall =
+    denial_of_login (auth_of message blob) rules wall binding later
 
 -- the same of a key that may have no constraints: such a key is used for any message
 abbrev pub denial_under : List Constraint → List ℕ → List Binding → List ℕ → ℕ → Option Denial

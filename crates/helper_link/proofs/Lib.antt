@@ -1,5 +1,8 @@
+pub mod AnswerLemmas
+pub mod CallLemmas
 pub mod CutLemmas
 pub mod OrderLemmas
 pub mod PlaceLemmas
 pub mod SettlingLemmas
+pub mod SoundLemmas
 pub mod StreamLemmas

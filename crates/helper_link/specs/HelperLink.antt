@@ -1,10 +1,12 @@
 -- The link to the helper process, as plain values (ours).
-use Rattle.std.specs.Prelude.{ℕ, ◌+◌, ◌-◌, ◌^◌, List, [], ◌∷◌, ◌++◌, drop, map, min}
+use Rattle.std.specs.Prelude.{◌≡◌, ℕ, ◌+◌, ◌-◌, ◌^◌, ◌==◌, nat_lt, Bool, true, false, List, [], ◌∷◌, ◌++◌, Option, Some, None, drop, length, map, min}
 use Rattle.wire_text.specs.Wire.{string}
 use Rattle.child_msg.specs.ChildFrames.{to_child_body}
 use Rattle.child_msg.specs.Messages.{ToChildMessage, Sign, Verify}
 use Rattle.helper_link.specs.declared.ask.Ask.{Ask}
 use Rattle.helper_link.specs.declared.ask.AskKind.{AskKind}
+use Rattle.helper_link.specs.declared.fault.AskFault.{AskFault}
+use Rattle.helper_link.specs.declared.fault.AskFault.TheVariants.{Full, NumbersSpent, Memory}
 use Rattle.helper_link.specs.declared.state.LinkState.{LinkState}
 use Rattle.helper_link.specs.declared.state.LinkState.TheVariants as states
 
@@ -49,9 +51,15 @@ IsLinked states.None = ⊥
 IsLinked (states.Starting job) = ⊥
 IsLinked (states.Linked port) = Unit {0}
 
--- a helper is started by this job
+-- a helper is started by this job where none is there or being started
+abbrev pub begun_by : ℕ → LinkState → LinkState
+begun_by job states.None = states.Starting job
+begun_by job (states.Starting earlier) = states.Starting earlier
+begun_by job (states.Linked port) = states.Linked port
+
+-- the same of a link
 abbrev pub begun : ℕ → HelperLink → HelperLink
-begun job link = record link { state = states.Starting job }
+begun job link = record link { state = begun_by job link.state }
 
 -- the helper came to this port
 abbrev pub linked_to : ℕ → HelperLink → HelperLink
@@ -66,6 +74,26 @@ sign_request private blob message flags number =
 abbrev pub verify_request : List ℕ → List ℕ → List ℕ → ℕ → ToChildMessage
 verify_request host_key signature session number =
     Verify record { ask = number; host_key = host_key; signature = signature; session = session }
+
+-- the most asks that are unanswered at once (ours)
+abbrev pub most_asks : ℕ
+most_asks = 256
+
+-- by whether so many are unanswered, and whether each number was used
+abbrev pub ask_fault_by : Bool → Bool → Option AskFault
+ask_fault_by true spent = Some Full
+ask_fault_by false true = Some NumbersSpent
+ask_fault_by false false = None
+
+-- why no ask can be put
+abbrev pub ask_fault : HelperLink → Option AskFault
+ask_fault link = ask_fault_by (nat_lt (most_asks - 1) (length link.asks)) (link.last == 2 ^ 64 - 1)
+
+-- an ask is refused with this fault: memory is wanting only where nothing else stands against it
+abbrev pub IsRefusedWith : Option AskFault → AskFault → Type 0
+IsRefusedWith why Full = why ≡ Some Full
+IsRefusedWith why NumbersSpent = why ≡ Some NumbersSpent
+IsRefusedWith why Memory = why ≡ None
 
 -- an ask of this number
 abbrev pub ask_of : ℕ → ℕ → AskKind → Ask
@@ -107,3 +135,7 @@ lost link = record link {
 -- the asker of the first failed ask was handed out
 abbrev pub handed_out : HelperLink → HelperLink
 handed_out link = record link { failed = drop 1 link.failed }
+
+-- all of them were
+abbrev pub handed_out_all : HelperLink → HelperLink
+handed_out_all link = record link { failed = [] }

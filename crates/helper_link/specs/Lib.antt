@@ -1,5 +1,7 @@
+pub mod Answered
+pub mod Calls
 pub mod HelperLink
-pub mod Order
 pub mod Settling
+pub mod Sound
 pub mod Stream
 pub mod Telling

@@ -3,23 +3,7 @@ use Rattle.std.specs.Prelude.{ℕ, List, [], ◌∷◌, ◌++◌, Option, Some, 
 use Rattle.helper_link.specs.HelperLink.{HelperLink}
 use Rattle.helper_link.specs.Settling.{Settling, settling}
 use Rattle.helper_link.specs.declared.answer.Settled.{Settled}
-use Rattle.helper_link.specs.declared.answer.Told.{Told}
 use Rattle.helper_link.specs.declared.fault.LinkFault.{LinkFault}
-
--- what a piece settles, behind what was heard before
-abbrev pub settled_by : List ℕ → HelperLink → Settling
-settled_by piece link = settling (link.heard ++ piece) link.asks
-
--- a piece was heard: the asks that it answers are unanswered no more
-abbrev pub told_all : List ℕ → HelperLink → HelperLink
-told_all piece link = record link {
-  asks = (settled_by piece link).asks;
-  heard = (settled_by piece link).heard;
-}
-
--- what is told of a settling
-abbrev pub told_of : Settling → Told
-told_of settling = record { settled = settling.settled; fault = settling.fault }
 
 -- what was told, and the link afterwards
 pub record Telling : Type 0 where
@@ -35,9 +19,9 @@ telling_of settling link = record {
   fault = settling.fault;
 }
 
--- what one piece tells
+-- what a piece tells, behind what was heard before
 abbrev pub telling : List ℕ → HelperLink → Telling
-telling piece link = telling_of (settled_by piece link) link
+telling piece link = telling_of (settling (link.heard ++ piece) link.asks) link
 
 -- this was settled before
 abbrev pub settled_before : List Settled → Telling → Telling

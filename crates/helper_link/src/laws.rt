@@ -1,11 +1,15 @@
 //! What stands of a link over many calls.
 
-ghost use Rattle.std.specs.Prelude.{◌≡◌, ℕ, List};
+ghost use Rattle.std.specs.Prelude.{◌≡◌, ◌≢◌, ◌+◌, ◌^◌, ◌<◌, ◌≤◌, ◌==◌, ℕ, List, [], None, Some, length, if◌then◌else◌};
 ghost use Rattle.child_msg.specs.Messages.{ToChildMessage};
-ghost use Rattle.helper_link.specs.HelperLink.{HelperLink, lost, no_link, submitted};
-ghost use Rattle.helper_link.specs.Order.{IsInOrder};
-ghost use Rattle.helper_link.specs.Telling.{joined, told_all, told_in_turn, telling};
+ghost use Rattle.helper_link.specs.Answered.{LeadTo, is_answered};
+ghost use Rattle.helper_link.specs.Calls.{Call, RiseFrom, numbers_of};
+ghost use Rattle.helper_link.specs.HelperLink.{HelperLink, IsLinked, IsStarting, ask_fault, ask_of, begun, handed_out, handed_out_all, linked_to, lost, no_link, sendable, sent, submitted};
+ghost use Rattle.helper_link.specs.Settling.{find_ask};
+ghost use Rattle.helper_link.specs.Sound.{IsSound};
+ghost use Rattle.helper_link.specs.Telling.{joined, told_in_turn, telling};
 ghost use Rattle.helper_link.specs.declared.ask.AskKind.{AskKind as AKind};
+ghost use Rattle.helper_link.specs.declared.state.LinkState.TheVariants as states;
 
 /// Pieces that are told one after another, up to the first fault, tell what they tell as one piece,
 /// and leave the link as it would.
@@ -14,13 +18,54 @@ pub fn cuts_of_the_stream_do_not_matter()
         → told_in_turn piece pieces link ≡ telling (joined piece pieces) link }
 {}
 
-/// The numbers of the unanswered asks rise, and none is above the last: at first, and through each
-/// call that changes the asks. So a number is used once.
-pub fn asks_stay_in_order()
-    ensures first { IsInOrder no_link }
+/// What holds of the first link holds after each call that may be made: while no helper is there
+/// or being started, nothing is unanswered, to be sent or heard; at most 256 asks are unanswered, in
+/// the order of their numbers; and what was heard is less than a frame.
+pub fn links_stay_sound()
+    ensures first { IsSound no_link }
+    ensures begun { (job : ℕ) (link : HelperLink) → IsSound link → IsSound (begun job link) }
+    ensures linked { (port : ℕ) (link : HelperLink)
+        → IsStarting link.state → IsSound link → IsSound (linked_to port link) }
     ensures submitted { (kind : AKind) (asker : ℕ) (request : ℕ → ToChildMessage)
-        (link : HelperLink) → IsInOrder link → IsInOrder (submitted kind asker request link) }
+        (link : HelperLink) → link.state ≢ states.None → link.failed ≡ [] → ask_fault link ≡ None
+        → IsSound link → IsSound (submitted kind asker request link) }
+    ensures sent { (count : ℕ) (link : HelperLink) → IsSound link → IsSound (sent count link) }
     ensures told { (piece : List ℕ) (link : HelperLink)
-        → IsInOrder link → IsInOrder (told_all piece link) }
-    ensures lost { (link : HelperLink) → IsInOrder link → IsInOrder (lost link) }
+        → IsLinked link.state → IsSound link → IsSound (telling piece link).link }
+    ensures lost { (link : HelperLink) → IsSound link → IsSound (lost link) }
+    ensures handed_out { (link : HelperLink) → IsSound link → IsSound (handed_out link) }
+{}
+
+/// No number of an ask is given twice, whatever is called in between, the loss of the helper among
+/// it.
+pub fn ask_numbers_never_begin_again()
+    ensures { (calls : List Call) (link : HelperLink) → RiseFrom link.last (numbers_of calls link) }
+{}
+
+/// The ask that is put is found by its number, which no ask had before, and so are the others.
+pub fn an_ask_has_a_number_of_its_own()
+    ensures above { (number : ℕ) (link : HelperLink) → IsSound link → link.last < number
+        → find_ask number link.asks ≡ None }
+    ensures submitted { (number : ℕ) (kind : AKind) (asker : ℕ) (request : ℕ → ToChildMessage)
+        (link : HelperLink) → IsSound link
+        → find_ask number (submitted kind asker request link).asks
+        ≡ (if link.last + 1 == number then Some (ask_of (link.last + 1) asker kind)
+        else find_ask number link.asks) }
+{}
+
+/// Each answer goes to the asker of the unanswered ask of its number and is of its kind. That ask
+/// is unanswered no more, and all others are left.
+pub fn answers_go_to_who_asked()
+    ensures askers { (piece : List ℕ) (link : HelperLink)
+        → LeadTo (telling piece link).settled link.asks (telling piece link).link.asks }
+    ensures others { (number : ℕ) (piece : List ℕ) (link : HelperLink) → IsSound link
+        → find_ask number (telling piece link).link.asks
+        ≡ (if is_answered number (telling piece link).settled then None
+        else find_ask number link.asks) }
+{}
+
+/// Handing out one asker of a failed ask after another leads to the link without any.
+pub fn all_failed_askers_are_handed_out()
+    ensures step { (link : HelperLink) → handed_out_all (handed_out link) ≡ handed_out_all link }
+    ensures end { (link : HelperLink) → link.failed ≡ [] → handed_out_all link ≡ link }
 {}

@@ -1,16 +1,17 @@
-ghost use Rattle.std.specs.Prelude.{◌≡◌, ◌≢◌, ◌↔◌, ◌+◌, ◌-◌, ◌^◌, ◌<◌, ◌≤◌, [], ◌++◌, IsTrue, IfOk, IfErr, OnOk, OnErr, length, slice_get};
+ghost use Rattle.std.specs.Prelude.{◌≡◌, ◌≢◌, ◌↔◌, ◌+◌, ◌-◌, ◌^◌, ◌<◌, ◌≤◌, [], IsTrue, IfOk, MatchResult, None, Some, OnOk, OnErr, length, slice_get};
 ghost use Rattle.child_msg.specs.ChildFrames.{to_child_length};
 ghost use Rattle.child_msg.specs.Messages.{to_child_message};
-ghost use Rattle.helper_link.specs.HelperLink.{begun, handed_out, linked_to, lost, no_link, sendable, sent, sign_request, submitted, verify_request, IsLinked, IsStarting};
-ghost use Rattle.helper_link.specs.Telling.{settled_by, told_all, told_of};
+ghost use Rattle.helper_link.specs.HelperLink.{ask_fault, begun, handed_out, linked_to, lost, no_link, sendable, sent, sign_request, submitted, verify_request, IsLinked, IsRefusedWith, IsStarting};
+ghost use Rattle.helper_link.specs.Sound.{IsSound};
+ghost use Rattle.helper_link.specs.Telling.{telling};
 
 use crate::answer::Told;
 use crate::ask::{Ask, AskKind};
 use crate::fault::AskFault;
 use crate::settle::settle_stream;
 use crate::state::LinkState;
-use plain_lists::PlainList;
 use child_msg::{ToChild, write_to_child};
+use plain_lists::PlainList;
 use secret_buf::{ScrubBuf, SecretBytes};
 use std::alloc::{AllocError, Global};
 use std::marker::Model;
@@ -35,22 +36,16 @@ pub struct Link {
 }
 
 impl Model for Link {
-    ghost use Rattle.std.specs.Prelude.{◌≡◌, ◌<◌, vec_len};
-    ghost use Rattle.helper_link.specs.HelperLink.{HelperLink, askers};
+    ghost use Rattle.helper_link.specs.HelperLink.{HelperLink};
+    ghost use Rattle.helper_link.specs.Sound.{IsSound, link_of};
 
     ghost Value = { HelperLink };
 
-    ghost view = { λ link. record {
-      state = link.state;
-      asks = link.asks.items;
-      last = link.last;
-      owed = link.owed.live;
-      heard = link.heard.live;
-      failed = askers link.failed.items;
-      faults = link.faults;
-    } };
+    ghost view = { λ link. link_of link.state link.asks.items link.last link.owed.live
+        link.heard.live link.failed.items link.faults };
 
-    ghost invariant = { λ link. 0 < vec_len link.failed → vec_len link.asks ≡ 0 };
+    ghost invariant = { λ link. IsSound (link_of link.state link.asks.items link.last
+        link.owed.live link.heard.live link.failed.items link.faults) };
 }
 
 impl Link {
@@ -69,18 +64,22 @@ impl Link {
         }
     }
 
+    /// How far the link has come.
     pub fn state(&self) -> LinkState
-        ensures { result ≡ self.now.state }
+        ensures value { result ≡ self.now.state }
+        ensures sound { IsSound self.now }
     {
         self.state
     }
 
-    /// A helper is being started by this job. Takes no memory.
+    /// A helper is being started by this job. Nothing changes where one is there or being started.
+    /// Takes no memory.
     pub fn begin(&mut self, job: u64)
-        requires { self.old.state ≡ LinkState.None }
         ensures { self.new ≡ begun job self.old }
     {
-        self.state = LinkState::Starting { job };
+        if self.state == LinkState::None {
+            self.state = LinkState::Starting { job };
+        }
     }
 
     /// The helper came to this port. Takes no memory.
@@ -110,9 +109,8 @@ impl Link {
         ensures ok { OnOk result (self.new ≡ submitted AskKind.Signing asker
             (sign_request private.now blob.now message.now flags) self.old) }
         ensures value { IfOk result (λ number. number ≡ self.old.last + 1) }
-        ensures full { (result ≡ Err AskFault.Full) ↔ (256 ≤ length self.old.asks) }
-        ensures numbers_spent { (result ≡ Err AskFault.NumbersSpent)
-            ↔ (length self.old.asks < 256) × (self.old.last ≡ 2 ^ 64 - 1) }
+        ensures fault { MatchResult result (λ _. ask_fault self.old ≡ None)
+            (IsRefusedWith (ask_fault self.old)) }
         ensures unchanged { OnErr result (self.new ≡ self.old) }
     {
         let number = self.next_number()?;
@@ -145,9 +143,8 @@ impl Link {
         ensures ok { OnOk result (self.new ≡ submitted AskKind.Verifying asker
             (verify_request host_key.now signature.now session.now) self.old) }
         ensures value { IfOk result (λ number. number ≡ self.old.last + 1) }
-        ensures full { (result ≡ Err AskFault.Full) ↔ (256 ≤ length self.old.asks) }
-        ensures numbers_spent { (result ≡ Err AskFault.NumbersSpent)
-            ↔ (length self.old.asks < 256) × (self.old.last ≡ 2 ^ 64 - 1) }
+        ensures fault { MatchResult result (λ _. ask_fault self.old ≡ None)
+            (IsRefusedWith (ask_fault self.old)) }
         ensures unchanged { OnErr result (self.new ≡ self.old) }
     {
         let number = self.next_number()?;
@@ -184,12 +181,18 @@ impl Link {
     /// After want of memory the link is only to be dropped.
     pub fn told(&mut self, piece: &[u8]) -> Result<Told, AllocError>
         requires { IsLinked self.old.state }
-        ensures link { OnOk result (self.new ≡ told_all piece.now self.old) }
-        ensures told { IfOk result (λ told. told ≡ told_of (settled_by piece.now self.old)) }
+        ensures link { OnOk result (self.new ≡ (telling piece.now self.old).link) }
+        ensures settled { IfOk result (λ told.
+            told.settled ≡ (telling piece.now self.old).settled) }
+        ensures fault { IfOk result (λ told. told.fault ≡ (telling piece.now self.old).fault) }
     {
         self.heard.push_slice(piece)?;
         let alloc = *self.asks.allocator();
-        let end = settle_stream(alloc, self.heard.live(), &mut self.asks)?;
+        let Ok(end) = settle_stream(alloc, self.heard.live(), &mut self.asks) else {
+            self.asks.clear();
+            self.heard.wipe();
+            return Err(AllocError);
+        };
         self.heard.consume(end.read);
         Ok(Told {
             settled: PlainList::from_vec(end.settled),
@@ -243,11 +246,10 @@ impl Link {
 impl Link {
     // The number of an ask that is put now.
     fn next_number(&self) -> Result<u64, AskFault>
-        ensures ok { OnOk result ((length self.now.asks < 256) × (self.now.last < 2 ^ 64 - 1)) }
+        ensures room { OnOk result ((length self.now.asks < 256) × (self.now.last < 2 ^ 64 - 1)) }
         ensures value { IfOk result (λ number. number ≡ self.now.last + 1) }
-        ensures full { (result ≡ Err AskFault.Full) ↔ (256 ≤ length self.now.asks) }
-        ensures numbers_spent { (result ≡ Err AskFault.NumbersSpent)
-            ↔ (length self.now.asks < 256) × (self.now.last ≡ 2 ^ 64 - 1) }
+        ensures fault { MatchResult result (λ _. ask_fault self.now ≡ None)
+            (λ fault. ask_fault self.now ≡ Some fault) }
     {
         if self.asks.len() >= MAX_ASKS {
             return Err(AskFault::Full);
@@ -257,6 +259,8 @@ impl Link {
 
     // Writes the request and then keeps the ask, for which room was made before.
     fn submit(&mut self, asker: u64, kind: AskKind, request: &ToChild<'_>) -> Result<(), AllocError>
+        requires state { self.old.state ≢ LinkState.None }
+        requires few { length self.old.asks < 256 }
         requires last { self.old.last < 2 ^ 64 - 1 }
         requires failed { self.old.failed ≡ [] }
         requires body { to_child_length (to_child_message request.now) ≤ 1048576 }

@@ -171,8 +171,11 @@ fn askers_of_a_lost_link_are_handed_out_in_order(rt: HostRuntime) -> Result<(), 
     assert_eq!(rt; link.next_failed(), Some(75));
     assert_eq!(rt; link.next_failed(), None);
     link.begin(2);
+    link.begin(3);
+    assert_eq!(rt; link.state(), LinkState::Starting { job: 2 });
     link.linked(4);
     assert_eq!(rt; link.owed(), [].as_slice());
+    assert_eq!(rt; verify(&mut link, 70), Ok(4));
     Ok(())
 }
 

@@ -4,4 +4,5 @@ pub mod FindLemmas
 pub mod NumberLemmas
 pub mod NumberLaws
 pub mod MapLemmas
+pub mod TableLemmas
 pub mod Theorems

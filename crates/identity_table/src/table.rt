@@ -1,7 +1,7 @@
-ghost use Rattle.std.specs.Prelude.{◌≡◌, ◌+◌, ◌-◌, ◌^◌, ◌<◌, ◌≤◌, ◌↔◌, [], IsSome, IsTrue, IfOk, OnOk, OnErr, Err, length, slice_get};
+ghost use Rattle.std.specs.Prelude.{◌≡◌, ◌+◌, ◌≤◌, ◌↔◌, IsSome, IsTrue, IfOk, MatchResult, None, OnOk, OnErr, length, slice_get};
 ghost use Rattle.std.specs.Option.{option_copied};
-ghost use Rattle.identity_table.specs.declared.fault.AddFault.TheVariants.{ListFull, NumbersSpent};
-ghost use Rattle.identity_table.specs.Identities.{TableState, find_identity, find_number, remove_identity, alive_at, next_death, answer_len, max_answer, IsSound, identities_with, added};
+ghost use Rattle.identity_table.specs.Identities.{IsSound, added, find_identity, find_number, longest_private, next_death};
+ghost use Rattle.identity_table.specs.Tables.{IsRefusedWith, add_fault, emptied, empty_table, expired, without};
 
 use crate::deadline::Deadline;
 use crate::fault::AddFault;
@@ -46,7 +46,7 @@ impl Model for Table {
 impl Table {
     /// An empty table. Identities that come without a lifetime live for `default_life` seconds.
     pub fn new(alloc: Global, default_life: Option<u32>) -> Table
-        ensures { result ≡ record { identities = []; greatest = 0; last = 0; life = default_life } }
+        ensures { result ≡ empty_table default_life }
     {
         Table {
             identities: Vec::new(alloc),
@@ -60,10 +60,7 @@ impl Table {
     /// Removes and wipes those whose lifetime has run out at second `now`.
     pub fn expire(&mut self, now: u64)
         requires { self.old.greatest ≤ now }
-        ensures { self.new ≡ record self.old {
-          identities = alive_at now self.old.identities;
-          greatest = now;
-        } }
+        ensures { self.new ≡ expired now self.old }
     {
         self.first_death = remove_dead(&mut self.identities, self.first_death, now);
         self.greatest = now;
@@ -80,14 +77,12 @@ impl Table {
         comment: &[u8],
         now: u64,
     ) -> Result<u64, AddFault>
-        requires { self.old.greatest ≤ now }
+        requires clock { self.old.greatest ≤ now }
+        requires short { length key.private ≤ longest_private }
         ensures number { IfOk result (λ number. number ≡ self.old.last + 1) }
         ensures added { OnOk result (self.new ≡ added self.old key terms comment.now now) }
-        ensures list_full { (result ≡ Err ListFull)
-            ↔ (max_answer < answer_len (identities_with self.old key terms comment.now now)) }
-        ensures numbers_spent { (result ≡ Err NumbersSpent)
-            ↔ ((answer_len (identities_with self.old key terms comment.now now) ≤ max_answer)
-            × (self.old.last ≡ 2 ^ 64 - 1)) }
+        ensures fault { MatchResult result (λ _. add_fault self.old key terms comment.now now ≡ None)
+            (IsRefusedWith (add_fault self.old key terms comment.now now)) }
         ensures unchanged { OnErr result (self.new ≡ self.old) }
     {
         if !has_room(&self.identities, key.blob.as_slice(), comment) {
@@ -111,7 +106,8 @@ impl Table {
 
     /// The identity with this blob.
     pub fn find(&self, blob: &[u8]) -> Option<&Identity>
-        ensures { option_copied result ≡ find_identity blob.now self.now.identities }
+        ensures value { option_copied result ≡ find_identity blob.now self.now.identities }
+        ensures sound { IsSound self.now.identities self.now.last }
     {
         let place = place_of(&self.identities, blob)?;
         Some(&self.identities[place])
@@ -119,7 +115,8 @@ impl Table {
 
     /// The identity of this addition, where it is held and wasn't replaced.
     pub fn by_number(&self, addition: u64) -> Option<&Identity>
-        ensures { option_copied result ≡ find_number addition self.now.identities }
+        ensures value { option_copied result ≡ find_number addition self.now.identities }
+        ensures sound { IsSound self.now.identities self.now.last }
     {
         let place = place_of_number(&self.identities, addition)?;
         Some(&self.identities[place])
@@ -165,9 +162,7 @@ impl Table {
     /// Removes and wipes the identity with this blob, and tells whether there was one.
     pub fn remove(&mut self, blob: &[u8]) -> bool
         ensures there { IsTrue result ↔ IsSome (find_identity blob.now self.old.identities) }
-        ensures removed { self.new ≡ record self.old {
-          identities = remove_identity blob.now self.old.identities;
-        } }
+        ensures removed { self.new ≡ without blob.now self.old }
     {
         let removed = remove(&mut self.identities, blob);
         self.first_death = first_death(&self.identities);
@@ -176,7 +171,7 @@ impl Table {
 
     /// Removes and wipes all identities.
     pub fn remove_all(&mut self)
-        ensures { self.new ≡ record self.old { identities = [] } }
+        ensures { self.new ≡ emptied self.old }
     {
         self.identities.clear();
         self.first_death = None;

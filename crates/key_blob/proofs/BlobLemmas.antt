@@ -10,7 +10,8 @@ use Rattle.key_blob.specs.declared.key_type.Field.{Field as RowField}
 use Rattle.key_blob.specs.declared.key_type.Field.TheVariants.{Any}
 use Rattle.key_blob.specs.Rows.{field_of, fields_of}
 use Rattle.key_blob.specs.KeyTypes.{Field, KeyType}
-use Rattle.key_blob.specs.Reading.{◌>>=◌, strings, field_at, fields_at}
+use Rattle.wire_core.specs.Readings.{◌>>=◌}
+use Rattle.key_blob.specs.Reading.{strings, field_at, fields_at}
 use Rattle.key_blob.proofs.ReadingLemmas.{with_content, fields_from, none_left}
 use Rattle.key_blob.specs.AddedKeys.{blob_fields, blob_fields_at}
 

@@ -10,8 +10,8 @@ use Rattle.key_blob.specs.declared.fault.KeyFault.{KeyFault}
 use Rattle.key_blob.specs.declared.fault.KeyFault.TheVariants.{Short}
 use Rattle.key_blob.specs.Certificates.{CertificateParts, IsCertificateFront, text_at, u32_at, u64_at, names_at, holder_at, times_at, signer_at, certificate_at}
 use Rattle.key_blob.specs.Principals.{AreStrings, are_strings}
-use Rattle.key_blob.specs.Reading.{◌>>=◌}
-use Rattle.key_blob.proofs.GrammarLemmas.{bind_ok, ok_or_ok}
+use Rattle.wire_core.specs.Readings.{◌>>=◌}
+use Rattle.wire_core.proofs.ReadingLemmas.{bind_ok, ok_or_ok}
 use Rattle.key_blob.proofs.PrincipalLemmas.{AreStrings-from_test, test-from_AreStrings}
 
 abbrev done : {A : Type 0} → A → Result A KeyFault

@@ -4,14 +4,15 @@ use Rattle.std.specs.Option.{ok_or}
 use Rattle.std.specs.Str.{bytes_eq}
 use Rattle.wire_core.specs.Fields.{uint32_at, uint64_at, string_at}
 use Rattle.key_blob.specs.declared.fault.KeyFault.{KeyFault}
-use Rattle.key_blob.specs.declared.fault.KeyFault.TheVariants.{Short, UnknownType, BadLength, Mismatch, Memory}
+use Rattle.key_blob.specs.declared.fault.KeyFault.TheVariants.{Short, UnknownType, BadLength, Mismatch, Trailing, Memory}
 use Rattle.key_blob.specs.declared.form.Form.{Form}
 use Rattle.key_blob.specs.declared.form.Form.TheVariants.{Plain, Certified}
 use Rattle.key_blob.specs.Certificates.{names_at, holder_at, times_at, signer_at, certificate_at}
 use Rattle.key_blob.specs.Principals.{are_strings}
 use Rattle.key_blob.specs.KeyTypes.{Field, any, sized, text, key_type, kind_of, form_named}
-use Rattle.key_blob.specs.Reading.{◌>>=◌, checked, field_at, fields_at, after_fields, form_at, taken}
-use Rattle.key_blob.specs.PublicKeys.{KeyParts, key_with, after_nonce, certificate_for, ended, public_key_of}
+use Rattle.wire_core.specs.Readings.{◌>>=◌, ended_or}
+use Rattle.key_blob.specs.Reading.{checked, field_at, fields_at, after_fields, form_at, taken}
+use Rattle.key_blob.specs.PublicKeys.{KeyParts, key_with, after_nonce, certificate_for, public_key_of}
 use Rattle.key_blob.proofs.CertificateLemmas.{then_holder, then_times, then_signer}
 use Rattle.key_blob.proofs.PublicLemmas.{then_nonce, then_fields, then_certificate, then_ended}
 use Rattle.key_blob.proofs.ReadingLemmas.{with_content, rest_of}
@@ -70,7 +71,7 @@ form_needs_none bytes =
     bind_needs_none (ok_or (string_at bytes) Short) (λ name. ok_or (form_named name.0) UnknownType >>= named name.1) (short_needs_none (string_at bytes))
     (λ name. bind_needs_none (ok_or (form_named name.0) UnknownType) (named name.1) (unknown_needs_none (form_named name.0)) (λ form h. cc))
 
-ended_needs_none : (key : KeyParts) (rest : List ℕ) → NeedsNone (ended key rest)
+ended_needs_none : (key : KeyParts) (rest : List ℕ) → NeedsNone (ended_or Trailing key rest)
 ended_needs_none key [] e = cc
 ended_needs_none key (byte ∷ rest) e = cc
 

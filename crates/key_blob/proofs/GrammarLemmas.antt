@@ -1,5 +1,5 @@
 -- The two directions for fields and names: what is read is what the table says, and what the table says is read.
-use Rattle.std.proofs.Common.{◌≡◌, ℕ, ◌-◌, ◌^◌, ◌<◌, ◌≤◌, Bool, true, false, cond, eqb, List, [], ◌∷◌, ◌++◌, length, take, Option, Some, None, Result, Ok, Err, refl, sym, ap, subst, ◌∙◌, append_assoc, arith}
+use Rattle.std.proofs.Common.{◌≡◌, ℕ, ◌-◌, ◌^◌, ◌<◌, ◌≤◌, Bool, true, false, cond, eqb, List, [], ◌∷◌, ◌++◌, length, take, Option, Some, Result, Ok, refl, sym, ap, subst, ◌∙◌, append_assoc, arith}
 use Rattle.std.specs.Prelude.{find}
 use Rattle.std.specs.Option.{ok_or}
 use Rattle.std.specs.Str.{bytes_eq}
@@ -15,23 +15,11 @@ use Rattle.key_blob.specs.declared.form.Form.{Form}
 use Rattle.key_blob.specs.declared.form.Form.TheVariants.{Plain, Certified}
 use Rattle.key_blob.specs.declared.kind.KeyKind.TheVariants.{Ed25519, Rsa, Nistp256, Nistp384, Nistp521, StandIn}
 use Rattle.key_blob.specs.KeyTypes.{Field, any, sized, text, IsListed, type_of, forms, form_named}
-use Rattle.key_blob.specs.Reading.{◌>>=◌, IsContent, AreContents, strings, checked, field_at, fields_at, after_fields, form_at, taken}
+use Rattle.wire_core.specs.Readings.{◌>>=◌}
+use Rattle.key_blob.specs.Reading.{IsContent, AreContents, strings, checked, field_at, fields_at, after_fields, form_at, taken}
+use Rattle.wire_core.proofs.ReadingLemmas.{bind_ok, guard_ok, ok_or_ok}
 use Rattle.key_blob.proofs.ReadingLemmas.{with_content, rest_of}
 use Rattle.key_blob.proofs.TypeLemmas.{name_is_short}
-
--- ---- steps that did not fail
-
-pub bind_ok : {A B : Type 0} (r : Result A KeyFault) (f : A → Result B KeyFault) (y : B) → (r >>= f) ≡ Ok y → (x : A) × (r ≡ Ok x) × (f x ≡ Ok y)
-bind_ok (Ok x) f y e = (x, refl, e)
-bind_ok (Err fault) f y e = absurd cc
-
-pub ok_or_ok : {A : Type 0} (o : Option A) (fault : KeyFault) (x : A) → ok_or o fault ≡ Ok x → o ≡ Some x
-ok_or_ok (Some y) fault x e = cc
-ok_or_ok None fault x e = absurd cc
-
-guard_ok : {A : Type 0} (b : Bool) (fault : KeyFault) (x y : A) → cond b (Ok x) (Err fault) ≡ Ok y → (b ≡ true) × (x ≡ y)
-guard_ok true fault x y e = (refl, cc)
-guard_ok false fault x y e = absurd cc
 
 abbrev done : List ℕ × List ℕ → Result (List ℕ × List ℕ) KeyFault
 done found = Ok found

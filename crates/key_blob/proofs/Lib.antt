@@ -3,6 +3,7 @@ pub mod BlobLemmas
 pub mod TypeLemmas
 pub mod GrammarLemmas
 pub mod PrincipalLemmas
+pub mod ValidityLemmas
 pub mod CertificateLemmas
 pub mod PublicLemmas
 pub mod FaultLemmas

@@ -1,28 +1,27 @@
 -- The grammar of public keys and their reading are one: what is read is in the grammar, and what is in the grammar is read.
-use Rattle.std.proofs.Common.{◌≡◌, ℕ, ◌^◌, ◌<◌, List, [], ◌∷◌, ◌++◌, length, Option, Some, Result, Ok, refl, sym, ap, subst, ◌∙◌, inl, inr}
+use Rattle.std.proofs.Common.{◌≡◌, ℕ, ◌^◌, ◌<◌, List, [], ◌++◌, length, Option, Some, Result, Ok, refl, sym, ap, subst, ◌∙◌, inl, inr}
 use Rattle.std.proofs.lemmas.List.{append-nil}
 use Rattle.wire_text.specs.Wire.{IsBytes, string}
 use Rattle.wire_core.proofs.Theorems.{IsFront, string_at-string}
 use Rattle.key_blob.specs.declared.fault.KeyFault.{KeyFault}
+use Rattle.key_blob.specs.declared.fault.KeyFault.TheVariants.{Trailing}
 use Rattle.key_blob.specs.declared.form.Form.{Form}
 use Rattle.key_blob.specs.declared.form.Form.TheVariants.{Plain, Certified}
 use Rattle.key_blob.specs.declared.kind.KeyKind.{KeyKind}
 use Rattle.key_blob.specs.Certificates.{CertificateParts, IsCertificateFront, certificate_at}
 use Rattle.key_blob.specs.KeyTypes.{IsListed, key_type, type_of, kind_of}
-use Rattle.key_blob.specs.PublicKeys.{KeyParts, key_with, plain_key, IsPlainKey, IsCertifiedKey, IsPublicKey, after_nonce, certificate_for, ended, public_key_of}
-use Rattle.key_blob.specs.Reading.{◌>>=◌, AreContents, strings, after_fields, form_at, taken}
+use Rattle.key_blob.specs.PublicKeys.{KeyParts, key_with, plain_key, IsPlainKey, IsCertifiedKey, IsPublicKey, after_nonce, certificate_for, public_key_of}
+use Rattle.wire_core.specs.Readings.{◌>>=◌, ended_or}
+use Rattle.key_blob.specs.Reading.{AreContents, strings, after_fields, form_at, taken}
 use Rattle.key_blob.proofs.CertificateLemmas.{ok_is, text_step, certificate_is_front, certificate_again}
-use Rattle.key_blob.proofs.GrammarLemmas.{bind_ok, taken-append, passed_are_front, passed_again, form_is_front, form_again}
-
-ended_is : (key read : KeyParts) (rest : List ℕ) → ended key rest ≡ Ok read → (rest ≡ []) × (key ≡ read)
-ended_is key read [] e = (refl, cc)
-ended_is key read (byte ∷ rest) e = absurd cc
+use Rattle.wire_core.proofs.ReadingLemmas.{bind_ok, ended_or_is}
+use Rattle.key_blob.proofs.GrammarLemmas.{taken-append, passed_are_front, passed_again, form_is_front, form_again}
 
 -- ---- what is read
 
 -- the key of these fields, where nothing is left behind its certificate
 abbrev pub then_ended : Form → List ℕ → List ℕ → Option CertificateParts × List ℕ → Result KeyParts KeyFault
-then_ended form fields after_key certificate = ended (key_with (kind_of form) (taken fields after_key) certificate.0) certificate.1
+then_ended form fields after_key certificate = ended_or Trailing (key_with (kind_of form) (taken fields after_key) certificate.0) certificate.1
 
 -- what follows the key's fields
 abbrev pub then_certificate : Form → List ℕ → List ℕ → Result KeyParts KeyFault
@@ -40,7 +39,7 @@ plain_is_found : (bytes after_name : List ℕ) (key : KeyParts) (kind : KeyKind)
     then_fields (Plain kind) after_name ≡ Ok key → IsPlainKey bytes key
 plain_is_found bytes after_name key kind name read =
     let a = bind_ok (after_fields (key_type kind).public after_name) (then_certificate (Plain kind) after_name) key read in
-    let end = ended_is (plain_key kind (taken after_name a.0)) key a.0 a.2 in
+    let end = ended_or_is Trailing (plain_key kind (taken after_name a.0)) key a.0 a.2 in
     let f = passed_are_front (key_type kind).public after_name a.0 name.left a.1 in
     let all : after_name ≡ strings f.contents =
     f.front.parts ∙ ap (λ (rest : List ℕ). strings f.contents ++ rest) end.0 ∙ append-nil (strings f.contents) in
@@ -65,8 +64,8 @@ certificate_is_found bytes after_name key kind listed name read =
     let c = bind_ok (certificate_for form b.0) (then_ended form a.0 b.0) key b.2 in
     let d = bind_ok (certificate_at b.0) (λ certificate. Ok (Some certificate.0, certificate.1)) c.0 c.1 in
     let whole = ok_is (Some d.0.0, d.0.1) c.0 d.2 in
-    let read_on : ended (key_with kind (taken a.0 b.0) (Some d.0.0)) d.0.1 ≡ Ok key = ap (then_ended form a.0 b.0) whole ∙ c.2 in
-    let end = ended_is (key_with kind (taken a.0 b.0) (Some d.0.0)) key d.0.1 read_on in
+    let read_on : ended_or Trailing (key_with kind (taken a.0 b.0) (Some d.0.0)) d.0.1 ≡ Ok key = ap (then_ended form a.0 b.0) whole ∙ c.2 in
+    let end = ended_or_is Trailing (key_with kind (taken a.0 b.0) (Some d.0.0)) key d.0.1 read_on in
     let front = certificate_is_front b.0 d.0 f.front.left d.1 in
     let same : key_with kind (strings f.contents) (Some d.0.0) ≡ key =
     ap (λ (fields : List ℕ). key_with kind fields (Some d.0.0)) (sym f.whole) ∙ end.1 in

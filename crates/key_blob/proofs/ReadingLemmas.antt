@@ -6,7 +6,8 @@ use Rattle.key_blob.specs.declared.key_type.Field.{Field as RowField}
 use Rattle.key_blob.specs.declared.key_type.Field.TheVariants.{Any}
 use Rattle.key_blob.specs.Rows.{field_of, fields_of}
 use Rattle.key_blob.specs.KeyTypes.{Field}
-use Rattle.key_blob.specs.Reading.{◌>>=◌, field_at, fields_at, after_fields}
+use Rattle.wire_core.specs.Readings.{◌>>=◌}
+use Rattle.key_blob.specs.Reading.{field_at, fields_at, after_fields}
 
 -- a content in front of others that were read
 abbrev pub with_content : List ℕ → List (List ℕ) × List ℕ → Result (List (List ℕ) × List ℕ) KeyFault

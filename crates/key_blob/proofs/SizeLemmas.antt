@@ -1,12 +1,18 @@
 -- The number of binary digits, found byte by byte, is that of the number.
-use Rattle.std.proofs.Common.{◌≡◌, ◌≢◌, ◌==◌, ℕ, suc, ◌+◌, ◌-◌, ◌*◌, ◌^◌, ◌<◌, ◌≤◌, Bool, true, false, cond, List, [], ◌∷◌, length, refl, sym, ap, subst, ◌∙◌, arith, lit<}
+use Rattle.std.proofs.Common.{◌≡◌, ◌≢◌, ◌==◌, ℕ, suc, ◌+◌, ◌-◌, ◌*◌, ◌^◌, ◌<◌, ◌≤◌, Bool, true, false, cond, List, [], ◌∷◌, ◌++◌, length, Option, None, refl, inl, inr, sym, ap, subst, ◌∙◌, arith, lit<}
+use Rattle.std.specs.Prelude.{unwrap_or}
 use Rattle.std.specs.Int.{w8, leading_zeros}
+use Rattle.std.proofs.lemmas.Bool.{cases_lt}
 use Rattle.std.proofs.lemmas.Bool.Decides.{Decides-eqb, nat_tests}
 use Rattle.std.proofs.lemmas.List.Elements.{All-drop}
 use Rattle.std.proofs.lemmas.Nat.{pow-add, leading_top}
 use Rattle.std.proofs.Math.Nat.{mul-le-mul_right}
-use Rattle.wire_text.specs.Wire.{IsBytes}
-use Rattle.key_blob.specs.KeySizes.{digits_of, number_of, HasDigits}
+use Rattle.std.proofs.Math.Pow.{pow_mono}
+use Rattle.wire_text.specs.Wire.{IsBytes, string}
+use Rattle.wire_core.proofs.Theorems.{string_at-string}
+use Rattle.key_blob.specs.KeyTypes.{key_type}
+use Rattle.key_blob.specs.PublicKeys.{KeyParts}
+use Rattle.key_blob.specs.KeySizes.{bits_of, digits_of, number_of, HasDigits}
 
 -- what the bytes behind a byte are worth together
 abbrev worth : List ℕ → ℕ
@@ -57,3 +63,30 @@ pub digits_of-HasDigits : (bytes : List ℕ) → IsBytes bytes → HasDigits (nu
 digits_of-HasDigits [] small = record { below = lit< tt; least = λ h. absurd (omega arith) }
 digits_of-HasDigits (byte ∷ bytes) small =
     by_first byte bytes (byte == 0) refl small (digits_of-HasDigits bytes (All-drop (λ b. b < 256) 1 (byte ∷ bytes) small))
+
+-- of two numbers of digits the one is not less than the other
+no_fewer : (number a b : ℕ) → HasDigits number a → HasDigits number b → b ≤ a
+no_fewer number a b is_a is_b =
+    elim (cases_lt a b) [
+      | inr within ↦ within
+      | inl more ↦
+          let within : a ≤ b - 1 = omega arith in
+          absurd (omega (arith, is_a.below, is_b.least (omega arith), pow_mono within))
+    ]
+
+-- a number has one number of digits
+pub digits_are_unique : (number a b : ℕ) → HasDigits number a → HasDigits number b → a ≡ b
+digits_are_unique number a b is_a is_b =
+    omega (arith, no_fewer number a b is_a is_b, no_fewer number b a is_b is_a)
+
+-- the size of a key whose type doesn't tell it
+by_type : (bits : Option ℕ) (digits : ℕ) → bits ≡ None → unwrap_or bits digits ≡ digits
+by_type bits digits none = rw none refl
+
+-- the size of such a key is the number of its modulus's digits
+pub bits_of-modulus : (key : KeyParts) (e n rest : List ℕ) → (key_type key.kind).bits ≡ None
+    → key.fields ≡ string e ++ (string n ++ rest) → length e < 2 ^ 32 → length n < 2 ^ 32 → IsBytes n
+    → HasDigits (number_of n) (bits_of key)
+bits_of-modulus key e n rest none fields e_fits n_fits each =
+    rw (by_type (key_type key.kind).bits _ none, fields, string_at-string e (string n ++ rest) e_fits, string_at-string n rest n_fits)
+    (digits_of-HasDigits n each)

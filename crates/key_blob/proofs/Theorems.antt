@@ -17,11 +17,13 @@ use Rattle.key_blob.specs.declared.form.Form.TheVariants.{Plain, Certified}
 use Rattle.key_blob.specs.declared.kind.KeyKind.{KeyKind}
 use Rattle.key_blob.specs.declared.kind.KeyKind.TheVariants.{Ed25519, Rsa, Nistp256, Nistp384, Nistp521, StandIn}
 use Rattle.key_blob.specs.KeyTypes.{KeyType, key_type, certified_type, type_of, blob_order}
-use Rattle.key_blob.specs.Reading.{◌>>=◌, AreContents, strings, fields_at, after_fields, form_at, taken}
+use Rattle.wire_core.specs.Readings.{◌>>=◌}
+use Rattle.key_blob.specs.Reading.{AreContents, strings, fields_at, after_fields, form_at, taken}
 use Rattle.key_blob.specs.PublicKeys.{KeyParts, plain_key, IsPublicKey, public_key_of}
 use Rattle.key_blob.specs.AddedKeys.{IsBlobText, IsAddedKey, blob_fields, blob_fields_at, certificate_blob_at, blob_at, added_key_at, private_at, bytes_before, private_from}
 use Rattle.key_blob.proofs.CertificateLemmas.{ok_is, text_step, content_is_bytes}
-use Rattle.key_blob.proofs.GrammarLemmas.{bind_ok, taken-append, fields_are_front, fields_again, passed_are_front, passed_again, form_is_front, form_again}
+use Rattle.wire_core.proofs.ReadingLemmas.{bind_ok}
+use Rattle.key_blob.proofs.GrammarLemmas.{taken-append, fields_are_front, fields_again, passed_are_front, passed_again, form_is_front, form_again}
 use Rattle.key_blob.proofs.PublicLemmas.{public_is_found, public_is_read}
 
 -- ---- the blob of an addition, read

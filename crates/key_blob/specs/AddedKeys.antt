@@ -13,7 +13,8 @@ use Rattle.key_blob.specs.declared.kind.KeyKind.{KeyKind}
 use Rattle.key_blob.specs.Certificates.{text_at}
 use Rattle.key_blob.specs.KeyTypes.{KeyType, IsListed, key_type, certified_type, type_of, blob_order}
 use Rattle.key_blob.specs.PublicKeys.{KeyParts, IsPublicKey, public_key_of}
-use Rattle.key_blob.specs.Reading.{AreContents, strings, ◌>>=◌, fields_at, after_fields, form_at, taken}
+use Rattle.wire_core.specs.Readings.{◌>>=◌}
+use Rattle.key_blob.specs.Reading.{AreContents, strings, fields_at, after_fields, form_at, taken}
 
 -- the public fields of a blob, whose contents are these in an addition
 abbrev pub blob_fields : KeyType → List (List ℕ) → List ℕ

@@ -8,7 +8,7 @@ use Rattle.key_blob.specs.declared.fault.KeyFault.{KeyFault}
 use Rattle.key_blob.specs.declared.fault.KeyFault.TheVariants.{Short}
 use Rattle.key_blob.specs.declared.public_key.Certificate.{Certificate}
 use Rattle.key_blob.specs.Principals.{AreStrings, NamesHost, are_strings}
-use Rattle.key_blob.specs.Reading.{◌>>=◌}
+use Rattle.wire_core.specs.Readings.{◌>>=◌}
 
 -- the fields of a certificate that are read, without where they lie in memory
 pub record CertificateParts : Type 0 where

@@ -1,6 +1,6 @@
 -- Public keys, and their blobs: the type's name and its public fields, and nothing more
 -- (RFC 4253, section 6.6), or a certificate (OpenSSH's PROTOCOL.certkeys).
-use Rattle.std.specs.Prelude.{◌≡◌, ℕ, ◌^◌, ◌<◌, ◌⊎◌, List, [], ◌∷◌, ◌++◌, length, Option, Some, None, Result, Ok, Err}
+use Rattle.std.specs.Prelude.{◌≡◌, ℕ, ◌^◌, ◌<◌, ◌⊎◌, List, [], ◌∷◌, ◌++◌, length, Option, Some, None, Result, Ok}
 use Rattle.std.specs.Option.{option_map}
 use Rattle.wire_text.specs.Wire.{string}
 use Rattle.key_blob.specs.declared.fault.KeyFault.{KeyFault}
@@ -11,7 +11,8 @@ use Rattle.key_blob.specs.declared.kind.KeyKind.{KeyKind}
 use Rattle.key_blob.specs.declared.public_key.PublicKey.{PublicKey}
 use Rattle.key_blob.specs.Certificates.{CertificateParts, IsCertificateFront, certificate_of, certificate_at, text_at}
 use Rattle.key_blob.specs.KeyTypes.{IsListed, key_type, type_of, kind_of}
-use Rattle.key_blob.specs.Reading.{AreContents, strings, ◌>>=◌, after_fields, form_at, taken}
+use Rattle.wire_core.specs.Readings.{◌>>=◌, ended_or}
+use Rattle.key_blob.specs.Reading.{AreContents, strings, after_fields, form_at, taken}
 
 -- a public key without where it lies in memory: its public fields are each a string
 pub record KeyParts : Type 0 where
@@ -92,11 +93,6 @@ certificate_for (Plain kind) bytes = Ok (None, bytes)
 certificate_for (Certified kind) bytes =
     certificate_at bytes >>= λ certificate. Ok (Some certificate.0, certificate.1)
 
--- the key, where nothing is left behind it
-abbrev pub ended : KeyParts → List ℕ → Result KeyParts KeyFault
-ended key [] = Ok key
-ended key (byte ∷ rest) = Err Trailing
-
 -- the key whose blob the bytes are, or the first fault from left to right
 unfoldable pub public_key_of : List ℕ → Result KeyParts KeyFault
 public_key_of bytes = do
@@ -104,4 +100,4 @@ public_key_of bytes = do
   fields ← after_nonce form.0 form.1
   after_key ← after_fields (key_type (kind_of form.0)).public fields
   certificate ← certificate_for form.0 after_key
-  ended (key_with (kind_of form.0) (taken fields after_key) certificate.0) certificate.1
+  ended_or Trailing (key_with (kind_of form.0) (taken fields after_key) certificate.0) certificate.1

@@ -6,6 +6,7 @@ use Rattle.std.specs.Option.{ok_or}
 use Rattle.std.specs.Str.{bytes_eq}
 use Rattle.wire_text.specs.Wire.{string}
 use Rattle.wire_core.specs.Fields.{string_at}
+use Rattle.wire_core.specs.Readings.{◌>>=◌}
 use Rattle.key_blob.specs.declared.fault.KeyFault.{KeyFault}
 use Rattle.key_blob.specs.declared.fault.KeyFault.TheVariants.{Short, UnknownType, BadLength, Mismatch}
 use Rattle.key_blob.specs.declared.form.Form.{Form}
@@ -32,12 +33,6 @@ abbrev pub strings : List (List ℕ) → List ℕ
 strings contents = flat_map string contents
 
 -- ---- reading from left to right
-
-infixl 10 ◌>>=◌
--- the first fault, or what the second reading gives for the value of the first
-abbrev pub ◌>>=◌ : {A B : Type 0} → Result A KeyFault → (A → Result B KeyFault) → Result B KeyFault
-(Ok x) >>= f = f x
-(Err fault) >>= f = Err fault
 
 -- a content that was read, where the field may hold it
 abbrev pub checked : Field → List ℕ × List ℕ → Result (List ℕ × List ℕ) KeyFault

@@ -1,6 +1,7 @@
 ghost use Rattle.std.specs.Prelude.{◌≡◌, ◌↔◌, IsTrue, MatchResult, Ok, Err};
 ghost use Rattle.key_blob.specs.Certificates.{IsValid, certificate_of, names_at, certificate_at};
 ghost use Rattle.key_blob.specs.Principals.{NamesHost, are_strings};
+ghost use Rattle.key_blob.specs.Validity.{names_host, is_valid};
 
 use crate::fault::KeyFault;
 use crate::public_key::Certificate;
@@ -66,7 +67,8 @@ pub fn take_certificate<'a>(from: &mut Cursor<'a>) -> Result<Certificate<'a>, Ke
 
 /// Whether one of the strings that the bytes begin with is a pattern that matches the host.
 fn names(principals: &[u8], host: &[u8]) -> bool
-    ensures { IsTrue result ↔ NamesHost host.now principals.now }
+    ensures exact { IsTrue result ↔ NamesHost host.now principals.now }
+    ensures value { result ≡ names_host host.now principals.now }
 {
     let mut from = Cursor::new(principals);
     'patterns: while let Ok(pattern) = from.take_string() {
@@ -82,8 +84,10 @@ fn names(principals: &[u8], host: &[u8]) -> bool
 /// matches the host.
 ///
 /// Who signed it, and whether the signature is right, is not looked at.
+#[tactic(auto, using(crate::proofs::ValidityLemmas::nothing_len), unfolding(crate::specs::Validity::is_valid))]
 pub fn valid_for(certificate: &Certificate<'_>, host: &[u8], wall: u64) -> bool
-    ensures { IsTrue result ↔ IsValid (certificate_of certificate.now) host.now wall }
+    ensures exact { IsTrue result ↔ IsValid (certificate_of certificate.now) host.now wall }
+    ensures value { result ≡ is_valid (certificate_of certificate.now) host.now wall }
 {
     certificate.cert_type == HOST
         && certificate.after <= wall

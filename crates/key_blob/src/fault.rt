@@ -8,18 +8,18 @@ use wire_core::Short;
 #[derive(Clone, Copy, Debug, PartialEq, Eq)]
 pub enum KeyFault {
     /// A field passes the end of the bytes, or a principal that of the string of principals.
-    Short,
+    Short = 1,
     /// The type is none of the table in docs/PROTOCOL.md, "Keys".
-    UnknownType,
+    UnknownType = 2,
     /// A field whose length the table gives has another length.
-    BadLength,
+    BadLength = 3,
     /// The name of the curve is not the one that the type names, or the type of the certificate in
     /// an addition is not the one that stands before it.
-    Mismatch,
+    Mismatch = 4,
     /// Bytes stand after the last field of a blob.
-    Trailing,
+    Trailing = 5,
     /// Memory ran out. Says nothing of the bytes.
-    Memory,
+    Memory = 6,
 }
 
 impl From<Short> for KeyFault {

@@ -13,6 +13,7 @@ mod fingerprints;
 mod form;
 mod key_type;
 mod kind;
+mod laws;
 mod public_key;
 mod size;
 
@@ -21,6 +22,10 @@ pub use certificate::valid_for;
 pub use fault::KeyFault;
 pub use fingerprints::fingerprint;
 pub use kind::KeyKind;
+pub use laws::{
+    a_blob_is_one_key, a_size_is_the_digits_of_the_modulus, an_addition_has_a_public_key,
+    no_addition_begins_another,
+};
 pub use public_key::{Certificate, PublicKey, algorithm_fits, read_public, type_word};
 pub use size::bits;
 

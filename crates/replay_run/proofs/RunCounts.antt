@@ -1,7 +1,7 @@
 -- A line keeps what the numbers of a run say.
 use Rattle.std.proofs.Common.{◌≡◌, ℕ, suc, ◌+◌, ◌<◌, ◌≤◌, List, [], length, refl, ap, sym, ◌∙◌, arith, Option, Some, None, Bool, true, false, nat_lt, if◌then◌else◌, Result, Ok, Err}
 use Rattle.std.proofs.lemmas.Bool.Decides.{nat_tests}
-use Rattle.world_ports.specs.declared.plain.Door.TheVariants.{Clients, Children}
+use Rattle.world_ports.specs.declared.Door.TheVariants.{Clients, Children}
 use Rattle.agent_model.specs.Events.{Happening, Joined, Heard, Ended, Took, Started, StartFailed, Tick}
 use Rattle.agent_model.specs.State.{State, Port, find_port, owed_of}
 use Rattle.agent_model.proofs.RunLemmas.{step-last_port, last_after}

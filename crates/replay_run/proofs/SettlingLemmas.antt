@@ -1,7 +1,7 @@
 -- Lemmas on settling: it takes one port after another, and ends with nothing owed to a port that isn't held.
 use Rattle.std.proofs.Common.{◌≡◌, ℕ, zero, suc, ◌<◌, ◌≤◌, List, [], length, refl, ap, sym, ◌∙◌, arith, Option, Some, None, true, false}
 use Rattle.std.proofs.lemmas.Bool.Decides.{nat_tests}
-use Rattle.world_ports.specs.declared.plain.Moment.{Moment}
+use Rattle.world_ports.specs.declared.Moment.{Moment}
 use Rattle.agent_model.specs.Budget.{budget}
 use Rattle.agent_model.specs.Events.{Took}
 use Rattle.agent_model.specs.Sound.{IsSteady}

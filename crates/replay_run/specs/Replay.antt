@@ -1,8 +1,11 @@
--- The run of a schedule: what it prints, and where it stops (ours: docs/PROTOCOL.md, "Schedules").
+-- The run of a schedule: what it prints, `output_of`, and where it stops (ours: docs/PROTOCOL.md,
+-- "Schedules"). The file is read from its end. A line is read by schedule_text's specs/Lines.antt;
+-- its event is one step of the abstract agent, agent_core's specs/Step.antt, and what ports take
+-- after it is in specs/Settling.antt.
 use Rattle.std.specs.Prelude.{ℕ, suc, ◌+◌, ◌==◌, ◌||◌, nat_lt, Bool, true, false, if◌then◌else◌, List, [], ◌∷◌, ◌++◌, length, Option, None, Some, Result, Ok, Err}
 use Rattle.std.specs.List.{slice_split}
-use Rattle.world_ports.specs.declared.plain.Door.TheVariants.{Clients, Children}
-use Rattle.world_ports.specs.declared.plain.Moment.{Moment}
+use Rattle.world_ports.specs.declared.Door.TheVariants.{Clients, Children}
+use Rattle.world_ports.specs.declared.Moment.{Moment}
 use Rattle.agent_model.specs.Events.{Happening, Joined, Heard, Ended, Tick}
 use Rattle.agent_model.specs.State.{State, Port, first_state, find_port, owed_of}
 use Rattle.schedule_text.specs.declared.fault.LineFault.{LineFault}

@@ -1,6 +1,6 @@
 -- Settling: after a line every port that isn't held takes what it is owed (ours: docs/PROTOCOL.md, "Output").
 use Rattle.std.specs.Prelude.{ℕ, zero, suc, List, [], ◌∷◌, ◌++◌, length, take, Option, None, Some}
-use Rattle.world_ports.specs.declared.plain.Moment.{Moment}
+use Rattle.world_ports.specs.declared.Moment.{Moment}
 use Rattle.agent_model.specs.Budget.{budget}
 use Rattle.agent_model.specs.Events.{Happening, Took}
 use Rattle.agent_model.specs.State.{State, owed_of}

@@ -1,7 +1,7 @@
 //! Laws of the runs of specs/.
 
 ghost use Rattle.std.specs.Prelude.{◌≡◌, List, ℕ, [], false};
-ghost use Rattle.world_ports.specs.declared.plain.Moment.{Moment};
+ghost use Rattle.world_ports.specs.declared.Moment.{Moment};
 ghost use Rattle.agent_model.specs.Sound.{IsSteady};
 ghost use Rattle.agent_model.specs.State.{State, owed_of};
 ghost use Rattle.replay_run.specs.Holding.{is_held};

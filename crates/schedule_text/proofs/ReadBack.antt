@@ -8,7 +8,7 @@ use Rattle.std.specs.List.{All, AllByRecursion, slice_index}
 use Rattle.std.specs.Char.{is_ascii_digit}
 use Rattle.std.specs.Str.{all_ascii_digits}
 use Rattle.hex.specs.Hex.{encode_lower, encode_with, lower_digits, IsBytes}
-use Rattle.world_ports.specs.declared.plain.Door.TheVariants.{Clients, Children}
+use Rattle.world_ports.specs.declared.Door.TheVariants.{Clients, Children}
 use Rattle.schedule_text.specs.declared.fault.LineFault.TheVariants.{Hex, Number, TooLong}
 use Rattle.schedule_text.specs.declared.step.Step.{Step}
 use Rattle.schedule_text.specs.declared.step.Step.TheVariants.{Skip, At, Join, Hear, End, Hold, Free, Take, Started, Failed}

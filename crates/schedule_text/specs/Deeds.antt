@@ -1,9 +1,9 @@
 -- Output lines of a run (ours): docs/PROTOCOL.md, "Output".
 use Rattle.std.specs.Prelude.{ℕ, ◌++◌, List, [], codes, decimal}
 use Rattle.hex.specs.Hex.{encode_lower}
-use Rattle.world_ports.specs.declared.plain.Job.{Job}
-use Rattle.world_ports.specs.declared.plain.JobKind.{JobKind}
-use Rattle.world_ports.specs.declared.plain.JobKind.TheVariants.{Helper, Confirm}
+use Rattle.world_ports.specs.declared.Job.{Job}
+use Rattle.world_ports.specs.declared.JobKind.{JobKind}
+use Rattle.world_ports.specs.declared.JobKind.TheVariants.{Helper, Confirm}
 use Rattle.schedule_text.specs.declared.deed.Deed.{Deed}
 use Rattle.schedule_text.specs.declared.deed.Deed.TheVariants.{To, Close, Start, Refused, End}
 use Rattle.schedule_text.specs.declared.fault.LineFault.{LineFault}

@@ -1,6 +1,6 @@
 -- Lines of a schedule (ours): docs/PROTOCOL.md, "Schedules".
 use Rattle.std.specs.Prelude.{◌≡◌, ◌⊎◌, ℕ, ◌==◌, nat_lt, if◌then◌else◌, bytes_eq, codes, length, List, [], ◌∷◌, Result, Ok, Err, ok_or}
-use Rattle.world_ports.specs.declared.plain.Door.TheVariants.{Clients}
+use Rattle.world_ports.specs.declared.Door.TheVariants.{Clients}
 use Rattle.schedule_text.specs.declared.fault.LineFault.{LineFault}
 use Rattle.schedule_text.specs.declared.fault.LineFault.TheVariants.{Hex, Memory, Number, TooLong, Word}
 use Rattle.schedule_text.specs.declared.step.Step.{Step}

@@ -1,8 +1,8 @@
 -- Lines of a schedule as they are written (ours): docs/PROTOCOL.md, "Schedules".
 use Rattle.std.specs.Prelude.{◌≡◌, ℕ, ◌++◌, ◌<◌, ◌≤◌, ◌^◌, List, [], codes, decimal, length, Ok}
 use Rattle.hex.specs.Hex.{encode_lower, IsBytes}
-use Rattle.world_ports.specs.declared.plain.Door.{Door}
-use Rattle.world_ports.specs.declared.plain.Door.TheVariants.{Clients, Children}
+use Rattle.world_ports.specs.declared.Door.{Door}
+use Rattle.world_ports.specs.declared.Door.TheVariants.{Clients, Children}
 use Rattle.schedule_text.specs.declared.step.Step.{Step}
 use Rattle.schedule_text.specs.declared.step.Step.TheVariants.{Skip, At, Join, Hear, End, Hold, Free, Take, Started, Failed}
 use Rattle.schedule_text.specs.Lines.{step_of}

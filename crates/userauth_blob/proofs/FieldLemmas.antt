@@ -1,50 +1,17 @@
--- Keys and algorithms, and steps that didn't fail.
-use Rattle.std.proofs.Common.{◌≡◌, ◌≢◌, ℕ, ◌<◌, Bool, true, false, cond, List, [], ◌∷◌, ◌++◌, length, Option, Some, None, Result, Ok, Err, refl, sym, ap, subst, ◌∙◌}
+-- Keys and algorithms.
+use Rattle.std.proofs.Common.{◌≡◌, ℕ, Bool, true, false, List, Result, Ok, Err, refl, sym, ap, ◌∙◌}
 use Rattle.std.specs.Prelude.{◌↔◌, IsTrue, Contains, is_ok}
 use Rattle.std.specs.List.{list_any}
-use Rattle.std.specs.Option.{ok_or}
 use Rattle.std.specs.Str.{bytes_eq}
-use Rattle.std.proofs.lemmas.List.{take_at}
-use Rattle.std.proofs.lemmas.List.Elements.{All-drop, All-take}
 use Rattle.std.proofs.lemmas.List.Folds.{list_any-from_Any}
 use Rattle.std.proofs.lemmas.Map.Views.{Contains-from_any}
 use Rattle.std.proofs.lemmas.Slice.Eq.{bytes_eq-Decides}
-use Rattle.wire_text.specs.Wire.{IsBytes, string}
-use Rattle.wire_text.proofs.WireLemmas.{drop-string}
+use Rattle.wire_text.specs.Wire.{IsBytes}
 use Rattle.key_blob.specs.PublicKeys.{KeyParts, algorithms_of, IsPublicKey, public_key_of}
 use Rattle.key_blob.specs.declared.fault.KeyFault.{KeyFault}
 use Rattle.key_blob.proofs.PublicLemmas.{public_is_found, public_is_read}
-use Rattle.userauth_blob.specs.declared.fault.AuthFault.{AuthFault}
-use Rattle.userauth_blob.specs.declared.fault.AuthFault.TheVariants.{Trailing}
-use Rattle.userauth_blob.specs.UserAuths.{Login, Fits}
-use Rattle.userauth_blob.specs.Reading.{◌>>=◌, fits, ended}
-
--- ---- steps that didn't fail
-
-pub bind_ok : {A B : Type 0} (r : Result A AuthFault) (f : A → Result B AuthFault) (y : B) → (r >>= f) ≡ Ok y → (x : A) × (r ≡ Ok x) × (f x ≡ Ok y)
-bind_ok (Ok x) f y e = (x, refl, e)
-bind_ok (Err fault) f y e = absurd cc
-
-pub ok_or_ok : {A : Type 0} (o : Option A) (fault : AuthFault) (x : A) → ok_or o fault ≡ Ok x → o ≡ Some x
-ok_or_ok (Some y) fault x e = cc
-ok_or_ok None fault x e = absurd cc
-
-pub guard_ok : {A : Type 0} (b : Bool) (fault : AuthFault) (x y : A) → cond b (Ok x) (Err fault) ≡ Ok y → (b ≡ true) × (x ≡ y)
-guard_ok true fault x y e = (refl, cc)
-guard_ok false fault x y e = absurd cc
-
--- bytes that are left are the fault
-pub ended-left : (auth : Login) (rest : List ℕ) → rest ≢ [] → ended auth rest ≡ Err Trailing
-ended-left auth [] some = absurd (some refl)
-ended-left auth (byte ∷ rest) some = refl
-
--- ---- bytes
-
--- what a string of bytes holds is bytes
-pub bytes_inside : (text rest : List ℕ) → IsBytes (string text ++ rest) → IsBytes text
-bytes_inside text rest small =
-    let behind : IsBytes (text ++ rest) = subst IsBytes (drop-string text rest) (All-drop (λ byte. byte < 256) 4 (string text ++ rest) small) in
-    subst IsBytes (take_at text rest (length text) refl) (All-take (λ byte. byte < 256) (length text) (text ++ rest) behind)
+use Rattle.userauth_blob.specs.UserAuths.{Fits}
+use Rattle.userauth_blob.specs.Reading.{fits}
 
 -- ---- algorithms
 

@@ -1,193 +1,110 @@
 -- What is read is signed for the login.
-use Rattle.std.proofs.Common.{◌≡◌, ◌≢◌, ℕ, ◌^◌, ◌<◌, Bool, true, false, cond, eqb, List, [], ◌∷◌, ◌++◌, length, Option, Some, None, Ok, Err, refl, ap, subst, ◌∙◌}
-use Rattle.std.specs.Prelude.{codes, is_ok}
-use Rattle.std.specs.Option.{ok_or}
-use Rattle.std.specs.Str.{bytes_eq}
-use Rattle.std.proofs.lemmas.Bool.{eqb-true}
+use Rattle.std.proofs.Common.{◌≡◌, ◌≢◌, ℕ, ◌^◌, ◌<◌, List, [], ◌∷◌, ◌++◌, length, Option, Ok, refl, ap, subst, ◌∙◌}
 use Rattle.std.proofs.lemmas.List.{append-nil}
-use Rattle.std.proofs.lemmas.List.Elements.{All-tail}
-use Rattle.std.proofs.lemmas.Slice.Eq.{bytes_eq-Decides}
 use Rattle.wire_text.specs.Wire.{IsBytes, string}
-use Rattle.wire_core.specs.Fields.{string_at}
-use Rattle.wire_core.proofs.Theorems.{string_is_front}
-use Rattle.key_blob.specs.PublicKeys.{public_key_of}
-use Rattle.userauth_blob.specs.declared.fault.AuthFault.{AuthFault}
-use Rattle.userauth_blob.specs.declared.fault.AuthFault.TheVariants.{Short, NotRequest, Service, Method, NoSignatureFlag, OtherKey, Algorithm, HostKey}
+use Rattle.userauth_blob.specs.declared.fault.AuthFault.TheVariants.{NotRequest, Service, NoSignatureFlag, Trailing}
 use Rattle.userauth_blob.specs.declared.method.AuthMethod.{AuthMethod}
-use Rattle.userauth_blob.specs.declared.method.AuthMethod.TheVariants.{PublicKey, HostBound}
-use Rattle.userauth_blob.specs.UserAuths.{Login, connection, method_name, host_field, Fits, IsHostKey, IsUserAuth}
-use Rattle.userauth_blob.specs.Reading.{◌>>=◌, text_at, after_byte, if_text, after_text, if_some, session_at, method_named, method_at, fits, after_key, if_key, host_key_at, ended, auth_of}
-use Rattle.userauth_blob.proofs.FieldLemmas.{bind_ok, ok_or_ok, guard_ok, bytes_inside, fits_is, key_is}
-
--- a string at the front of bytes, and its text
-record IsText (bytes text rest : List ℕ) : Type 0 where
-  pub parts : bytes ≡ string text ++ rest
-  pub left : IsBytes rest
-  pub inside : IsBytes text
-  pub small : length text < 2 ^ 32
-
-text_is : (bytes : List ℕ) (x : List ℕ × List ℕ) → IsBytes bytes → text_at bytes ≡ Ok x → IsText bytes x.0 x.1
-text_is bytes x small read =
-    let f = string_is_front bytes x.0 x.1 small (ok_or_ok (string_at bytes) Short x read) in
-    record { parts = f.0.parts; left = f.0.left; inside = bytes_inside x.0 x.1 (subst IsBytes f.0.parts small); small = f.1 }
-
--- a byte at the front of bytes
-record IsByte (byte : ℕ) (bytes rest : List ℕ) : Type 0 where
-  pub parts : bytes ≡ byte ∷ rest
-  pub left : IsBytes rest
-
-byte_is : (byte : ℕ) (other : AuthFault) (bytes rest : List ℕ) → IsBytes bytes → after_byte byte other bytes ≡ Ok rest → IsByte byte bytes rest
-unfolding after_byte
-byte_is byte other [] rest small read = absurd cc
-byte_is byte other (first ∷ left) rest small read =
-    let g = guard_ok (eqb first byte) other left rest read in
-    let same = eqb-true first byte g.0 in
-    subst (λ (r : List ℕ). IsByte byte (first ∷ left) r) g.1 (record {
-      parts = ap (λ (b : ℕ). b ∷ left) same;
-      left = All-tail (λ b. b < 256) first left small;
-    })
-
-this_text_is : (wanted : List ℕ) (other : AuthFault) (bytes rest : List ℕ) → IsBytes bytes → after_text wanted other bytes ≡ Ok rest → IsText bytes wanted rest
-unfolding after_text
-this_text_is wanted other bytes rest small read =
-    let a = bind_ok (text_at bytes) (if_text wanted other) rest read in
-    let g = guard_ok (bytes_eq a.0.0 wanted) other a.0.1 rest a.2 in
-    let same = (bytes_eq-Decides a.0.0 wanted).0 g.0 in
-    subst (λ (text : List ℕ). IsText bytes text rest) same
-    (subst (λ (r : List ℕ). IsText bytes a.0.0 r) g.1 (text_is bytes a.0 small a.1))
-
-some_is : (session rest : List ℕ) (x : List ℕ × List ℕ) → if_some session rest ≡ Ok x → (session ≡ x.0) × (rest ≡ x.1) × (x.0 ≢ [])
-some_is [] rest x e = absurd cc
-some_is (byte ∷ session) rest x e =
-    let made : List ℕ × List ℕ = (byte ∷ session, rest) in
-    let same : made ≡ x = cc in
-    (ap (λ (y : List ℕ × List ℕ). y.0) same, ap (λ (y : List ℕ × List ℕ). y.1) same, λ empty. cc)
-
-session_is : (bytes : List ℕ) (x : List ℕ × List ℕ) → IsBytes bytes → session_at bytes ≡ Ok x → IsText bytes x.0 x.1 × (x.0 ≢ [])
-unfolding session_at
-session_is bytes x small read =
-    let a = bind_ok (text_at bytes) (λ text. if_some text.0 text.1) x read in
-    let s = some_is a.0.0 a.0.1 x a.2 in
-    let text = text_is bytes a.0 small a.1 in
-    (subst (λ (t : List ℕ). IsText bytes t x.1) s.0 (subst (λ (r : List ℕ). IsText bytes a.0.0 r) s.1 text), s.2)
-
--- ---- the method
-
--- the name of a method
-abbrev name_of : AuthMethod → List ℕ
-name_of PublicKey = codes "publickey"
-name_of HostBound = codes "publickey-hostbound-v00@openssh.com"
-
-named_by : (plain bound : Bool) (name : List ℕ) (method : AuthMethod) → bytes_eq name (codes "publickey") ≡ plain →
-    bytes_eq name (codes "publickey-hostbound-v00@openssh.com") ≡ bound → cond plain (Some PublicKey) (cond bound (Some HostBound) None) ≡ Some method →
-    name ≡ name_of method
-named_by true bound name method is_plain is_bound found =
-    let same : PublicKey ≡ method = cc in
-    (bytes_eq-Decides name (codes "publickey")).0 is_plain ∙ ap name_of same
-named_by false true name method is_plain is_bound found =
-    let same : HostBound ≡ method = cc in
-    (bytes_eq-Decides name (codes "publickey-hostbound-v00@openssh.com")).0 is_bound ∙ ap name_of same
-named_by false false name method is_plain is_bound found = absurd cc
-
-method_named_is : (name : List ℕ) (method : AuthMethod) → method_named name ≡ Some method → name ≡ name_of method
-unfolding method_named
-method_named_is name method found = named_by _ _ name method refl refl found
-
-method_is : (bytes : List ℕ) (x : AuthMethod × List ℕ) → IsBytes bytes → method_at bytes ≡ Ok x → IsText bytes (name_of x.0) x.1
-unfolding method_at
-method_is bytes x small read =
-    let a = bind_ok (text_at bytes) (λ name. ok_or (method_named name.0) Method >>= λ method. Ok (method, name.1)) x read in
-    let b = bind_ok (ok_or (method_named a.0.0) Method) (λ method. Ok (method, a.0.1)) x a.2 in
-    let name = method_named_is a.0.0 b.0 (ok_or_ok (method_named a.0.0) Method b.0 b.1) in
-    let made : AuthMethod × List ℕ = (b.0, a.0.1) in
-    let same : made ≡ x = cc in
-    subst (λ (y : AuthMethod × List ℕ). IsText bytes (name_of y.0) y.1) same
-    (subst (λ (text : List ℕ). IsText bytes text a.0.1) name (text_is bytes a.0 small a.1))
-
--- ---- keys
-
-key_blob_is : (blob algorithm bytes rest : List ℕ) → IsBytes bytes → after_key blob algorithm bytes ≡ Ok rest → IsText bytes blob rest × Fits blob algorithm
-unfolding after_key
-key_blob_is blob algorithm bytes rest small read =
-    let a = bind_ok (after_text blob OtherKey bytes) (λ left. cond (fits (public_key_of blob) algorithm) (Ok left) (Err Algorithm)) rest read in
-    let g = guard_ok (fits (public_key_of blob) algorithm) Algorithm a.0 rest a.2 in
-    let text = this_text_is blob OtherKey bytes a.0 small a.1 in
-    (subst (λ (r : List ℕ). IsText bytes blob r) g.1 text, fits_is blob algorithm text.inside g.0)
-
--- the field of a host key at the front of bytes, by a method that has it
-record IsHostField (method : AuthMethod) (bytes : List ℕ) (host_key : Option (List ℕ)) (rest : List ℕ) : Type 0 where
-  pub parts : bytes ≡ host_field host_key ++ rest
-  pub name : name_of method ≡ method_name host_key
-  pub is : IsHostKey host_key
-
-host_key_is : (method : AuthMethod) (bytes : List ℕ) (x : Option (List ℕ) × List ℕ) → IsBytes bytes → host_key_at method bytes ≡ Ok x →
-    IsHostField method bytes x.0 x.1
-unfolding host_key_at
-host_key_is PublicKey bytes x small read =
-    let made : Option (List ℕ) × List ℕ = (None, bytes) in
-    let same : made ≡ x = cc in
-    subst (λ (y : Option (List ℕ) × List ℕ). IsHostField PublicKey bytes y.0 y.1) same (record { parts = refl; name = refl; is = tt })
-host_key_is HostBound bytes x small read =
-    let a = bind_ok (text_at bytes) if_key x read in
-    let made : Option (List ℕ) × List ℕ = (Some a.0.0, a.0.1) in
-    let g = guard_ok (is_ok (public_key_of a.0.0)) HostKey made x a.2 in
-    let text = text_is bytes a.0 small a.1 in
-    subst (λ (y : Option (List ℕ) × List ℕ). IsHostField HostBound bytes y.0 y.1) g.1
-    (record { parts = text.parts; name = refl; is = (text.small, key_is a.0.0 text.inside g.0) })
-
-ended_is : (made auth : Login) (rest : List ℕ) → ended made rest ≡ Ok auth → (rest ≡ []) × (made ≡ auth)
-ended_is made auth [] e = (refl, cc)
-ended_is made auth (byte ∷ rest) e = absurd cc
-
--- ---- the whole
+use Rattle.userauth_blob.specs.UserAuths.{Login, connection, method_name, host_field, signed_text, Fits, IsUserAuth}
+use Rattle.userauth_blob.specs.Reading.{text_at, after_byte, after_text, session_at, method_at, after_key, host_key_at, opening_at, signer_at, auth_of}
+use Rattle.wire_core.proofs.ReadingLemmas.{bind_ok, ended_or_is}
+use Rattle.userauth_blob.proofs.PartLemmas.{text_is, byte_is, this_text_is, session_is, name_of, method_is, key_blob_is, host_key_is}
 
 -- the field of a host key that nothing follows
 host_ends : (bytes rest : List ℕ) (host_key : Option (List ℕ)) → bytes ≡ host_field host_key ++ rest → rest ≡ [] → bytes ≡ host_field host_key
 host_ends bytes rest host_key parts none = parts ∙ ap (λ (left : List ℕ). host_field host_key ++ left) none ∙ append-nil (host_field host_key)
 
--- parts one after another
-joined : (message session user method algorithm blob host a b c d e f g h : List ℕ) → message ≡ string session ++ a → a ≡ 50 ∷ b →
-    b ≡ string user ++ c → c ≡ string connection ++ d → d ≡ string method ++ e → e ≡ 1 ∷ f → f ≡ string algorithm ++ g → g ≡ string blob ++ h →
-    h ≡ host →
-    message ≡ string session ++ 50 ∷ (string user ++ (string connection ++ (string method ++ 1 ∷ (string algorithm ++ (string blob ++ host)))))
-joined message session user method algorithm blob host a b c d e f g h at_a at_b at_c at_d at_e at_f at_g at_h at_end =
-    rw (at_a, at_b, at_c, at_d, at_e, at_f, at_g, at_h, at_end) refl
+-- a string, a byte and two more parts, one after another
+joined : (byte : ℕ) (whole first second third rest a b c : List ℕ) → whole ≡ first ++ a → a ≡ byte ∷ b → b ≡ second ++ c
+    → c ≡ third ++ rest → whole ≡ first ++ byte ∷ (second ++ (third ++ rest))
+joined byte whole first second third rest a b c at_a at_b at_c at_rest = rw (at_a, at_b, at_c, at_rest) refl
+
+-- the front of a message: session identifier, user, service
+record IsOpening (bytes session user rest : List ℕ) : Type 0 where
+  pub parts : bytes ≡ string session ++ 50 ∷ (string user ++ (string connection ++ rest))
+  pub left : IsBytes rest
+  pub some_session : session ≢ []
+  pub short_session : length session < 2 ^ 32
+  pub short_user : length user < 2 ^ 32
+
+opening_is : (bytes : List ℕ) (x : (List ℕ × List ℕ) × List ℕ) → IsBytes bytes → opening_at bytes ≡ Ok x →
+    IsOpening bytes x.0.0 x.0.1 x.1
+opening_is bytes x small read =
+    let a = bind_ok (session_at bytes) _ x read in
+    let b = bind_ok (after_byte 50 NotRequest a.0.1) _ x a.2 in
+    let c = bind_ok (text_at b.0) _ x b.2 in
+    let d = bind_ok (after_text connection Service c.0.1) _ x c.2 in
+    let session = session_is bytes a.0 small a.1 in
+    let number = byte_is 50 NotRequest a.0.1 b.0 session.0.left b.1 in
+    let user = text_is b.0 c.0 number.left c.1 in
+    let service = this_text_is connection Service c.0.1 d.0 user.left d.1 in
+    let made : (List ℕ × List ℕ) × List ℕ = ((a.0.0, c.0.0), d.0) in
+    let same : made ≡ x = cc in
+    subst (λ (y : (List ℕ × List ℕ) × List ℕ). IsOpening bytes y.0.0 y.0.1 y.1) same (record {
+      parts = joined 50 bytes _ _ _ d.0 a.0.1 b.0 c.0.1 session.0.parts number.parts user.parts service.parts;
+      left = service.left;
+      some_session = session.1;
+      short_session = session.0.small;
+      short_user = user.small;
+    })
+
+-- the method, the algorithm and the key of this blob
+record IsSigner (blob bytes : List ℕ) (method : AuthMethod) (rest : List ℕ) : Type 0 where
+  pub algorithm : List ℕ
+  pub parts : bytes ≡ string (name_of method) ++ 1 ∷ (string algorithm ++ (string blob ++ rest))
+  pub left : IsBytes rest
+  pub fits : Fits blob algorithm
+  pub short_algorithm : length algorithm < 2 ^ 32
+  pub short_blob : length blob < 2 ^ 32
+
+signer_is : (blob bytes : List ℕ) (x : AuthMethod × List ℕ) → IsBytes bytes → signer_at blob bytes ≡ Ok x → IsSigner blob bytes x.0 x.1
+signer_is blob bytes x small read =
+    let a = bind_ok (method_at bytes) _ x read in
+    let b = bind_ok (after_byte 1 NoSignatureFlag a.0.1) _ x a.2 in
+    let c = bind_ok (text_at b.0) _ x b.2 in
+    let d = bind_ok (after_key blob c.0.0 c.0.1) _ x c.2 in
+    let method = method_is bytes a.0 small a.1 in
+    let flag = byte_is 1 NoSignatureFlag a.0.1 b.0 method.left b.1 in
+    let algorithm = text_is b.0 c.0 flag.left c.1 in
+    let key = key_blob_is blob c.0.0 c.0.1 d.0 algorithm.left d.1 in
+    let made : AuthMethod × List ℕ = (a.0.0, d.0) in
+    let same : made ≡ x = cc in
+    subst (λ (y : AuthMethod × List ℕ). IsSigner blob bytes y.0 y.1) same (record {
+      algorithm = c.0.0;
+      parts = joined 1 bytes _ _ _ d.0 a.0.1 b.0 c.0.1 method.parts flag.parts algorithm.parts key.0.parts;
+      left = key.0.left;
+      fits = key.1;
+      short_algorithm = algorithm.small;
+      short_blob = key.0.small;
+    })
+
+-- the front, the key and the host key are what is signed
+signed : (message blob name algorithm a b : List ℕ) (auth : Login)
+    → message ≡ string auth.session ++ 50 ∷ (string auth.user ++ (string connection ++ a))
+    → a ≡ string name ++ 1 ∷ (string algorithm ++ (string blob ++ b)) → name ≡ method_name auth.host_key
+    → b ≡ host_field auth.host_key → message ≡ signed_text auth algorithm blob
+signed message blob name algorithm a b auth at_a at_b named last = rw (at_a, at_b, named, last) refl
 
 -- what is read is signed for the login
 pub auth_is_found : (message blob : List ℕ) (auth : Login) → IsBytes message → auth_of message blob ≡ Ok auth → IsUserAuth message blob auth
 unfolding auth_of
 auth_is_found message blob auth small read =
-    let a = bind_ok (session_at message) _ auth read in
-    let b = bind_ok (after_byte 50 NotRequest a.0.1) _ auth a.2 in
-    let c = bind_ok (text_at b.0) _ auth b.2 in
-    let d = bind_ok (after_text connection Service c.0.1) _ auth c.2 in
-    let e = bind_ok (method_at d.0) _ auth d.2 in
-    let f = bind_ok (after_byte 1 NoSignatureFlag e.0.1) _ auth e.2 in
-    let g = bind_ok (text_at f.0) _ auth f.2 in
-    let h = bind_ok (after_key blob g.0.0 g.0.1) _ auth g.2 in
-    let i = bind_ok (host_key_at e.0.0 h.0) _ auth h.2 in
-    let made : Login = record { session = a.0.0; user = c.0.0; host_key = i.0.0 } in
-    let end = ended_is made auth i.0.1 i.2 in
-    let session = session_is message a.0 small a.1 in
-    let number = byte_is 50 NotRequest a.0.1 b.0 session.0.left b.1 in
-    let user = text_is b.0 c.0 number.left c.1 in
-    let service = this_text_is connection Service c.0.1 d.0 user.left d.1 in
-    let method = method_is d.0 e.0 service.left e.1 in
-    let flag = byte_is 1 NoSignatureFlag e.0.1 f.0 method.left f.1 in
-    let algorithm = text_is f.0 g.0 flag.left g.1 in
-    let key = key_blob_is blob g.0.0 g.0.1 h.0 algorithm.left h.1 in
-    let host = host_key_is e.0.0 h.0 i.0 key.0.left i.1 in
-    let host_is_last = host_ends h.0 i.0.1 i.0.0 host.parts end.0 in
-    let named = subst (λ (name : List ℕ). IsText d.0 name e.0.1) host.name method in
+    let a = bind_ok (opening_at message) _ auth read in
+    let b = bind_ok (signer_at blob a.0.1) _ auth a.2 in
+    let c = bind_ok (host_key_at b.0.0 b.0.1) _ auth b.2 in
+    let made : Login = record { session = a.0.0.0; user = a.0.0.1; host_key = c.0.0 } in
+    let end = ended_or_is Trailing made auth c.0.1 c.2 in
+    let opening = opening_is message a.0 small a.1 in
+    let signer = signer_is blob a.0.1 b.0 opening.left b.1 in
+    let host = host_key_is b.0.0 b.0.1 c.0 signer.left c.1 in
     subst (λ (made_auth : Login). IsUserAuth message blob made_auth) end.1 (record {
-      algorithm = g.0.0;
-      text = joined message a.0.0 c.0.0 (method_name i.0.0) g.0.0 blob (host_field i.0.0) a.0.1 b.0 c.0.1 d.0 e.0.1 f.0 g.0.1 h.0
-          session.0.parts number.parts user.parts service.parts named.parts flag.parts algorithm.parts key.0.parts host_is_last;
-      some_session = session.1;
-      fits = key.1;
+      algorithm = signer.algorithm;
+      text = signed message blob (name_of b.0.0) signer.algorithm a.0.1 b.0.1 made opening.parts signer.parts host.name
+          (host_ends b.0.1 c.0.1 c.0.0 host.parts end.0);
+      some_session = opening.some_session;
+      fits = signer.fits;
       host = host.is;
-      short_session = session.0.small;
-      short_user = user.small;
-      short_algorithm = algorithm.small;
-      short_blob = key.0.small;
+      short_session = opening.short_session;
+      short_user = opening.short_user;
+      short_algorithm = signer.short_algorithm;
+      short_blob = signer.short_blob;
     })

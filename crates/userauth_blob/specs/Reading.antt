@@ -1,24 +1,17 @@
 -- What a signed message is, field by field: its login, or the first fault.
-use Rattle.std.specs.Prelude.{◌≡◌, ◌==◌, ℕ, Bool, false, List, [], ◌∷◌, Option, Some, None, Result, Ok, Err, MatchResult, is_ok, codes, if◌then◌else◌}
+use Rattle.std.specs.Prelude.{◌==◌, ℕ, Bool, false, List, [], ◌∷◌, Option, Some, None, Result, Ok, Err, is_ok, codes, if◌then◌else◌}
 use Rattle.std.specs.List.{list_any}
 use Rattle.std.specs.Option.{ok_or}
 use Rattle.std.specs.Str.{bytes_eq}
 use Rattle.wire_core.specs.Fields.{string_at}
+use Rattle.wire_core.specs.Readings.{◌>>=◌, ended_or}
 use Rattle.key_blob.specs.PublicKeys.{KeyParts, algorithms_of, public_key_of}
 use Rattle.key_blob.specs.declared.fault.KeyFault.{KeyFault}
 use Rattle.userauth_blob.specs.declared.fault.AuthFault.{AuthFault}
 use Rattle.userauth_blob.specs.declared.fault.AuthFault.TheVariants.{Short, EmptySession, NotRequest, Service, Method, NoSignatureFlag, OtherKey, Algorithm, HostKey, Trailing}
 use Rattle.userauth_blob.specs.declared.method.AuthMethod.{AuthMethod}
 use Rattle.userauth_blob.specs.declared.method.AuthMethod.TheVariants.{PublicKey, HostBound}
-use Rattle.userauth_blob.specs.declared.userauth.UserAuth.{UserAuth}
-use Rattle.userauth_blob.specs.UserAuths.{Login, login, connection}
-
-infixl 10 ◌>>=◌
--- the first fault, or what the second reading gives for the value of the first
-abbrev pub ◌>>=◌ : {A B : Type 0} → Result A AuthFault → (A → Result B AuthFault)
-    → Result B AuthFault
-(Ok x) >>= f = f x
-(Err fault) >>= f = Err fault
+use Rattle.userauth_blob.specs.UserAuths.{Login, connection}
 
 -- ---- single fields: each gives the bytes that follow it
 
@@ -86,26 +79,32 @@ host_key_at HostBound bytes = text_at bytes >>= if_key
 
 -- ---- the whole
 
--- the value, where no byte follows
-abbrev pub ended : Login → List ℕ → Result Login AuthFault
-ended auth [] = Ok auth
-ended auth (byte ∷ rest) = Err Trailing
-
--- the login that the key of this blob signs the message for, or the first fault from left to right
-unfoldable pub auth_of : List ℕ → List ℕ → Result Login AuthFault
-auth_of message blob = do
+-- the front of the message, up to the method: the session identifier and the user
+abbrev pub opening_at : List ℕ → Result ((List ℕ × List ℕ) × List ℕ) AuthFault
+opening_at message = do
   session ← session_at message
   after_number ← after_byte 50 NotRequest session.1
   user ← text_at after_number
   after_service ← after_text connection Service user.1
-  method ← method_at after_service
+  Ok ((session.0, user.0), after_service)
+
+-- the method, and then the key of this blob, which fits the algorithm before it
+abbrev pub signer_at : List ℕ → List ℕ → Result (AuthMethod × List ℕ) AuthFault
+signer_at blob bytes = do
+  method ← method_at bytes
   after_flag ← after_byte 1 NoSignatureFlag method.1
   algorithm ← text_at after_flag
   after_blob ← after_key blob algorithm.0 algorithm.1
-  host_key ← host_key_at method.0 after_blob
-  ended record { session = session.0; user = user.0; host_key = host_key.0 } host_key.1
+  Ok (method.0, after_blob)
 
--- the code's answer is that of the definition
-abbrev pub IsAnswer : Result UserAuth AuthFault → Result Login AuthFault → Type 0
-IsAnswer result defined =
-    MatchResult result (λ auth. defined ≡ Ok (login auth)) (λ fault. defined ≡ Err fault)
+-- the login that the key of this blob signs the message for, or the first fault from left to right
+unfoldable pub auth_of : List ℕ → List ℕ → Result Login AuthFault
+auth_of message blob = do
+  opening ← opening_at message
+  method ← signer_at blob opening.1
+  host_key ← host_key_at method.0 method.1
+  ended_or Trailing record {
+    session = opening.0.0;
+    user = opening.0.1;
+    host_key = host_key.0;
+  } host_key.1

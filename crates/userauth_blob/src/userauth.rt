@@ -1,10 +1,11 @@
-ghost use Rattle.std.specs.Prelude.{◌≡◌, IfOk, IsOkAnd};
+ghost use Rattle.std.specs.Prelude.{◌≡◌, IfOk, IsOkAnd, MatchResult, Ok, Err};
 ghost use Rattle.userauth_blob.specs.UserAuths.{Login, login, IsUserAuth};
-ghost use Rattle.userauth_blob.specs.Reading.{auth_of, IsAnswer};
+ghost use Rattle.userauth_blob.specs.Reading.{auth_of, opening_at, signer_at};
+ghost use Rattle.wire_core.specs.Readings.{IsAnswer};
 
 use crate::fault::AuthFault;
 use crate::fields::{take_byte, take_host_key, take_key, take_session, take_text};
-use crate::method::take_method;
+use crate::method::{AuthMethod, take_method};
 use wire_core::Cursor;
 
 /// The login that a signature is for, in the message that it borrows from.
@@ -18,19 +19,38 @@ pub struct UserAuth<'a> {
     pub host_key: Option<&'a [u8]>,
 }
 
+/// Takes the front of a message, up to the method: the session identifier and the user.
+fn take_opening<'a>(from: &mut Cursor<'a>) -> Result<(&'a [u8], &'a [u8]), AuthFault>
+    ensures { MatchResult result
+        (λ opening. opening_at from.old ≡ Ok ((opening.0.now, opening.1.now), from.new))
+        (λ fault. opening_at from.old ≡ Err fault) }
+{
+    let session = take_session(from)?;
+    take_byte(from, 50, AuthFault::NotRequest)?;
+    let user = from.take_string()?;
+    take_text(from, b"ssh-connection", AuthFault::Service)?;
+    Ok((session, user))
+}
+
+/// Takes the method, and then the key of this blob, which has to fit the algorithm before it.
+fn take_signer(from: &mut Cursor<'_>, blob: &[u8]) -> Result<AuthMethod, AuthFault>
+    ensures { MatchResult result (λ method. signer_at blob.now from.old ≡ Ok (method, from.new))
+        (λ fault. signer_at blob.now from.old ≡ Err fault) }
+{
+    let method = take_method(from)?;
+    take_byte(from, 1, AuthFault::NoSignatureFlag)?;
+    let algorithm = from.take_string()?;
+    take_key(from, blob, algorithm)?;
+    Ok(method)
+}
+
 #[tactic(auto, unfolding(crate::specs::Reading::auth_of))]
 fn userauth_in<'a>(message: &'a [u8], blob: &[u8]) -> Result<UserAuth<'a>, AuthFault>
-    ensures { IsAnswer result (auth_of message.now blob.now) }
+    ensures { IsAnswer login result (auth_of message.now blob.now) }
 {
     let mut from = Cursor::new(message);
-    let session = take_session(&mut from)?;
-    take_byte(&mut from, 50, AuthFault::NotRequest)?;
-    let user = from.take_string()?;
-    take_text(&mut from, b"ssh-connection", AuthFault::Service)?;
-    let method = take_method(&mut from)?;
-    take_byte(&mut from, 1, AuthFault::NoSignatureFlag)?;
-    let algorithm = from.take_string()?;
-    take_key(&mut from, blob, algorithm)?;
+    let (session, user) = take_opening(&mut from)?;
+    let method = take_signer(&mut from, blob)?;
     let host_key = take_host_key(&mut from, method)?;
     if !from.at_end() {
         return Err(AuthFault::Trailing);
@@ -54,7 +74,7 @@ pub fn read_userauth<'a>(message: &'a [u8], blob: &[u8]) -> Result<UserAuth<'a>,
         → IsOkAnd result (λ read. login read ≡ auth) }
 
     // Which fault it is.
-    ensures exact { IsAnswer result (auth_of message.now blob.now) }
+    ensures exact { IsAnswer login result (auth_of message.now blob.now) }
 {
     userauth_in(message, blob)
 }

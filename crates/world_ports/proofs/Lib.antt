@@ -1,3 +1,4 @@
 pub mod CauseLemmas
+pub mod LifeLemmas
 pub mod MemoryLemmas
 pub mod StreamLemmas

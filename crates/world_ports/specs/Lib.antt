@@ -1,3 +1,10 @@
 pub mod Causes
+pub mod Files
+pub mod Journal
+pub mod Life
+pub mod LifeParts
 pub mod Memory
+pub mod Runs
+pub mod Script
 pub mod Streams
+pub mod Worlds

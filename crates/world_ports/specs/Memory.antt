@@ -1,6 +1,8 @@
 -- Sources and sinks in memory (ours): what they hold, and which of their calls fail.
-use Rattle.std.specs.Prelude.{Bool, ℕ, zero, suc, List, Some, min, length, Contains}
+use Rattle.std.specs.Prelude.{Bool, ℕ, zero, suc, List, Some, min, length, Contains, Result, Ok, Err}
 use Rattle.world_ports.specs.Causes.{next_count, count_after}
+use Rattle.world_ports.specs.declared.answers.WorldFault.{WorldFault}
+use Rattle.world_ports.specs.declared.answers.WorldFault.TheVariants.{Failed, Memory}
 use Rattle.world_ports.specs.declared.stream.Pulled.{Pulled}
 use Rattle.world_ports.specs.declared.stream.Pulled.TheVariants.{Bytes, End}
 use Rattle.world_ports.specs.Streams.{StreamView, reading_view, writing_view}
@@ -52,3 +54,9 @@ pub record SinkState : Type 0 where
 -- what it tells
 abbrev pub sink_view : SinkState → StreamView
 sink_view sink = writing_view (Some sink.written) sink.calls.failed
+
+-- a call on a world failed exactly where it is listed, unless memory ran out
+abbrev pub FailsAsListed : {T : Type 0} → CallState → Result T WorldFault → Type 0
+FailsAsListed calls (Ok _) = ¬ (IsNextListed calls)
+FailsAsListed calls (Err Failed) = IsNextListed calls
+FailsAsListed calls (Err Memory) = Unit {0}

@@ -1,0 +1,257 @@
+"""Compares the built agent with the model, and the model with wrong ones. See .ci/differential."""
+
+from __future__ import annotations
+
+import argparse
+import importlib
+import multiprocessing
+import os
+import re
+import subprocess
+import sys
+import tempfile
+import time
+from collections import Counter
+from collections.abc import Callable
+from pathlib import Path
+
+from agent import STAGES
+from generate import Case, Writer, goals
+from replay import LONGEST_LINE, LONGEST_SCHEDULE, replay
+from rows import ROWS
+
+HERE = Path(__file__).parent
+Result = tuple[bytes, int]
+
+
+def run_program(program: str, text: bytes, life: int | None = None) -> Result:
+    words = [program, "replay"] + ([] if life is None else ["-t", str(life)])
+    done = subprocess.run(words, input=text, stdout=subprocess.PIPE, stderr=subprocess.DEVNULL)
+    return done.stdout, done.returncode
+
+
+def fewer_lines(lines: list[bytes], differs: Callable[[bytes], bool]) -> list[bytes]:
+    """Leaves out lines as long as the rest still differs."""
+    size = len(lines) - 1
+    while size >= 1:
+        at = 0
+        while at < len(lines):
+            fewer = lines[:at] + lines[at + size :]
+            if differs(b"\n".join(fewer)):
+                lines = fewer
+            else:
+                at += size
+        size //= 2
+    return lines
+
+
+def line_by_frame(lines: list[bytes]) -> list[bytes]:
+    """What comes from a port in lines behind each other, with a line for each whole frame."""
+    told: list[tuple[bytes, bytes]] = []
+    for line in lines:
+        heard = re.fullmatch(rb"(hear [0-9]+ )([0-9a-fA-F]+)", line)
+        if heard and told and told[-1][0] == heard[1]:
+            told[-1] = (heard[1], told[-1][1] + heard[2])
+        else:
+            told.append((heard[1], heard[2]) if heard else (line, b""))
+    split = []
+    for start, text in told:
+        while len(text) >= 8 and len(text) > (end := 8 + 2 * int(text[:8], 16)):
+            split.append(start + text[:end])
+            text = text[end:]
+        split.append(start + text)
+    return split
+
+
+def shorten(text: bytes, differs: Callable[[bytes], bool]) -> bytes:
+    lines = fewer_lines(text.split(b"\n"), differs)
+    split = line_by_frame(lines)
+    if differs(b"\n".join(split)):
+        lines = fewer_lines(split, differs)
+    return b"\n".join(lines)
+
+
+def show(title: str, text: bytes) -> None:
+    print(f"{title}:")
+    for line in text.decode(errors="backslashreplace").split("\n"):
+        print("   ", line if len(line) <= 300 else f"{line[:300]}.. ({len(line)} characters)")
+
+
+def show_mismatch(program: str, text: bytes, stages: list[str], life: int | None) -> None:
+    def differs(some: bytes) -> bool:
+        return run_program(program, some, life) != replay(some, stages, life)
+
+    short = shorten(text, differs)
+    place = Path("bin/mismatch.schedule")
+    place.write_bytes(short)
+    show(f"a mismatch, with a default lifetime of {life} ({place} has it whole)", short)
+    for name, (output, status) in [
+        ("the program", run_program(program, short, life)),
+        ("the model", replay(short, stages, life)),
+    ]:
+        show(f"{name}, with status {status}", output)
+
+
+def try_rows(program: str, stages: list[str]) -> bool:
+    """The literal rows, by the model, and by the program where it does what they need."""
+    good, tried = True, 0
+    for row in ROWS:
+        wanted = (row.printed, row.status)
+        seen = {"the model": replay(row.schedule, row.needs, row.life)}
+        seen["the model of this stage"] = replay(row.schedule, {*row.needs, *stages}, row.life)
+        if set(row.needs) <= set(stages):
+            seen["the program"] = run_program(program, row.schedule, row.life)
+            tried += 1
+        for name, result in seen.items():
+            if result != wanted:
+                good = False
+                print(f"row '{row.name}': {name} differs, with status {result[1]}")
+                show("printed", result[0])
+                show("wanted", row.printed)
+    print(f"{len(ROWS)} rows by the model, {tried} by the program")
+    return good
+
+
+def try_longest(program: str) -> bool:
+    """A schedule of the longest length, and one with a byte more in its last line."""
+    line = b"#" * (LONGEST_LINE - 1) + b"\n"
+    count = LONGEST_SCHEDULE // len(line)
+    last = b"join client\n"
+    for more, wanted in [(0, (b"end\n", 0)), (1, (b"refused %d long\n" % (count + 1), 1))]:
+        padding = b"#" * (LONGEST_LINE - 1 - len(last) + more) + b"\n"
+        text = line * (count - 1) + padding + last
+        if len(text) != LONGEST_SCHEDULE + more or run_program(program, text) != wanted:
+            print(f"a schedule of {len(text)} bytes: the program prints something else")
+            return False
+    print(f"schedules of {LONGEST_SCHEDULE} bytes and one more, by the program")
+    return True
+
+
+def try_examples(program: str, stages: list[str]) -> bool:
+    for path in sorted(Path("examples").glob("*.schedule")):
+        text = path.read_bytes()
+        if run_program(program, text) != replay(text, stages):
+            show_mismatch(program, text, stages, None)
+            return False
+    return True
+
+
+def try_one(task: tuple[str, str, list[str]]) -> tuple[bool, Counter[str], int]:
+    program, seed, stages = task
+    writer = Writer(seed, stages)
+    text, life, wanted = writer.case()
+    return run_program(program, text, life) == wanted, writer.seen(), text.count(b"\n")
+
+
+def try_schedules(program: str, count: int, seed: str, stages: list[str]) -> bool:
+    began, seen, lines = time.monotonic(), Counter(), 0
+    tasks = [(program, f"{seed}/{place}", stages) for place in range(count)]
+    with multiprocessing.Pool() as pool:
+        for task, (same, reached, length) in zip(tasks, pool.imap(try_one, tasks, 8)):
+            if not same:
+                pool.terminate()
+                text, life, _ = Writer(task[1], stages).case()
+                print(f"schedule {task[1]}:")
+                show_mismatch(program, text, stages, life)
+                return False
+            seen += reached
+            lines += length
+    return report(count, lines, seen, stages, time.monotonic() - began)
+
+
+def report(count: int, lines: int, seen: Counter, stages: list[str], seconds: float) -> bool:
+    """How often each goal was reached. Each is where there were enough schedules."""
+    wanted = goals(stages)
+    counts = [f"{name} {seen[name]}" for name in wanted]
+    others = [f"{name} {number}" for name, number in sorted(seen.items()) if name not in wanted]
+    print("reached: " + "; ".join(counts))
+    print("and: " + "; ".join(others))
+    print(f"{count} schedules of {lines} lines in {seconds:.0f} s: no mismatch")
+    missed = [name for name in wanted if not seen[name]]
+    if missed:
+        print("not reached: " + "; ".join(missed))
+    return not missed or count < 2000
+
+
+# Wrong models
+
+
+def read_wrong() -> list[dict[str, str]]:
+    """Edits of one line each: what is wrong, the file, the old text and the new."""
+    edits = []
+    for block in (HERE / "wrong").read_text().split("\n\n"):
+        lines = [line for line in block.split("\n") if line and not line.startswith("#")]
+        edit = dict(line.split(": ", 1) for line in lines)
+        if not edit:
+            continue
+        if (HERE / edit["file"]).read_text().count(edit["old"]) != 1:
+            raise ValueError(f"{edit['wrong']}: the old text doesn't stand there once")
+        edits.append(edit)
+    return edits
+
+
+CASES: list[Case] = []
+
+
+def write_case(seed: str) -> Case:
+    return Writer(seed, STAGES).case()
+
+
+def first_found(edit: dict[str, str]) -> int | None:
+    """The number of the first schedule that tells this wrong model from the right one."""
+    with tempfile.TemporaryDirectory() as folder:
+        for name in ("wire", "formats", "rules", "agent", "replay"):
+            text = (HERE / f"{name}.py").read_text()
+            if edit["file"] == f"{name}.py":
+                text = text.replace(edit["old"], edit["new"])
+            Path(folder, f"{name}.py").write_text(text)
+            sys.modules.pop(name, None)
+        sys.path.insert(0, folder)
+        wrong = importlib.import_module("replay")
+        for place, (text, life, wanted) in enumerate(CASES, 1):
+            try:
+                if wrong.replay(text, STAGES, life) != wanted:
+                    return place
+            except Exception:
+                return place
+    return None
+
+
+def try_wrong(count: int, seed: str) -> bool:
+    began, edits = time.monotonic(), read_wrong()
+    with multiprocessing.Pool() as pool:
+        CASES.extend(pool.imap(write_case, [f"{seed}/{place}" for place in range(count)], 8))
+    with multiprocessing.Pool(maxtasksperchild=1) as pool:
+        found = pool.map(first_found, edits, 1)
+    for edit, place in zip(edits, found):
+        print(f"{place or 'NOT FOUND':>9}  {edit['wrong']}")
+    missed = found.count(None)
+    seconds = time.monotonic() - began
+    print(f"{len(edits)} wrong models, {missed} not found by {count} schedules, in {seconds:.0f} s")
+    return missed == 0
+
+
+def main() -> int:
+    parser = argparse.ArgumentParser(prog=".ci/differential")
+    parser.add_argument("program")
+    parser.add_argument("count", type=int)
+    parser.add_argument("seed", nargs="?", default=str(int.from_bytes(os.urandom(4), "big")))
+    parser.add_argument("--wrong", action="store_true", help="try the wrong models")
+    for stage in STAGES:
+        parser.add_argument(f"--{stage}", action="store_true")
+    words = parser.parse_args()
+    print(f"seed {words.seed}")
+    if words.wrong:
+        return int(not try_wrong(words.count, words.seed))
+    stages = [stage for stage in STAGES if getattr(words, stage)]
+    good = (
+        try_rows(words.program, stages)
+        and try_longest(words.program)
+        and try_examples(words.program, stages)
+        and try_schedules(words.program, words.count, words.seed, stages)
+    )
+    return int(not good)
+
+
+if __name__ == "__main__":
+    sys.exit(main())

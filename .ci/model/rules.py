@@ -1,0 +1,74 @@
+"""Whether the hosts that a connection came over permit a key to be seen or used.
+
+The records are those of OpenSSH's PROTOCOL.agent; how a chain of hosts is judged is ours.
+"""
+
+from dataclasses import dataclass
+
+from formats import Hop, login, public_key
+from wire import demand, matches, within
+
+Rules = list[tuple[Hop, Hop]]
+
+
+@dataclass
+class Binding:
+    """What a helper verified of a connection: a host, the session there, and its purpose."""
+
+    host_key: bytes
+    session: bytes
+    forwarding: bool
+
+
+Chain = list[Binding]
+
+
+def is_at(hop: Hop, host_key: bytes, wall: int) -> bool:
+    """Whether the host with this key is the hop's."""
+    certificate = public_key(host_key).certificate
+    if certificate is None:
+        return (host_key, False) in hop.keys
+    return (certificate.signer, True) in hop.keys and certificate.is_good_for(hop.host, wall)
+
+
+def leads(rules: Rules, before: bytes | None, to: bytes, user: bytes | None, wall: int) -> bool:
+    """Whether a rule permits the way from one host (None: the agent's) to another."""
+    for source, target in rules:
+        starts = not source.keys if before is None else is_at(source, before, wall)
+        for_user = user is None or target.user == b"" or matches(user, target.user)
+        if starts and for_user and is_at(target, to, wall):
+            return True
+    return False
+
+
+def every_hop(rules: Rules, chain: Chain, user: bytes | None, wall: int) -> bool:
+    """Whether each hop is permitted: all but the newest forward, and that one has the user."""
+    before = None
+    for binding in chain[:-1]:
+        if not binding.forwarding or not leads(rules, before, binding.host_key, None, wall):
+            return False
+        before = binding.host_key
+    if user is not None and chain[-1].forwarding:
+        return False
+    return leads(rules, before, chain[-1].host_key, user, wall)
+
+
+def visible(rules: Rules | None, chain: Chain, attempted: bool, wall: int) -> bool:
+    if not rules:
+        return True
+    if not chain:
+        return not attempted
+    onward = any(is_at(source, chain[-1].host_key, wall) for source, _ in rules)
+    return every_hop(rules, chain, None, wall) and (onward or not chain[-1].forwarding)
+
+
+def may_sign(rules: Rules | None, blob: bytes, chain: Chain, message: bytes, wall: int) -> None:
+    """Raises why the rules don't let a connection sign a message."""
+    if not rules:
+        return
+    demand(chain != [], "Unbound")
+    session, user, host_key = within("NotUserAuth", login, message, blob)
+    demand(every_hop(rules, chain, user, wall), "Hop")
+    demand(session == chain[-1].session, "OtherSession")
+    demand(host_key is not None or len(chain) == 1, "NoHostKey")
+    demand(host_key in (None, chain[-1].host_key), "OtherHostKey")

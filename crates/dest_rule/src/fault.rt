@@ -1,0 +1,23 @@
+/// Why a binding isn't taken: the first of these, the session's length before all others.
+#[derive(Clone, Copy, Debug, PartialEq, Eq)]
+pub enum ChainFault {
+    /// The newest binding was made to log in, so nothing follows it.
+    AuthBound,
+    /// The session is bound already, to another host key.
+    OtherKey,
+    /// The chain has 16 bindings.
+    ChainFull,
+    /// The session identifier is empty or has more than 128 bytes.
+    SessionLength,
+}
+
+/// What is to be done with a binding whose signature is right.
+#[derive(Clone, Copy, Debug, PartialEq, Eq)]
+pub enum Next {
+    /// Nothing: it isn't taken.
+    Refuse(ChainFault),
+    /// Nothing: the session is bound to this host key already.
+    Same,
+    /// It is to be added.
+    New,
+}

@@ -1,0 +1,17 @@
+use Rattle.std.proofs.Common.{◌≡◌, ◌≢◌, ◌<◌, [], length, subst, sym}
+use Rattle.helper_link.specs.HelperLink.{HelperLink, most_asks}
+use Rattle.helper_link.specs.Sound.{link_of}
+use Rattle.helper_link.specs.declared.state.LinkState.TheVariants as states
+use Rattle.helper_link.proofs.SoundLemmas.{IsSound-push}
+use Rattle.helper_link.proofs.link.Link.submit.Goals as goal
+
+pub invariant_of-self-2 : goal.invariant_of-self-2
+invariant_of-self-2 c =
+    let old : HelperLink = link_of c.self.inside.state c.self.inside.asks.items c.self.inside.last c.self.inside.owed.live
+    c.self.inside.heard.live c.self.inside.failed.items c.self.inside.faults in
+    let same : old ≡ c.args.self.now = c.self.view_is in
+    let some = subst (λ (link : HelperLink). link.state ≢ states.None) (sym same) c.requires.state in
+    let none = subst (λ (link : HelperLink). link.failed ≡ []) (sym same) c.requires.failed in
+    let room = subst (λ (link : HelperLink). length link.asks < most_asks) (sym same) c.requires.few in
+    rw (c.in_ok-push.ensures.items, c.in_ok-reserve.ensures.items)
+    (IsSound-push c.args.kind c.args.asker c.write_to_child.new.out.live old some none room c.self.invariant)

@@ -1,0 +1,13 @@
+pub mod StepLemmas
+pub mod DecodedBytes
+pub mod Base64Lemmas
+pub mod PartLemmas
+pub mod LineLemmas
+pub mod PublicLineLemmas
+pub mod PlainKeyLemmas
+pub mod FieldLemmas
+pub mod BodyLemmas
+pub mod WritingLemmas
+pub mod MemoryLemmas
+pub mod Answered
+pub mod BodyAnswers

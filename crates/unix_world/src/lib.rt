@@ -1,0 +1,12 @@
+//! The outside of a running agent: listeners and connections of Unix sockets over epoll, child processes, the
+//! system's clocks and its source of random bytes. `UnixWorld` is a `World` whose journal tells nothing.
+//! What the system does isn't claimed: counts, numbers, bounds and what stays of a buffer are.
+#![tactic(auto)]
+
+mod doors;
+mod port;
+mod programs;
+mod unix;
+
+pub use programs::Programs;
+pub use unix::UnixWorld;

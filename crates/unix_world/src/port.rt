@@ -1,0 +1,69 @@
+// A connection.
+ghost use Rattle.std.specs.Prelude.{◌≡◌, ◌<◌, length, IfOk, OnErr};
+ghost use Rattle.world_ports.specs.Worlds.{KeepsRest, GotWithin, TookWithin};
+
+use mio::net::UnixStream;
+use mio::{Interest, Registry, Token};
+use std::io;
+use std::io::{ErrorKind, Read, Write};
+use world_ports::{Got, Wrote};
+
+/// A connection, and whether epoll is to report room for writing: only from the first write on that found none.
+#[derive(Drop)]
+pub struct Port {
+    stream: UnixStream,
+    waits_for_room: bool,
+}
+
+impl Port {
+    /// Registers the connection for reading.
+    pub fn new(registry: &Registry, token: Token, stream: UnixStream) -> io::Result<Port> {
+        let mut stream = stream;
+        registry.register(&mut stream, token, Interest::READABLE)?;
+        Ok(Port {
+            stream,
+            waits_for_room: false,
+        })
+    }
+
+    /// Reads by way of `inbox`, so that the rest of `room` stays whatever the system does to a buffer.
+    pub fn read(&mut self, inbox: &mut [u8], room: &mut [u8]) -> io::Result<Got>
+        requires { 0 < length room.old }
+        ensures within { IfOk result (λ got. GotWithin (Ok got) (length room.old)) }
+        ensures rest { IfOk result (λ got. KeepsRest (Ok got) room.old room.new) }
+        ensures unchanged { OnErr result (room.new ≡ room.old) }
+    {
+        let most = room.len().min(inbox.len()).min(65536);
+        match self.stream.read(&mut inbox[..most]) {
+            Ok(0) => Ok(Got::End),
+            Ok(count) => {
+                room[..count].copy_from_slice(&inbox[..count]);
+                inbox[..count].fill(0);
+                Ok(Got::Bytes(count as u32))
+            }
+            Err(error) if error.kind() == ErrorKind::WouldBlock => Ok(Got::NotNow),
+            Err(error) => Err(error),
+        }
+    }
+
+    /// Writes from the front of `bytes`. Where there is no room, epoll reports it once there is.
+    pub fn write(&mut self, registry: &Registry, token: Token, bytes: &[u8]) -> io::Result<Wrote>
+        requires { 0 < length bytes.now }
+        ensures within { IfOk result (λ wrote. TookWithin (Ok wrote) (length bytes.now)) }
+    {
+        let most = bytes.len().min(1 << 20);
+        match self.stream.write(&bytes[..most]) {
+            Ok(0) => Err(io::Error::from(ErrorKind::WriteZero)),
+            Ok(count) => Ok(Wrote::Took(count as u32)),
+            Err(error) if error.kind() == ErrorKind::WouldBlock => {
+                if !self.waits_for_room {
+                    let both = Interest::READABLE | Interest::WRITABLE;
+                    registry.reregister(&mut self.stream, token, both)?;
+                    self.waits_for_room = true;
+                }
+                Ok(Wrote::NotNow)
+            }
+            Err(error) => Err(error),
+        }
+    }
+}

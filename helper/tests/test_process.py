@@ -1,0 +1,70 @@
+"""What the process shows to others: no core, no memory, no environment, no configuration."""
+
+import os
+import pathlib
+import pwd
+import shutil
+import subprocess
+import tempfile
+import unittest
+
+import openssh
+from peer import PROGRAM, Helper
+
+# A configuration that leaves libcrypto no algorithm that it could use.
+CONFIGURATION = """openssl_conf = all
+[all]
+alg_section = properties
+[properties]
+default_properties = fips=yes
+"""
+
+def opens_memory(pid, **user):
+    """Whether a process of the user may open the memory of another."""
+    words = ["sh", "-c", f": < /proc/{pid}/mem"]
+    run = subprocess.run(words, stderr=subprocess.PIPE, env={**os.environ, "LC_ALL": "C"}, **user)
+    assert run.returncode == 0 or b"Permission denied" in run.stderr
+    return run.returncode == 0
+
+
+def same_user():
+    """Words that make a process one of a user without rights, where the test has them all."""
+    nobody = pwd.getpwnam("nobody")
+    if os.geteuid() == 0:
+        return {"user": nobody.pw_uid, "group": nobody.pw_gid, "extra_groups": []}
+    return {}
+
+
+class Process(unittest.TestCase):
+    def test_no_core_file_is_written(self):
+        with Helper() as helper:
+            limits = pathlib.Path(f"/proc/{helper.process.pid}/limits").read_text().splitlines()
+            core = [line.split() for line in limits if line.startswith("Max core file size")]
+            self.assertEqual(core[0][4:6], ["0", "0"])
+
+    def test_the_memory_is_closed_to_others_of_the_same_user(self):
+        user = same_user()
+        with tempfile.TemporaryDirectory() as folder:
+            os.chmod(folder, 0o755)
+            program = shutil.copy(PROGRAM, folder)
+            with Helper(program=program, **user) as helper:
+                self.assertFalse(opens_memory(helper.process.pid, **user))
+        with subprocess.Popen(["sleep", "60"], **user) as other:
+            self.assertTrue(opens_memory(other.pid, **user))
+            other.kill()
+
+    def test_no_configuration_of_libcrypto_is_read(self):
+        with tempfile.TemporaryDirectory() as folder:
+            path = pathlib.Path(folder) / "openssl.cnf"
+            path.write_text(CONFIGURATION)
+            environment = {"OPENSSL_CONF": str(path), "PATH": os.environ["PATH"]}
+            control = subprocess.run(["openssl", "dgst", "-sha256"], input=b"", env=environment,
+                                     capture_output=True)
+            self.assertNotEqual(control.returncode, 0)
+            key = openssh.generate(folder, "ecdsa", "256")
+            with Helper(env=environment) as helper:
+                self.assertIsNotNone(helper.sign(key.private, key.blob, b"message"))
+
+
+if __name__ == "__main__":
+    unittest.main()
