@@ -9,3 +9,4 @@ pub mod ClientLemmas
 pub mod LeadLemmas
 pub mod RunLemmas
 pub mod BudgetLemmas
+pub mod VerdictLemmas

@@ -14,5 +14,6 @@ pub mod Step
 pub mod Runs
 pub mod Looks
 pub mod Budget
+pub mod Rows
 pub mod Sound
 pub mod Bounds
