@@ -1,9 +1,11 @@
 -- Lemmas on what is held.
 use Rattle.std.proofs.Common.{◌≡◌, ℕ, ◌+◌, ◌<◌, ◌≤◌, List, [], ◌∷◌, ◌++◌, length, map, drop, get_or, refl, ap, sym, arith, ◌∙◌, Option, Some, None, Result, Ok, Err, filter, is_some, false}
 use Rattle.std.specs.Prelude.{OnOk, OnErr}
-use Rattle.agent_msg.specs.Requests.{ListIdentities}
+use Rattle.agent_msg.specs.Requests.{ClientRequest, IsRequest, ListIdentities, Sign, Add, Remove, RemoveAll, Lock, Unlock, Bind, OtherExtension, Unsupported}
+use Rattle.agent_model.specs.Limits.{longest_body}
+use Rattle.agent_model.proofs.BoundLemmas.{private-within, text-within}
 use Rattle.agent_model.specs.Verdicts.{verdict_text}
-use Rattle.agent_core.specs.Served.{asker_of, keys_of, served_by}
+use Rattle.agent_core.specs.Served.{IsShortRequest, asker_of, keys_of, served_by}
 use Rattle.std.proofs.lemmas.List.{drop_more}
 use Rattle.std.proofs.lemmas.Bool.Decides.{nat_tests}
 use Rattle.identity_table.specs.Identities.{HeldKey, TableState}
@@ -84,3 +86,18 @@ after_ok (Err e) f p = p
 pub both_ok : {A B : Type 0} {P Q X : Type 0} (r : Result A B) → (P → Q → X) → OnOk r P → OnOk r Q → OnOk r X
 both_ok (Ok a) f p q = f p q
 both_ok (Err e) f p q = p
+
+-- ---- requests
+
+-- what comes in a body that isn't long isn't long
+pub short_request : (body : List ℕ) (request : ClientRequest) → IsRequest body request → length body ≤ longest_body → IsShortRequest request
+short_request body ListIdentities is within = tt
+short_request body (Sign signing) is within = tt
+short_request body (Add addition) is within = private-within body addition is within
+short_request body (Remove blob) is within = tt
+short_request body RemoveAll is within = tt
+short_request body (Lock passphrase) is within = text-within 22 body passphrase is within
+short_request body (Unlock passphrase) is within = tt
+short_request body (Bind bind) is within = tt
+short_request body (OtherExtension name) is within = tt
+short_request body (Unsupported number) is within = tt

@@ -1,13 +1,14 @@
 //! What requests do to the identities and the lock, and what they are answered.
 
-ghost use Rattle.std.specs.Prelude.{◌≡◌, ◌≢◌, ℕ, List, [], Option, IsSome, OnErr, OnOk, IfOk};
+ghost use Rattle.std.specs.Prelude.{◌≡◌, ◌≢◌, ℕ, List, [], Option, IsSome, OnErr, OnOk, IfOk, ◌≤◌, length};
+ghost use Rattle.agent_model.specs.Limits.{longest_body};
 ghost use Rattle.agent_msg.specs.Replies.{status};
 ghost use Rattle.agent_msg.specs.Requests.{ListIdentities, client_request};
 ghost use Rattle.identity_table.specs.Identities.{TableState, find_identity};
 ghost use Rattle.agent_model.specs.Dispatch.{add_under, remove_by};
 ghost use Rattle.agent_model.specs.State.{nothing_under_way};
 ghost use Rattle.agent_model.specs.Verdicts.{verdict_text};
-ghost use Rattle.agent_core.specs.Served.{asker_of, keys_of, served_body, served_by};
+ghost use Rattle.agent_core.specs.Served.{IsShortRequest, asker_of, keys_of, served_body, served_by};
 
 use crate::CoreMemory;
 use crate::owed::Owed;
@@ -28,6 +29,7 @@ pub fn answer(
     owed: &mut Owed,
 ) -> Result<(), CoreMemory>
     requires nothing { owed.old ≡ [] }
+    requires short { length body.now ≤ longest_body }
 
     ensures keys { (wall : ℕ) → OnOk result (keys_of table.new lock.new
         ≡ (served_body port wall body.now (keys_of table.old lock.old)).held) }
@@ -74,6 +76,7 @@ fn take(
     request: Request<'_>,
 ) -> Result<bool, CoreMemory>
     requires other { client_request request ≢ ListIdentities }
+    requires short { IsShortRequest (client_request request) }
 
     ensures keys { (wall : ℕ) → OnOk result (keys_of table.new lock.new
         ≡ (served_by port wall (client_request request.entry) (keys_of table.old lock.old)).held) }
@@ -140,6 +143,8 @@ fn remove(table: &mut Table, blob: &[u8]) -> bool
 
 // Adds a key, which may not have destination constraints.
 fn add(table: &mut Table, key: AddedKey, comment: &[u8], terms: Terms) -> Result<bool, CoreMemory>
+    requires { length key.private ≤ longest_body }
+
     ensures keys { (port wall : ℕ) (lock : Option (List ℕ)) → OnOk result (keys_of table.new lock
         ≡ (add_under terms.rules (asker_of port wall (keys_of table.old lock))
         record { key = key; comment = comment.now; terms = terms } (keys_of table.old lock) nothing_under_way).held) }

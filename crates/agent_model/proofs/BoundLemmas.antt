@@ -43,7 +43,7 @@ pub text-within : (number : ℕ) (body text : List ℕ) → IsText number body t
 text-within number body text is within = omega (arith, ap length is.printed, length-string text, within)
 
 -- the private string of an addition is shorter than its body
-private-within : (body : List ℕ) (addition : Addition) → IsRequest body (Add addition) →
+pub private-within : (body : List ℕ) (addition : Addition) → IsRequest body (Add addition) →
     length body ≤ longest_body → length addition.key.private ≤ longest_body
 private-within body addition (inl is) within =
     let parts = length-append addition.key.private (string addition.comment) in
