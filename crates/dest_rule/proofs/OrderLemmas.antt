@@ -119,7 +119,7 @@ is_pair-anyone grounds previous host_key permitted =
     (subst (λ rule. permits_pair (on_the_way grounds) previous host_key rule ≡ true) (sym f.1.2)
     (and_from _ _ p.0 refl))
 
--- a login's chain is permitted whoever logs in, and ends in a host that the agent isn't forwarded to
+-- a login's chain is permitted whoever logs in, and the agent isn't forwarded to its last host
 without_user : (rules : List Constraint) (user : List ℕ) (wall place : ℕ) (previous : Option (List ℕ))
     (binding : Binding) (later : List Binding)
     → bad_place_from (by_rules rules (Some user) wall) place previous binding later ≡ None

@@ -1,4 +1,4 @@
--- When a place of a chain is good, said of one place: beside `bad_place`, which goes through a chain.
+-- When a place of a chain is good, said of one place: beside `bad_place`, which goes through all.
 use Rattle.std.specs.Prelude.{◌≡◌, ◌<◌, ℕ, zero, suc, Bool, true, false, ◌==◌, List, length, Option, Some, None}
 use Rattle.std.specs.List.{slice_get}
 use Rattle.std.specs.Option.{option_map}
@@ -8,7 +8,8 @@ use Rattle.dest_rule.specs.Rules.{Grounds, is_good}
 -- the host key before a place of the chain, where this one is before the first
 abbrev pub key_before : Option (List ℕ) → List Binding → ℕ → Option (List ℕ)
 key_before origin chain zero = origin
-key_before origin chain (suc place) = option_map (λ binding. binding.host_key) (slice_get chain place)
+key_before origin chain (suc place) =
+    option_map (λ binding. binding.host_key) (slice_get chain place)
 
 -- a binding at a place is good, where there is one
 abbrev pub is_good_there : Option Binding → Bool → Grounds → Option (List ℕ) → Bool
@@ -29,7 +30,8 @@ pub record IsFirstBad (grounds : Grounds) (chain : List Binding) (place : ℕ) :
 
 -- every place is good
 abbrev pub AllGood : Grounds → List Binding → Type 0
-AllGood grounds chain = (place : ℕ) → place < length chain → is_good_at grounds None chain place ≡ true
+AllGood grounds chain =
+    (place : ℕ) → place < length chain → is_good_at grounds None chain place ≡ true
 
 -- where the first bad place is said to be, it is there
 abbrev pub IsPlaceIn : Grounds → List Binding → Option ℕ → Type 0

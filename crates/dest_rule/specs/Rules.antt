@@ -1,5 +1,5 @@
--- Whether destination constraints permit a chain of bindings, and with it the use of a key (ours, over
--- the records of OpenSSH's PROTOCOL.agent, "restrict-destination-v00@openssh.com key constraint
+-- Whether destination constraints permit a chain of bindings, and with it the use of a key (ours,
+-- over the records of OpenSSH's PROTOCOL.agent, "restrict-destination-v00@openssh.com key constraint
 -- extension").
 use Rattle.std.specs.Prelude.{ℕ, suc, Bool, true, false, not, List, [], ◌∷◌, Option, Some, None, Result, Ok, Err, is_none, ◌&&◌, ◌||◌, if◌then◌else◌}
 use Rattle.std.specs.List.{list_any}
@@ -23,8 +23,8 @@ pub use Rattle.dest_rule.specs.declared.denial.Denial.TheVariants.{Unbound, NotU
 
 -- ---- a hop
 
--- a host key is one of a hop's keys: it is equal, or its certificate is good for the host and of that
--- authority
+-- a host key is one of a hop's keys: it is equal, or its certificate is good for the host and of
+-- that authority
 abbrev pub fits_key : Option CertificateParts → List ℕ → List ℕ → ℕ → KeySpec → Bool
 fits_key None host_key host wall key = not key.authority && bytes_eq key.blob host_key
 fits_key (Some certificate) host_key host wall key =
@@ -135,8 +135,8 @@ visible_from rules [] attempted wall = not attempted
 visible_from rules (binding ∷ later) attempted wall =
     permits_way (record { rules = rules; user = None; wall = wall }) binding later
 
--- an identity under these constraints is listed to the connection, and may be replaced and removed by
--- it
+-- an identity under these constraints is listed to the connection, and may be replaced and removed
+-- by it
 unfoldable pub visible : List Constraint → List Binding → Bool → ℕ → Bool
 visible [] chain attempted wall = true
 visible (rule ∷ rules) chain attempted wall = visible_from (rule ∷ rules) chain attempted wall

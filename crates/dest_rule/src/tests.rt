@@ -1,8 +1,8 @@
 //! Logins over three hosts, one behind another, with OpenSSH 9.2 on one machine.
 //!
 //! A relay between `ssh` and `ssh-agent` took down what `ssh` told the agent by
-//! `session-bind@openssh.com` and gave it to sign, and what `ssh-add -h` sent. The answers are those
-//! of OpenSSH's `ssh-agent`, which the same requests were given to again under each list of
+//! `session-bind@openssh.com` and gave it to sign, and what `ssh-add -h` sent. The answers are
+//! those of OpenSSH's `ssh-agent`, which the same requests were given to again under each list of
 //! constraints.
 
 ghost use Rattle.std.specs.Prelude.{◌<◌};
