@@ -1,9 +1,9 @@
 -- What a change of the agent's parts is in its state.
-use Rattle.std.proofs.Common.{◌≡◌, ℕ, suc, List, [], ◌∷◌, refl, ap, sym, ◌∙◌, Option, Some, None, IsSome, Bool, true, false, nat_lt, ◌++◌, if◌then◌else◌, ◌<◌, ◌≤◌, length, max, arith}
+use Rattle.std.proofs.Common.{◌≡◌, ℕ, suc, List, [], ◌∷◌, refl, ap, sym, ◌∙◌, Option, Some, None, IsSome, Bool, false, nat_lt, ◌++◌, if◌then◌else◌, ◌<◌, ◌≤◌, length, max, arith}
 use Rattle.world_ports.specs.declared.Moment.{Moment}
 use Rattle.agent_model.specs.NumberLists.{without}
 use Rattle.world_ports.specs.declared.Door.TheVariants.{Clients}
-use Rattle.wire_text.specs.Frames.{Bad, More, Whole, front_body}
+use Rattle.wire_text.specs.Frames.{Bad, Whole, front_body}
 use Rattle.agent_msg.specs.Reading.{request_of}
 use Rattle.agent_model.specs.Actions.{Outcome}
 use Rattle.agent_model.specs.Children.{heard_more}
@@ -15,7 +15,7 @@ use Rattle.agent_model.specs.Looks.{due, due_by}
 use Rattle.agent_model.specs.State.{Port, State, UnderWay, change_port, client_count, find_port, nothing_under_way, numbers, owed_by, remove_port}
 use Rattle.agent_model.specs.Step.{admitted, asker_at, at_moment, closed_between, gone, handle, looked, step, take_frame, took_some}
 use Rattle.agent_model.specs.Verdicts.{tell}
-use Rattle.agent_model.proofs.ClientLemmas.{handle-ended, handle-heard, handle-took, looked-bad, looked-stays, looked-whole, served_at}
+use Rattle.agent_model.proofs.ClientLemmas.{handle-ended, handle-heard, handle-took, looked-bad, looked-whole, served_at}
 use Rattle.agent_model.proofs.ClosesLemmas.{gone-none}
 use Rattle.agent_model.proofs.IdleLemmas.{idle-serve}
 use Rattle.agent_model.proofs.PortsLemmas.{found_number, numbers-change_port}

@@ -1,13 +1,12 @@
 -- Lemmas on what is held.
 use Rattle.std.proofs.Common.{◌≡◌, ℕ, ◌+◌, ◌<◌, ◌≤◌, List, [], ◌∷◌, ◌++◌, length, map, drop, get_or, refl, ap, sym, arith, ◌∙◌, Option, Some, None, Result, Ok, Err, filter, is_some, false}
-use Rattle.std.specs.Prelude.{OnOk, OnErr}
+use Rattle.std.specs.Prelude.{OnOk}
 use Rattle.agent_msg.specs.Requests.{ClientRequest, IsRequest, ListIdentities, Sign, Add, Remove, RemoveAll, Lock, Unlock, Bind, OtherExtension, Unsupported}
 use Rattle.agent_model.specs.Limits.{longest_body}
 use Rattle.agent_model.proofs.BoundLemmas.{private-within, text-within}
 use Rattle.agent_model.specs.Verdicts.{verdict_text}
 use Rattle.agent_core.specs.Served.{IsShortRequest, asker_of, keys_of, served_by}
 use Rattle.std.proofs.lemmas.List.{drop_more}
-use Rattle.std.proofs.lemmas.Bool.Decides.{nat_tests}
 use Rattle.identity_table.specs.Identities.{HeldKey, TableState}
 use Rattle.identity_table.specs.Identities.{answer_len, entries_len, find_identity, remove_identity}
 use Rattle.identity_table.proofs.PlaceLemmas.{remove_identity-none}
@@ -71,11 +70,6 @@ listed-unlocked table (Some passphrase) port wall unlocked = absurd (cc)
 pub none_of : (lock : Option (List ℕ)) → is_some lock ≡ false → lock ≡ None
 none_of None unlocked = refl
 none_of (Some passphrase) unlocked = absurd (cc)
-
--- what holds after either answer holds
-pub either : {A B : Type 0} {P Q X : Type 0} (r : Result A B) → OnOk r P → OnErr r Q → (P → X) → (Q → X) → X
-either (Ok a) p q f g = f p
-either (Err e) p q f g = g q
 
 -- what follows after success follows
 pub after_ok : {A B : Type 0} {P Q : Type 0} (r : Result A B) → (P → Q) → OnOk r P → OnOk r Q

@@ -1,5 +1,5 @@
 -- Lemmas on what stands at the front of a port's bytes.
-use Rattle.std.proofs.Common.{◌≡◌, ℕ, ◌+◌, ◌<◌, ◌≤◌, List, [], ◌∷◌, length, arith, refl}
+use Rattle.std.proofs.Common.{◌≡◌, ℕ, ◌+◌, ◌≤◌, List, length, arith}
 use Rattle.wire_text.proofs.FrontLemmas.{front_says}
 use Rattle.wire_text.specs.Frames.{front, front_body, Whole}
 use Rattle.agent_model.specs.Limits.{longest_body}

@@ -1,5 +1,5 @@
 -- The rising list of the ports that are owed bytes.
-use Rattle.std.proofs.Common.{◌≡◌, ℕ, suc, ◌+◌, ◌<◌, ◌≤◌, List, [], ◌∷◌, ◌++◌, length, refl, ap, arith, sym, ◌∙◌, Option, Some, None, Bool, true, false, inl, inr, if◌then◌else◌, ◌==◌, nat_lt}
+use Rattle.std.proofs.Common.{◌≡◌, ℕ, ◌+◌, ◌<◌, ◌≤◌, List, [], ◌∷◌, ◌++◌, length, refl, ap, arith, sym, ◌∙◌, Some, Bool, true, false, inl, inr, if◌then◌else◌, ◌==◌, nat_lt}
 use Rattle.std.proofs.lemmas.Bool.{cases_Bool, cases_eq}
 use Rattle.std.proofs.lemmas.Bool.Decides.{nat_tests}
 use Rattle.world_ports.specs.declared.Door.{Door}
@@ -8,7 +8,7 @@ use Rattle.agent_model.specs.State.{Port, UnderWay, change_port, find_port, is_s
 use Rattle.agent_model.proofs.PortsLemmas.{found_above}
 use Rattle.agent_core.specs.declared.slot.Slot.{Slot}
 use Rattle.agent_core.specs.Rising.{IsRisingNumbers, first_above, inserted, noted, removed}
-use Rattle.agent_core.specs.Slots.{owing_of, port_of, ports_of}
+use Rattle.agent_core.specs.Slots.{owing_of, ports_of}
 
 lower_numbers : (lower low : ℕ) (xs : List ℕ) → lower ≤ low → IsRisingNumbers low xs → IsRisingNumbers lower xs
 lower_numbers lower low [] below rising = tt

@@ -2,7 +2,7 @@
 
 ghost use Rattle.std.specs.Prelude.{◌≡◌, ◌↔◌, List, ℕ, [], IsSome, IsTrue, OnErr, OnOk, length};
 ghost use Rattle.world_ports.specs.declared.Door.TheVariants.{Clients};
-ghost use Rattle.agent_model.specs.Bounds.{AreBounded};
+ghost use Rattle.identity_table.specs.Identities.{IsSound};
 ghost use Rattle.agent_model.specs.Events.{Ended, Heard, Joined, Took};
 ghost use Rattle.agent_model.specs.Sound.{IsSteady};
 ghost use Rattle.agent_model.specs.State.{Fits, client_count, find_port, first_state, next_due, next_owed, nothing_under_way, owed_of, starts, wants};
@@ -141,10 +141,11 @@ impl Agent {
         self.keys.next_death()
     }
 
-    /// How many identities are held.
+    /// How many identities are held. Each has its own blob and its own number, one message lists them all, and no
+    /// private string is longer than a message.
     pub fn held(&self) -> usize
         ensures value { result ≡ length self.now.held.table.identities }
-        ensures bounded { AreBounded self.now.held }
+        ensures sound { IsSound self.now.held.table.identities self.now.held.table.last }
     {
         self.keys.len()
     }

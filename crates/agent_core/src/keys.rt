@@ -1,8 +1,7 @@
 //! What the agent holds.
 
 ghost use Rattle.std.specs.Prelude.{◌≡◌, ◌≤◌, ℕ, [], OnOk, length};
-ghost use Rattle.identity_table.specs.Identities.{next_death};
-ghost use Rattle.agent_model.specs.Bounds.{AreBounded};
+ghost use Rattle.identity_table.specs.Identities.{IsSound, next_death};
 ghost use Rattle.agent_model.specs.KeyStates.{expired, no_keys};
 ghost use Rattle.agent_model.specs.Limits.{longest_body};
 ghost use Rattle.agent_model.specs.Verdicts.{verdict_text};
@@ -24,14 +23,11 @@ pub struct Keys {
 }
 
 impl Model for Keys {
-    ghost use Rattle.agent_model.specs.Bounds.{AreBounded};
     ghost use Rattle.agent_model.specs.KeyStates.{KeyState};
 
     ghost Value = { KeyState };
 
     ghost view = { λ keys. record { table = keys.table; lock = keys.lock } };
-
-    ghost invariant = { λ keys. AreBounded (record { table = keys.table; lock = keys.lock }) };
 }
 
 impl Keys {
@@ -56,7 +52,7 @@ impl Keys {
     /// How many identities are held.
     pub fn len(&self) -> usize
         ensures value { result ≡ length self.now.table.identities }
-        ensures bounded { AreBounded self.now }
+        ensures sound { IsSound self.now.table.identities self.now.table.last }
     {
         self.table.len()
     }

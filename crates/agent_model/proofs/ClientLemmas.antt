@@ -1,5 +1,5 @@
 -- What an event brings at a client's port.
-use Rattle.std.proofs.Common.{◌≡◌, ℕ, List, [], ◌∷◌, refl, ap, sym, ◌∙◌, Option, Some, None, Bool, true, false}
+use Rattle.std.proofs.Common.{◌≡◌, ℕ, List, [], ◌∷◌, refl, ap, ◌∙◌, Option, Some, None}
 use Rattle.world_ports.specs.declared.Door.{Door}
 use Rattle.world_ports.specs.declared.Door.TheVariants.{Clients}
 use Rattle.wire_text.specs.Frames.{Front, Whole, Bad, More, front_body}
@@ -10,8 +10,8 @@ use Rattle.agent_model.specs.Dispatch.{Served, serve}
 use Rattle.agent_model.specs.Events.{Heard, Ended, Took}
 use Rattle.agent_model.specs.Looks.{due, due_by}
 use Rattle.agent_model.specs.State.{Nothing, OnAsk, OnConfirmation, Port, State, Waits, change_port, find_port}
-use Rattle.agent_model.specs.Step.{asker_at, attempts, ended_by_role, handle, heard_at, heard_by_role, look_front, look_port, look_waits, looked, take_frame, taken, took_at, took_by_role, took_some, ended_at}
-use Rattle.agent_model.specs.State.{Client, Role, role_of}
+use Rattle.agent_model.specs.Step.{asker_at, attempts, ended_by_role, handle, heard_at, heard_by_role, look_front, look_port, look_waits, looked, take_frame, took_at, took_by_role, took_some, ended_at}
+use Rattle.agent_model.specs.State.{Client, role_of}
 use Rattle.agent_model.specs.Verdicts.{tell}
 use Rattle.agent_model.proofs.PortsLemmas.{change_port-twice, found_number}
 

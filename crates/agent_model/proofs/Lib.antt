@@ -4,7 +4,6 @@ pub mod HeldLemmas
 pub mod SecondLemmas
 pub mod IdleLemmas
 pub mod BoundLemmas
-pub mod ServeLemmas
 pub mod ClientLemmas
 pub mod LeadLemmas
 pub mod RunLemmas

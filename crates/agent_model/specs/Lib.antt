@@ -16,4 +16,3 @@ pub mod Looks
 pub mod Budget
 pub mod Rows
 pub mod Sound
-pub mod Bounds

@@ -1,4 +1,4 @@
-use Rattle.std.proofs.Common.{◌≡◌, Option, Some, None, false, is_some, ℕ}
+use Rattle.std.proofs.Common.{◌≡◌, None, false, is_some, ℕ}
 use Rattle.agent_core.proofs.HeldLemmas.{none_of}
 use Rattle.agent_core.proofs.requests.take.Goals as goal
 

@@ -1,4 +1,4 @@
-use Rattle.std.proofs.Common.{◌∙◌, ◌≡◌, ℕ, List, max, ap}
+use Rattle.std.proofs.Common.{◌∙◌, ◌≡◌, max, ap}
 use Rattle.agent_model.specs.State.{State}
 use Rattle.agent_core.specs.Happenings.{happening}
 use Rattle.agent_core.specs.Parts.{state_of}
