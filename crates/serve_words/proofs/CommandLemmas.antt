@@ -1,5 +1,5 @@
 -- Lemmas on the command that is built one argument after another, and on clap's refusals.
-use Rattle.std.proofs.Common.{◌≡◌, Bool, true, false, List, [], ◌∷◌, ap, ◌∙◌, arith}
+use Rattle.std.proofs.Common.{◌≡◌, false, [], ◌∷◌, ap, ◌∙◌, arith}
 use Rattle.std.proofs.lemmas.Grind.{common_steps}
 use Rattle.clap.specs.Built.{AddsArg}
 use Rattle.clap.specs.Kinds.{IsAmong, Kinds}
