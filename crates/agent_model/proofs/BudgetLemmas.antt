@@ -1,12 +1,11 @@
 -- A taking of all that a port is owed lowers the budget of a state in which nothing is under way.
-use Rattle.std.proofs.Common.{◌≡◌, ℕ, ◌+◌, ◌<◌, ◌≤◌, List, [], ◌∷◌, length, refl, ap, sym, arith, ◌∙◌, Option, Some, None, Bool, true, false, inl, inr, nat_lt, if◌then◌else◌, length-drop, subst, ◌==◌}
+use Rattle.std.proofs.Common.{◌≡◌, ℕ, ◌+◌, ◌<◌, ◌≤◌, List, [], ◌∷◌, length, refl, ap, sym, arith, ◌∙◌, Option, Some, None, Bool, true, false, if◌then◌else◌, length-drop, ◌==◌}
 use Rattle.std.proofs.Math.Seq.{drop-length}
-use Rattle.std.proofs.lemmas.Bool.{cases_lt}
 use Rattle.std.proofs.lemmas.Bool.Decides.{nat_tests}
 use Rattle.world_ports.specs.declared.Door.{Door}
 use Rattle.world_ports.specs.declared.Door.TheVariants.{Clients, Children}
 use Rattle.world_ports.specs.declared.events.Moment.{Moment}
-use Rattle.wire_text.specs.Frames.{Front, front, front_body, after_front, Whole, Bad, More}
+use Rattle.wire_text.specs.Frames.{Front, front_body, Whole, Bad, More}
 use Rattle.wire_text.proofs.FrontLemmas.{front_says}
 use Rattle.agent_model.specs.Actions.{Outcome}
 use Rattle.agent_model.specs.Budget.{asking_bytes, budget, port_budget, ports_budget}
@@ -16,7 +15,7 @@ use Rattle.agent_model.specs.Events.{Took}
 use Rattle.agent_model.specs.Limits.{longest_body}
 use Rattle.agent_model.specs.Looks.{due, due_at, due_by}
 use Rattle.agent_model.specs.State.{Nothing, OnAsk, OnConfirmation, Port, State, UnderWay, Waits, change_port, find_port, is_some_bytes, nothing_under_way, owed_as, owed_by, owed_by_port, owed_of, remove_port, role_of}
-use Rattle.agent_model.specs.Step.{asker_at, at_moment, attempts, handle, looked, step, take_frame, took_at, took_by_role, took_some}
+use Rattle.agent_model.specs.Step.{asker_at, at_moment, attempts, looked, step, take_frame, took_at, took_by_role, took_some}
 use Rattle.agent_model.specs.Verdicts.{tell}
 use Rattle.agent_msg.specs.Reading.{request_of}
 use Rattle.agent_model.proofs.ClientLemmas.{handle-took, looked-bad, looked-stays, looked-whole, served_at}

@@ -6,10 +6,10 @@ use Rattle.identity_table.specs.Identities.{HeldKey, find_identity, max_answer}
 use Rattle.agent_msg.specs.declared.fault.MsgFault.{MsgFault}
 use Rattle.agent_msg.specs.Requests.{Addition, ClientRequest, Signing, ListIdentities, Sign, Add, Remove, RemoveAll, Lock, Unlock, Bind, OtherExtension, Unsupported}
 use Rattle.agent_model.specs.Actions.{Work}
-use Rattle.agent_model.specs.Dispatch.{Asker, Served, add_by, add_fault, add_seen, add_under, add_unless, length_with, lock_by, remove_by, remove_seen, sees, serve, serve_by, serve_locked, serve_unlocked, sign_by, sign_with, unlock_by}
+use Rattle.agent_model.specs.Dispatch.{Asker, add_by, add_fault, add_seen, add_under, add_unless, length_with, lock_by, remove_by, remove_seen, sees, serve, serve_by, serve_locked, serve_unlocked, sign_by, sign_with, unlock_by}
 use Rattle.agent_model.specs.KeyStates.{KeyState}
 use Rattle.agent_model.specs.Limits.{last_number}
-use Rattle.agent_model.specs.State.{Nothing, UnderWay, nothing_under_way}
+use Rattle.agent_model.specs.State.{Nothing, nothing_under_way}
 use Rattle.agent_model.specs.Verdicts.{Cause, verdict_waits}
 
 -- nothing is under way, and the client waits for nothing

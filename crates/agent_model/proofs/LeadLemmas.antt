@@ -1,5 +1,5 @@
 -- What events do to the ports: some are changed under their numbers, some are closed, and the last number stays.
-use Rattle.std.proofs.Common.{◌≡◌, ◌≢◌, ◌∙◌, sym, subst, ℕ, suc, List, [], ◌∷◌, ◌++◌, refl, Option, Some, None, Bool, true, false, Result, Ok, Err}
+use Rattle.std.proofs.Common.{◌≡◌, ◌≢◌, ◌∙◌, sym, subst, ℕ, List, [], ◌∷◌, ◌++◌, refl, Option, Some, None, Bool, true, false, Result, Ok, Err}
 use Rattle.std.specs.Str.{bytes_eq}
 use Rattle.world_ports.specs.declared.Job.{Job}
 use Rattle.world_ports.specs.declared.JobKind.{JobKind}
@@ -17,10 +17,9 @@ use Rattle.helper_link.specs.declared.answer.Settled.{Settled}
 use Rattle.helper_link.specs.declared.fault.LinkFault.{LinkFault}
 use Rattle.helper_link.specs.declared.state.LinkState.{LinkState}
 use Rattle.helper_link.specs.declared.state.LinkState.TheVariants as states
-use Rattle.agent_model.specs.Actions.{Outcome}
-use Rattle.agent_model.specs.Answers.{Answering, answer_all, answer_by, answer_true, answers_in, close_helper, find_verification, helper_heard, prove, helper_tells, lose, lose_if, tell_each, with_answers}
-use Rattle.agent_model.specs.Children.{unheard, changed, closed, confirmer_goes_on, confirmer_named, failed_by, failed_if, first_frame, first_message, heard_more, hello_by, helper_named, job_failed, job_left, named_by, ticket_by, unnamed_heard}
-use Rattle.agent_model.specs.Consents.{close_confirmer, confirmer_heard, consent_by, find_started, grant, grant_to, grant_work, over, over_if}
+use Rattle.agent_model.specs.Answers.{Answering, answer_all, answer_by, answer_true, answers_in, close_helper, find_verification, prove, helper_tells, lose, lose_if, tell_each, with_answers}
+use Rattle.agent_model.specs.Children.{unheard, changed, closed, confirmer_goes_on, confirmer_named, failed_by, failed_if, first_frame, first_message, heard_more, hello_by, helper_named, job_left, named_by, ticket_by}
+use Rattle.agent_model.specs.Consents.{close_confirmer, confirmer_heard, consent_by, find_started, grant_to, grant_work, over, over_if}
 use Rattle.agent_model.specs.Events.{Happening, Joined, Heard, Ended, Took, Started, StartFailed, Tick}
 use Rattle.agent_model.specs.State.{Client, Confirmer, Helper, Nothing, OnAsk, OnConfirmation, Port, Role, StartedJob, State, Unnamed, Verification, Waits, change_port, find_port, find_to_start, remove_port, role_of}
 use Rattle.agent_model.specs.Step.{asker_at, attempts, handle, take_frame, ended_at, ended_by_role, heard_at, heard_by_role, look_front, look_owed, look_port, look_waits, looked, took_at, took_by_role, took_some}

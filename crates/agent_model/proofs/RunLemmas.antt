@@ -1,5 +1,5 @@
 -- Lemmas on events one after another.
-use Rattle.std.proofs.Common.{◌≡◌, ℕ, suc, ◌-◌, ◌^◌, ◌<◌, ◌≤◌, List, [], ◌∷◌, ◌++◌, refl, ap, arith, ◌∙◌, max, Option, Some, None, Bool, true, false, nat_lt}
+use Rattle.std.proofs.Common.{◌≡◌, ℕ, suc, ◌^◌, ◌<◌, ◌≤◌, List, [], ◌∷◌, ◌++◌, refl, ap, arith, ◌∙◌, max, Option, None, Bool, true, false}
 use Rattle.std.proofs.Math.Nat.{max-eq_left, le-max_right}
 use Rattle.std.proofs.lemmas.Bool.Decides.{nat_tests}
 use Rattle.world_ports.specs.declared.Moment.{Moment}
@@ -7,10 +7,9 @@ use Rattle.world_ports.specs.declared.Door.{Door}
 use Rattle.world_ports.specs.declared.Door.TheVariants.{Clients, Children}
 use Rattle.agent_model.specs.Events.{Happening, Timed, Joined, Heard, Ended, Took, Started, StartFailed, Tick}
 use Rattle.agent_model.specs.KeyStates.{expired}
-use Rattle.agent_model.specs.Limits.{most_clients, most_unnamed}
 use Rattle.agent_model.specs.Runs.{AllFit, run}
 use Rattle.agent_model.specs.Sound.{IsRising, IsSound}
-use Rattle.agent_model.specs.State.{Fits, Port, State, UnderWay, change_port, client_count, find_port, first_state, is_client, new_port, remove_port, unnamed_count}
+use Rattle.agent_model.specs.State.{Fits, Port, State, UnderWay, change_port, client_count, find_port, first_state, is_client, new_port, remove_port}
 use Rattle.agent_model.specs.Step.{admitted, at_moment, has_room, step}
 use Rattle.agent_model.proofs.HeldLemmas.{expired-twice}
 use Rattle.agent_model.proofs.LeadLemmas.{Follows, Leads, changes, follows-handle, follows-same, removes, stays}

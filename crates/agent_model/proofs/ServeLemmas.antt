@@ -15,7 +15,6 @@ use Rattle.agent_model.specs.Dispatch.{Asker, add_by, add_fault, add_seen, add_u
 use Rattle.agent_model.specs.KeyStates.{KeyState, expired, no_keys}
 use Rattle.agent_model.specs.Limits.{last_number, longest_body}
 use Rattle.agent_model.specs.State.{UnderWay}
-use Rattle.agent_model.specs.Verdicts.{Cause}
 use Rattle.agent_model.proofs.BoundLemmas.{text-within, addition-short, AreShort-put, AreShort-remove, AreShort-alive}
 
 -- nothing is held before the first event
