@@ -23,7 +23,7 @@ looked_by_due (OnAsk ask) owed port state waits is = rw waits
 looked_by_due (OnConfirmation job) owed port state waits is = rw waits
 
 -- among all ports
-looked-found : (number : ℕ) (port : Port) (state : State) (answer : Front) → find_port number state.ports ≡ Some port → due port ≡ answer → looked number state ≡ look_front answer port state
+pub looked-found : (number : ℕ) (port : Port) (state : State) (answer : Front) → find_port number state.ports ≡ Some port → due port ≡ answer → looked number state ≡ look_front answer port state
 looked-found number port state answer found is =
     ap (λ (o : Option Port). look_port o state) found ∙ looked_by_due port.waits port.owed port state refl refl ∙ ap (λ (f : Front). look_front f port state) is
 

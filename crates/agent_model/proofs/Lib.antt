@@ -9,3 +9,6 @@ pub mod LeadLemmas
 pub mod RunLemmas
 pub mod BudgetLemmas
 pub mod VerdictLemmas
+pub mod ToldLemmas
+pub mod PiecesLemmas
+pub mod PartsLemmas

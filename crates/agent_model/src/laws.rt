@@ -1,9 +1,9 @@
 //! Laws of the abstract agent.
 
-ghost use Rattle.std.specs.Prelude.{◌≡◌, ◌≢◌, ℕ, ◌^◌, ◌<◌, ◌≤◌, List, Option, None};
-ghost use Rattle.agent_model.specs.Events.{Happening, Timed};
-ghost use Rattle.agent_model.specs.Runs.{AllFit, run};
-ghost use Rattle.agent_model.specs.Sound.{IsSound};
+ghost use Rattle.std.specs.Prelude.{◌≡◌, ◌≢◌, ℕ, ◌^◌, ◌<◌, ◌≤◌, ◌++◌, List, Option, None};
+ghost use Rattle.agent_model.specs.Events.{Happening, Timed, Heard};
+ghost use Rattle.agent_model.specs.Runs.{AllFit, forget_closes, run};
+ghost use Rattle.agent_model.specs.Sound.{IsClient, IsSound};
 ghost use Rattle.agent_model.specs.State.{State, find_port, first_state};
 ghost use Rattle.agent_model.specs.Step.{at_moment, step};
 ghost use Rattle.agent_model.specs.Verdicts.{Cause, Refuses, Replies, Reply, verdict_text};
@@ -14,6 +14,25 @@ ghost use Rattle.world_ports.specs.declared.Moment.{Moment};
 pub fn a_moment_is_taken_in_once()
     ensures { (state : State) (moment : Moment)
         → at_moment moment (at_moment moment state) ≡ at_moment moment state }
+{}
+
+/// Where a client's bytes are cut does not matter: a piece in two parts leads to the state of the
+/// whole piece, and the same is done and put to the helper. Only the list of ports that the last event
+/// closed may differ, since it tells of one event alone; and an identity that was added with no lifetime
+/// left leaves as the next event begins, so that the states are compared as one begins.
+pub fn a_piece_in_two_parts()
+    ensures state { (state : State) (moment : Moment) (port : ℕ) (a b : List ℕ) → IsSound state → IsClient port state
+        → forget_closes (at_moment moment (step state moment (Heard port (a ++ b))).state)
+        ≡ forget_closes (at_moment moment
+        (step (step state moment (Heard port a)).state moment (Heard port b)).state) }
+    ensures actions { (state : State) (moment : Moment) (port : ℕ) (a b : List ℕ) → IsSound state → IsClient port state
+        → (step state moment (Heard port (a ++ b))).actions
+        ≡ (step state moment (Heard port a)).actions
+        ++ (step (step state moment (Heard port a)).state moment (Heard port b)).actions }
+    ensures put { (state : State) (moment : Moment) (port : ℕ) (a b : List ℕ) → IsSound state → IsClient port state
+        → (step state moment (Heard port (a ++ b))).put
+        ≡ (step state moment (Heard port a)).put
+        ++ (step (step state moment (Heard port a)).state moment (Heard port b)).put }
 {}
 
 /// Whatever happens, the numbers of the ports rise, so that they differ, none is above that of the
