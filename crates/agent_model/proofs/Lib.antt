@@ -7,5 +7,6 @@ pub mod BoundLemmas
 pub mod ClientLemmas
 pub mod LeadLemmas
 pub mod RunLemmas
+pub mod GrowLemmas
 pub mod BudgetLemmas
 pub mod VerdictLemmas
