@@ -7,6 +7,7 @@ pub mod BoundLemmas
 pub mod ClientLemmas
 pub mod LeadLemmas
 pub mod RunLemmas
+pub mod GrowLemmas
 pub mod BudgetLemmas
 pub mod VerdictLemmas
 pub mod ToldLemmas

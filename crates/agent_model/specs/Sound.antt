@@ -2,7 +2,7 @@
 use Rattle.std.specs.Prelude.{◌≡◌, ℕ, ◌<◌, ◌≤◌, List, [], ◌∷◌}
 use Rattle.std.specs.Option.{IfSome}
 use Rattle.world_ports.specs.declared.Door.TheVariants.{Clients}
-use Rattle.agent_model.specs.State.{Port, State, client_count, find_port, nothing_under_way}
+use Rattle.agent_model.specs.State.{Port, State, client_count, find_port}
 
 -- the numbers rise, each above `low` and none above `high`; so they are distinct, and the last one bounds them
 abbrev pub IsRising : ℕ → ℕ → List Port → Type 0
@@ -18,7 +18,7 @@ pub record IsSound (state : State) : Type 0 where
   pub rising : IsRising 0 state.last_port state.ports
   pub few : client_count state.ports ≤ 128
 
--- the numbers of the open ports rise up to the last one, and nothing is under way
+-- the numbers of the open ports rise up to the last one, and no confirmation is waited for
 pub record IsSteady (state : State) : Type 0 where
   pub rising : IsRising 0 state.last_port state.ports
-  pub nothing : state.under_way ≡ nothing_under_way
+  pub alone : state.under_way.confirmations ≡ []

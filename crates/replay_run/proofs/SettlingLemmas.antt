@@ -10,20 +10,20 @@ use Rattle.agent_model.proofs.RunLemmas.{step_keeps-rising, step-last_port}
 use Rattle.replay_run.specs.Holding.{is_held}
 use Rattle.replay_run.specs.Settling.{Settled, next_to_take, delivered, delivery_lines, after_output, settled_from, settled_by, settled}
 use Rattle.replay_run.proofs.HoldingLemmas.{found_unheld, nothing_unheld}
-use Rattle.agent_model.proofs.BudgetLemmas.{taking_begins_nothing, taking_lowers}
+use Rattle.agent_model.proofs.BudgetLemmas.{taking_lowers, taking_stays_alone}
 
 -- a taking lowers the budget
 pub delivered_lowers : (moment : Moment) (held : List ℕ) (port : ℕ) (state : State) → IsSteady state
     → next_to_take held state ≡ Some port → budget (delivered moment port state) < budget state
 delivered_lowers moment held port state steady next =
     let found = found_unheld state.under_way 0 state.last_port 0 port held state.ports steady.rising next in
-    taking_lowers port found.0 moment state steady.nothing found.1 found.2
+    taking_lowers port found.0 moment state steady found.1 found.2
 
 -- a taking keeps steady numbers
 pub delivered-steady : (moment : Moment) (port : ℕ) (state : State) → IsSteady state → IsSteady (delivered moment port state)
 delivered-steady moment port state steady = record {
   rising = step_keeps-rising state moment (Took port (length (owed_of port state))) steady.rising;
-  nothing = taking_begins_nothing port (length (owed_of port state)) moment state steady.nothing;
+  alone = taking_stays_alone port (length (owed_of port state)) moment state steady.alone;
 }
 
 -- nothing is taken where nothing is owed

@@ -5,6 +5,8 @@
 
 mod jobs;
 mod state;
+#[cfg(test)]
+mod tests;
 
 pub use jobs::Started;
 pub use state::{JobMemory, UnderWay};

@@ -124,7 +124,10 @@ impl UnderWay {
             }
             self.begin_helper()?;
         }
-        match self.link.ask_sign(asker, key.private(), key.blob(), message, flags) {
+        match self
+            .link
+            .ask_sign(asker, key.private(), key.blob(), message, flags)
+        {
             Ok(ask) => Ok(Some(ask)),
             Err(AskFault::Memory) => Err(JobMemory),
             Err(AskFault::Full | AskFault::NumbersSpent) => Ok(None),
