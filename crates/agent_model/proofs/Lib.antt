@@ -8,5 +8,6 @@ pub mod ClientLemmas
 pub mod LeadLemmas
 pub mod RunLemmas
 pub mod GrowLemmas
+pub mod NumberLemmas
 pub mod BudgetLemmas
 pub mod VerdictLemmas
