@@ -1,5 +1,5 @@
 -- What a request may begin: at most one more ask, for the helper that is there or coming.
-use Rattle.std.proofs.Common.{◌≡◌, ℕ, ◌+◌, List, [], ◌∷◌, ◌++◌, refl, ap, length, not, ◌∙◌, sym, Bool, true, false, Option, Some, None, Result, Ok, Err, nat_lt, ◌==◌, if◌then◌else◌}
+use Rattle.std.proofs.Common.{◌≡◌, ℕ, ◌+◌, ◌≤◌, arith, List, [], ◌∷◌, ◌++◌, refl, ap, length, not, ◌∙◌, sym, Bool, true, false, Option, Some, None, Result, Ok, Err, nat_lt, ◌==◌, if◌then◌else◌}
 use Rattle.std.specs.Str.{bytes_eq}
 use Rattle.constraint_rec.specs.declared.constraint.Constraint.{Constraint}
 use Rattle.confirm_desk.specs.Confirmations.{Confirmation, confirmation_of, find_linked, is_at}
@@ -10,33 +10,49 @@ use Rattle.identity_table.specs.Identities.{HeldKey, find_identity, max_answer}
 use Rattle.agent_msg.specs.declared.fault.MsgFault.{MsgFault}
 use Rattle.agent_msg.specs.Requests.{Addition, ClientRequest, Signing, ListIdentities, Sign, Add, Remove, RemoveAll, Lock, Unlock, Bind, OtherExtension, Unsupported}
 use Rattle.agent_model.specs.Dispatch.{Asker, add_by, add_fault, add_seen, add_under, add_unless, length_with, lock_by, remove_by, remove_seen, sees, serve, serve_by, serve_locked, serve_unlocked, sign_by, sign_with, unlock_by}
-use Rattle.agent_model.specs.Errands.{Errand, Signs, ask_fault, begun_by, held_for, put_unless, raise_fault, raise_fault_by, raise_unless}
+use Rattle.agent_model.specs.Errands.{Errand, Signs, ask_fault, begun_by, held_for, last_job_for, put_unless, raise_fault, raise_fault_by, raise_unless}
 use Rattle.agent_model.specs.KeyStates.{KeyState}
 use Rattle.agent_model.specs.Limits.{last_number, most_confirmations}
 use Rattle.agent_model.specs.State.{UnderWay, is_linked_to}
 use Rattle.agent_model.specs.Verdicts.{Cause}
 
--- the child processes that have named themselves stay who they are, and where no confirmation is waited for none is
+-- the child processes that have named themselves stay who they are; where no confirmation is waited for none is; and
+-- no number falls
 pub record AsksMore (old new : UnderWay) : Type 0 where
   pub helper : (number : ℕ) → is_linked_to number new.link.state ≡ is_linked_to number old.link.state
   pub confirmers : (number : ℕ) → find_linked number new.confirmations ≡ find_linked number old.confirmations
   pub alone : old.confirmations ≡ [] → new.confirmations ≡ []
+  pub jobs : old.last_job ≤ new.last_job
+  pub asks : old.link.last ≤ new.link.last
 
 -- nothing is begun
-stays : (under_way : UnderWay) → AsksMore under_way under_way
-stays under_way = record { helper = λ number. refl; confirmers = λ number. refl; alone = λ none. none }
+pub stays : (under_way : UnderWay) → AsksMore under_way under_way
+stays under_way = record {
+  helper = λ number. refl;
+  confirmers = λ number. refl;
+  alone = λ none. none;
+  jobs = omega arith;
+  asks = omega arith;
+}
 
 linked-begun : (state : LinkState) (job number : ℕ) → is_linked_to number (begun_by state job) ≡ is_linked_to number state
 linked-begun states.None job number = refl
 linked-begun (states.Starting other) job number = refl
 linked-begun (states.Linked port) job number = refl
 
-more-put : (fault : Option Cause) (errand : Errand) (asker : ℕ) (under_way : UnderWay) → AsksMore under_way (put_unless fault errand asker under_way).under_way
+jobs-for : (state : LinkState) (last : ℕ) → last ≤ last_job_for state last
+jobs-for states.None last = omega arith
+jobs-for (states.Starting job) last = omega arith
+jobs-for (states.Linked port) last = omega arith
+
+pub more-put : (fault : Option Cause) (errand : Errand) (asker : ℕ) (under_way : UnderWay) → AsksMore under_way (put_unless fault errand asker under_way).under_way
 more-put (Some cause) errand asker under_way = stays under_way
 more-put None errand asker under_way = record {
   helper = λ number. linked-begun under_way.link.state (under_way.last_job + 1) number;
   confirmers = λ number. refl;
   alone = λ none. none;
+  jobs = jobs-for under_way.link.state under_way.last_job;
+  asks = omega arith;
 }
 
 -- a confirmation whose child process hasn't come is nobody's
@@ -55,6 +71,8 @@ more-raised None key signing asker under_way is = record {
   helper = λ number. refl;
   confirmers = λ number. linked-behind number (confirmation_of (under_way.last_job + 1) (held_for asker key signing) (prompt_for key.comment key.blob)) under_way.confirmations refl;
   alone = λ none. let no : raise_fault_by true under_way.last_job ≡ None = sym (none-raised under_way none) ∙ is in absurd (cc);
+  jobs = omega arith;
+  asks = omega arith;
 }
 
 more-with : (confirm : Bool) (asker : Asker) (key : HeldKey) (signing : Signing) (under_way : UnderWay) → AsksMore under_way (sign_with confirm asker key signing under_way).under_way

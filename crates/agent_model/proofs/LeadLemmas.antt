@@ -62,7 +62,7 @@ follows-changed old state number f keeps door follows =
 
 -- ---- the helper
 
-leads-tell_each : (old : List Port) (verdict : Verdict) (numbers : List ℕ) (ports : List Port) → Leads old ports → Leads old (tell_each verdict numbers ports)
+pub leads-tell_each : (old : List Port) (verdict : Verdict) (numbers : List ℕ) (ports : List Port) → Leads old ports → Leads old (tell_each verdict numbers ports)
 leads-tell_each old verdict [] ports leads = leads
 leads-tell_each old verdict (number ∷ others) ports leads =
     leads-tell_each old verdict others (change_port number (tell verdict) ports) (changes number (tell verdict) ports (λ p. refl) (λ p. refl) leads)

@@ -8,6 +8,7 @@ pub mod ClientLemmas
 pub mod LeadLemmas
 pub mod RunLemmas
 pub mod GrowLemmas
+pub mod NumberLemmas
 pub mod BudgetLemmas
 pub mod VerdictLemmas
 pub mod ToldLemmas

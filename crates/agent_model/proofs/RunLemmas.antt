@@ -11,9 +11,13 @@ use Rattle.agent_model.specs.Runs.{AllFit, run}
 use Rattle.agent_model.specs.Sound.{IsRising, IsSound}
 use Rattle.agent_model.specs.State.{Fits, Port, State, UnderWay, change_port, client_count, find_port, first_state, is_client, new_port, remove_port}
 use Rattle.agent_model.specs.Step.{admitted, at_moment, has_room, step}
+use Rattle.agent_model.specs.Answers.{close_helper, lose}
+use Rattle.agent_model.specs.Verdicts.{HelperLost, Refuses}
+use Rattle.helper_link.specs.HelperLink.{askers}
+use Rattle.helper_link.specs.declared.state.LinkState.TheVariants as states
 use Rattle.agent_model.proofs.HeldLemmas.{expired-twice}
-use Rattle.agent_model.proofs.LeadLemmas.{Follows, Leads, changes, follows-handle, follows-same, removes, stays}
-use Rattle.agent_model.proofs.PortsLemmas.{rising-append, rising-change_port, rising-remove_port, rising_higher}
+use Rattle.agent_model.proofs.LeadLemmas.{Follows, Leads, changes, follows-handle, follows-same, leads-tell_each, removes, stays}
+use Rattle.agent_model.proofs.PortsLemmas.{find_port-remove_port, rising-append, rising-change_port, rising-remove_port, rising_higher}
 
 -- a moment that was taken in is not taken in again
 pub at_moment-twice : (state : State) (moment : Moment) → at_moment moment (at_moment moment state) ≡ at_moment moment state
@@ -254,3 +258,14 @@ run-unused state (timed ∷ later) number below absent =
     let rises = step-rises state timed.moment timed.event in
     run-unused (step state timed.moment timed.event).state later number (omega (arith, rises))
     (step-unused state timed.moment timed.event number below absent)
+
+-- ---- the loss of the helper
+
+-- its port isn't open afterwards
+pub lost-closed : (state : State) (port : ℕ) → IsRising 0 state.last_port state.ports → state.under_way.link.state ≡ states.Linked port → find_port port (lose state).state.ports ≡ None
+lost-closed state port rising linked =
+    let closes : close_helper state.under_way.link.state state.ports ≡ remove_port port state.ports = ap (λ l. close_helper l state.ports) linked in
+    let gone : find_port port (close_helper state.under_way.link.state state.ports) ≡ None =
+    ap (find_port port) closes ∙ find_port-remove_port port 0 state.last_port state.ports rising in
+    let ports : List Port = close_helper state.under_way.link.state state.ports in
+    leads-absent port ports (leads-tell_each ports (Refuses HelperLost) (askers state.under_way.link.asks) ports stays) gone

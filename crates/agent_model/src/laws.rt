@@ -1,5 +1,6 @@
 //! Laws of the abstract agent.
 
+<<<<<<< HEAD
 ghost use Rattle.std.specs.Prelude.{◌≡◌, ◌≢◌, ℕ, ◌^◌, ◌<◌, ◌≤◌, ◌++◌, List, Option, None};
 ghost use Rattle.agent_model.specs.Events.{Happening, Timed, Heard};
 ghost use Rattle.agent_model.specs.Runs.{AllFit, forget_closes, run};
@@ -7,6 +8,18 @@ ghost use Rattle.agent_model.specs.Sound.{IsClient, IsSound};
 ghost use Rattle.agent_model.specs.State.{State, find_port, first_state};
 ghost use Rattle.agent_model.specs.Step.{at_moment, step};
 ghost use Rattle.agent_model.specs.Verdicts.{Cause, Refuses, Replies, Reply, verdict_text};
+=======
+ghost use Rattle.std.specs.Prelude.{◌≡◌, ◌≢◌, ℕ, ◌+◌, ◌^◌, ◌<◌, ◌≤◌, List, [], Option, None};
+ghost use Rattle.helper_link.specs.declared.state.LinkState.TheVariants as states;
+ghost use Rattle.agent_model.specs.Answers.{lose};
+ghost use Rattle.agent_model.specs.Errands.{Errand, put_unless};
+ghost use Rattle.agent_model.specs.Events.{Ended, Happening, Heard, Timed};
+ghost use Rattle.agent_model.specs.Runs.{AllFit, run};
+ghost use Rattle.agent_model.specs.Sound.{IsRising, IsSound};
+ghost use Rattle.agent_model.specs.State.{OnAsk, State, UnderWay, find_port, first_state};
+ghost use Rattle.agent_model.specs.Step.{at_moment, handle, step};
+ghost use Rattle.agent_model.specs.Verdicts.{Awaits, Cause, Refuses, Replies, Reply, verdict_text};
+>>>>>>> d4cca9af5019d23b39ed22435c345f7beb31ecee
 ghost use Rattle.agent_msg.specs.Replies.{failure};
 ghost use Rattle.world_ports.specs.declared.Moment.{Moment};
 
@@ -58,4 +71,38 @@ pub fn no_number_is_used_again()
 pub fn a_failure_has_a_cause()
     ensures cause { (cause : Cause) → verdict_text (Refuses cause) ≡ failure }
     ensures reply { (reply : Reply) → verdict_text (Replies reply) ≢ failure }
+{}
+
+/// The numbers of jobs and of asks never begin again: each one that is given is the next behind the last, and no event
+/// makes the last one fall, the loss of the helper included.
+pub fn no_number_is_given_twice()
+    ensures jobs { (state : State) (events : List Timed)
+        → state.under_way.last_job ≤ (run state events).under_way.last_job }
+    ensures asks { (state : State) (events : List Timed)
+        → state.under_way.link.last ≤ (run state events).under_way.link.last }
+    ensures next { (errand : Errand) (asker : ℕ) (under_way : UnderWay)
+        → (put_unless None errand asker under_way).verdict ≡ Awaits (OnAsk (under_way.link.last + 1)) }
+    ensures last { (errand : Errand) (asker : ℕ) (under_way : UnderWay)
+        → (put_unless None errand asker under_way).under_way.link.last ≡ under_way.link.last + 1 }
+{}
+
+/// Once the helper is lost nothing is unanswered, to be sent to it or heard of it, and its port isn't open any more,
+/// so that none of its bytes can answer anything.
+pub fn a_lost_helper_answers_nothing()
+    ensures unanswered { (state : State) → (lose state).state.under_way.link.asks ≡ [] }
+    ensures unsent { (state : State) → (lose state).state.under_way.link.owed ≡ [] }
+    ensures unheard { (state : State) → (lose state).state.under_way.link.heard ≡ [] }
+    ensures closed { (state : State) (port : ℕ) → IsRising 0 state.last_port state.ports
+        → state.under_way.link.state ≡ states.Linked port
+        → find_port port (lose state).state.ports ≡ None }
+    ensures numbers_stay { (state : State)
+        → (lose state).state.under_way.link.last ≡ state.under_way.link.last }
+{}
+
+/// An event at a port that isn't open brings nothing.
+pub fn a_closed_port_brings_nothing()
+    ensures heard { (state : State) (port : ℕ) (piece : List ℕ) → find_port port state.ports ≡ None
+        → (handle (Heard port piece) state).state ≡ state }
+    ensures ended { (state : State) (port : ℕ) → find_port port state.ports ≡ None
+        → (handle (Ended port) state).state ≡ state }
 {}
