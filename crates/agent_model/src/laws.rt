@@ -1,25 +1,15 @@
 //! Laws of the abstract agent.
 
-<<<<<<< HEAD
-ghost use Rattle.std.specs.Prelude.{◌≡◌, ◌≢◌, ℕ, ◌^◌, ◌<◌, ◌≤◌, ◌++◌, List, Option, None};
-ghost use Rattle.agent_model.specs.Events.{Happening, Timed, Heard};
-ghost use Rattle.agent_model.specs.Runs.{AllFit, forget_closes, run};
-ghost use Rattle.agent_model.specs.Sound.{IsClient, IsSound};
-ghost use Rattle.agent_model.specs.State.{State, find_port, first_state};
-ghost use Rattle.agent_model.specs.Step.{at_moment, step};
-ghost use Rattle.agent_model.specs.Verdicts.{Cause, Refuses, Replies, Reply, verdict_text};
-=======
-ghost use Rattle.std.specs.Prelude.{◌≡◌, ◌≢◌, ℕ, ◌+◌, ◌^◌, ◌<◌, ◌≤◌, List, [], Option, None};
+ghost use Rattle.std.specs.Prelude.{◌≡◌, ◌≢◌, ℕ, ◌+◌, ◌^◌, ◌<◌, ◌≤◌, ◌++◌, List, [], Option, None};
 ghost use Rattle.helper_link.specs.declared.state.LinkState.TheVariants as states;
 ghost use Rattle.agent_model.specs.Answers.{lose};
 ghost use Rattle.agent_model.specs.Errands.{Errand, put_unless};
 ghost use Rattle.agent_model.specs.Events.{Ended, Happening, Heard, Timed};
-ghost use Rattle.agent_model.specs.Runs.{AllFit, run};
-ghost use Rattle.agent_model.specs.Sound.{IsRising, IsSound};
+ghost use Rattle.agent_model.specs.Runs.{AllFit, forget_closes, run};
+ghost use Rattle.agent_model.specs.Sound.{IsClient, IsRising, IsSound};
 ghost use Rattle.agent_model.specs.State.{OnAsk, State, UnderWay, find_port, first_state};
 ghost use Rattle.agent_model.specs.Step.{at_moment, handle, step};
 ghost use Rattle.agent_model.specs.Verdicts.{Awaits, Cause, Refuses, Replies, Reply, verdict_text};
->>>>>>> d4cca9af5019d23b39ed22435c345f7beb31ecee
 ghost use Rattle.agent_msg.specs.Replies.{failure};
 ghost use Rattle.world_ports.specs.declared.Moment.{Moment};
 

@@ -7,7 +7,8 @@ mod laws;
 mod rows;
 
 pub use laws::{
-    a_failure_has_a_cause, a_moment_is_taken_in_once, a_piece_in_two_parts,
+    a_closed_port_brings_nothing, a_failure_has_a_cause, a_lost_helper_answers_nothing,
+    a_moment_is_taken_in_once, a_piece_in_two_parts, no_number_is_given_twice,
     no_number_is_used_again, ports_rise_and_are_few,
 };
 pub use rows::{
