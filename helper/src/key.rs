@@ -35,13 +35,15 @@ fn key_type<'a>(name: &[u8], curves: &'a Curves) -> Result<(Algorithm<'a>, Form)
     Ok((algorithm, form))
 }
 
-/// A key blob whose key is one of its algorithm. What certifies the key is the agent's matter, and
-/// isn't read.
+/// A key blob whose key is one of its algorithm. Whom a certificate is for, and when, is the agent's
+/// matter.
 pub struct Blob<'a> {
     bytes: &'a [u8],
     name: &'a [u8],
     form: Form,
     key: PublicKey<'a>,
+    /// What stands in a certificate behind its key.
+    rest: &'a [u8],
 }
 
 enum PublicKey<'a> {
@@ -66,6 +68,7 @@ impl<'a> Blob<'a> {
                 PublicKey::Ecdsa(ecdsa::PublicKey::read(curve, &mut fields)?)
             }
         };
+        let rest = fields.rest();
         if form == Form::Plain {
             fields.end()?;
         }
@@ -74,7 +77,26 @@ impl<'a> Blob<'a> {
             name,
             form,
             key,
+            rest,
         })
+    }
+
+    /// Whether a plain key, or a certificate that its authority signed.
+    pub fn is_certified(&self, curves: &'a Curves) -> Result<bool, Refused> {
+        match self.form {
+            Form::Plain => Ok(true),
+            Form::Certified => {
+                let seal = Seal::read(self.rest)?;
+                let signed = self.bytes.len() - seal.signature_field;
+                let signed = self.bytes.get(..signed).ok_or(Refused)?;
+                match Blob::read(seal.authority, curves)? {
+                    authority if authority.form == Form::Plain => {
+                        authority.verifies(signed, seal.signature)
+                    }
+                    _ => Err(Refused),
+                }
+            }
+        }
     }
 
     /// Whether the signature, as SSH carries it, is this key's over the message.
@@ -85,6 +107,43 @@ impl<'a> Blob<'a> {
             PublicKey::Rsa(key) => key.verifies(message, &signature),
             PublicKey::Ecdsa(key) => key.verifies(message, &signature),
         }
+    }
+}
+
+/// What closes a certificate: the authority's key, and its signature over all before that.
+struct Seal<'a> {
+    authority: &'a [u8],
+    signature: &'a [u8],
+    /// How many bytes the signature takes, with its length.
+    signature_field: usize,
+}
+
+impl<'a> Seal<'a> {
+    /// Reads what follows the key: uint64 serial, uint32 type, string key id, string principals,
+    /// uint64 valid after, uint64 valid before, string critical options, string extensions, string
+    /// reserved, string signature key, string signature.
+    fn read(rest: &'a [u8]) -> Result<Self, Refused> {
+        let mut fields = Reader::new(rest);
+        fields.uint64()?;
+        fields.uint32()?;
+        for _key_id_and_principals in 0..2 {
+            fields.string()?;
+        }
+        for _after_and_before in 0..2 {
+            fields.uint64()?;
+        }
+        for _options_extensions_and_reserved in 0..3 {
+            fields.string()?;
+        }
+        let authority = fields.string()?;
+        let signature_field = fields.rest().len();
+        let signature = fields.string()?;
+        fields.end()?;
+        Ok(Seal {
+            authority,
+            signature,
+            signature_field,
+        })
     }
 }
 
