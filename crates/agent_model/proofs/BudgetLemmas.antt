@@ -10,17 +10,17 @@ use Rattle.wire_text.proofs.FrontLemmas.{front_says}
 use Rattle.agent_model.specs.Actions.{Outcome}
 use Rattle.agent_model.specs.Budget.{asking_bytes, budget, port_budget, ports_budget}
 use Rattle.agent_model.specs.Children.{changed}
-use Rattle.agent_model.specs.Dispatch.{Served, serve}
+use Rattle.agent_model.specs.Dispatch.{Served}
 use Rattle.agent_model.specs.Events.{Took}
 use Rattle.agent_model.specs.Limits.{longest_body}
 use Rattle.agent_model.specs.Looks.{due, due_at, due_by}
-use Rattle.agent_model.specs.State.{Nothing, OnAsk, OnConfirmation, Port, State, UnderWay, Waits, change_port, find_port, is_some_bytes, nothing_under_way, owed_as, owed_by, owed_by_port, owed_of, remove_port, role_of}
+use Rattle.agent_model.specs.State.{Nothing, OnAsk, OnConfirmation, Port, State, UnderWay, Waits, change_port, find_port, is_some_bytes, owed_as, owed_by, owed_by_port, owed_of, remove_port, role_of}
 use Rattle.agent_model.specs.Step.{asker_at, at_moment, attempts, looked, step, take_frame, took_at, took_by_role, took_some}
 use Rattle.agent_model.specs.Verdicts.{tell}
 use Rattle.agent_msg.specs.Reading.{request_of}
 use Rattle.agent_model.proofs.ClientLemmas.{handle-took, looked-bad, looked-stays, looked-whole, served_at}
 use Rattle.agent_model.proofs.GrowLemmas.{AsksMore, asks_more}
-use Rattle.agent_model.proofs.PortsLemmas.{found_number, rising-change_port}
+use Rattle.agent_model.proofs.PortsLemmas.{rising-change_port}
 use Rattle.agent_model.specs.Sound.{IsRising, IsSteady}
 use Rattle.agent_model.specs.State.{Client, Confirmer, Helper, Role, Unnamed, is_linked_to, role_by_helper, role_by_link}
 use Rattle.agent_model.specs.Step.{look_front, look_owed, look_port, look_waits}

@@ -11,3 +11,4 @@ pub mod GrowLemmas
 pub mod NumberLemmas
 pub mod BudgetLemmas
 pub mod VerdictLemmas
+pub mod AnswerLemmas

@@ -1,5 +1,5 @@
 -- The numbers of jobs and asks never fall.
-use Rattle.std.proofs.Common.{◌≡◌, ℕ, ◌≤◌, arith, List, [], ◌∷◌, ◌++◌, Option, Some, None, Bool, true, false, Result, Ok, Err}
+use Rattle.std.proofs.Common.{ℕ, ◌≤◌, arith, List, [], ◌∷◌, ◌++◌, Option, Some, None, Bool, true, false, Result, Ok, Err}
 use Rattle.std.specs.Str.{bytes_eq}
 use Rattle.world_ports.specs.declared.events.Job.{Job}
 use Rattle.world_ports.specs.declared.events.JobKind.{JobKind}
@@ -12,15 +12,13 @@ use Rattle.child_msg.specs.declared.fault.ChildFault.{ChildFault}
 use Rattle.confirm_desk.specs.Confirmations.{Confirmation, Consent, No, NotYet, Yes, consent, find_asker, find_job}
 use Rattle.dest_rule.specs.Rules.{denial_under}
 use Rattle.dest_rule.specs.declared.denial.Denial.{Denial}
-use Rattle.helper_link.specs.HelperLink.{HelperLink}
 use Rattle.helper_link.specs.Telling.{telling}
 use Rattle.helper_link.specs.declared.fault.LinkFault.{LinkFault}
 use Rattle.identity_table.specs.Identities.{HeldKey, find_number}
 use Rattle.agent_msg.specs.Reading.{request_of}
 use Rattle.agent_model.specs.Answers.{answers_in, helper_tells, lose_if, with_answers}
 use Rattle.agent_model.specs.Children.{changed, closed, confirmer_goes_on, confirmer_named, failed_by, failed_if, first_frame, first_message, heard_more, hello_by, helper_named, job_left, named_by, ticket_by}
-use Rattle.agent_model.specs.Consents.{confirmer_heard, consent_by, find_started, grant_by, grant_to, grant_unless, grant_with, grant_work, over_if, signing_of, without_confirmation}
-use Rattle.agent_model.specs.Dispatch.{serve}
+use Rattle.agent_model.specs.Consents.{consent_by, find_started, grant_by, grant_to, grant_unless, grant_with, over_if, signing_of, without_confirmation}
 use Rattle.agent_model.specs.Errands.{Signs, ask_fault}
 use Rattle.agent_model.specs.Events.{Happening, Timed, Joined, Heard, Ended, Took, Started, StartFailed, Tick}
 use Rattle.agent_model.specs.KeyStates.{KeyState}
@@ -29,7 +27,7 @@ use Rattle.agent_model.specs.Runs.{run}
 use Rattle.agent_model.specs.State.{Client, Confirmer, Helper, Nothing, OnAsk, OnConfirmation, Port, Role, StartedJob, State, UnderWay, Unnamed, Waits, find_port, find_to_start, role_of}
 use Rattle.agent_model.specs.Step.{asker_at, at_moment, ended_at, ended_by_role, handle, heard_at, heard_by_role, look_front, look_owed, look_port, look_waits, step, took_at, took_by_role, took_some}
 use Rattle.dest_rule.specs.declared.binding.Binding.{Binding}
-use Rattle.agent_model.proofs.GrowLemmas.{AsksMore, asks_more, more-put, stays}
+use Rattle.agent_model.proofs.GrowLemmas.{AsksMore, asks_more, more-put}
 
 -- no number falls
 pub record Grows (old new : UnderWay) : Type 0 where
