@@ -14,3 +14,4 @@ pub mod VerdictLemmas
 pub mod ToldLemmas
 pub mod PiecesLemmas
 pub mod PartsLemmas
+pub mod AnswerLemmas

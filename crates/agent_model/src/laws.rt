@@ -1,15 +1,19 @@
 //! Laws of the abstract agent.
 
-ghost use Rattle.std.specs.Prelude.{◌≡◌, ◌≢◌, ℕ, ◌+◌, ◌^◌, ◌<◌, ◌≤◌, ◌++◌, List, [], Option, None};
+ghost use Rattle.std.specs.Prelude.{◌≡◌, ◌≢◌, ℕ, ◌+◌, ◌++◌, Some, false, ◌^◌, ◌<◌, ◌≤◌, List, [], Option, None};
 ghost use Rattle.helper_link.specs.declared.state.LinkState.TheVariants as states;
-ghost use Rattle.agent_model.specs.Answers.{lose};
+ghost use Rattle.helper_link.specs.declared.answer.Answer.TheVariants as answers;
+ghost use Rattle.helper_link.specs.declared.answer.Settled.{Settled};
+ghost use Rattle.agent_msg.specs.Replies.{sign_response};
+ghost use Rattle.agent_model.specs.Answers.{Answering, answer_all, answer_by, askers_of, lose, tell_each};
+ghost use Rattle.agent_model.specs.NumberLists.{has};
 ghost use Rattle.agent_model.specs.Errands.{Errand, put_unless};
 ghost use Rattle.agent_model.specs.Events.{Ended, Happening, Heard, Timed};
 ghost use Rattle.agent_model.specs.Runs.{AllFit, forget_closes, run};
 ghost use Rattle.agent_model.specs.Sound.{IsClient, IsRising, IsSound};
-ghost use Rattle.agent_model.specs.State.{OnAsk, State, UnderWay, find_port, first_state};
+ghost use Rattle.agent_model.specs.State.{Nothing, OnAsk, Port, State, UnderWay, find_port, first_state};
 ghost use Rattle.agent_model.specs.Step.{at_moment, handle, step};
-ghost use Rattle.agent_model.specs.Verdicts.{Awaits, Cause, Refuses, Replies, Reply, verdict_text};
+ghost use Rattle.agent_model.specs.Verdicts.{Awaits, Cause, HelperLost, Refuses, Replies, Reply, verdict_text};
 ghost use Rattle.agent_msg.specs.Replies.{failure};
 ghost use Rattle.world_ports.specs.declared.Moment.{Moment};
 
@@ -95,4 +99,23 @@ pub fn a_closed_port_brings_nothing()
         → (handle (Heard port piece) state).state ≡ state }
     ensures ended { (state : State) (port : ℕ) → find_port port state.ports ≡ None
         → (handle (Ended port) state).state ≡ state }
+{}
+
+/// An answer goes to the client that asked and to nobody else: it is owed SSH_AGENT_SIGN_RESPONSE with the helper's
+/// bytes, or SSH_AGENT_FAILURE, and waits for nothing more, so that no ask is answered twice. Where the helper is lost,
+/// only those that wait for it are told.
+pub fn answers_go_to_who_asked()
+    ensures others { (settled : List Settled) (before : Answering) (number : ℕ)
+        → has number (askers_of settled) ≡ false
+        → find_port number (answer_all settled before).ports ≡ find_port number before.ports }
+    ensures signed { (one : Settled) (signature : List ℕ) (before : Answering) (port : Port)
+        → find_port one.asker before.ports ≡ Some port
+        → find_port one.asker (answer_by (answers.Signed signature) one before).ports
+        ≡ Some (record port { owed = port.owed ++ sign_response signature; waits = Nothing }) }
+    ensures refused { (one : Settled) (before : Answering) (port : Port)
+        → find_port one.asker before.ports ≡ Some port
+        → find_port one.asker (answer_by answers.Refused one before).ports
+        ≡ Some (record port { owed = port.owed ++ failure; waits = Nothing }) }
+    ensures lost { (askers : List ℕ) (ports : List Port) (number : ℕ) → has number askers ≡ false
+        → find_port number (tell_each (Refuses HelperLost) askers ports) ≡ find_port number ports }
 {}
