@@ -1,10 +1,11 @@
 #!/usr/bin/env bash
 # Processor time that the signing helper takes for a signature and for a verification, beside `openssl speed` of the
 # same machine and OpenSSH's ssh-agent with the same keys: the least of several rounds of each, in turn. The argument
-# is the number of rounds, 5 where there is none. Needs python3, openssl, OpenSSH and what `make helper` builds.
+# is the number of rounds, 5 where there is none. Needs python3, openssl and OpenSSH, and says so where `make helper`
+# didn't build the helper, which is all it does then.
 set -eu
 cd "$(dirname "$0")/.."
-[ -x helper/target/release/mortarleek-helper ] || { echo "bench: run make helper first" >&2; exit 1; }
+[ -x helper/target/release/mortarleek-helper ] || { echo "helper: not built, see make helper"; exit 0; }
 exec python3 -B - "${1:-5}" <<'PYTHON'
 import os, socket, struct, subprocess, sys, tempfile, time
 
@@ -15,9 +16,9 @@ from peer import PROGRAM, Helper, string, strings, sign_body, verify_body
 ROUNDS = int(sys.argv[1])
 MESSAGE = bytes(200)
 # key, name for openssl speed, flags, requests in a round
-KEYS = [(("ed25519", "256"), "ed25519", 0, 2000), (("rsa", "2048"), "rsa2048", 4, 300),
-        (("rsa", "3072"), "rsa3072", 4, 100), (("ecdsa", "256"), "ecdsap256", 0, 2000),
-        (("ecdsa", "384"), "ecdsap384", 0, 200), (("ecdsa", "521"), "ecdsap521", 0, 500)]
+KEYS = [(("ed25519", "256"), "ed25519", 0, 1000), (("rsa", "2048"), "rsa2048", 4, 200),
+        (("rsa", "3072"), "rsa3072", 4, 60), (("ecdsa", "256"), "ecdsap256", 0, 2000),
+        (("ecdsa", "384"), "ecdsap384", 0, 60), (("ecdsa", "521"), "ecdsap521", 0, 200)]
 
 
 def spent(pid):
@@ -42,10 +43,9 @@ def helper_time(body, count):
 def agent_time(folder, key, flags, count):
     path = f"{folder}/agent"
     agent = subprocess.Popen(["ssh-agent", "-D", "-a", path], stdout=subprocess.DEVNULL)
-    while not os.path.exists(path):
-        time.sleep(0.01)
     with socket.socket(socket.AF_UNIX) as peer:
-        peer.connect(path)
+        while peer.connect_ex(path) != 0:
+            time.sleep(0.01)
         ask(peer, b"\x11" + key.private + string(b""))
         for _ in range(count):
             body = b"\x0d" + string(key.blob) + string(MESSAGE) + struct.pack(">I", flags)
@@ -73,7 +73,7 @@ def speed(name):
     for line in said.splitlines():
         fields = line.split(":")
         if fields[0] in ("+F2", "+F4", "+F6"):
-            return tuple(1 / float(value) if float(value) > 1 else float(value) for value in fields[-2:])
+            return [1 / float(rate) for rate in fields[-2:]]
     raise SystemExit(f"bench: openssl speed said nothing of {name}")
 
 

@@ -4,19 +4,17 @@ draft-miller-ssh-agent, OpenSSH's PROTOCOL.agent, and docs/PROTOCOL.md for what 
 `seen` counts how often each request, cause and limit was met.
 """
 
-from __future__ import annotations
-
 from collections import Counter
 from collections.abc import Callable, Iterable
 from dataclasses import dataclass, field
 
 import formats
-from rules import Binding, Rules, may_sign, visible
+from rules import Binding, Chain, Rules, may_sign, visible
 from wire import Fault, demand, string, take_frame, uint32, within
 
-# What the agent does beside holding keys: a helper signs; connections are bound to sessions;
-# keys have destination constraints; a user is asked before a key signs.
-STAGES = ("asks", "bindings", "rules", "confirmations")
+# What the agent does beside holding keys: there is a default lifetime; a helper signs; connections
+# are bound to sessions; keys have destination constraints; a user is asked before a key signs.
+STAGES = ("life", "asks", "bindings", "rules", "confirmations")
 
 # "client" and "child" are open ports, of children those that haven't said hello.
 LIMITS = {"body of a client": 262144, "body of a child": 262144, "list": 262144}
@@ -46,7 +44,7 @@ class Port:
     heard: bytearray = field(default_factory=bytearray)
     owed: bytearray = field(default_factory=bytearray)
     waits: bool = False
-    chain: list[Binding] = field(default_factory=list)
+    chain: Chain = field(default_factory=list)
     attempted: bool = False
     job: int | None = None
 
@@ -78,7 +76,7 @@ class Agent:
         self.closes: list[int] = []
         self.helper: int | None = None  # its job
         self.helper_port: int | None = None
-        self.unsent = b""  # frames that wait for its hello
+        self.unsent = bytearray()  # frames that wait for its hello
         self.asks: dict[int, Ask] = {}
         self.confirmations: dict[int, Confirmation] = {}
         self.starts: dict[int, str] = {}
@@ -95,8 +93,6 @@ class Agent:
         if beyond in (0, 1):
             self.seen[f"limit: {what}{' + 1' * beyond}"] += 1
         return beyond > 0
-
-    # Events
 
     def event(self, mono: int, wall: int, happens: Callable[..., None], *what: object) -> None:
         self.mono, self.wall = max(self.mono, mono), wall
@@ -158,8 +154,6 @@ class Agent:
         elif job in self.confirmations:
             self.deny(job, "start failed")
 
-    # Requests
-
     def look(self, number: int, client: Port) -> None:
         """Takes the next request, where the client waits for nothing and is owed nothing."""
         if client.waits or client.owed:
@@ -172,7 +166,7 @@ class Agent:
         if body is None:
             return
         self.above("body of a client", len(body))
-        if self.passphrase is None and formats.names_bind(body):
+        if self.passphrase is None and body.startswith(b"\x1b" + string(formats.BIND)):
             client.attempted = True
         try:
             reply = self.answer(number, client, body)
@@ -186,9 +180,8 @@ class Agent:
         kind, *fields = within("malformed", formats.request, body)
         demand(self.passphrase is None or kind in (11, 23), "locked")
         demand(kind in REQUESTS, "unknown request")
-        reply = getattr(self, REQUESTS[kind])(number, client, *fields)
         self.seen[f"request {kind}"] += 1
-        return reply
+        return getattr(self, REQUESTS[kind])(number, client, *fields)
 
     def may_see(self, client: Port, identity: Identity) -> bool:
         return visible(identity.rules, client.chain, client.attempted, self.wall)
@@ -222,10 +215,10 @@ class Agent:
         self.seen["rules: permit"] += bool(identity.rules)
 
     def add(
-        self, number: int, client: Port, blob: bytes, private: bytes, comment: bytes, rest=b""
+        self, number: int, client: Port, blob: bytes, private: bytes, comment: bytes, rest: bytes
     ) -> bytes:
         terms = within("constraints", formats.constraints, rest)
-        demand(not terms.rules or "rules" in self.stages, "add: destination constraints")
+        demand("rules" not in terms or "rules" in self.stages, "add: destination constraints")
         held = self.identities.get(blob)
         demand(held is None or self.may_see(client, held), "add: not visible")
         comments = {each: identity.comment for each, identity in self.identities.items()}
@@ -233,11 +226,11 @@ class Agent:
         size = 5 + sum(8 + len(each) + len(text) for each, text in comments.items())
         demand(not self.above("list", size), "add: list is full")
         self.seen["add: replaced"] += held is not None
-        life = self.default_life if terms.life is None else terms.life
+        life = terms.get("life", self.default_life)
         death = None if life is None else self.mono + life
-        self.identities[blob] = Identity(
-            self.next_number("addition"), private, comment, death, terms.confirm, terms.rules
-        )
+        number, confirm = self.next_number("addition"), "confirm" in terms
+        key = Identity(number, private, comment, death, confirm, terms.get("rules"))
+        self.identities[blob] = key
         return SUCCESS
 
     def remove(self, number: int, client: Port, blob: bytes) -> bytes:
@@ -268,7 +261,7 @@ class Agent:
         ask = Ask(number, Binding(host_key, session, bool(forwarding)), new)
         self.put(ask, formats.verify_frame, host_key, signature, session)
 
-    def judge(self, chain: list[Binding], host_key: bytes, session: bytes) -> bool:
+    def judge(self, chain: Chain, host_key: bytes, session: bytes) -> bool:
         """Whether a binding that a chain may have is new to it."""
         demand(session != b"", "bind: empty session")
         demand(not self.above("session", len(session)), "bind: long session")
@@ -280,8 +273,6 @@ class Agent:
         demand(not self.above("bindings", len(chain) + 1), "bind: full")
         return True
 
-    # Asks and confirmations
-
     def put(self, ask: Ask, frame: Callable[..., bytes], *fields: object) -> None:
         """Asks the helper, which is started where there is none."""
         demand(not self.above("asks", len(self.asks) + 1), "asks")
@@ -290,25 +281,21 @@ class Agent:
             self.starts[self.helper] = "helper"
         number = self.next_number("ask")
         self.asks[number] = ask
-        if self.helper_port is None:
-            self.unsent += frame(number, *fields)
-        else:
-            self.ports[self.helper_port].owed += frame(number, *fields)
+        owed = self.unsent if self.helper_port is None else self.ports[self.helper_port].owed
+        owed += frame(number, *fields)
 
     def settle(self, asker: int, reply: bytes, how: str) -> None:
         """Gives a client what it waits for, where it hasn't left."""
         self.seen[how] += 1
-        client = self.ports.get(asker)
-        if client is None:
-            self.seen["answer: asker left"] += 1
-        else:
-            client.waits = False
-            client.owed += string(reply)
+        self.seen["answer: asker left"] += asker not in self.ports
+        if asker in self.ports:
+            self.ports[asker].waits = False
+            self.ports[asker].owed += string(reply)
 
     def lose_helper(self, why: str) -> None:
         self.seen[f"helper lost: {why}"] += 1
         failed, self.asks = self.asks, {}
-        self.helper, self.helper_port, self.unsent = None, None, b""
+        self.helper, self.helper_port, self.unsent = None, None, bytearray()
         for ask in failed.values():
             self.settle(ask.asker, FAILURE, "cause: helper lost")
 
@@ -333,8 +320,6 @@ class Agent:
             self.seen["confirmation: granted"] += 1
         except Fault as cause:
             self.settle(told.asker, FAILURE, f"cause: granted: {cause}")
-
-    # Children
 
     def listen(self, number: int, child: Port) -> None:
         """A child's first message names its job, and those behind it are answers."""
@@ -368,9 +353,7 @@ class Agent:
         del self.tickets[job]
         child.job = job
         if job == self.helper:
-            self.helper_port = number
-            child.owed += self.unsent
-            self.unsent = b""
+            self.helper_port, child.owed, self.unsent = number, self.unsent, bytearray()
         else:
             self.confirmations[job].port = number
             child.owed += self.confirmations[job].frame
@@ -386,9 +369,6 @@ class Agent:
         del self.asks[number]
         if kind == "TRUE" and ask.new and ask.asker in self.ports:
             self.ports[ask.asker].chain.append(ask.binding)
-        if kind == "SIGNED":
-            self.settle(ask.asker, b"\x0e" + string(signature), "helper: SIGNED")
-        elif kind == "TRUE":
-            self.settle(ask.asker, SUCCESS, f"helper: TRUE, {'new' if ask.new else 'same'}")
-        else:
-            self.settle(ask.asker, FAILURE, f"cause: helper: {kind}")
+        replies = {"SIGNED": b"\x0e" + string(signature), "TRUE": SUCCESS}
+        again = " again" * (kind == "TRUE" and not ask.new)
+        self.settle(ask.asker, replies.get(kind, FAILURE), f"helper: {kind}{again}")

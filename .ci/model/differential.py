@@ -6,6 +6,7 @@ import argparse
 import importlib
 import multiprocessing
 import os
+import re
 import subprocess
 import sys
 import tempfile
@@ -15,9 +16,9 @@ from collections.abc import Callable
 from pathlib import Path
 
 from agent import STAGES
-from generate import Writer, goals
+from generate import Case, Schedule, goals
 from replay import LONGEST_LINE, LONGEST_SCHEDULE, replay
-from rows import ROWS
+from rows_rules import EVERY_ROW
 
 HERE = Path(__file__).parent
 Result = tuple[bytes, int]
@@ -29,9 +30,9 @@ def run_program(program: str, text: bytes, life: int | None = None) -> Result:
     return done.stdout, done.returncode
 
 
-def shorten(text: bytes, differs: Callable[[bytes], bool]) -> bytes:
+def fewer_lines(lines: list[bytes], differs: Callable[[bytes], bool]) -> list[bytes]:
     """Leaves out lines as long as the rest still differs."""
-    lines, size = text.split(b"\n"), text.count(b"\n")
+    size = len(lines) - 1
     while size >= 1:
         at = 0
         while at < len(lines):
@@ -41,6 +42,32 @@ def shorten(text: bytes, differs: Callable[[bytes], bool]) -> bytes:
             else:
                 at += size
         size //= 2
+    return lines
+
+
+def line_by_frame(lines: list[bytes]) -> list[bytes]:
+    """What comes from a port in lines behind each other, with a line for each whole frame."""
+    told: list[tuple[bytes, bytes]] = []
+    for line in lines:
+        heard = re.fullmatch(rb"(hear [0-9]+ )([0-9a-fA-F]+)", line)
+        if heard and told and told[-1][0] == heard[1]:
+            told[-1] = (heard[1], told[-1][1] + heard[2])
+        else:
+            told.append((heard[1], heard[2]) if heard else (line, b""))
+    split = []
+    for start, text in told:
+        while len(text) >= 8 and len(text) > (end := 8 + 2 * int(text[:8], 16)):
+            split.append(start + text[:end])
+            text = text[end:]
+        split.append(start + text)
+    return split
+
+
+def shorten(text: bytes, differs: Callable[[bytes], bool]) -> bytes:
+    lines = fewer_lines(text.split(b"\n"), differs)
+    split = line_by_frame(lines)
+    if differs(b"\n".join(split)):
+        lines = fewer_lines(split, differs)
     return b"\n".join(lines)
 
 
@@ -68,12 +95,12 @@ def show_mismatch(program: str, text: bytes, stages: list[str], life: int | None
 def try_rows(program: str, stages: list[str]) -> bool:
     """The literal rows, by the model, and by the program where it does what they need."""
     good, tried = True, 0
-    for row in ROWS:
+    for row in EVERY_ROW:
         wanted = (row.printed, row.status)
-        seen = {"the model": replay(row.schedule, row.needs)}
-        seen["the model of this stage"] = replay(row.schedule, {*row.needs, *stages})
+        seen = {"the model": replay(row.schedule, row.needs, row.life)}
+        seen["the model of this stage"] = replay(row.schedule, {*row.needs, *stages}, row.life)
         if set(row.needs) <= set(stages):
-            seen["the program"] = run_program(program, row.schedule)
+            seen["the program"] = run_program(program, row.schedule, row.life)
             tried += 1
         for name, result in seen.items():
             if result != wanted:
@@ -81,20 +108,41 @@ def try_rows(program: str, stages: list[str]) -> bool:
                 print(f"row '{row.name}': {name} differs, with status {result[1]}")
                 show("printed", result[0])
                 show("wanted", row.printed)
-    print(f"{len(ROWS)} rows by the model, {tried} by the program")
+    print(f"{len(EVERY_ROW)} rows by the model, {tried} by the program")
     return good
+
+
+def run_long(program: str, line: bytes, count: int, last: bytes) -> Result:
+    """Runs a schedule of one line, so often, and last lines."""
+    with subprocess.Popen(
+        [program, "replay"],
+        stdin=subprocess.PIPE,
+        stdout=subprocess.PIPE,
+        stderr=subprocess.DEVNULL,
+    ) as child:
+        try:
+            for _ in range(count):
+                child.stdin.write(line)
+            child.stdin.write(last)
+            child.stdin.close()
+        except BrokenPipeError:
+            pass
+        output = child.stdout.read()
+    return output, child.returncode
 
 
 def try_longest(program: str) -> bool:
     """A schedule of the longest length, and one with a byte more in its last line."""
-    line = b"#" * (LONGEST_LINE - 1) + b"\n"
-    count = LONGEST_SCHEDULE // len(line)
-    last = b"join client\n"
-    for more, wanted in [(0, (b"end\n", 0)), (1, (b"refused %d long\n" % (count + 1), 1))]:
+    line, last = b"#" * (LONGEST_LINE - 1) + b"\n", b"join client\n"
+    count = LONGEST_SCHEDULE // len(line) - 1
+    for more, wanted in [(0, (b"end\n", 0)), (1, (b"refused %d long\n" % (count + 2), 1))]:
         padding = b"#" * (LONGEST_LINE - 1 - len(last) + more) + b"\n"
-        text = line * (count - 1) + padding + last
-        if len(text) != LONGEST_SCHEDULE + more or run_program(program, text) != wanted:
-            print(f"a schedule of {len(text)} bytes: the program prints something else")
+        size = count * len(line) + len(padding) + len(last)
+        if (
+            size != LONGEST_SCHEDULE + more
+            or run_long(program, line, count, padding + last) != wanted
+        ):
+            print(f"a schedule of {size} bytes: the program prints something else")
             return False
     print(f"schedules of {LONGEST_SCHEDULE} bytes and one more, by the program")
     return True
@@ -111,10 +159,9 @@ def try_examples(program: str, stages: list[str]) -> bool:
 
 def try_one(task: tuple[str, str, list[str]]) -> tuple[bool, Counter[str], int]:
     program, seed, stages = task
-    writer = Writer(seed, stages)
-    text = writer.write()
-    same = run_program(program, text, writer.life) == (writer.run.output(), writer.run.status)
-    return same, writer.seen(), len(writer.lines)
+    writer = Schedule(seed, stages)
+    text, life, wanted = writer.case()
+    return run_program(program, text, life) == wanted, writer.seen(), text.count(b"\n")
 
 
 def try_schedules(program: str, count: int, seed: str, stages: list[str]) -> bool:
@@ -124,10 +171,9 @@ def try_schedules(program: str, count: int, seed: str, stages: list[str]) -> boo
         for task, (same, reached, length) in zip(tasks, pool.imap(try_one, tasks, 8)):
             if not same:
                 pool.terminate()
-                writer = Writer(task[1], stages)
-                text = writer.write()
+                text, life, _ = Schedule(task[1], stages).case()
                 print(f"schedule {task[1]}:")
-                show_mismatch(program, text, stages, writer.life)
+                show_mismatch(program, text, stages, life)
                 return False
             seen += reached
             lines += length
@@ -165,14 +211,11 @@ def read_wrong() -> list[dict[str, str]]:
     return edits
 
 
-Case = tuple[bytes, int | None, Result]
 CASES: list[Case] = []
 
 
 def write_case(seed: str) -> Case:
-    writer = Writer(seed, STAGES)
-    text = writer.write()
-    return text, writer.life, (writer.run.output(), writer.run.status)
+    return Schedule(seed, STAGES).case()
 
 
 def first_found(edit: dict[str, str]) -> int | None:

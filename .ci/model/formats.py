@@ -1,17 +1,15 @@
 """Keys, certificates, logins, constraints and messages, each read to its first fault.
 
-draft-miller-ssh-agent; RFC 4252, section 7; OpenSSH's PROTOCOL, PROTOCOL.agent and
-PROTOCOL.certkeys; docs/PROTOCOL.md for what these leave open.
+draft-miller-ssh-agent; RFC 4252; OpenSSH's PROTOCOL files; docs/PROTOCOL.md for what is ours.
 """
-
-from __future__ import annotations
 
 import base64
 import hashlib
 from collections.abc import Iterator
 from dataclasses import dataclass
+from typing import Any
 
-from wire import Fault, Reader, demand, matches, string, uint32, uint64, within
+from wire import Reader, demand, matches, string, uint32, uint64, within
 
 ED25519, RSA, STAND_IN = b"ssh-ed25519", b"ssh-rsa", b"keyed-sha256@example.com"
 CURVES = {b"ecdsa-sha2-" + name: name for name in (b"nistp256", b"nistp384", b"nistp521")}
@@ -82,10 +80,6 @@ class PublicKey:
         by_hash = (b"rsa-sha2-256" + mark, b"rsa-sha2-512" + mark)
         return algorithm == self.key_type or (mark != self.key_type and algorithm in by_hash)
 
-    def fingerprint(self) -> bytes:
-        digest = hashlib.sha256(self.plain_blob).digest()
-        return b"SHA256:" + base64.b64encode(digest).rstrip(b"=")
-
 
 def public_key(blob: bytes) -> PublicKey:
     reader = Reader(blob)
@@ -138,10 +132,7 @@ def login(message: bytes, blob: bytes) -> tuple[bytes, bytes, bytes | None]:
     demand(reader.byte() == 1, "NoSignatureFlag")
     algorithm = reader.string()
     demand(reader.string() == blob, "OtherKey")
-    try:
-        demand(public_key(blob).fits(algorithm), "Algorithm")
-    except Fault:
-        raise Fault("Algorithm") from None
+    demand(within("Algorithm", public_key, blob).fits(algorithm), "Algorithm")
     if bound:
         host_key = reader.string()
         within("HostKey", public_key, host_key)
@@ -180,33 +171,22 @@ def destination(text: bytes) -> tuple[Hop, Hop]:
     return source, target
 
 
-@dataclass
-class Terms:
-    life: int | None = None
-    confirm: bool = False
-    rules: list[tuple[Hop, Hop]] | None = None
-
-
-def constraints(text: bytes) -> Terms:
-    reader, terms = Reader(text), Terms()
+def constraints(text: bytes) -> dict[str, Any]:
+    """The lifetime, the wish for confirmation and the rules, as far as they are there."""
+    reader, terms = Reader(text), {}
     while reader.left:
         kind = reader.byte()
+        demand(kind in (1, 2) or kind == 255 and reader.string() == RESTRICT, "Unknown")
+        name = {1: "life", 2: "confirm", 255: "rules"}[kind]
+        demand(name not in terms, "Twice")
         if kind == 1:
-            demand(terms.life is None, "Twice")
-            terms.life = reader.uint32()
+            terms[name] = reader.uint32()
         elif kind == 2:
-            demand(not terms.confirm, "Twice")
-            terms.confirm = True
+            terms[name] = True
         else:
-            demand(kind == 255 and reader.string() == RESTRICT, "Unknown")
-            demand(terms.rules is None, "Twice")
-            terms.rules = [destination(each) for each in strings(reader.string())]
-            demand(terms.rules != [], "NoRules")
+            terms[name] = [destination(each) for each in strings(reader.string())]
+            demand(terms[name] != [], "NoRules")
     return terms
-
-
-def names_bind(body: bytes) -> bool:
-    return body.startswith(bytes([27]) + string(BIND))
 
 
 def request(body: bytes) -> list:
@@ -217,9 +197,8 @@ def request(body: bytes) -> list:
     if taken == [13]:
         taken += [reader.string(), reader.string(), reader.uint32()]
     elif taken in ([17], [25]):
-        taken += [*added_key(reader), reader.string()]
-        if taken[0] == 25:
-            taken, reader.left = [*taken, reader.left], b""
+        rest = reader.rest if taken == [25] else bytes
+        taken += [*added_key(reader), reader.string(), rest()]
     elif taken in ([18], [22], [23]):
         taken += [reader.string()]
     elif taken == [27]:
@@ -235,9 +214,6 @@ def request(body: bytes) -> list:
     return taken
 
 
-# Frames to children, and from them (docs/PROTOCOL.md)
-
-
 def sign_frame(ask: int, private: bytes, blob: bytes, message: bytes, flags: int) -> bytes:
     texts = string(private) + string(blob) + string(message)
     return string(b"\x01", uint64(ask), texts, uint32(flags))
@@ -250,7 +226,8 @@ def verify_frame(ask: int, host_key: bytes, signature: bytes, session: bytes) ->
 def confirm_frame(job: int, comment: bytes, blob: bytes) -> bytes:
     """Asks the user about a key by its comment and the fingerprint of its plain key."""
     shown = bytes(byte if 0x20 <= byte <= 0x7E else ord("?") for byte in comment[:256])
-    text = b"Allow use of key %s?\nKey fingerprint %s." % (shown, public_key(blob).fingerprint())
+    digest = base64.b64encode(hashlib.sha256(public_key(blob).plain_blob).digest()).rstrip(b"=")
+    text = b"Allow use of key %s?\nKey fingerprint SHA256:%s." % (shown, digest)
     return string(b"\x03", uint64(job), string(text))
 
 

@@ -1,4 +1,4 @@
-"""What random schedules are made of: keys, hosts, certificates, constraints, logins, and their faults."""
+"""What random schedules are made of: keys, hosts, constraints, logins, and their faults."""
 
 from __future__ import annotations
 
@@ -77,8 +77,9 @@ def certified_host(name: bytes, seed: int, entry: bytes = b"", **changed: bytes 
 
 
 CA, OTHER_CA = plain_key(STAND_IN, 50).blob, plain_key(ED25519, 51).blob
-PLAIN_HOSTS = [Host(b"h%d.example.org" % n, plain_key(STAND_IN, 60 + n).blob, (b"", False))
-               for n in range(4)]
+PLAIN_HOSTS = [
+    Host(b"h%d.example.org" % n, plain_key(STAND_IN, 60 + n).blob, (b"", False)) for n in range(4)
+]
 PLAIN_HOSTS += [Host(b"cetus", plain_key(plain, 70).blob, (b"", False)) for plain in TYPES[:3]]
 PLAIN_HOSTS = [Host(host.name, host.key, (host.key, False)) for host in PLAIN_HOSTS]
 HOSTS = PLAIN_HOSTS + [
@@ -99,9 +100,10 @@ FALSE_HOSTS = [
     certified_host(b"f6.Example.org", 94),
     certified_host(b"f7.example.org", 95, after=100, before=100),
     certified_host(b"f8.example.org", 96, names=string(b"c?.example.org")),
+    certified_host(b"c.example.org", 98, names=string(b"c?.example.org")),
     Host(b"f9.example.org", certified_host(b"", 97).key, (CA, False)),
 ]
-USERS = [b"perseus", b"root", b"", b"p"]
+USERS = [b"perseus", b"root", b"", b"p", b"oot", b"ro"]
 PATTERNS = [b"", b"", b"perseus", b"per*", b"?oot", b"*", b"P*", b"ro?", b"*s*s"]
 
 
@@ -207,8 +209,10 @@ def faulty_addition(random: Random) -> bytes:
         string(certified.key_type) + string(cert[:-1]) + string(b"d") * 4,
         string(ED25519 + CERTIFIED) + string(KEYS[8].blob) + string(b"\x01" * 32) * 2,
         string(ED25519 + CERTIFIED) + string(KEYS[8].blob) + string(b"\x01" * 31),
-        string(ED25519 + CERTIFIED) + string(certificate(ED25519, 1, names=b"\x00\x00\x00\x05x"))
-        + string(b"\x01" * 32) + string(b"\x01" * 64),
+        string(ED25519 + CERTIFIED)
+        + string(certificate(ED25519, 1, names=b"\x00\x00\x00\x05x"))
+        + string(b"\x01" * 32)
+        + string(b"\x01" * 64),
         key.added[: random.randrange(len(key.added))],
         other.blob,
     ]

@@ -1,7 +1,5 @@
 """The run of a schedule (docs/PROTOCOL.md, "Schedules" and "Output")."""
 
-from __future__ import annotations
-
 import re
 from collections.abc import Iterable
 
@@ -47,6 +45,8 @@ class Run:
 
     def line(self, line: bytes, ended: bool = True) -> None:
         """Runs a line; behind a refused one none is run."""
+        if self.status:
+            return
         self.lines += 1
         self.size += len(line) + ended
         try:
@@ -54,6 +54,13 @@ class Run:
         except Fault as fault:
             self.printed.append(f"refused {self.lines} {fault}")
             self.status = 1
+
+    def text(self, text: bytes) -> None:
+        *lines, rest = text.split(b"\n")
+        for line in lines:
+            self.line(line)
+        if rest:
+            self.line(rest, ended=False)
 
     def output(self) -> bytes:
         printed = self.printed if self.status else [*self.printed, "end"]
@@ -108,10 +115,5 @@ def replay(
 ) -> tuple[bytes, int]:
     """What a schedule prints, and the status."""
     run = Run(stages, default_life)
-    *lines, rest = text.split(b"\n")
-    for line in lines:
-        if not run.status:
-            run.line(line)
-    if rest and not run.status:
-        run.line(rest, ended=False)
+    run.text(text)
     return run.output(), run.status

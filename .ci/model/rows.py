@@ -5,8 +5,6 @@ Each row says which stages it needs. Bytes are put together as the documents des
 
 from __future__ import annotations
 
-import base64
-import hashlib
 from dataclasses import dataclass
 
 
@@ -17,21 +15,29 @@ class Row:
     schedule: bytes
     printed: bytes
     status: int
+    life: int | None
 
 
 ROWS: list[Row] = []
+LIFE = ("life",)
 ASKS = ("asks",)
 BINDINGS = ("asks", "bindings")
 RULES = ("asks", "bindings", "rules")
 ALL = ("asks", "bindings", "rules", "confirmations")
 
 
-def row(name: str, needs: tuple[str, ...], schedule: list[str], printed: list[str]) -> None:
+def row(
+    name: str,
+    needs: tuple[str, ...],
+    schedule: list[str],
+    printed: list[str],
+    life: int | None = None,
+) -> None:
     """A row without a refused line prints `end` at last."""
     refused = printed != [] and printed[-1].startswith("refused")
     output = printed if refused else [*printed, "end"]
     texts = ["".join(line + "\n" for line in lines).encode() for lines in (schedule, output)]
-    ROWS.append(Row(name, needs, texts[0], texts[1], int(refused)))
+    ROWS.append(Row(name, needs, texts[0], texts[1], int(refused), life))
 
 
 def u32(number: int) -> bytes:
@@ -76,6 +82,16 @@ S1, S2 = b"\xc1" * 32, b"\xc2" * 32
 ONE = (K1, b"one")
 ADD1, ADD1B = b"\x11" + added(0x11, b"one"), b"\x11" + added(0x11, b"uno")
 TERMS1 = b"\x19" + added(0x11, b"one")
+
+
+ED25519_CERT = st(b"ssh-ed25519-cert-v01@openssh.com")
+
+
+def cert(kind: int, names: bytes, critical: bytes = b"", signer: bytes = H2) -> bytes:
+    """A certificate of these kind, names, critical options and signer, good from 100 to 200."""
+    text = ED25519_CERT + st(b"\x05" * 32) + st(b"\x31" * 32) + u64(1)
+    text += u32(kind) + st(b"id") + st(names) + u64(100) + u64(200) + st(critical) + st(b"") * 2
+    return text + st(signer) + st(b"x")
 
 
 def lock(text: bytes) -> bytes:
@@ -214,6 +230,21 @@ row(
     [to(1, OK), to(1, listing(ONE)), to(1, listing(ONE)), to(1, NOTHING)],
 )
 row(
+    "a lifetime that begins while the clock is behind",
+    (),
+    ["join client", "at 14 0", "at 3 0", *hear(1, TERMS1 + b"\x01" + u32(2)), "at 15 0"]
+    + [*hear(1, LIST), "at 16 0", *hear(1, LIST)],
+    [to(1, OK), to(1, listing(ONE)), to(1, NOTHING)],
+)
+row(
+    "constraints that come twice, are unknown or are cut off",
+    (),
+    ["join client", *hear(1, TERMS1 + b"\x01" + u32(9) + b"\x01" + u32(9), TERMS1 + b"\x02\x02")]
+    + hear(1, TERMS1 + b"\x03", TERMS1 + b"\x00", TERMS1 + b"\x01\x00", TERMS1 + b"\xff")
+    + hear(1, LIST, TERMS1 + b"\x02\x01" + u32(9), LIST),
+    [*[to(1, NO)] * 6, to(1, NOTHING), to(1, OK), to(1, listing(ONE))],
+)
+row(
     "a lifetime of 0",
     (),
     ["join client", *hear(1, TERMS1 + b"\x01" + u32(0), LIST)],
@@ -232,6 +263,22 @@ row(
     [to(1, OK), to(1, OK), to(1, listing(ONE))],
 )
 row(
+    "a default lifetime, and another one",
+    LIFE,
+    ["join client", *hear(1, ADD1, b"\x19" + added(0x12, b"two") + b"\x01" + u32(9), LIST)]
+    + ["at 5 0", *hear(1, LIST), "at 9 0", *hear(1, LIST)],
+    [to(1, OK), to(1, OK), to(1, listing(ONE, (K2, b"two"))), to(1, listing((K2, b"two")))]
+    + [to(1, NOTHING)],
+    life=5,
+)
+row(
+    "a default lifetime of 0 is none",
+    LIFE,
+    ["join client", *hear(1, ADD1), "at 5 0", *hear(1, LIST)],
+    [to(1, OK), to(1, listing(ONE))],
+    life=0,
+)
+row(
     "the lock",
     (),
     ["join client"]
@@ -247,6 +294,12 @@ row(
     + hear(1, unlock(b"a"), unlock(b"")),
     [to(1, OK), to(1, NO), to(1, listing(ONE)), to(1, OK), to(1, NO), to(1, NO)]
     + [to(1, OK), to(1, NO)],
+)
+row(
+    "a passphrase's beginning doesn't unlock, nor does a longer one",
+    (),
+    ["join client", *hear(1, lock(b"ab"), unlock(b"a"), unlock(b"abc"), unlock(b"ab"))],
+    [to(1, OK), to(1, NO), to(1, NO), to(1, OK)],
 )
 row(
     "what a locked agent refuses",
@@ -284,16 +337,32 @@ row(
 row(
     "an RSA addition has n first, and its blob e",
     (),
-    ["join client", *hear(1, b"\x11" + st(b"ssh-rsa") + b"".join(map(st, (b"n", b"e", b"d", b"i")))
-                          + st(b"p") + st(b"q") + st(b"c"), LIST)],
+    [
+        "join client",
+        *hear(
+            1,
+            b"\x11"
+            + st(b"ssh-rsa")
+            + b"".join(map(st, (b"n", b"e", b"d", b"i")))
+            + st(b"p")
+            + st(b"q")
+            + st(b"c"),
+            LIST,
+        ),
+    ],
     [to(1, OK), to(1, listing((st(b"ssh-rsa") + st(b"e") + st(b"n"), b"c")))],
 )
 row(
     "a curve's name is that of the type",
     (),
     ["join client"]
-    + [line for curve in (b"nistp256", b"nistp384") for line in
-       hear(1, b"\x11" + st(b"ecdsa-sha2-nistp256") + st(curve) + st(b"Q") + st(b"d") + st(b""))],
+    + [
+        line
+        for curve in (b"nistp256", b"nistp384")
+        for line in hear(
+            1, b"\x11" + st(b"ecdsa-sha2-nistp256") + st(curve) + st(b"Q") + st(b"d") + st(b"")
+        )
+    ],
     [to(1, OK), to(1, NO)],
 )
 BIG1, BIG2 = b"a" * 131000, b"b" * 130995
@@ -306,344 +375,25 @@ row(
     + [to(1, NO), to(1, listing((K1, BIG1), (K2, BIG2)))],
 )
 row(
+    "a key is replaced in a full list",
+    (),
+    ["join client", *hear(1, b"\x11" + added(0x11, BIG1)), *hear(1, b"\x11" + added(0x12, BIG2))]
+    + hear(1, b"\x11" + added(0x12, BIG2)),
+    [to(1, OK), to(1, OK), to(1, OK)],
+)
+CERT = cert(2, st(b"*.example.org"))
+row(
+    "a certificate of the type that is named, and of another",
+    (),
+    ["join client"]
+    + hear(1, b"\x11" + st(b"ssh-rsa-cert-v01@openssh.com") + st(CERT) + st(b"") * 5)
+    + hear(1, b"\x11" + ED25519_CERT + st(CERT) + st(b"\x31" * 32) + st(b"\x32" * 64) + st(b"c"))
+    + hear(1, LIST),
+    [to(1, NO), to(1, OK), to(1, listing((CERT, b"c")))],
+)
+row(
     "128 clients, one more, and one in a left one's place",
     (),
     [*["join client"] * 129, *hear(128, LIST), "end 5", "join client", *hear(130, LIST)],
     ["close 129", to(128, NOTHING), "close 5", to(130, NOTHING)],
-)
-
-# A helper signs
-
-
-def sign(blob: bytes, message: bytes) -> bytes:
-    return b"\x0d" + st(blob) + st(message) + u32(0)
-
-
-def hello(job: int) -> bytes:
-    return b"\x01" + u64(job) + st(bytes(16))
-
-
-def signed(ask: int, signature: bytes) -> bytes:
-    return b"\x65" + u64(ask) + st(signature)
-
-
-def put1(ask: int, message: bytes) -> bytes:
-    """The frame that asks the helper for a signature by the first key."""
-    private = st(stand_in(0x11) + st(b"\x21" * 32))
-    return b"\x01" + u64(ask) + private + st(K1) + st(message) + u32(0)
-
-
-def helper(port: int) -> list[str]:
-    return ["started 1 " + "00" * 16, "join child", *hear(port, hello(1))]
-
-
-row(
-    "a helper signs",
-    ASKS,
-    ["join client", *hear(1, ADD1, sign(K1, b"abc")), *helper(2)]
-    + ["hear 2 0000001065000000000000000100000003736967"],
-    [to(1, OK), "start 1 helper", to(2, put1(1, b"abc")), "to 1 000000080e00000003736967"],
-)
-TWO = ["join client", "join client", *hear(1, ADD1, sign(K1, b"abc")), *hear(2, sign(K1, b"xyz"))]
-TWO += helper(3)
-TWO_PRINT = [to(1, OK), "start 1 helper", to(3, put1(1, b"abc"), put1(2, b"xyz"))]
-row(
-    "answers go by their numbers, and one for a client that left is dropped",
-    ASKS,
-    [*TWO, *hear(3, signed(2, b"s2")), *hear(3, signed(1, b"s1")), *hear(2, sign(K1, b"w"))]
-    + ["end 2", *hear(3, signed(3, b"s3"))],
-    [*TWO_PRINT, to(2, b"\x0e" + st(b"s2")), to(1, b"\x0e" + st(b"s1"))]
-    + [to(3, put1(3, b"w")), "close 2"],
-)
-row(
-    "a helper is lost; the next one's asks go on in their numbers",
-    ASKS,
-    [*TWO, "hear 3 0000001065", "end 3", *hear(1, sign(K1, b"q"))]
-    + ["started 2 " + "00" * 16, "join child", *hear(4, hello(2))],
-    [*TWO_PRINT, "close 3", to(1, NO), to(2, NO), "start 2 helper", to(4, put1(3, b"q"))],
-)
-row(
-    "REFUSED is a failure, and a second answer loses the helper",
-    ASKS,
-    [*TWO, *hear(3, b"\x66" + u64(1)), *hear(3, b"\x66" + u64(1))],
-    [*TWO_PRINT, to(1, NO), "close 3", to(2, NO)],
-)
-row(
-    "a signing isn't verified",
-    ASKS,
-    [*TWO, *hear(3, b"\x67" + u64(1))],
-    [*TWO_PRINT, "close 3", to(1, NO), to(2, NO)],
-)
-row(
-    "a start fails",
-    ASKS,
-    ["join client", *hear(1, ADD1, sign(K1, b"abc")), "failed 1", "failed 1"],
-    [to(1, OK), "start 1 helper", to(1, NO), "refused 4 order"],
-)
-row(
-    "a client that waits is heard later",
-    ASKS,
-    ["join client", *hear(1, ADD1, sign(K1, b"abc"), LIST), *helper(2), *hear(2, signed(1, b"s"))],
-    [to(1, OK), "start 1 helper", to(2, put1(1, b"abc")), to(1, b"\x0e" + st(b"s"))]
-    + [to(1, listing(ONE))],
-)
-row(
-    "no hello, another ticket, and another job close a child",
-    ASKS,
-    ["join client", *hear(1, ADD1, sign(K1, b"abc")), "started 1 " + "07" * 16, *["join child"] * 4]
-    + [*hear(2, signed(1, b"s")), *hear(3, hello(1)), *hear(4, hello(2)), "hear 5 00000000"],
-    [to(1, OK), "start 1 helper", "close 2", "close 3", "close 4", "close 5"],
-)
-row(
-    "an answer behind the hello, whose frame is written all the same",
-    ASKS,
-    ["join client", *hear(1, ADD1, sign(K1, b"abc")), "started 1 " + "00" * 16, "join child"]
-    + hear(2, hello(1), signed(1, b"s")),
-    [to(1, OK), "start 1 helper", to(1, b"\x0e" + st(b"s")), to(2, put1(1, b"abc"))],
-)
-row(
-    "what is asked stays asked when the key is removed and the agent is locked",
-    ASKS,
-    ["join client", "join client", *hear(1, ADD1, sign(K1, b"abc")), *hear(2, b"\x13", lock(b"a"))]
-    + [*helper(3), *hear(3, signed(1, b"s"))],
-    [to(1, OK), "start 1 helper", to(2, OK), to(2, OK), to(3, put1(1, b"abc"))]
-    + [to(1, b"\x0e" + st(b"s"))],
-)
-LEAVING = [line for n in range(2, 257) for line in
-           ("join client", *hear(n, sign(K1, b"")), f"end {n}")]
-row(
-    "256 asks are unanswered, and one more",
-    ASKS,
-    ["join client", *hear(1, ADD1), *LEAVING, *hear(1, sign(K1, b""))]
-    + ["join client", *hear(257, sign(K1, b""), LIST)],
-    [to(1, OK), "start 1 helper", *[f"close {n}" for n in range(2, 257)]]
-    + [to(257, NO), to(257, listing(ONE))],
-)
-row(
-    "32 children without a hello, and one more",
-    ASKS,
-    [*["join child"] * 33, "end 3", "join child"],
-    ["close 33", "close 3"],
-)
-
-# Bindings
-
-
-def bind(host_key: bytes, session: bytes, forwarding: int) -> bytes:
-    return (
-        b"\x1b" + st(b"session-bind@openssh.com") + st(host_key) + st(session) + st(b"sg")
-        + bytes([forwarding])
-    )
-
-
-def verify(ask: int, host_key: bytes, session: bytes) -> bytes:
-    return b"\x02" + u64(ask) + st(host_key) + st(b"sg") + st(session)
-
-
-def true(ask: int) -> bytes:
-    return b"\x67" + u64(ask)
-
-
-def chain(port: int, child: int, first: int, *hops: tuple[bytes, bytes, int]) -> tuple:
-    """Lines that bind a client to hosts, and what they print, with asks from this number on."""
-    lines, printed = [], []
-    for ask, (key, session, onward) in enumerate(hops, first):
-        lines += [*hear(port, bind(key, session, onward)), *hear(child, true(ask))]
-        printed += [to(child, verify(ask, key, session)), to(port, OK)]
-    return lines, printed
-
-
-START = ["join client", *hear(1, ADD1, sign(K1, b"")), *helper(2), *hear(2, signed(1, b"s"))]
-START_PRINT = [to(1, OK), "start 1 helper", to(2, put1(1, b"")), to(1, b"\x0e" + st(b"s"))]
-FIFTEEN = [(H1, bytes([n]) * 32, 1) for n in range(15)]
-bound = chain(1, 2, 2, (H1, S1, 1), (H1, S1, 1), *FIFTEEN)
-row(
-    "a session again, another host for it, 16 bindings, and one more",
-    BINDINGS,
-    [*START, *bound[0], *hear(1, bind(H2, S1, 1)), *hear(1, bind(H1, b"new", 0))]
-    + [*hear(1, bind(H1, S1, 1)), *hear(2, true(19))],
-    [*START_PRINT, *bound[1], to(1, NO), to(1, NO), to(2, verify(19, H1, S1)), to(1, OK)],
-)
-SESSIONS = chain(1, 2, 2, (H1, b"s" * 128, 1), (H1, b"s" * 127 + b"t", 0))
-row(
-    "sessions of 0, 128 and 129 bytes, and a binding behind a login's",
-    BINDINGS,
-    [*START, *hear(1, bind(H1, b"", 1), bind(H1, b"s" * 129, 1)), *SESSIONS[0]]
-    + hear(1, bind(H1, b"s" * 128, 1)),
-    [*START_PRINT, to(1, NO), to(1, NO), *SESSIONS[1], to(1, NO)],
-)
-row(
-    "FALSE binds nothing, and a host key has to be readable",
-    BINDINGS,
-    [*START, *hear(1, bind(H1, S1, 0)), *hear(2, b"\x68" + u64(2)), *hear(1, bind(H1[:-1], S1, 0))]
-    + [*hear(1, bind(H2, S1, 0)), *hear(2, true(3))],
-    [*START_PRINT, to(2, verify(2, H1, S1)), to(1, NO), to(1, NO), to(2, verify(3, H2, S1))]
-    + [to(1, OK)],
-)
-
-# Destination constraints
-
-
-def hop(user: bytes, host: bytes, *keys: tuple[bytes, int]) -> bytes:
-    texts = b"".join(st(key) + bytes([authority]) for key, authority in keys)
-    return st(user) + st(host) + st(b"") + texts
-
-
-def rule(source: bytes, target: bytes) -> bytes:
-    return st(st(source) + st(target) + st(b""))
-
-
-def restrict(*rules: bytes) -> bytes:
-    return b"\xff" + st(b"restrict-destination-v00@openssh.com") + st(*rules)
-
-
-def bound_login(session: bytes, user: bytes, host_key: bytes) -> bytes:
-    return (
-        st(session) + b"\x32" + st(user) + st(b"ssh-connection")
-        + st(b"publickey-hostbound-v00@openssh.com") + b"\x01" + st(T) + st(K1) + st(host_key)
-    )
-
-
-def plain_login(session: bytes, user: bytes) -> bytes:
-    return (
-        st(session) + b"\x32" + st(user) + st(b"ssh-connection") + st(b"publickey") + b"\x01"
-        + st(T) + st(K1)
-    )
-
-
-def ruled(*rules: bytes) -> bytes:
-    return TERMS1 + restrict(*rules)
-
-
-ORIGIN = hop(b"", b"")
-RULE_USER = rule(ORIGIN, hop(b"perseus", b"cetus", (H1, 0)))
-RULE_TWO = [rule(ORIGIN, hop(b"", b"cetus", (H1, 0)))]
-RULE_TWO += [rule(hop(b"", b"cetus", (H1, 0)), hop(b"", b"scylla", (H2, 0)))]
-RULE_CA = rule(ORIGIN, hop(b"", b"web.example.org", (H2, 1)))
-
-
-def asked(port: int, child: int, ask: int, message: bytes) -> tuple[list[str], list[str]]:
-    """A signature that is asked of the helper, and given."""
-    lines = [*hear(port, sign(K1, message)), *hear(child, signed(ask, b"s"))]
-    return lines, [to(child, put1(ask, message)), to(port, b"\x0e" + st(b"s"))]
-
-
-def first_bind(key: bytes, session: bytes, onward: int) -> tuple[list[str], list[str]]:
-    """The first binding starts the helper, at port 2."""
-    lines = [*hear(1, bind(key, session, onward)), *helper(2), *hear(2, true(1))]
-    return lines, ["start 1 helper", to(2, verify(1, key, session)), to(1, OK)]
-
-
-one = first_bind(H1, S1, 0)
-perseus = asked(1, 2, 2, bound_login(S1, b"perseus", H1))
-row(
-    "a rule for one user at one host",
-    RULES,
-    ["join client", *hear(1, ruled(RULE_USER), sign(K1, b"x")), *one[0], *perseus[0]]
-    + hear(1, sign(K1, bound_login(S1, b"root", H1)), sign(K1, bound_login(S2, b"perseus", H1)))
-    + hear(1, sign(K1, bound_login(S1, b"perseus", H2)), sign(K1, b"x"), LIST),
-    [to(1, OK), to(1, NO), *one[1], *perseus[1], *[to(1, NO)] * 4, to(1, listing(ONE))],
-)
-over = first_bind(H1, S1, 1)
-last = chain(1, 2, 2, (H2, S2, 0))
-through = asked(1, 2, 3, bound_login(S2, b"u", H2))
-row(
-    "over a host to the next",
-    RULES,
-    ["join client", *hear(1, ruled(*RULE_TWO)), *over[0], *last[0]]
-    + hear(1, sign(K1, plain_login(S2, b"u")), sign(K1, bound_login(S1, b"u", H2)))
-    + through[0],
-    [to(1, OK), *over[1], *last[1], to(1, NO), to(1, NO), *through[1]],
-)
-row(
-    "a host that leads nowhere hides the key",
-    RULES,
-    ["join client", *hear(1, ruled(RULE_USER)), *over[0], *hear(1, LIST, remove(K1), ADD1)]
-    + ["join client", *hear(3, LIST)],
-    [to(1, OK), *over[1], to(1, NOTHING), to(1, NO), to(1, NO), to(3, listing(ONE))],
-)
-row(
-    "a binding that failed hides the key, and one at a locked agent doesn't",
-    RULES,
-    ["join client", *hear(1, ruled(RULE_USER), lock(b"a"), bind(H1, S1, 0), unlock(b"a"), LIST)]
-    + hear(1, b"\x1b" + st(b"session-bind@openssh.com"), LIST),
-    [to(1, OK), to(1, OK), to(1, NO), to(1, OK), to(1, listing(ONE)), to(1, NO), to(1, NOTHING)],
-)
-CERT = st(b"ssh-ed25519-cert-v01@openssh.com") + st(b"\x05" * 32) + st(b"\x31" * 32) + u64(1)
-CERT += u32(2) + st(b"id") + st(st(b"*.example.org")) + u64(100) + u64(200) + st(b"") * 3
-CERT += st(H2) + st(b"x")
-web = first_bind(CERT, S1, 0)
-inside = asked(1, 2, 2, bound_login(S1, b"u", CERT))
-again = asked(1, 2, 3, bound_login(S1, b"u", CERT))
-row(
-    "a host certificate's time is the wall clock's, which may fall",
-    RULES,
-    ["join client", *hear(1, ruled(RULE_CA)), *web[0], "at 0 199", *inside[0], "at 0 200"]
-    + [*hear(1, sign(K1, bound_login(S1, b"u", CERT)), LIST), "at 0 100", *again[0], "at 0 99"]
-    + hear(1, LIST),
-    [to(1, OK), *web[1], *inside[1], to(1, NO), to(1, NOTHING), *again[1], to(1, NOTHING)],
-)
-
-# Confirmation
-
-PRINT = base64.b64encode(hashlib.sha256(K1).digest()).rstrip(b"=")
-
-
-def confirm(job: int, comment: bytes = b"one") -> bytes:
-    text = b"Allow use of key " + comment + b"?\nKey fingerprint SHA256:" + PRINT + b"."
-    return b"\x03" + u64(job) + st(text)
-
-
-GRANT1 = "hear 2 00000009690000000000000001"
-RAISED = ["join client", *hear(1, TERMS1 + b"\x02", sign(K1, b"abc")), *helper(2), "join client"]
-RAISED_PRINT = [to(1, OK), "start 1 confirm", to(2, confirm(1))]
-row(
-    "a grant is for the addition that was asked for",
-    ALL,
-    [*RAISED, *hear(3, remove(K1), ADD1), GRANT1],
-    [*RAISED_PRINT, to(3, OK), to(3, OK), "close 2", to(1, NO)],
-)
-row(
-    "no number is given twice, also behind a removal of all",
-    ALL,
-    [*RAISED, *hear(3, b"\x13", TERMS1 + b"\x02"), GRANT1],
-    [*RAISED_PRINT, to(3, OK), to(3, OK), "close 2", to(1, NO)],
-)
-row(
-    "a grant asks the helper",
-    ALL,
-    [*RAISED, GRANT1, "started 2 " + "00" * 16, "join child", *hear(4, hello(2))],
-    [*RAISED_PRINT, "start 2 helper", "close 2", to(4, put1(1, b"abc"))],
-)
-row(
-    "a grant to a locked agent",
-    ALL,
-    [*RAISED, *hear(3, lock(b"a")), GRANT1],
-    [*RAISED_PRINT, to(3, OK), "close 2", to(1, NO)],
-)
-row(
-    "denied",
-    ALL,
-    [*RAISED, "hear 2 000000096a0000000000000001", *hear(1, LIST)],
-    [*RAISED_PRINT, "close 2", to(1, NO), to(1, listing(ONE))],
-)
-row(
-    "another job's grant is none",
-    ALL,
-    [*RAISED, "hear 2 00000009690000000000000002"],
-    [*RAISED_PRINT, "close 2", to(1, NO)],
-)
-row(
-    "a client that leaves takes its confirmation away",
-    ALL,
-    [*RAISED, "end 1"],
-    [*RAISED_PRINT, "close 1", "close 2"],
-)
-SIXTEEN = [line for n in range(1, 18) for line in ("join client", *hear(n, sign(K1, b"abc")))]
-row(
-    "16 confirmations, and one more",
-    ALL,
-    ["join client", *hear(1, TERMS1 + b"\x02"), *SIXTEEN[1:], "end 3", *hear(17, sign(K1, b""))],
-    [to(1, OK), *[f"start {n} confirm" for n in range(1, 17)], to(17, NO), "close 3"]
-    + ["start 17 confirm"],
 )

@@ -3,8 +3,6 @@
 The records are those of OpenSSH's PROTOCOL.agent; how a chain of hosts is judged is ours.
 """
 
-from __future__ import annotations
-
 from dataclasses import dataclass
 
 from formats import Hop, login, public_key
@@ -20,6 +18,9 @@ class Binding:
     host_key: bytes
     session: bytes
     forwarding: bool
+
+
+Chain = list[Binding]
 
 
 def is_at(hop: Hop, host_key: bytes, wall: int) -> bool:
@@ -40,7 +41,7 @@ def leads(rules: Rules, before: bytes | None, to: bytes, user: bytes | None, wal
     return False
 
 
-def every_hop(rules: Rules, chain: list[Binding], user: bytes | None, wall: int) -> bool:
+def every_hop(rules: Rules, chain: Chain, user: bytes | None, wall: int) -> bool:
     """Whether each hop is permitted: all but the newest forward, and that one has the user."""
     before = None
     for binding in chain[:-1]:
@@ -52,7 +53,7 @@ def every_hop(rules: Rules, chain: list[Binding], user: bytes | None, wall: int)
     return leads(rules, before, chain[-1].host_key, user, wall)
 
 
-def visible(rules: Rules | None, chain: list[Binding], attempted: bool, wall: int) -> bool:
+def visible(rules: Rules | None, chain: Chain, attempted: bool, wall: int) -> bool:
     if not rules:
         return True
     if not chain:
@@ -61,9 +62,7 @@ def visible(rules: Rules | None, chain: list[Binding], attempted: bool, wall: in
     return every_hop(rules, chain, None, wall) and (onward or not chain[-1].forwarding)
 
 
-def may_sign(
-    rules: Rules | None, blob: bytes, chain: list[Binding], message: bytes, wall: int
-) -> None:
+def may_sign(rules: Rules | None, blob: bytes, chain: Chain, message: bytes, wall: int) -> None:
     """Raises why the rules don't let a connection sign a message."""
     if not rules:
         return

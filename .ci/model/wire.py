@@ -1,12 +1,8 @@
 """Data types and frames (RFC 4251, section 5), and patterns (ssh_config)."""
 
-from __future__ import annotations
-
 import re
 from collections.abc import Callable
-from typing import TypeVar
-
-Value = TypeVar("Value")
+from typing import Any
 
 
 class Fault(Exception):
@@ -18,7 +14,7 @@ def demand(holds: bool, fault: str) -> None:
         raise Fault(fault)
 
 
-def within(name: str, read: Callable[..., Value], *given: object) -> Value:
+def within(name: str, read: Callable[..., Any], *given: object) -> Any:
     """Reads a part; its fault is told under the part's name."""
     try:
         return read(*given)
@@ -61,6 +57,9 @@ class Reader:
 
     def string(self) -> bytes:
         return self.take(self.uint32())
+
+    def rest(self) -> bytes:
+        return self.take(len(self.left))
 
     def end(self) -> None:
         demand(not self.left, "Trailing")

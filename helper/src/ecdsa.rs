@@ -9,15 +9,15 @@ use openssl::bn::{BigNum, BigNumContext};
 use openssl::ec::{EcGroup, EcKey, EcPoint};
 use openssl::ecdsa::EcdsaSig;
 use openssl::error::ErrorStack;
-use openssl::hash::{hash, MessageDigest};
 use openssl::nid::Nid;
 use openssl::pkey::Private;
+use openssl::sha::{Sha256, Sha384, Sha512};
 
 /// A curve with the names that go with it.
 pub struct Curve {
     algorithm: &'static [u8],
     name: &'static [u8],
-    digest: MessageDigest,
+    digest: fn(&[u8]) -> Vec<u8>,
     group: EcGroup,
     order: BigNum,
     /// Bytes of a point: its form, which is 4, and two coordinates.
@@ -28,7 +28,7 @@ impl Curve {
     fn new(
         nid: Nid,
         algorithm: &'static str,
-        digest: MessageDigest,
+        digest: fn(&[u8]) -> Vec<u8>,
         point_length: usize,
     ) -> Result<Self, ErrorStack> {
         let group = EcGroup::from_curve_name(nid)?;
@@ -51,16 +51,10 @@ pub struct Curves([Curve; 3]);
 impl Curves {
     pub fn new() -> Result<Self, ErrorStack> {
         let p256 = Nid::X9_62_PRIME256V1;
-        let (sha256, sha384) = (MessageDigest::sha256(), MessageDigest::sha384());
         Ok(Curves([
             Curve::new(p256, "ecdsa-sha2-nistp256", sha256, 65)?,
             Curve::new(Nid::SECP384R1, "ecdsa-sha2-nistp384", sha384, 97)?,
-            Curve::new(
-                Nid::SECP521R1,
-                "ecdsa-sha2-nistp521",
-                MessageDigest::sha512(),
-                133,
-            )?,
+            Curve::new(Nid::SECP521R1, "ecdsa-sha2-nistp521", sha512, 133)?,
         ]))
     }
 
@@ -68,6 +62,24 @@ impl Curves {
     pub fn of(&self, algorithm: &[u8]) -> Option<&Curve> {
         self.0.iter().find(|curve| curve.algorithm == algorithm)
     }
+}
+
+fn sha256(message: &[u8]) -> Vec<u8> {
+    let mut hash = Sha256::new();
+    hash.update(message);
+    hash.finish().to_vec()
+}
+
+fn sha384(message: &[u8]) -> Vec<u8> {
+    let mut hash = Sha384::new();
+    hash.update(message);
+    hash.finish().to_vec()
+}
+
+fn sha512(message: &[u8]) -> Vec<u8> {
+    let mut hash = Sha512::new();
+    hash.update(message);
+    hash.finish().to_vec()
 }
 
 /// A point of the curve.
@@ -95,7 +107,7 @@ impl<'a> PublicKey<'a> {
         let s = number::public(fields.string()?)?;
         fields.end()?;
         let key = EcKey::from_public_key(&self.curve.group, &self.point)?;
-        let digest = hash(self.curve.digest, message)?;
+        let digest = (self.curve.digest)(message);
         Ok(EcdsaSig::from_private_components(r, s)?.verify(&digest, &key)?)
     }
 
@@ -124,16 +136,16 @@ impl<'a> PrivateKey<'a> {
         let curve = public.curve;
         let d = number::secret(fields.string()?)?;
         Refused::unless(d < curve.order)?;
-        let mut scratch = BigNumContext::new_secure()?;
         let mut point = EcPoint::new(&curve.group)?;
-        point.mul_generator(&curve.group, &d, &scratch)?;
-        Refused::unless(point.eq(&curve.group, &public.point, &mut scratch)?)?;
+        point.mul_generator(&curve.group, &d, &*BigNumContext::new_secure()?)?;
+        let fits = point.eq(&curve.group, &public.point, &mut *BigNumContext::new()?)?;
+        Refused::unless(fits)?;
         let key = EcKey::from_private_components(&curve.group, &d, &public.point)?;
         Ok(PrivateKey { curve, key })
     }
 
     pub fn sign(&self, message: &[u8]) -> Result<Vec<u8>, Refused> {
-        let digest = hash(self.curve.digest, message)?;
+        let digest = (self.curve.digest)(message);
         let signature = EcdsaSig::sign(&digest, &self.key)?;
         let mut bytes = Vec::new();
         number::put_mpint(&mut bytes, signature.r());

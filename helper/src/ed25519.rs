@@ -45,7 +45,8 @@ impl PrivateKey {
     }
 
     pub fn sign(&self, message: &[u8]) -> Result<Vec<u8>, Refused> {
-        let bytes = Signer::new_without_digest(&self.key)?.sign_oneshot_to_vec(message)?;
+        let mut bytes = [0; 64];
+        Signer::new_without_digest(&self.key)?.sign_oneshot(&mut bytes, message)?;
         Ok(Signature {
             algorithm: NAME,
             bytes: &bytes,

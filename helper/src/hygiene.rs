@@ -1,9 +1,13 @@
-//! What keeps private bytes within the process. The only module with unsafe code.
+//! What keeps private bytes within the process, and what the crate of libcrypto lacks. The only
+//! module with unsafe code.
 
 #![allow(unsafe_code)]
 
 use crate::fault::Fault;
+use foreign_types::ForeignTypeRef;
 use libc::{c_int, c_ulong, c_void, rlimit, size_t};
+use openssl::pkey::Private;
+use openssl::rsa::Rsa;
 
 /// Bytes of libcrypto's secure heap: several times what the longest key takes.
 const SECURE_HEAP: size_t = 512 * 1024;
@@ -12,23 +16,26 @@ const LEAST_BLOCK: size_t = 32;
 /// libcrypto is to read no configuration file: such a file can name code that is loaded.
 const OPENSSL_INIT_NO_LOAD_CONFIG: u64 = 0x80;
 
+/// The key is used without libcrypto's blinding.
+const RSA_FLAG_NO_BLINDING: c_int = 0x80;
+
 extern "C" {
     fn OPENSSL_init_crypto(options: u64, settings: *const c_void) -> c_int;
     fn CRYPTO_secure_malloc_init(size: size_t, least: size_t) -> c_int;
+    fn RSA_set_flags(key: *mut c_void, flags: c_int);
 }
 
 /// No core file, no look into the process by others of the same user, no environment, no
 /// configuration of libcrypto, and a heap for secret numbers that isn't swapped where the limit on
 /// locked memory permits.
 pub fn prepare() -> Result<(), Fault> {
-    for (name, _) in std::env::vars_os() {
-        std::env::remove_var(name);
-    }
     let none = rlimit {
         rlim_cur: 0,
         rlim_max: 0,
     };
     let (no, unused): (c_ulong, c_ulong) = (0, 0);
+    // SAFETY: there is one thread, and nothing borrows from the environment.
+    let cleared = unsafe { libc::clearenv() } == 0;
     // SAFETY: the limits are valid for the call, which keeps no pointer to them.
     let limited = unsafe { libc::setrlimit(libc::RLIMIT_CORE, &none) } == 0;
     // SAFETY: PR_SET_DUMPABLE takes a number and touches no memory of the program.
@@ -39,8 +46,15 @@ pub fn prepare() -> Result<(), Fault> {
         OPENSSL_init_crypto(OPENSSL_INIT_NO_LOAD_CONFIG, std::ptr::null()) == 1
             && CRYPTO_secure_malloc_init(SECURE_HEAP, LEAST_BLOCK) != 0
     };
-    match limited && hidden && heap {
+    match cleared && limited && hidden && heap {
         true => Ok(()),
         false => Err(Fault::Memory),
     }
+}
+
+/// Keeps libcrypto from blinding: `Blinding` does it in its place.
+pub fn without_blinding(key: Rsa<Private>) -> Rsa<Private> {
+    // SAFETY: the pointer is to a whole key that this function owns, and the call sets a flag in it.
+    unsafe { RSA_set_flags(key.as_ptr().cast(), RSA_FLAG_NO_BLINDING) };
+    key
 }

@@ -15,42 +15,35 @@ pub enum Form {
     Certified,
 }
 
-/// The type that a blob and an added key begin with.
-#[derive(Clone, Copy)]
-struct KeyType<'a> {
-    algorithm: Algorithm<'a>,
-    form: Form,
-}
-
-#[derive(Clone, Copy)]
 enum Algorithm<'a> {
     Ed25519,
     Rsa,
     Ecdsa(&'a Curve),
 }
 
-impl<'a> KeyType<'a> {
-    fn named(name: &[u8], curves: &'a Curves) -> Result<Self, Refused> {
-        let (plain, form) = match name.strip_suffix(CERTIFIED) {
-            Some(plain) => (plain, Form::Certified),
-            None => (name, Form::Plain),
-        };
-        let algorithm = match plain {
-            ed25519::NAME => Algorithm::Ed25519,
-            rsa::NAME => Algorithm::Rsa,
-            _ => Algorithm::Ecdsa(curves.of(plain).ok_or(Refused)?),
-        };
-        Ok(KeyType { algorithm, form })
-    }
+/// What the name of a key type tells.
+fn key_type<'a>(name: &[u8], curves: &'a Curves) -> Result<(Algorithm<'a>, Form), Refused> {
+    let (plain, form) = match name.strip_suffix(CERTIFIED) {
+        Some(plain) => (plain, Form::Certified),
+        None => (name, Form::Plain),
+    };
+    let algorithm = match plain {
+        ed25519::NAME => Algorithm::Ed25519,
+        rsa::NAME => Algorithm::Rsa,
+        _ => Algorithm::Ecdsa(curves.of(plain).ok_or(Refused)?),
+    };
+    Ok((algorithm, form))
 }
 
-/// A key blob whose key is one of its algorithm. What certifies the key is the agent's matter, and
-/// isn't read.
+/// A key blob whose key is one of its algorithm. Whom a certificate is for, and when, is the agent's
+/// matter.
 pub struct Blob<'a> {
     bytes: &'a [u8],
     name: &'a [u8],
     form: Form,
     key: PublicKey<'a>,
+    /// What stands in a certificate behind its key.
+    rest: &'a [u8],
 }
 
 enum PublicKey<'a> {
@@ -64,7 +57,7 @@ impl<'a> Blob<'a> {
     pub fn read(bytes: &'a [u8], curves: &'a Curves) -> Result<Self, Refused> {
         let mut fields = Reader::new(bytes);
         let name = fields.string()?;
-        let KeyType { algorithm, form } = KeyType::named(name, curves)?;
+        let (algorithm, form) = key_type(name, curves)?;
         if form == Form::Certified {
             fields.string()?;
         }
@@ -75,6 +68,7 @@ impl<'a> Blob<'a> {
                 PublicKey::Ecdsa(ecdsa::PublicKey::read(curve, &mut fields)?)
             }
         };
+        let rest = fields.rest();
         if form == Form::Plain {
             fields.end()?;
         }
@@ -83,7 +77,26 @@ impl<'a> Blob<'a> {
             name,
             form,
             key,
+            rest,
         })
+    }
+
+    /// Whether a plain key, or a certificate that its authority signed.
+    pub fn is_certified(&self, curves: &'a Curves) -> Result<bool, Refused> {
+        match self.form {
+            Form::Plain => Ok(true),
+            Form::Certified => {
+                let seal = Seal::read(self.rest)?;
+                let signed = self.bytes.len() - seal.signature_field;
+                let signed = self.bytes.get(..signed).ok_or(Refused)?;
+                match Blob::read(seal.authority, curves)? {
+                    authority if authority.form == Form::Plain => {
+                        authority.verifies(signed, seal.signature)
+                    }
+                    _ => Err(Refused),
+                }
+            }
+        }
     }
 
     /// Whether the signature, as SSH carries it, is this key's over the message.
@@ -97,16 +110,53 @@ impl<'a> Blob<'a> {
     }
 }
 
+/// What closes a certificate: the authority's key, and its signature over all before that.
+struct Seal<'a> {
+    authority: &'a [u8],
+    signature: &'a [u8],
+    /// How many bytes the signature takes, with its length.
+    signature_field: usize,
+}
+
+impl<'a> Seal<'a> {
+    /// Reads what follows the key: uint64 serial, uint32 type, string key id, string principals,
+    /// uint64 valid after, uint64 valid before, string critical options, string extensions, string
+    /// reserved, string signature key, string signature.
+    fn read(rest: &'a [u8]) -> Result<Self, Refused> {
+        let mut fields = Reader::new(rest);
+        fields.uint64()?;
+        fields.uint32()?;
+        for _key_id_and_principals in 0..2 {
+            fields.string()?;
+        }
+        for _after_and_before in 0..2 {
+            fields.uint64()?;
+        }
+        for _options_extensions_and_reserved in 0..3 {
+            fields.string()?;
+        }
+        let authority = fields.string()?;
+        let signature_field = fields.rest().len();
+        let signature = fields.string()?;
+        fields.end()?;
+        Ok(Seal {
+            authority,
+            signature,
+            signature_field,
+        })
+    }
+}
+
 /// A key that may sign: it belongs to its blob, and its private numbers fit the public ones.
 pub enum PrivateKey<'a> {
     Ed25519(ed25519::PrivateKey),
-    Rsa(rsa::PrivateKey),
+    Rsa(rsa::PrivateKey<'a>),
     Ecdsa(ecdsa::PrivateKey<'a>),
 }
 
 impl<'a> PrivateKey<'a> {
     /// Reads an added key: `string type`, of a certificate `string certificate`, and the fields.
-    pub fn read(added: &[u8], blob: &Blob<'a>) -> Result<Self, Refused> {
+    pub fn read(added: &[u8], blob: &'a Blob<'a>) -> Result<Self, Refused> {
         let mut fields = Reader::new(added);
         fields.expect(blob.name)?;
         if blob.form == Form::Certified {

@@ -19,6 +19,7 @@
     )
 )]
 
+mod blinding;
 mod ecdsa;
 mod ed25519;
 mod fault;

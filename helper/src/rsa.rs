@@ -1,15 +1,16 @@
 //! RSA by PKCS #1 v1.5 (RFC 8017, section 8.2), under the names of RFC 4253 and RFC 8332.
 
+use crate::blinding::Blinding;
+use crate::hygiene;
 use crate::key::Form;
 use crate::number;
 use crate::refused::Refused;
 use crate::signature::Signature;
 use crate::wire::Reader;
 use openssl::bn::{BigNum, BigNumContext, BigNumRef};
-use openssl::hash::MessageDigest;
-use openssl::pkey::{HasPublic, PKey, PKeyRef, Private, Public};
-use openssl::rsa::Rsa;
-use openssl::sign::{Signer, Verifier};
+use openssl::hash::{hash, MessageDigest};
+use openssl::pkey::{Private, Public};
+use openssl::rsa::{Padding, Rsa};
 
 pub const NAME: &[u8] = b"ssh-rsa";
 
@@ -27,10 +28,12 @@ pub enum Digest {
 impl Digest {
     /// The one that a request's flags ask for: SHA-256 where both are asked for, as OpenSSH has it.
     pub fn asked(flags: u32) -> Self {
-        match flags {
-            _ if flags & 2 != 0 => Digest::Sha256,
-            _ if flags & 4 != 0 => Digest::Sha512,
-            _ => Digest::Sha1,
+        if flags & 2 != 0 {
+            Digest::Sha256
+        } else if flags & 4 != 0 {
+            Digest::Sha512
+        } else {
+            Digest::Sha1
         }
     }
 
@@ -56,6 +59,31 @@ impl Digest {
             Digest::Sha512 => MessageDigest::sha512(),
         }
     }
+
+    /// What precedes the digest in a DigestInfo (RFC 8017, section 9.2, note 1).
+    fn prefix(self) -> &'static [u8] {
+        match self {
+            Digest::Sha1 => b"\x30\x21\x30\x09\x06\x05\x2b\x0e\x03\x02\x1a\x05\x00\x04\x14",
+            Digest::Sha256 => {
+                b"\x30\x31\x30\x0d\x06\x09\x60\x86\x48\x01\x65\x03\x04\x02\x01\x05\x00\x04\x20"
+            }
+            Digest::Sha512 => {
+                b"\x30\x51\x30\x0d\x06\x09\x60\x86\x48\x01\x65\x03\x04\x02\x03\x05\x00\x04\x40"
+            }
+        }
+    }
+
+    /// The DigestInfo of a message.
+    fn info(self, message: &[u8]) -> Result<Vec<u8>, Refused> {
+        Ok([self.prefix(), &*hash(self.function(), message)?].concat())
+    }
+}
+
+/// A DigestInfo encoded to the length of the modulus: 0, 1, bytes ff, 0 and itself.
+fn encoded(info: &[u8], length: usize) -> Result<Vec<u8>, Refused> {
+    let count = length.checked_sub(3 + info.len()).ok_or(Refused)?;
+    let padding = vec![0xff; count];
+    Ok([&[0, 1], &*padding, &[0], info].concat())
 }
 
 pub struct PublicKey<'a> {
@@ -74,37 +102,40 @@ impl<'a> PublicKey<'a> {
         Ok(PublicKey { e, n, key })
     }
 
+    /// Bytes of the modulus, and of each signature.
+    fn length(&self) -> Result<usize, Refused> {
+        usize::try_from(self.key.size()).map_err(|_| Refused)
+    }
+
     /// Some signers leave off the zeros at the front, which are put back.
     pub fn verifies(&self, message: &[u8], signature: &Signature<'_>) -> Result<bool, Refused> {
         let digest = Digest::named(signature.algorithm)?;
-        let length = usize::try_from(self.key.size()).map_err(|_| Refused)?;
-        let zeros = length.checked_sub(signature.bytes.len()).ok_or(Refused)?;
-        let mut bytes = vec![0; zeros];
+        let zeros = self.length()?.checked_sub(signature.bytes.len());
+        let mut bytes = vec![0; zeros.ok_or(Refused)?];
         bytes.extend_from_slice(signature.bytes);
-        let key = PKey::from_rsa(self.key.clone())?;
-        verifies(&key, digest, message, &bytes)
+        self.opens(&bytes, &digest.info(message)?)
+    }
+
+    /// Whether the signature, under its padding, is the DigestInfo.
+    fn opens(&self, signature: &[u8], info: &[u8]) -> Result<bool, Refused> {
+        let mut opened = vec![0; self.length()?];
+        let count = self
+            .key
+            .public_decrypt(signature, &mut opened, Padding::PKCS1)?;
+        Ok(opened.get(..count) == Some(info))
     }
 }
 
-fn verifies<T: HasPublic>(
-    key: &PKeyRef<T>,
-    digest: Digest,
-    message: &[u8],
-    signature: &[u8],
-) -> Result<bool, Refused> {
-    let mut verifier = Verifier::new(digest.function(), key)?;
-    Ok(verifier.verify_oneshot(signature, message)?)
-}
-
 /// A key whose factors give its modulus.
-pub struct PrivateKey {
-    key: PKey<Private>,
+pub struct PrivateKey<'a> {
+    public: &'a PublicKey<'a>,
+    key: Rsa<Private>,
 }
 
-impl PrivateKey {
+impl<'a> PrivateKey<'a> {
     /// Reads `mpint d, mpint iqmp, mpint p, mpint q`, in the plain form behind `mpint n, mpint e`.
     pub fn read(
-        public: &PublicKey<'_>,
+        public: &'a PublicKey<'a>,
         form: Form,
         fields: &mut Reader<'_>,
     ) -> Result<Self, Refused> {
@@ -124,21 +155,36 @@ impl PrivateKey {
         let dq = exponent(&d, &q, &mut scratch)?;
         let (n, e) = (n.to_owned()?, e.to_owned()?);
         let key = Rsa::from_private_components(n, e, d, p, q, dp, dq, iqmp)?;
-        Ok(PrivateKey {
-            key: PKey::from_rsa(key)?,
-        })
+        let key = hygiene::without_blinding(key);
+        Ok(PrivateKey { public, key })
     }
 
     /// A signature that doesn't verify stays here: with wrong numbers it can give a factor away.
     pub fn sign(&self, message: &[u8], digest: Digest) -> Result<Vec<u8>, Refused> {
-        let bytes = Signer::new(digest.function(), &self.key)?.sign_oneshot_to_vec(message)?;
-        Refused::unless(verifies(&self.key, digest, message, &bytes)?)?;
+        let length = self.public.length()?;
+        let info = digest.info(message)?;
+        let number = BigNum::from_slice(&encoded(&info, length)?)?;
+        let mut scratch = BigNumContext::new_secure()?;
+        let blinding = Blinding::new(self.key.n(), self.key.e(), &mut scratch)?;
+        let blinded = padded(&*blinding.blind(&number, &mut scratch)?, length)?;
+        let mut result = vec![0; length];
+        self.key
+            .private_encrypt(&blinded, &mut result, Padding::NONE)?;
+        let result = BigNum::from_slice(&result)?;
+        let bytes = padded(&*blinding.unblind(&result, &mut scratch)?, length)?;
+        Refused::unless(self.public.opens(&bytes, &info)?)?;
         Ok(Signature {
             algorithm: digest.algorithm(),
             bytes: &bytes,
         }
         .to_vec())
     }
+}
+
+/// The number in so many bytes.
+fn padded(number: &BigNumRef, length: usize) -> Result<Vec<u8>, Refused> {
+    let length = i32::try_from(length).map_err(|_| Refused)?;
+    Ok(number.to_vec_padded(length)?)
 }
 
 /// The exponent modulo one factor: d mod (factor - 1).

@@ -74,7 +74,7 @@ impl Answerer {
 
     fn verifies(&self, host_key: &[u8], signature: &[u8], session: &[u8]) -> Result<bool, Refused> {
         match Blob::read(host_key, &self.curves) {
-            Ok(blob) => blob.verifies(session, signature),
+            Ok(blob) => Ok(blob.is_certified(&self.curves)? && blob.verifies(session, signature)?),
             Err(Refused) => self.hosts.verifies(host_key, session, signature),
         }
     }

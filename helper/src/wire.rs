@@ -42,6 +42,11 @@ impl<'a> Reader<'a> {
         }
     }
 
+    /// What isn't taken yet.
+    pub fn rest(&self) -> &'a [u8] {
+        self.rest
+    }
+
     /// Nothing follows.
     pub fn end(self) -> Result<(), Malformed> {
         match self.rest {

@@ -6,6 +6,7 @@ import socket
 import struct
 import subprocess
 import tempfile
+import time
 
 FOLDER = pathlib.Path(__file__).resolve().parents[1]
 PROGRAM = os.environ.get("HELPER", str(FOLDER / "target/release/mortarleek-helper"))
@@ -94,6 +95,12 @@ class Helper:
                 raise Ended(self.process.wait(20))
             content += piece
         return content
+
+    def trickle(self, content):
+        """Sends the bytes one by one, each for itself to be read."""
+        for byte in content:
+            self.peer.sendall(bytes([byte]))
+            time.sleep(0.0005)
 
     def body(self):
         """The body of the helper's next frame."""

@@ -8,7 +8,6 @@ import socket
 import struct
 import subprocess
 import tempfile
-import time
 import unittest
 
 from peer import CONFIRM, FALSE, PROGRAM, REFUSED, Ended, Helper, sign_body, string, verify_body
@@ -32,9 +31,7 @@ class Frames(unittest.TestCase):
 
     def test_frames_that_come_a_byte_at_a_time_are_answered(self):
         with Helper() as helper:
-            for byte in string(BODY) + string(sign_body(2, b"", b"", b"")):
-                helper.peer.sendall(bytes([byte]))
-                time.sleep(0.0005)
+            helper.trickle(string(BODY) + string(sign_body(2, b"", b"", b"")))
             self.assertEqual(helper.body(), struct.pack(">BQ", FALSE, 1))
             self.assertEqual(helper.body(), struct.pack(">BQ", REFUSED, 2))
             self.assertEqual(helper.end(), DONE)
@@ -70,18 +67,19 @@ class Frames(unittest.TestCase):
             **{f"of kind {kind}": bytes([kind]) + BODY[1:] for kind in (0, 4, 101, 102, 255)},
         }
         for name, body in bad.items():
-            with self.subTest(name):
-                helper = Helper()
-                self.assertEqual(helper.ask(BODY), (FALSE, 1, b""))
-                helper.peer.sendall(string(body))
-                self.assertRaises(Ended, helper.body)
-                self.assertEqual(helper.end(), BAD_FRAME)
+            for send in (lambda helper: helper.peer.sendall, lambda helper: helper.trickle):
+                with self.subTest(name):
+                    helper = Helper()
+                    self.assertEqual(helper.ask(BODY), (FALSE, 1, b""))
+                    send(helper)(string(body))
+                    self.assertRaises(Ended, helper.body)
+                    self.assertEqual(helper.end(), BAD_FRAME)
 
     def test_an_end_within_a_frame_is_torn(self):
         for cut in (1, 3, 4, 5, 4 + len(BODY) - 1):
             with self.subTest(cut):
                 helper = Helper()
-                helper.peer.sendall(string(BODY)[:cut])
+                helper.trickle(string(BODY)[:cut])
                 self.assertEqual(helper.end(), TORN_END)
 
 

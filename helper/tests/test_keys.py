@@ -30,6 +30,21 @@ class Keys(unittest.TestCase):
     def sign(self, key, flags=0, message=SIGNED):
         return self.helper.sign(key.private, key.blob, message, flags)
 
+    def test_a_certificate_has_to_be_signed_by_its_authority(self):
+        for key, authority in zip(self.keys, self.others):
+            with self.subTest(f"{key} by {authority}"):
+                host = certify(key, authority, "a.example.org", host=True)
+                signature = signature_by_openssh(key, MESSAGE)
+                self.assertTrue(self.helper.verify(host.blob, signature, SIGNED))
+                renamed = host.blob.replace(b"a.example.org", b"b.example.org")
+                self.assertNotEqual(renamed, host.blob)
+                for blob in (renamed, host.blob[:-1], host.blob + b"\0"):
+                    self.assertFalse(self.helper.verify(blob, signature, SIGNED))
+                foreign = certify(key, self.authority, "a.example.org", host=True)
+                seal = foreign.blob[foreign.blob.rindex(string(self.authority.blob)) :]
+                behind = host.blob.rindex(string(authority.blob))
+                self.assertFalse(self.helper.verify(host.blob[:behind] + seal, signature, SIGNED))
+
     def test_openssh_accepts_each_signature(self):
         for key in self.keys + self.certified:
             with self.subTest(str(key)):

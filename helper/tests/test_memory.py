@@ -6,8 +6,7 @@ import re
 import tempfile
 import unittest
 
-import openssh
-from openssh import FIELDS, KINDS, certify, generate, signature_by_openssh, signed_text
+from openssh import FIELDS, KINDS, certify, generate
 from peer import PROGRAM, Helper, string
 
 CONTROL = os.environ.get("HELPER_LEAVING", "")

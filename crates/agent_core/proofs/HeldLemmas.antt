@@ -1,24 +1,19 @@
 -- Lemmas on what is held.
-use Rattle.std.proofs.Common.{◌≡◌, ℕ, ◌+◌, ◌<◌, ◌≤◌, List, [], ◌∷◌, ◌++◌, length, map, drop, get_or, refl, ap, sym, arith, ◌∙◌, Option, Some, None}
+use Rattle.std.proofs.Common.{◌≡◌, ℕ, ◌+◌, ◌<◌, ◌≤◌, List, [], ◌∷◌, ◌++◌, length, map, drop, get_or, refl, ap, sym, arith, ◌∙◌, Option, Some, None, Result, Ok, Err, filter, is_some, false}
+use Rattle.std.specs.Prelude.{OnOk}
+use Rattle.agent_msg.specs.Requests.{ClientRequest, IsRequest, ListIdentities, Sign, Add, Remove, RemoveAll, Lock, Unlock, Bind, OtherExtension, Unsupported}
+use Rattle.agent_model.specs.Limits.{longest_body}
+use Rattle.agent_model.proofs.BoundLemmas.{private-within, text-within}
+use Rattle.agent_model.specs.Verdicts.{verdict_text}
+use Rattle.agent_core.specs.Served.{IsShortRequest, asker_of, keys_of, served_by}
 use Rattle.std.proofs.lemmas.List.{drop_more}
-use Rattle.std.proofs.lemmas.Bool.Decides.{nat_tests}
-use Rattle.identity_table.specs.Identities.{HeldKey, alive_at}
+use Rattle.identity_table.specs.Identities.{HeldKey, TableState}
 use Rattle.identity_table.specs.Identities.{answer_len, entries_len, find_identity, remove_identity}
 use Rattle.identity_table.proofs.PlaceLemmas.{remove_identity-none}
-use Rattle.agent_core.specs.Dispatch.{remove_by}
-use Rattle.agent_msg.specs.Replies.{entry, entries, entries_length, identities_length}
-use Rattle.agent_core.specs.KeyStates.{KeyState, expired, shown}
-
--- those that live go on living at the same second
-alive-twice : (second : ℕ) (keys : List HeldKey) → alive_at second (alive_at second keys) ≡ alive_at second keys
-unfolding alive_at
-alive-twice second [] = refl
-alive-twice second (key ∷ keys) = grind (arith, nat_tests, alive-twice second keys)
-
--- identities leave once
-pub expired-twice : (second : ℕ) (keys : KeyState) → expired second (expired second keys) ≡ expired second keys
-expired-twice second keys =
-    ap (λ (identities : List HeldKey). let k : KeyState = record keys { table = record keys.table { identities = identities; greatest = second } } in k) (alive-twice second keys.table.identities)
+use Rattle.agent_model.specs.Dispatch.{Asker, remove_by, seen_by, sees, with_identities}
+use Rattle.agent_model.specs.State.{UnderWay}
+use Rattle.agent_msg.specs.Replies.{entry, entries, entries_length, identities_answer, identities_length}
+use Rattle.agent_model.specs.KeyStates.{KeyState, shown}
 
 -- ---- lists of identities
 
@@ -49,7 +44,54 @@ entry_of key blob comment is_blob is_comment = ap (λ b. entry (b, comment)) is_
 -- ---- removals
 
 -- what is left is the same where nothing is held under that blob
-pub removed-keys : (found : Option HeldKey) (blob : List ℕ) (keys : KeyState) → find_identity blob keys.table.identities ≡ found → (let k : KeyState = record keys { table = record keys.table { identities = remove_identity blob keys.table.identities } } in k) ≡ (remove_by found blob keys).keys
-removed-keys None blob keys absent =
-    ap (λ (identities : List HeldKey). let k : KeyState = record keys { table = record keys.table { identities = identities } } in k) (remove_identity-none blob keys.table.identities absent)
-removed-keys (Some key) blob keys held = refl
+pub removed-keys : (found : Option HeldKey) (asker : Asker) (blob : List ℕ) (held : KeyState) (under_way : UnderWay) → find_identity blob held.table.identities ≡ found → with_identities (remove_identity blob held.table.identities) held ≡ (remove_by found asker blob held under_way).held
+removed-keys None asker blob held under_way absent =
+    ap (λ (identities : List HeldKey). with_identities identities held) (remove_identity-none blob held.table.identities absent)
+removed-keys (Some key) asker blob held under_way found = refl
+
+-- ---- lists
+
+-- each identity is seen
+seen-all : (asker : Asker) (keys : List HeldKey) → filter (sees asker) keys ≡ keys
+seen-all asker [] = refl
+seen-all asker (key ∷ keys) = ap (λ rest. key ∷ rest) (seen-all asker keys)
+
+-- so that a list shows all
+pub seen_by_all : (asker : Asker) (held : KeyState) → seen_by asker held ≡ map shown held.table.identities
+seen_by_all asker held = ap (map shown) (seen-all asker held.table.identities)
+
+-- so does the answer of an agent that isn't locked
+pub listed-unlocked : (table : TableState) (lock : Option (List ℕ)) (port wall : ℕ) → is_some lock ≡ false → identities_answer (map shown table.identities) ≡ verdict_text (served_by port wall ListIdentities (keys_of table lock)).work.verdict
+listed-unlocked table None port wall unlocked =
+    ap identities_answer (sym (seen_by_all (asker_of port wall (keys_of table None)) (keys_of table None)))
+listed-unlocked table (Some passphrase) port wall unlocked = absurd (cc)
+
+-- an agent that isn't locked has no passphrase
+pub none_of : (lock : Option (List ℕ)) → is_some lock ≡ false → lock ≡ None
+none_of None unlocked = refl
+none_of (Some passphrase) unlocked = absurd (cc)
+
+-- what follows after success follows
+pub after_ok : {A B : Type 0} {P Q : Type 0} (r : Result A B) → (P → Q) → OnOk r P → OnOk r Q
+after_ok (Ok a) f p = f p
+after_ok (Err e) f p = p
+
+-- and of two clauses
+pub both_ok : {A B : Type 0} {P Q X : Type 0} (r : Result A B) → (P → Q → X) → OnOk r P → OnOk r Q → OnOk r X
+both_ok (Ok a) f p q = f p q
+both_ok (Err e) f p q = p
+
+-- ---- requests
+
+-- what comes in a body that isn't long isn't long
+pub short_request : (body : List ℕ) (request : ClientRequest) → IsRequest body request → length body ≤ longest_body → IsShortRequest request
+short_request body ListIdentities is within = tt
+short_request body (Sign signing) is within = tt
+short_request body (Add addition) is within = private-within body addition is within
+short_request body (Remove blob) is within = tt
+short_request body RemoveAll is within = tt
+short_request body (Lock passphrase) is within = text-within 22 body passphrase is within
+short_request body (Unlock passphrase) is within = tt
+short_request body (Bind bind) is within = tt
+short_request body (OtherExtension name) is within = tt
+short_request body (Unsupported number) is within = tt

@@ -1,155 +1,51 @@
 -- Lemmas on the storage of the open ports.
-use Rattle.std.proofs.Common.{rules, ◌≡◌, ℕ, zero, suc, ◌+◌, ◌^◌, ◌<◌, ◌≤◌, List, [], ◌∷◌, ◌++◌, length, get_or, set, refl, ap, arith, sym, ◌∙◌, Option, Some, IsSome, subst, inl, inr, slice_get}
-use Rattle.std.proofs.lemmas.Bool.{cases_Bool, cases_eq}
+use Rattle.std.proofs.Common.{◌≡◌, ℕ, zero, suc, ◌+◌, ◌^◌, ◌<◌, ◌≤◌, List, [], ◌∷◌, ◌++◌, length, get_or, set, refl, ap, arith, sym, ◌∙◌, Some, subst, slice_get, false, true, Bool, if◌then◌else◌, ◌==◌}
 use Rattle.std.proofs.lemmas.Bool.Decides.{nat_tests}
-use Rattle.std.proofs.lemmas.List.{map-set, map-append, drop-map, take-map}
+use Rattle.std.proofs.lemmas.List.{map-set, map-append, drop-map, take-map, length-append}
 use Rattle.std.proofs.lemmas.Option.{slice_get-map}
 use Rattle.secret_buf.specs.Buffers.{Buffer, no_bytes}
 use Rattle.std.specs.List.{remove}
 use Rattle.std.specs.Option.{option_map}
+use Rattle.world_ports.specs.declared.Door.TheVariants.{Clients}
 use Rattle.agent_core.specs.declared.slot.Slot.{Slot}
-use Rattle.wire_text.specs.Frames.{Front, front, Whole, Bad, More}
-use Rattle.agent_core.specs.declared.slot.Fate.{Fate}
-use Rattle.agent_core.specs.declared.slot.Fate.TheVariants.{Stays, Owes, Closes}
-use Rattle.agent_core.specs.Step.{due}
-use Rattle.agent_core.specs.PortLook.{port_looked, port_kept, looked_keys, found_kept, fate_of, fate_at, found_fate, closes_at, closes_by, found_closes, finished_ports, fated_ports, found_looked, looked_ports, front_fate, front_looked}
-use Rattle.agent_core.proofs.LookLemmas.{port_looked-number}
-use Rattle.agent_core.specs.KeyStates.{KeyState}
-use Rattle.agent_core.specs.Owing.{IsRisingNumbers, owing_of, inserted, removed, noted}
 use Rattle.agent_core.specs.Places.{IsPlace}
-use Rattle.agent_core.specs.Slots.{IsKept, port_of, ports_of}
-use Rattle.agent_core.specs.State.{Port, IsRising, IsOpen, find_port, change_port, remove_port, client_count, new_client, is_some_bytes}
+use Rattle.agent_core.specs.Plain.{ArePlain, IsPlain}
+use Rattle.agent_core.specs.Rising.{IsRisingNumbers, inserted, noted, removed}
+use Rattle.agent_core.specs.Slots.{IsKept, owing_of, port_of, ports_of}
+use Rattle.agent_core.proofs.OwingLemmas.{length-inserted, length-owing_of, listed-changed, owing_of-append, owing_of-kept, owing_of-remove_port, rising-inserted, rising_numbers}
 use Rattle.agent_core.proofs.PlaceLemmas.{length-ports_of, no_slot}
-use Rattle.agent_core.proofs.PortsLemmas.{rising_higher, rising_numbers, rising-append, rising-change_port, rising-remove_port, client_count-append, client_count-change_port, client_count-remove_port, owing_of-append, owing_of-remove_port, owing_of-owed, owing_of-paid, change_port-twice, change_port-same, remove_port-change_port, find_port-change_port}
+use Rattle.agent_model.specs.KeyStates.{KeyState}
+use Rattle.agent_model.specs.Sound.{IsRising}
+use Rattle.agent_model.specs.Step.{take_frame}
+use Rattle.agent_model.specs.Verdicts.{tell}
+use Rattle.agent_core.specs.Served.{served_body}
+use Rattle.wire_text.specs.Frames.{front_body}
+use Rattle.agent_model.specs.State.{Port, change_port, client_count, find_port, is_some_bytes, new_port, remove_port}
+use Rattle.agent_model.proofs.PortsLemmas.{found_above, found_number, rising-append, rising-change_port, rising-remove_port, rising_higher}
 
 -- edits of the slots are edits of the ports
-pub ports_of-set : (slots : List Slot) (place : ℕ) (slot : Slot) → ports_of (set slots place slot) ≡ set (ports_of slots) place (port_of slot)
-ports_of-set slots place slot = map-set port_of slots place slot
-
 pub ports_of-remove : (slots : List Slot) (place : ℕ) → ports_of (remove slots place) ≡ remove (ports_of slots) place
 ports_of-remove slots place = simp (map-append, drop-map, take-map)
 
 pub ports_of-push : (slots : List Slot) (slot : Slot) → ports_of (slots ++ slot ∷ []) ≡ ports_of slots ++ port_of slot ∷ []
 ports_of-push slots slot = map-append port_of slots (slot ∷ [])
 
+-- each is a client
 pub client_count-ports_of : (slots : List Slot) → client_count (ports_of slots) ≡ length slots
 client_count-ports_of [] = refl
 client_count-ports_of (slot ∷ slots) = grind (arith, client_count-ports_of slots)
 
-pub length-owing_of : (ports : List Port) → length (owing_of ports) ≤ client_count ports
-length-owing_of [] = omega arith
-length-owing_of (port ∷ ports) =
-    let rest : length (owing_of ports) ≤ client_count ports = length-owing_of ports in
-    grind (arith, nat_tests)
-
 -- the numbers fit the clock of ports
-pub kept_rising : (slots : List Slot) (owing : List ℕ) (capacity last : ℕ) → IsKept slots owing capacity last → IsRising 0 (2 ^ 64) (ports_of slots)
-kept_rising slots owing capacity last kept = rising_higher 0 last (2 ^ 64) (ports_of slots) (omega (arith, kept.fits)) kept.rising
+pub kept_rising : (slots : List Slot) (owing closed : List ℕ) (room more last : ℕ) → IsKept slots owing closed room more last → IsRising 0 (2 ^ 64) (ports_of slots)
+kept_rising slots owing closed room more last kept = rising_higher 0 last (2 ^ 64) (ports_of slots) (omega (arith, kept.fits)) kept.rising
 
-pub kept_numbers : (slots : List Slot) (owing : List ℕ) (capacity last : ℕ) → IsKept slots owing capacity last → IsRisingNumbers 0 owing
-kept_numbers slots owing capacity last kept =
+pub kept_numbers : (slots : List Slot) (owing closed : List ℕ) (room more last : ℕ) → IsKept slots owing closed room more last → IsRisingNumbers 0 owing
+kept_numbers slots owing closed room more last kept =
     let P : List ℕ → Type 0 = λ xs. IsRisingNumbers 0 xs in
     subst P (sym kept.listed) (rising_numbers 0 last (ports_of slots) kept.rising)
 
--- one port goes
-pub kept-removed : (slots : List Slot) (owing : List ℕ) (capacity last number place more : ℕ) → IsKept slots owing capacity last → IsPlace number (ports_of slots) place → capacity ≤ more → IsKept (remove slots place) (removed number owing) more last
-kept-removed slots owing capacity last number place more kept is roomy =
-    let same : ports_of (remove slots place) ≡ remove_port number (ports_of slots) = ports_of-remove slots place ∙ sym is.removed in
-    let P : List Port → Type 0 = λ ports. IsRising 0 last ports in
-    let fewer : client_count (remove_port number (ports_of slots)) ≤ client_count (ports_of slots) = client_count-remove_port number (ports_of slots) in
-    let count : client_count (ports_of (remove slots place)) ≡ client_count (remove_port number (ports_of slots)) = ap client_count same in
-    let here : client_count (ports_of slots) ≡ length slots = client_count-ports_of slots in
-    let after : client_count (ports_of (remove slots place)) ≡ length (remove slots place) = client_count-ports_of (remove slots place) in
-    record {
-      rising = subst P (sym same) (rising-remove_port number 0 last (ports_of slots) kept.rising);
-      few = omega (arith, kept.few);
-      listed = ap (removed number) kept.listed ∙ sym (owing_of-remove_port number 0 last (ports_of slots) kept.rising) ∙ ap owing_of (sym same);
-      room = omega (arith, kept.room);
-      fits = kept.fits;
-    }
-
--- one port more
-pub kept-joined : (slots : List Slot) (owing : List ℕ) (capacity last more : ℕ) (slot : Slot) → IsKept slots owing capacity last → port_of slot ≡ new_client (suc last) → length slots < 128 → length slots + 1 ≤ more → suc last < 2 ^ 64 → IsKept (slots ++ slot ∷ []) owing more (suc last)
-kept-joined slots owing capacity last more slot kept new few roomy below =
-    let same : ports_of (slots ++ slot ∷ []) ≡ ports_of slots ++ new_client (suc last) ∷ [] = ports_of-push slots slot ∙ ap (λ port. ports_of slots ++ port ∷ []) new in
-    let P : List Port → Type 0 = λ ports. IsRising 0 (suc last) ports in
-    let count : client_count (ports_of (slots ++ slot ∷ [])) ≡ suc (client_count (ports_of slots)) = ap client_count same ∙ client_count-append (suc last) (ports_of slots) in
-    let here : client_count (ports_of slots) ≡ length slots = client_count-ports_of slots in
-    let after : client_count (ports_of (slots ++ slot ∷ [])) ≡ length (slots ++ slot ∷ []) = client_count-ports_of (slots ++ slot ∷ []) in
-    record {
-      rising = subst P (sym same) (rising-append 0 last (suc last) (ports_of slots) (omega arith) kept.rising);
-      few = omega (arith, kept.few);
-      listed = kept.listed ∙ sym (ap owing_of same ∙ owing_of-append (suc last) (ports_of slots));
-      room = omega arith;
-      fits = below;
-    }
-
--- only the last number rises
-pub kept-refused : (slots : List Slot) (owing : List ℕ) (capacity last : ℕ) → IsKept slots owing capacity last → suc last < 2 ^ 64 → IsKept slots owing capacity (suc last)
-kept-refused slots owing capacity last kept below = record {
-  rising = rising_higher 0 last (suc last) (ports_of slots) (omega arith) kept.rising;
-  few = kept.few;
-  listed = kept.listed;
-  room = kept.room;
-  fits = below;
-}
-
--- one port is changed under its number
-pub slots_changed : (slots : List Slot) (number place : ℕ) (slot : Slot) (port : Port) → IsPlace number (ports_of slots) place → find_port number (ports_of slots) ≡ Some port → slot.number ≡ port.number → ports_of (set slots place slot) ≡ change_port number (λ p. record p { heard = slot.heard.live; owed = slot.owed }) (ports_of slots)
-slots_changed slots number place slot port is found same =
-    let changed = is.changed (λ p. record p { heard = slot.heard.live; owed = slot.owed }) port found in
-    let here : port_of slot ≡ record port { heard = slot.heard.live; owed = slot.owed } = ap (λ n. let q : Port = record { number = n; heard = slot.heard.live; owed = slot.owed } in q) same in
-    ports_of-set slots place slot ∙ ap (λ q. set (ports_of slots) place q) here ∙ sym changed
-
--- a port that is found has that number
-pub found_number : (number : ℕ) (ports : List Port) (port : Port) → find_port number ports ≡ Some port → port.number ≡ number
-found_number number [] port found = absurd (cc)
-found_number number (other ∷ ports) port found = elim (cases_eq number other.number) [
-  | inl here ↦ (let is : other ≡ port = grind (arith, nat_tests) in let same : other.number ≡ port.number = ap (λ q. q.number) is in sym same ∙ sym here)
-  | inr apart ↦ (let later : find_port number ports ≡ Some port = grind (arith, nat_tests) in found_number number ports port later)
-]
-
--- the list follows one port that is changed
-pub listed-changed : (ports : List Port) (number last : ℕ) (heard owed : List ℕ) (port : Port) → IsRising 0 last ports → find_port number ports ≡ Some port → owing_of (change_port number (λ p. record p { heard = heard; owed = owed }) ports) ≡ noted (is_some_bytes owed) number (owing_of ports)
-listed-changed ports number last heard owed port rising found = elim (cases_Bool (is_some_bytes owed)) [
-  | inl owes ↦ owing_of-owed number 0 last (λ p. record p { heard = heard; owed = owed }) ports port (λ p. refl) rising found owes ∙ ap (λ b. noted b number (owing_of ports)) (sym owes)
-  | inr paid ↦ owing_of-paid number 0 last (λ p. record p { heard = heard; owed = owed }) ports port (λ p. refl) rising found paid ∙ ap (λ b. noted b number (owing_of ports)) (sym paid)
-]
-
--- one port is changed, and listed or not
-pub kept-changed : (slots : List Slot) (owing : List ℕ) (capacity last number place more : ℕ) (slot : Slot) (port : Port) → IsKept slots owing capacity last → IsPlace number (ports_of slots) place → find_port number (ports_of slots) ≡ Some port → slot.number ≡ port.number → capacity ≤ more → IsKept (set slots place slot) (noted (is_some_bytes slot.owed) number owing) more last
-kept-changed slots owing capacity last number place more slot port kept is found same roomy =
-    let changed = slots_changed slots number place slot port is found same in
-    let P : List Port → Type 0 = λ ports. IsRising 0 last ports in
-    let f : Port → Port = λ p. record p { heard = slot.heard.live; owed = slot.owed } in
-    let count : client_count (ports_of (set slots place slot)) ≡ client_count (ports_of slots) = ap client_count changed ∙ client_count-change_port number f (ports_of slots) in
-    let here : client_count (ports_of slots) ≡ length slots = client_count-ports_of slots in
-    let after : client_count (ports_of (set slots place slot)) ≡ length (set slots place slot) = client_count-ports_of (set slots place slot) in
-    record {
-      rising = subst P (sym changed) (rising-change_port number 0 last f (ports_of slots) (λ p. refl) kept.rising);
-      few = omega (arith, kept.few);
-      listed = ap (noted (is_some_bytes slot.owed) number) kept.listed ∙ sym (ap owing_of changed ∙ listed-changed (ports_of slots) number last slot.heard.live slot.owed port kept.rising found);
-      room = omega (arith, kept.room);
-      fits = kept.fits;
-    }
-
--- there is room to list a port that is open
-pub kept_room : (slots : List Slot) (owing : List ℕ) (capacity last number : ℕ) (port : Port) → IsKept slots owing capacity last → find_port number (ports_of slots) ≡ Some port → length (inserted number owing) ≤ capacity
-kept_room slots owing capacity last number port kept found =
-    let owed : Port → Port = λ p. record p { heard = []; owed = 0 ∷ [] } in
-    let after : owing_of (change_port number owed (ports_of slots)) ≡ inserted number (owing_of (ports_of slots)) = listed-changed (ports_of slots) number last [] (0 ∷ []) port kept.rising found in
-    let same : inserted number owing ≡ owing_of (change_port number owed (ports_of slots)) = ap (inserted number) kept.listed ∙ sym after in
-    let few : length (owing_of (change_port number owed (ports_of slots))) ≤ client_count (change_port number owed (ports_of slots)) = length-owing_of (change_port number owed (ports_of slots)) in
-    let count : client_count (change_port number owed (ports_of slots)) ≡ client_count (ports_of slots) = client_count-change_port number owed (ports_of slots) in
-    let here : client_count (ports_of slots) ≡ length slots = client_count-ports_of slots in
-    let as_long : length (inserted number owing) ≡ length (owing_of (change_port number owed (ports_of slots))) = ap length same in
-    omega (arith, kept.room)
-
--- what is found at the place of a port
-pub found_at_place : (slots : List Slot) (number place : ℕ) → IsPlace number (ports_of slots) place → find_port number (ports_of slots) ≡ option_map port_of (slice_get slots place)
-found_at_place slots number place is = is.found ∙ slice_get-map port_of slots place
-
-pub within_place : (slots : List Slot) (number place : ℕ) → IsPlace number (ports_of slots) place → place < length slots
+-- a port at its place
+within_place : (slots : List Slot) (number place : ℕ) → IsPlace number (ports_of slots) place → place < length slots
 within_place slots number place is =
     let same : length (ports_of slots) ≡ length slots = length-ports_of slots in
     omega (arith, is.within)
@@ -164,62 +60,182 @@ pub found_slot : (slots : List Slot) (number place : ℕ) (slot : Slot) → IsPl
 found_slot slots number place slot is here =
     let within : place < length slots = within_place slots number place is in
     let got : slice_get slots place ≡ Some (get_or slots place slot) = slice_get-within slots place slot within in
-    found_at_place slots number place is ∙ ap (option_map port_of) (got ∙ ap Some (sym here))
-
--- one port is changed and looked at
-pub slots_looked : (reply : List ℕ → List ℕ) (slots : List Slot) (number place : ℕ) (slot : Slot) (port : Port) (f : Port → Port) → IsPlace number (ports_of slots) place → find_port number (ports_of slots) ≡ Some port → ((p : Port) → (f p).number ≡ p.number) → port_of slot ≡ port_looked reply (f port) → ports_of (set slots place slot) ≡ change_port number (port_looked reply) (change_port number f (ports_of slots))
-slots_looked reply slots number place slot port f is found keeps looked =
-    ports_of-set slots place slot ∙ ap (λ q. set (ports_of slots) place q) looked ∙ sym (is.changed (λ p. port_looked reply (f p)) port found) ∙ sym (change_port-twice number f (port_looked reply) (ports_of slots) keeps)
-
--- what a look at a port that was changed brings
-pub fate_at-change_port : (number : ℕ) (f : Port → Port) (ports : List Port) (port : Port) → find_port number ports ≡ Some port → ((p : Port) → (f p).number ≡ p.number) → fate_at number (change_port number f ports) ≡ fate_of (f port)
-fate_at-change_port number f ports port found keeps = ap found_fate (find_port-change_port number f ports keeps ∙ ap (option_map f) found)
-
--- the port is still open
-pub open_looked : (reply : List ℕ → List ℕ) (slots : List Slot) (number place : ℕ) (slot : Slot) (port : Port) (f : Port → Port) → IsPlace number (ports_of slots) place → find_port number (ports_of slots) ≡ Some port → ((p : Port) → (f p).number ≡ p.number) → port_of slot ≡ port_looked reply (f port) → IsOpen number (ports_of (set slots place slot))
-open_looked reply slots number place slot port f is found keeps looked =
-    let same = slots_looked reply slots number place slot port f is found keeps looked in
-    let here = find_port-change_port number (port_looked reply) (change_port number f (ports_of slots)) (port_looked-number reply) ∙ ap (option_map (port_looked reply)) (find_port-change_port number f (ports_of slots) keeps ∙ ap (option_map f) found) in
-    let P : Option Port → Type 0 = λ o. IsSome o in
-    subst P (sym (ap (find_port number) same ∙ here)) (search rules)
-
-pub closes_at-change_port : (number : ℕ) (f : Port → Port) (ports : List Port) (port : Port) → find_port number ports ≡ Some port → ((p : Port) → (f p).number ≡ p.number) → closes_at number (change_port number f ports) ≡ closes_by (fate_of (f port))
-closes_at-change_port number f ports port found keeps = ap found_closes (find_port-change_port number f ports keeps ∙ ap (option_map f) found)
-
--- a port that stays is as it was
-stays_by_front : (reply : List ℕ → List ℕ) (answer : Front) (port : Port) → front_fate answer ≡ Stays → front_looked reply answer port ≡ port
-stays_by_front reply (Whole body_len) port stays = absurd (cc)
-stays_by_front reply (Bad announced) port stays = refl
-stays_by_front reply More port stays = refl
-
-finished_by : (reply : List ℕ → List ℕ) (number : ℕ) (fate : Fate) (port : Port) (ports : List Port) → find_port number ports ≡ Some port → fate_of port ≡ fate → finished_ports number fate (change_port number (port_looked reply) ports) ≡ fated_ports reply number fate ports
-finished_by reply number Closes port ports found is = remove_port-change_port number (port_looked reply) ports (port_looked-number reply)
-finished_by reply number Owes port ports found is = refl
-finished_by reply number Stays port ports found is = change_port-same number (port_looked reply) ports port found (stays_by_front reply (due port) port is)
-
--- a change, a look and what the look says of the port are the look at the changed port
-pub finished_looked : (reply : List ℕ → List ℕ) (slots : List Slot) (number place : ℕ) (slot : Slot) (port : Port) (f : Port → Port) (fate : Fate) → IsPlace number (ports_of slots) place → find_port number (ports_of slots) ≡ Some port → ((p : Port) → (f p).number ≡ p.number) → port_of slot ≡ port_looked reply (f port) → fate ≡ fate_of (f port) → finished_ports number fate (ports_of (set slots place slot)) ≡ looked_ports reply number (change_port number f (ports_of slots))
-finished_looked reply slots number place slot port f fate is found keeps looked fated =
-    let ports : List Port = change_port number f (ports_of slots) in
-    let there : find_port number ports ≡ Some (f port) = find_port-change_port number f (ports_of slots) keeps ∙ ap (option_map f) found in
-    ap (finished_ports number fate) (slots_looked reply slots number place slot port f is found keeps looked)
-    ∙ finished_by reply number fate (f port) ports there (sym fated)
-    ∙ ap (λ k. fated_ports reply number k ports) fated
-    ∙ ap (λ o. found_looked reply number o ports) (sym there)
-
--- a slot with an empty buffer, which is owed nothing, is a new client
-pub joined_port : (last number : ℕ) (heard : Buffer) (owed : List ℕ) → number ≡ suc last → heard ≡ no_bytes → owed ≡ [] → port_of (record { number = number; heard = heard; owed = owed }) ≡ new_client (suc last)
-joined_port last number heard owed next silent paid =
-    ap (λ n. let p : Port = record { number = n; heard = heard.live; owed = owed } in p) next
-    ∙ ap (λ b. let p : Port = record { number = suc last; heard = b.live; owed = owed } in p) silent
-    ∙ ap (λ bytes. let p : Port = record { number = suc last; heard = []; owed = bytes } in p) paid
-
--- what is held after a look at a port that was changed
-pub looked_keys-change_port : (after : List ℕ → KeyState) (keys : KeyState) (number : ℕ) (f : Port → Port) (ports : List Port) (port : Port) → find_port number ports ≡ Some port → ((p : Port) → (f p).number ≡ p.number) → looked_keys after keys number (change_port number f ports) ≡ port_kept after keys (f port)
-looked_keys-change_port after keys number f ports port found keeps =
-    ap (found_kept after keys) (find_port-change_port number f ports keeps ∙ ap (option_map f) found)
+    is.found ∙ slice_get-map port_of slots place ∙ ap (option_map port_of) (got ∙ ap Some (sym here))
 
 -- there is a port at its place
 pub found_port : (slots : List Slot) (number place : ℕ) → IsPlace number (ports_of slots) place → find_port number (ports_of slots) ≡ Some (port_of (get_or slots place no_slot))
 found_port slots number place is =
-    found_at_place slots number place is ∙ ap (option_map port_of) (slice_get-within slots place no_slot (within_place slots number place is))
+    is.found ∙ slice_get-map port_of slots place ∙ ap (option_map port_of) (slice_get-within slots place no_slot (within_place slots number place is))
+
+-- each that is found is plain
+pub are_plain : (slots : List Slot) → ArePlain (ports_of slots)
+are_plain [] = λ number port found. absurd (cc)
+are_plain (slot ∷ slots) = λ number port found. by_test number port (number == slot.number) (are_plain slots number port) found
+  where
+    by_test : (number : ℕ) (port : Port) (same : Bool) → (find_port number (ports_of slots) ≡ Some port → IsPlain port) → (if same then Some (port_of slot) else find_port number (ports_of slots)) ≡ Some port → IsPlain port
+    by_test number port true later found =
+        let is : port_of slot ≡ port = cc in
+        subst IsPlain is (record { door = refl; chain = refl; attempted = refl; waits = refl })
+    by_test number port false later found = later found
+
+-- ---- one port is changed
+
+-- the slot at its place is set to what a change of the port gives
+pub set_changed : (slots : List Slot) (number place : ℕ) (slot : Slot) (port : Port) (f : Port → Port) → IsPlace number (ports_of slots) place → find_port number (ports_of slots) ≡ Some port → port_of slot ≡ f port → ports_of (set slots place slot) ≡ change_port number f (ports_of slots)
+set_changed slots number place slot port f is found same =
+    map-set port_of slots place slot ∙ ap (set (ports_of slots) place) same ∙ sym (is.changed f port found)
+
+-- under its number, with these bytes
+abbrev pub with_bytes : Slot → Port → Port
+with_bytes slot port = record port { heard = slot.heard.live; owed = slot.owed }
+
+set_bytes : (slots : List Slot) (number place : ℕ) (slot old : Slot) → IsPlace number (ports_of slots) place → find_port number (ports_of slots) ≡ Some (port_of old) → slot.number ≡ old.number → ports_of (set slots place slot) ≡ change_port number (with_bytes slot) (ports_of slots)
+set_bytes slots number place slot old is found same =
+    set_changed slots number place slot (port_of old) (with_bytes slot) is found
+    (ap (λ n. port_of (record { number = n; heard = slot.heard; owed = slot.owed })) same)
+
+length-set_slots : (slots : List Slot) (number place : ℕ) (slot : Slot) (ports : List Port) → ports_of (set slots place slot) ≡ ports → length (set slots place slot) ≡ length ports
+length-set_slots slots number place slot ports same =
+    sym (length-ports_of (set slots place slot)) ∙ ap length same
+
+length-change_port : (number : ℕ) (f : Port → Port) (ports : List Port) → length (change_port number f ports) ≡ length ports
+length-change_port number f [] = refl
+length-change_port number f (port ∷ ports) = grind (arith, nat_tests, length-change_port number f ports)
+
+-- one port is changed, and listed or not
+pub kept-changed : (slots : List Slot) (owing closed : List ℕ) (room croom last number place more : ℕ) (slot old : Slot) → IsKept slots owing closed room croom last → IsPlace number (ports_of slots) place → find_port number (ports_of slots) ≡ Some (port_of old) → slot.number ≡ old.number → room ≤ more → IsKept (set slots place slot) (noted (is_some_bytes slot.owed) number owing) closed more croom last
+kept-changed slots owing closed room croom last number place more slot old kept is found same roomy =
+    let changed = set_bytes slots number place slot old is found same in
+    let P : List Port → Type 0 = λ ports. IsRising 0 last ports in
+    let count : length (set slots place slot) ≡ length slots =
+    length-set_slots slots number place slot (change_port number (with_bytes slot) (ports_of slots)) changed ∙ length-change_port number (with_bytes slot) (ports_of slots) ∙ length-ports_of slots in
+    record {
+      rising = subst P (sym changed) (rising-change_port number 0 last (with_bytes slot) (ports_of slots) (λ p. refl) kept.rising);
+      listed = ap (noted (is_some_bytes slot.owed) number) kept.listed ∙ sym (ap owing_of changed ∙ listed-changed (ports_of slots) number last (with_bytes slot) (port_of old) (λ p. refl) kept.rising found);
+      room = omega (arith, kept.room);
+      closed_rising = kept.closed_rising;
+      closed_fits = rw count kept.closed_fits;
+      spare = rw count kept.spare;
+      fits = kept.fits;
+    }
+
+-- one port is changed, and is owed what it was owed before
+pub kept-heard : (slots : List Slot) (owing closed : List ℕ) (room croom last number place : ℕ) (slot old : Slot) → IsKept slots owing closed room croom last → IsPlace number (ports_of slots) place → find_port number (ports_of slots) ≡ Some (port_of old) → slot.number ≡ old.number → slot.owed ≡ old.owed → IsKept (set slots place slot) owing closed room croom last
+kept-heard slots owing closed room croom last number place slot old kept is found same owed =
+    let changed = set_bytes slots number place slot old is found same in
+    let P : List Port → Type 0 = λ ports. IsRising 0 last ports in
+    let count : length (set slots place slot) ≡ length slots =
+    length-set_slots slots number place slot (change_port number (with_bytes slot) (ports_of slots)) changed ∙ length-change_port number (with_bytes slot) (ports_of slots) ∙ length-ports_of slots in
+    record {
+      rising = subst P (sym changed) (rising-change_port number 0 last (with_bytes slot) (ports_of slots) (λ p. refl) kept.rising);
+      listed = kept.listed ∙ sym (ap owing_of changed ∙ owing_of-kept number (with_bytes slot) (ports_of slots) (port_of old) found refl owed);
+      room = omega (arith, kept.room);
+      closed_rising = kept.closed_rising;
+      closed_fits = rw count kept.closed_fits;
+      spare = rw count kept.spare;
+      fits = kept.fits;
+    }
+
+-- there is room to list a port that is open
+pub kept_room : (slots : List Slot) (owing closed : List ℕ) (room croom last number : ℕ) (port : Port) → IsKept slots owing closed room croom last → find_port number (ports_of slots) ≡ Some port → length (inserted number owing) ≤ room
+kept_room slots owing closed room croom last number port kept found =
+    let owed : Port → Port = λ p. record p { heard = []; owed = 0 ∷ [] } in
+    let after : owing_of (change_port number owed (ports_of slots)) ≡ inserted number (owing_of (ports_of slots)) = listed-changed (ports_of slots) number last owed port (λ p. refl) kept.rising found in
+    let same : inserted number owing ≡ owing_of (change_port number owed (ports_of slots)) = ap (inserted number) kept.listed ∙ sym after in
+    let few : length (owing_of (change_port number owed (ports_of slots))) ≤ length (change_port number owed (ports_of slots)) = length-owing_of (change_port number owed (ports_of slots)) in
+    let count : length (change_port number owed (ports_of slots)) ≡ length (ports_of slots) = length-change_port number owed (ports_of slots) in
+    let here : length (ports_of slots) ≡ length slots = length-ports_of slots in
+    let as_long : length (inserted number owing) ≡ length (owing_of (change_port number owed (ports_of slots))) = ap length same in
+    omega (arith, kept.room)
+
+-- ---- ports that go and come
+
+length-remove_slot : (slots : List Slot) (place : ℕ) → place < length slots → length (remove slots place) + 1 ≡ length slots
+length-remove_slot [] place within = absurd (omega arith)
+length-remove_slot (slot ∷ slots) zero within = grind (arith, length-append {A = Slot})
+length-remove_slot (slot ∷ slots) (suc place) within =
+    let rest : length (remove slots place) + 1 ≡ length slots = length-remove_slot slots place (omega arith) in
+    grind (arith, length-append {A = Slot})
+
+-- one port goes, and is listed among the closed ones
+pub kept-removed : (slots : List Slot) (owing closed : List ℕ) (room croom last number place more cmore : ℕ) → IsKept slots owing closed room croom last → IsPlace number (ports_of slots) place → room ≤ more → croom ≤ cmore → IsKept (remove slots place) (removed number owing) (inserted number closed) more cmore last
+kept-removed slots owing closed room croom last number place more cmore kept is roomy croomy =
+    let same : ports_of (remove slots place) ≡ remove_port number (ports_of slots) = ports_of-remove slots place ∙ sym is.removed in
+    let P : List Port → Type 0 = λ ports. IsRising 0 last ports in
+    let within : place < length slots = within_place slots number place is in
+    let fewer : length (remove slots place) + 1 ≡ length slots = length-remove_slot slots place within in
+    let longer = length-inserted number closed in
+    let above : 0 < number = found_above number 0 last (ports_of slots) _ kept.rising (found_port slots number place is) in
+    record {
+      rising = subst P (sym same) (rising-remove_port number 0 last (ports_of slots) kept.rising);
+      listed = ap (removed number) kept.listed ∙ sym (owing_of-remove_port number 0 last (ports_of slots) kept.rising) ∙ ap owing_of (sym same);
+      room = omega (arith, kept.room);
+      closed_rising = rising-inserted 0 number closed above kept.closed_rising;
+      closed_fits = omega (arith, longer, kept.closed_fits);
+      spare = λ some. omega (arith, kept.closed_fits);
+      fits = kept.fits;
+    }
+
+-- there is room to list it there
+pub closed_room : (slots : List Slot) (owing closed : List ℕ) (room croom last number place : ℕ) → IsKept slots owing closed room croom last → IsPlace number (ports_of slots) place → length (inserted number closed) ≤ croom
+closed_room slots owing closed room croom last number place kept is =
+    let within : place < length slots = within_place slots number place is in
+    let longer = length-inserted number closed in
+    omega (arith, longer, kept.closed_fits)
+
+-- one port more
+pub kept-joined : (slots : List Slot) (owing closed : List ℕ) (room croom last more cmore : ℕ) (slot : Slot) → IsKept slots owing closed room croom last → port_of slot ≡ new_port (suc last) Clients → length slots + 1 ≤ more → length slots + length closed + 2 ≤ cmore → suc last < 2 ^ 64 → IsKept (slots ++ slot ∷ []) owing closed more cmore (suc last)
+kept-joined slots owing closed room croom last more cmore slot kept new roomy croomy below =
+    let same : ports_of (slots ++ slot ∷ []) ≡ ports_of slots ++ new_port (suc last) Clients ∷ [] = ports_of-push slots slot ∙ ap (λ port. ports_of slots ++ port ∷ []) new in
+    let P : List Port → Type 0 = λ ports. IsRising 0 (suc last) ports in
+    let count : length (slots ++ slot ∷ []) ≡ length slots + 1 = length-append slots (slot ∷ []) in
+    record {
+      rising = subst P (sym same) (rising-append 0 last (suc last) Clients (ports_of slots) (omega arith) kept.rising);
+      listed = kept.listed ∙ sym (ap owing_of same ∙ owing_of-append (suc last) Clients (ports_of slots));
+      room = omega (arith, count);
+      closed_rising = kept.closed_rising;
+      closed_fits = omega (arith, count);
+      spare = λ some. omega (arith, count);
+      fits = below;
+    }
+
+-- one that isn't let in: the last number rises, and the port is listed among the closed ones
+pub kept-refused : (slots : List Slot) (owing closed : List ℕ) (room croom last cmore : ℕ) → IsKept slots owing closed room croom last → closed ≡ [] → croom ≤ cmore → 0 < length slots → suc last < 2 ^ 64 → IsKept slots owing (inserted (suc last) closed) room cmore (suc last)
+kept-refused slots owing closed room croom last cmore kept none croomy some below =
+    let fitted : length slots + 1 ≤ croom = kept.spare some in
+    let one : length (inserted (suc last) closed) ≤ 1 = rw none (omega arith) in
+    record {
+      rising = rising_higher 0 last (suc last) (ports_of slots) (omega arith) kept.rising;
+      listed = kept.listed;
+      room = kept.room;
+      closed_rising = rising-inserted 0 (suc last) closed (omega arith) kept.closed_rising;
+      closed_fits = omega (arith, fitted, one);
+      spare = λ there. omega (arith, fitted);
+      fits = below;
+    }
+
+-- a slot with an empty buffer, which is owed nothing, is a new client
+pub joined_port : (last number : ℕ) (heard : Buffer) (owed : List ℕ) → number ≡ suc last → heard ≡ no_bytes → owed ≡ [] → port_of (record { number = number; heard = heard; owed = owed }) ≡ new_port (suc last) Clients
+joined_port last number heard owed next silent paid =
+    ap (λ n. port_of (record { number = n; heard = heard; owed = owed })) next
+    ∙ ap (λ b. port_of (record { number = suc last; heard = b; owed = owed })) silent
+    ∙ ap (λ bytes. port_of (record { number = suc last; heard = no_bytes; owed = bytes })) paid
+
+-- ---- a request is taken
+
+-- the client is told what comes of it
+pub serve_changed : (slots : List Slot) (number place : ℕ) (slot old : Slot) (wall body_len : ℕ) (keys : KeyState) (port : Port) → IsPlace number (ports_of slots) place → find_port number (ports_of slots) ≡ Some (port_of old) → find_port number (ports_of slots) ≡ Some port → port_of slot ≡ tell (served_body old.number wall (front_body body_len old.heard.live) keys).work.verdict (take_frame body_len false (port_of old)) → ports_of (set slots place slot) ≡ change_port number (λ p. tell (served_body number wall (front_body body_len port.heard) keys).work.verdict (take_frame body_len false p)) (ports_of slots)
+serve_changed slots number place slot old wall body_len keys port is found there told =
+    let same_number : old.number ≡ number = found_number number (ports_of slots) (port_of old) found in
+    let is_port : port_of old ≡ port = cc in
+    let told_at : ℕ → List ℕ → Port = λ n heard. tell (served_body n wall (front_body body_len heard) keys).work.verdict (take_frame body_len false (port_of old)) in
+    set_changed slots number place slot (port_of old) (λ p. tell (served_body number wall (front_body body_len port.heard) keys).work.verdict (take_frame body_len false p)) is found
+    (told ∙ ap (λ n. told_at n old.heard.live) same_number ∙ ap (λ (q : Port). told_at number q.heard) is_port)
+
+-- and what is held is what the request leaves
+pub serve_kept : (slots : List Slot) (number : ℕ) (old : Slot) (wall body_len : ℕ) (keys : KeyState) (port : Port) → find_port number (ports_of slots) ≡ Some (port_of old) → find_port number (ports_of slots) ≡ Some port → (served_body old.number wall (front_body body_len old.heard.live) keys).held ≡ (served_body number wall (front_body body_len port.heard) keys).held
+serve_kept slots number old wall body_len keys port found there =
+    let same_number : old.number ≡ number = found_number number (ports_of slots) (port_of old) found in
+    let is_port : port_of old ≡ port = cc in
+    ap (λ n. (served_body n wall (front_body body_len old.heard.live) keys).held) same_number
+    ∙ ap (λ (q : Port). (served_body number wall (front_body body_len q.heard) keys).held) is_port

@@ -1,116 +1,138 @@
--- Lemmas on rising lists of numbers.
-use Rattle.std.proofs.Common.{◌≡◌, ◌≢◌, ℕ, zero, suc, ◌<◌, ◌≤◌, List, [], ◌∷◌, length, get_or, refl, arith, Result, Ok, Err, MatchResult, slice_get, inl, inr, add-one}
-use Rattle.std.proofs.lemmas.Grind.{common_steps}
+-- The rising list of the ports that are owed bytes.
+use Rattle.std.proofs.Common.{◌≡◌, ℕ, ◌+◌, ◌<◌, ◌≤◌, List, [], ◌∷◌, ◌++◌, length, refl, ap, arith, sym, ◌∙◌, Some, Bool, true, false, inl, inr, if◌then◌else◌, ◌==◌, nat_lt}
+use Rattle.std.proofs.lemmas.Bool.{cases_Bool, cases_eq}
 use Rattle.std.proofs.lemmas.Bool.Decides.{nat_tests}
-use Rattle.std.proofs.lemmas.Bool.{cases_lt}
-use Rattle.std.proofs.lemmas.List.Sorted.{searched}
-use Rattle.std.specs.List.{insert, remove}
-use Rattle.std.specs.List.Sorted.{IsBinarySearchResult}
-use Rattle.std.specs.Ordering.{nat_cmp}
-use Rattle.agent_core.specs.Owing.{IsRisingNumbers, IsFound, IsAbsent, inserted, removed, first_above}
+use Rattle.world_ports.specs.declared.Door.{Door}
+use Rattle.agent_model.specs.Sound.{IsRising}
+use Rattle.agent_model.specs.State.{Port, UnderWay, change_port, find_port, is_some_bytes, new_port, next_owed_in, remove_port}
+use Rattle.agent_model.proofs.PortsLemmas.{found_above}
+use Rattle.agent_core.specs.declared.slot.Slot.{Slot}
+use Rattle.agent_core.specs.Rising.{IsRisingNumbers, first_above, inserted, noted, removed}
+use Rattle.agent_core.specs.Slots.{owing_of, ports_of}
 
--- each number is above the bound
-pub rising-above : (low : ℕ) (xs : List ℕ) (i : ℕ) → IsRisingNumbers low xs → i < length xs → low < get_or xs i 0
-rising-above low [] i rising within = absurd (omega arith)
-rising-above low (x ∷ xs) zero rising within = rising.0
-rising-above low (x ∷ xs) (suc i) rising within =
-    let rest : x < get_or xs i 0 = rising-above x xs i rising.1 (omega arith) in
-    omega (arith, rising.0)
+lower_numbers : (lower low : ℕ) (xs : List ℕ) → lower ≤ low → IsRisingNumbers low xs → IsRisingNumbers lower xs
+lower_numbers lower low [] below rising = tt
+lower_numbers lower low (x ∷ xs) below rising = (omega (arith, rising.0), rising.1)
 
--- a rising list doesn't fall
-pub rising-ordered : (low : ℕ) (xs : List ℕ) (i j : ℕ) → IsRisingNumbers low xs → i ≤ j → j < length xs → get_or xs i 0 ≤ get_or xs j 0
-rising-ordered low [] i j rising order within = absurd (omega arith)
-rising-ordered low (x ∷ xs) zero zero rising order within = omega arith
-rising-ordered low (x ∷ xs) zero (suc j) rising order within =
-    let later : x < get_or xs j 0 = rising-above x xs j rising.1 (omega arith) in
-    omega arith
-rising-ordered low (x ∷ xs) (suc i) zero rising order within = absurd (omega arith)
-rising-ordered low (x ∷ xs) (suc i) (suc j) rising order within =
-    rising-ordered x xs i j rising.1 (omega arith) (omega arith)
+-- a number may be listed in front or left out
+listed_or_not : (is_in : Bool) (low number : ℕ) (others : List ℕ) → low < number → IsRisingNumbers number others → IsRisingNumbers low (if is_in then number ∷ others else others)
+listed_or_not true low number others above rising = (above, rising)
+listed_or_not false low number others above rising = lower_numbers low number others (omega arith) rising
 
--- where those before are less and those from there on are greater, the number goes there
-pub inserted-at : (number : ℕ) (xs : List ℕ) (i : ℕ) → i ≤ length xs → ((k : ℕ) → k < i → get_or xs k 0 < number) → ((k : ℕ) → i ≤ k → k < length xs → number < get_or xs k 0) → inserted number xs ≡ insert xs i number
-inserted-at number [] zero within less greater = refl
-inserted-at number [] (suc i) within less greater = absurd (omega arith)
-inserted-at number (x ∷ xs) zero within less greater =
-    let above : number < x = greater 0 (omega arith) (omega arith) in
-    grind (arith, nat_tests)
-inserted-at number (x ∷ xs) (suc i) within less greater =
-    let below : x < number = less 0 (omega arith) in
-    let rest : inserted number xs ≡ insert xs i number =
-    inserted-at number xs i (omega arith) (λ k h. less (suc k) (omega arith)) (λ k h l. greater (suc k) (omega arith) (omega arith)) in
+-- the numbers of rising ports rise
+pub rising_numbers : (low high : ℕ) (ports : List Port) → IsRising low high ports → IsRisingNumbers low (owing_of ports)
+rising_numbers low high [] rising = tt
+rising_numbers low high (port ∷ ports) rising =
+    let rest : IsRisingNumbers port.number (owing_of ports) = rising_numbers port.number high ports rising.1 in
+    listed_or_not (is_some_bytes port.owed) low port.number (owing_of ports) rising.0 rest
+
+pub owing_of-append : (number : ℕ) (door : Door) (ports : List Port) → owing_of (ports ++ new_port number door ∷ []) ≡ owing_of ports
+owing_of-append number door [] = refl
+owing_of-append number door (port ∷ ports) =
+    let rest : owing_of (ports ++ new_port number door ∷ []) ≡ owing_of ports = owing_of-append number door ports in
     grind (arith, nat_tests)
 
--- a number that is there isn't put in again
-pub inserted-present : (low number : ℕ) (xs : List ℕ) (i : ℕ) → IsRisingNumbers low xs → i < length xs → get_or xs i 0 ≡ number → inserted number xs ≡ xs
-inserted-present low number [] i rising within is = absurd (omega arith)
-inserted-present low number (x ∷ xs) zero rising within is = grind (arith, nat_tests)
-inserted-present low number (x ∷ xs) (suc i) rising within is =
-    let later : x < get_or xs i 0 = rising-above x xs i rising.1 (omega arith) in
-    let rest : inserted number xs ≡ xs = inserted-present x number xs i rising.1 (omega arith) is in
+pub removed_below : (number low : ℕ) (xs : List ℕ) → number ≤ low → IsRisingNumbers low xs → removed number xs ≡ xs
+removed_below number low [] below rising = refl
+removed_below number low (x ∷ xs) below rising =
+    let above : low < x = rising.0 in
+    let rest : removed number xs ≡ xs = removed_below number x xs (omega (arith, rising.0)) rising.1 in
     grind (arith, nat_tests)
 
--- the number that stands there goes
-pub removed-at : (low number : ℕ) (xs : List ℕ) (i : ℕ) → IsRisingNumbers low xs → i < length xs → get_or xs i 0 ≡ number → removed number xs ≡ remove xs i
-removed-at low number [] i rising within is = absurd (omega arith)
-removed-at low number (x ∷ xs) zero rising within is = grind (arith, nat_tests)
-removed-at low number (x ∷ xs) (suc i) rising within is =
-    let later : x < get_or xs i 0 = rising-above x xs i rising.1 (omega arith) in
-    let rest : removed number xs ≡ remove xs i = removed-at x number xs i rising.1 (omega arith) is in
+pub inserted_below : (number low : ℕ) (xs : List ℕ) → number ≤ low → IsRisingNumbers low xs → inserted number xs ≡ number ∷ xs
+inserted_below number low [] below rising = refl
+inserted_below number low (x ∷ xs) below rising =
+    let above : low < x = rising.0 in
     grind (arith, nat_tests)
 
--- a number that isn't there isn't taken out
-pub removed-absent : (number : ℕ) (xs : List ℕ) → ((k : ℕ) → k < length xs → get_or xs k 0 ≢ number) → removed number xs ≡ xs
-removed-absent number [] absent = refl
-removed-absent number (x ∷ xs) absent =
-    let here : x ≢ number = absent 0 (omega arith) in
-    let rest : removed number xs ≡ xs = removed-absent number xs (λ k h. absent (suc k) (omega arith)) in
+-- the list of those that are owed bytes follows the ports
+pub owing_of-remove_port : (number low high : ℕ) (ports : List Port) → IsRising low high ports → owing_of (remove_port number ports) ≡ removed number (owing_of ports)
+owing_of-remove_port number low high [] rising = refl
+owing_of-remove_port number low high (port ∷ ports) rising =
+    let rest : owing_of (remove_port number ports) ≡ removed number (owing_of ports) = owing_of-remove_port number port.number high ports rising.1 in
+    let gone : removed port.number (owing_of ports) ≡ owing_of ports = removed_below port.number port.number (owing_of ports) (omega arith) (rising_numbers port.number high ports rising.1) in
     grind (arith, nat_tests)
 
--- the first number above one that stands at a place is the next
-pub first_above-at : (low number : ℕ) (xs : List ℕ) (i : ℕ) → IsRisingNumbers low xs → i < length xs → get_or xs i 0 ≡ number → first_above number xs ≡ slice_get xs (suc i)
-first_above-at low number [] i rising within is = absurd (omega arith)
-first_above-at low number (x ∷ []) zero rising within is = grind (arith, nat_tests)
-first_above-at low number (x ∷ (y ∷ xs)) zero rising within is =
-    let next : x < y = rising.1.0 in
-    grind (arith, nat_tests)
-first_above-at low number (x ∷ xs) (suc i) rising within is =
-    let later : x < get_or xs i 0 = rising-above x xs i rising.1 (omega arith) in
-    let rest : first_above number xs ≡ slice_get xs (suc i) = first_above-at x number xs i rising.1 (omega arith) is in
+pub owing_of-owed : (number low high : ℕ) (f : Port → Port) (ports : List Port) (port : Port) → ((port : Port) → (f port).number ≡ port.number) → IsRising low high ports → find_port number ports ≡ Some port → is_some_bytes (f port).owed ≡ true → owing_of (change_port number f ports) ≡ inserted number (owing_of ports)
+owing_of-owed number low high f [] port keeps rising found owes = absurd (cc)
+owing_of-owed number low high f (other ∷ ports) port keeps rising found owes = elim (cases_eq number other.number) [
+  | inl here ↦
+      (let is : other ≡ port = grind (arith, nat_tests) in
+      let same : (f other).number ≡ other.number = keeps other in
+      let now_owes : is_some_bytes (f other).owed ≡ true = ap (λ q. is_some_bytes (f q).owed) is ∙ owes in
+      let front : inserted other.number (owing_of ports) ≡ other.number ∷ owing_of ports = inserted_below other.number other.number (owing_of ports) (omega arith) (rising_numbers other.number high ports rising.1) in
+      grind (arith, nat_tests))
+  | inr apart ↦
+      (let later : find_port number ports ≡ Some port = grind (arith, nat_tests) in
+      let rest : owing_of (change_port number f ports) ≡ inserted number (owing_of ports) = owing_of-owed number other.number high f ports port keeps rising.1 later owes in
+      let above : other.number < number = found_above number other.number high ports port rising.1 later in
+      grind (arith, nat_tests))
+]
+
+pub owing_of-paid : (number low high : ℕ) (f : Port → Port) (ports : List Port) (port : Port) → ((port : Port) → (f port).number ≡ port.number) → IsRising low high ports → find_port number ports ≡ Some port → is_some_bytes (f port).owed ≡ false → owing_of (change_port number f ports) ≡ removed number (owing_of ports)
+owing_of-paid number low high f [] port keeps rising found paid = absurd (cc)
+owing_of-paid number low high f (other ∷ ports) port keeps rising found paid = elim (cases_eq number other.number) [
+  | inl here ↦
+      (let is : other ≡ port = grind (arith, nat_tests) in
+      let same : (f other).number ≡ other.number = keeps other in
+      let now_paid : is_some_bytes (f other).owed ≡ false = ap (λ q. is_some_bytes (f q).owed) is ∙ paid in
+      let gone : removed other.number (owing_of ports) ≡ owing_of ports = removed_below other.number other.number (owing_of ports) (omega arith) (rising_numbers other.number high ports rising.1) in
+      grind (arith, nat_tests))
+  | inr apart ↦
+      (let later : find_port number ports ≡ Some port = grind (arith, nat_tests) in
+      let rest : owing_of (change_port number f ports) ≡ removed number (owing_of ports) = owing_of-paid number other.number high f ports port keeps rising.1 later paid in
+      grind (arith, nat_tests))
+]
+
+-- the list follows one port that is changed
+pub listed-changed : (ports : List Port) (number last : ℕ) (f : Port → Port) (port : Port) → ((p : Port) → (f p).number ≡ p.number) → IsRising 0 last ports → find_port number ports ≡ Some port → owing_of (change_port number f ports) ≡ noted (is_some_bytes (f port).owed) number (owing_of ports)
+listed-changed ports number last f port keeps rising found = elim (cases_Bool (is_some_bytes (f port).owed)) [
+  | inl owes ↦ owing_of-owed number 0 last f ports port keeps rising found owes ∙ ap (λ b. noted b number (owing_of ports)) (sym owes)
+  | inr paid ↦ owing_of-paid number 0 last f ports port keeps rising found paid ∙ ap (λ b. noted b number (owing_of ports)) (sym paid)
+]
+
+-- and stays where what the port is owed stays
+pub owing_of-kept : (number : ℕ) (f : Port → Port) (ports : List Port) (port : Port) → find_port number ports ≡ Some port → (f port).number ≡ port.number → (f port).owed ≡ port.owed → owing_of (change_port number f ports) ≡ owing_of ports
+owing_of-kept number f [] port found same owed = refl
+owing_of-kept number f (other ∷ ports) port found same owed = elim (cases_eq number other.number) [
+  | inl here ↦
+      (let is : other ≡ port = grind (arith, nat_tests) in
+      let number_is : (f other).number ≡ other.number = ap (λ q. (f q).number) is ∙ same ∙ ap (λ (q : Port). q.number) (sym is) in
+      let owed_is : (f other).owed ≡ other.owed = ap (λ q. (f q).owed) is ∙ owed ∙ ap (λ (q : Port). q.owed) (sym is) in
+      grind (arith, nat_tests))
+  | inr apart ↦
+      (let later : find_port number ports ≡ Some port = grind (arith, nat_tests) in
+      let rest : owing_of (change_port number f ports) ≡ owing_of ports = owing_of-kept number f ports port later same owed in
+      grind (arith, nat_tests))
+]
+
+-- the next port that is owed bytes is the next of the list
+pub next_owed-first_above : (after : ℕ) (slots : List Slot) (under_way : UnderWay) → next_owed_in after (ports_of slots) under_way ≡ first_above after (owing_of (ports_of slots))
+next_owed-first_above after [] under_way = refl
+next_owed-first_above after (slot ∷ slots) under_way =
+    let rest : next_owed_in after (ports_of slots) under_way ≡ first_above after (owing_of (ports_of slots)) = next_owed-first_above after slots under_way in
     grind (arith, nat_tests)
 
--- the first number above one that isn't there stands where that one would go
-pub first_above-absent : (number : ℕ) (xs : List ℕ) (i : ℕ) → i ≤ length xs → ((k : ℕ) → k < i → get_or xs k 0 < number) → ((k : ℕ) → i ≤ k → k < length xs → number < get_or xs k 0) → first_above number xs ≡ slice_get xs i
-first_above-absent number [] i within less greater = grind (arith, common_steps)
-first_above-absent number (x ∷ xs) zero within less greater =
-    let above : number < x = greater 0 (omega arith) (omega arith) in
-    grind (arith, nat_tests)
-first_above-absent number (x ∷ xs) (suc i) within less greater =
-    let below : x < number = less 0 (omega arith) in
-    let rest : first_above number xs ≡ slice_get xs i =
-    first_above-absent number xs i (omega arith) (λ k h. less (suc k) (omega arith)) (λ k h l. greater (suc k) (omega arith) (omega arith)) in
+-- no more are listed than there are
+pub length-owing_of : (ports : List Port) → length (owing_of ports) ≤ length ports
+length-owing_of [] = omega arith
+length-owing_of (port ∷ ports) =
+    let rest : length (owing_of ports) ≤ length ports = length-owing_of ports in
     grind (arith, nat_tests)
 
--- a number between those that are less and those that are greater isn't there
-apart : (number : ℕ) (xs : List ℕ) (place k : ℕ) → ((k : ℕ) → k < place → get_or xs k 0 < number) → ((k : ℕ) → place ≤ k → k < length xs → number < get_or xs k 0) → k < length xs → get_or xs k 0 ≢ number
-apart number xs place k less greater within is =
-    elim (cases_lt k place) [ inl h ↦ (let l : get_or xs k 0 < number = less k h in absurd (omega arith)) | inr h ↦ (let g : number < get_or xs k 0 = greater k h within in absurd (omega arith)) ]
+-- one number more
+pub length-inserted : (number : ℕ) (xs : List ℕ) → length (inserted number xs) ≤ length xs + 1
+length-inserted number [] = omega arith
+length-inserted number (x ∷ xs) =
+    let rest : length (inserted number xs) ≤ length xs + 1 = length-inserted number xs in
+    grind (arith, nat_tests)
 
--- what a binary search answers in a rising list
-pub searched_numbers : (number : ℕ) (xs : List ℕ) (r : Result ℕ ℕ) → IsBinarySearchResult (λ y. nat_cmp y number) xs r → IsRisingNumbers 0 xs → MatchResult r (IsFound number xs) (IsAbsent number xs)
-searched_numbers number xs (Ok place) answer rising =
-    let at = searched xs number (Ok place) answer (λ i j h l. rising-ordered 0 xs i j rising h l) in
-    record {
-      within = at.0;
-      put_in = inserted-present 0 number xs place rising at.0 at.1;
-      taken_out = removed-at 0 number xs place rising at.0 at.1;
-      above = rw add-one (first_above-at 0 number xs place rising at.0 at.1);
-    }
-searched_numbers number xs (Err place) answer rising =
-    let at = searched xs number (Err place) answer (λ i j h l. rising-ordered 0 xs i j rising h l) in
-    record {
-      within = at.0;
-      put_in = inserted-at number xs place at.0 at.1 at.2;
-      taken_out = removed-absent number xs (λ k h e. apart number xs place k at.1 at.2 h e);
-      above = first_above-absent number xs place at.0 at.1 at.2;
-    }
+-- and the list still rises
+pub rising-inserted : (low number : ℕ) (xs : List ℕ) → low < number → IsRisingNumbers low xs → IsRisingNumbers low (inserted number xs)
+rising-inserted low number [] above rising = (above, tt)
+rising-inserted low number (x ∷ xs) above rising = by_order (number == x) (nat_lt number x) refl refl (λ below. rising-inserted x number xs below rising.1)
+  where
+    by_order : (same less : Bool) → (number == x) ≡ same → nat_lt number x ≡ less → (x < number → IsRisingNumbers x (inserted number xs)) → IsRisingNumbers low (if same then x ∷ xs else (if less then number ∷ x ∷ xs else x ∷ inserted number xs))
+    by_order true less is order later = rising
+    by_order false true is order later = (above, (grind (arith, nat_tests), rising.1))
+    by_order false false is order later = (rising.0, later (grind (arith, nat_tests)))

@@ -11,7 +11,8 @@ use Rattle.std.specs.Ordering.{nat_cmp, ordering_index}
 use Rattle.std.specs.Result.{result_ok}
 use Rattle.agent_core.specs.declared.slot.Slot.{Slot}
 use Rattle.agent_core.specs.Slots.{ports_of}
-use Rattle.agent_core.specs.State.{Port, IsRising, find_port, change_port, remove_port, numbers}
+use Rattle.agent_model.specs.Sound.{IsRising}
+use Rattle.agent_model.specs.State.{Port, find_port, change_port, remove_port, numbers}
 use Rattle.agent_core.specs.Places.{IsPlace}
 
 -- each number is above the bound

@@ -1,7 +1,7 @@
 -- The events of the program as those of the abstract agent.
 use Rattle.agent_core.specs.declared.event.Event.{Event}
 use Rattle.agent_core.specs.declared.event.Event.TheVariants as event
-use Rattle.agent_core.specs.Step.{Happening, Joined, Heard, Ended, Took, Started, StartFailed, Tick}
+use Rattle.agent_model.specs.Events.{Happening, Joined, Heard, Ended, Took, Started, StartFailed, Tick}
 
 -- an event, its bytes as a list
 abbrev pub happening : Event → Happening

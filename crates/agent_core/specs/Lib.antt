@@ -1,12 +1,7 @@
-pub mod KeyStates
-pub mod State
-pub mod Dispatch
-pub mod Step
-pub mod Runs
 pub mod Happenings
+pub mod Rising
 pub mod Slots
-pub mod PortLook
 pub mod Places
-pub mod Owing
-pub mod Budget
-pub mod Bounds
+pub mod Served
+pub mod Plain
+pub mod Parts

@@ -1,47 +1,45 @@
--- The agent's storage as the abstract agent sees it.
-use Rattle.std.specs.Option.{option_to_list}
-use Rattle.std.specs.Prelude.{Option, ◌≡◌, ℕ, ◌^◌, ◌<◌, ◌≤◌, List, length, map}
+-- The storage of the open ports as the abstract agent sees it.
+use Rattle.std.specs.Prelude.{◌≡◌, ℕ, ◌+◌, ◌^◌, ◌<◌, ◌≤◌, List, [], ◌∷◌, length, map, false, if◌then◌else◌}
+use Rattle.world_ports.specs.declared.Door.TheVariants.{Clients}
 use Rattle.agent_core.specs.declared.slot.Slot.{Slot}
-use Rattle.agent_core.specs.KeyStates.{KeyState}
-use Rattle.agent_core.specs.State.{Port, State, IsRising, client_count}
-use Rattle.agent_core.specs.Step.{FitsAt, Happening, gone, handle}
-use Rattle.agent_core.specs.Owing.{owing_of}
+use Rattle.agent_core.specs.Rising.{IsRisingNumbers}
+use Rattle.agent_model.specs.Sound.{IsRising}
+use Rattle.agent_model.specs.State.{Nothing, Port, is_some_bytes}
 
--- a port without its storage
+-- a port without its storage: a client whose connection is bound to no host, and that waits for nothing
 abbrev pub port_of : Slot → Port
-port_of slot = record { number = slot.number; heard = slot.heard.live; owed = slot.owed }
+port_of slot = record {
+  number = slot.number;
+  door = Clients;
+  heard = slot.heard.live;
+  owed = slot.owed;
+  chain = [];
+  attempted = false;
+  waits = Nothing;
+}
 
 -- the ports, in the order in which they are kept
 abbrev pub ports_of : List Slot → List Port
 ports_of slots = map port_of slots
 
--- the open ports, and the number of the last one that joined
+-- the numbers of the ports that are owed bytes
+abbrev pub owing_of : List Port → List ℕ
+owing_of [] = []
+owing_of (port ∷ ports) = if is_some_bytes port.owed then port.number ∷ owing_of ports else owing_of ports
+
+-- the open ports, the number of the last one that joined, and those that were closed since the event began, rising
 pub record OpenPorts : Type 0 where
   pub ports : List Port
   pub last : ℕ
+  pub closed : List ℕ
 
--- the numbers rise up to the last one, no more than 128 are open, and those that are owed bytes are listed, in a
--- list with room for all
-pub record IsKept (slots : List Slot) (owing : List ℕ) (capacity last : ℕ) : Type 0 where
+-- the numbers rise up to the last one; those that are owed bytes are listed, in a list with room for all; and
+-- those that were closed, in a list with room for all that are open and for one that isn't let in
+pub record IsKept (slots : List Slot) (owing closed : List ℕ) (owing_room closed_room last : ℕ) : Type 0 where
   pub rising : IsRising 0 last (ports_of slots)
-  pub few : client_count (ports_of slots) ≤ 128
   pub listed : owing ≡ owing_of (ports_of slots)
-  pub room : length slots ≤ capacity
+  pub room : length slots ≤ owing_room
+  pub closed_rising : IsRisingNumbers 0 closed
+  pub closed_fits : length slots + length closed ≤ closed_room
+  pub spare : 0 < length slots → length slots + 1 ≤ closed_room
   pub fits : last < 2 ^ 64
-
--- the event may come at these ports
-abbrev pub FitsPorts : Happening → OpenPorts → Type 0
-FitsPorts event old = FitsAt event old.last old.ports
-
--- a state in which these ports are open and these keys are held, whose table knows the second
-pub record IsAt (state : State) (held : KeyState) (open_ports : OpenPorts) : Type 0 where
-  pub second : state.moment.mono ≡ held.table.greatest
-  pub keys : state.keys ≡ held
-  pub ports : state.ports ≡ open_ports.ports
-  pub last : state.last_port ≡ open_ports.last
-
--- the ports and what is held after an event, and the port that it closed
-pub record Takes (event : Happening) (keys kept : KeyState) (old new : OpenPorts) (closed : Option ℕ) : Type 0 where
-  pub handled : (state : State) → IsAt state keys old → (handle event state).state ≡ record state { keys = kept; ports = new.ports; last_port = new.last }
-  pub second : kept.table.greatest ≡ keys.table.greatest
-  pub closes : gone old.last old.ports new.last new.ports ≡ option_to_list closed

@@ -1,18 +1,25 @@
 //! The agent.
 
-ghost use Rattle.std.specs.Prelude.{◌≡◌, ◌↔◌, [], IfOk, IsTrue, OnErr, OnOk, length};
-ghost use Rattle.identity_table.specs.Identities.{next_death};
+ghost use Rattle.std.specs.Prelude.{◌≡◌, ◌↔◌, List, ℕ, [], IsSome, IsTrue, OnErr, OnOk, length};
+ghost use Rattle.world_ports.specs.declared.Door.TheVariants.{Clients};
+ghost use Rattle.identity_table.specs.Identities.{IsSound};
+ghost use Rattle.agent_model.specs.Events.{Ended, Heard, Joined, Took};
+ghost use Rattle.agent_model.specs.Sound.{IsSteady};
+ghost use Rattle.agent_model.specs.State.{Fits, client_count, find_port, first_state, next_due, next_owed, nothing_under_way, owed_of, starts, wants};
+ghost use Rattle.agent_model.specs.Step.{closed_between, handle, looked, step};
 ghost use Rattle.agent_core.specs.Happenings.{happening};
-ghost use Rattle.agent_core.specs.Slots.{FitsPorts, Takes};
-ghost use Rattle.agent_core.specs.State.{IsOpen, IsRising, client_count, next_owing, opening_state, owed_of};
-ghost use Rattle.agent_core.specs.Step.{Fits, Wants, step};
+ghost use Rattle.agent_core.specs.Parts.{with_closes};
 
 use crate::keys::Keys;
 use crate::ports::Ports;
 use crate::{CoreMemory, Event, Settings};
+use frame_core::Look;
 use std::alloc::Global;
 use std::marker::Model;
 use world_ports::{Door, Job, Moment};
+
+/// The most clients that may be open at once.
+const MOST_CLIENTS: usize = 128;
 
 /// An SSH agent without its outside: it is told what happens, and tells what is owed to whom.
 ///
@@ -24,34 +31,27 @@ pub struct Agent {
     wall: u64,
     keys: Keys,
     ports: Ports,
-    closes: Vec<u64>,
 }
 
 impl Model for Agent {
-    ghost use Rattle.agent_core.specs.State.{State};
+    ghost use Rattle.agent_model.specs.State.{State};
+    ghost use Rattle.agent_core.specs.Parts.{state_of};
 
     ghost Value = { State };
 
-    ghost view = { λ a. record {
-      moment = record { mono = a.keys.table.greatest; wall = a.wall };
-      keys = a.keys;
-      ports = a.ports.ports;
-      last_port = a.ports.last;
-      closes = a.closes.items;
-    } };
+    ghost view = { λ a. state_of a.wall a.keys a.ports a.ports.closed };
 }
 
 impl Agent {
     /// An agent that holds nothing and to which nobody is connected. Takes no memory.
     pub fn new(alloc: Global, settings: Settings) -> Agent
-        ensures { result ≡ opening_state settings.default_life }
+        ensures { result ≡ first_state settings.default_life }
     {
         Agent {
             alloc,
             wall: 0,
             keys: Keys::new(alloc, settings.default_life),
             ports: Ports::new(alloc),
-            closes: Vec::new(alloc),
         }
     }
 
@@ -79,7 +79,7 @@ impl Agent {
         requires { Fits (happening event.now) self.old }
         ensures stepped { OnOk result
             (self.new ≡ (step self.old moment (happening event.now)).state) }
-        ensures wiped { OnErr result (self.new ≡ opening_state self.old.keys.table.life) }
+        ensures wiped { OnErr result (self.new ≡ first_state self.old.held.table.life) }
     {
         let default_life = self.keys.default_life();
         let stepped = self.take(moment, event);
@@ -98,29 +98,32 @@ impl Agent {
 
     /// The open port of the least number above `after` that is owed bytes.
     pub fn next_owed(&self, after: u64) -> Option<u64>
-        ensures next { result ≡ next_owing after self.now }
-        ensures rising { IsRising 0 self.now.last_port self.now.ports }
+        ensures next { result ≡ next_owed after self.now }
+        ensures steady { IsSteady self.now }
     {
         self.ports.next_owed(after)
     }
 
     /// Whether the port is to be read: not where it isn't open, and not while a request of it waits to be taken.
     pub fn wants(&self, port: u64) -> bool
-        ensures { IsTrue result ↔ Wants port self.now.ports }
+        ensures { result ≡ wants port self.now }
     {
         self.ports.wants(port)
     }
 
+    /// Whether the port is open.
     pub fn is_port(&self, port: u64) -> bool
-        ensures { IsTrue result ↔ IsOpen port self.now.ports }
+        ensures { IsTrue result ↔ IsSome (find_port port self.now.ports) }
     {
         self.ports.is_open(port)
     }
 
     /// The child processes that wait to be started.
     pub fn starts(&self) -> &[Job]
-        ensures { result.now ≡ [] }
+        ensures { result.now ≡ starts self.now }
     {
+        // None: nothing is under way.
+        let _ = &self.ports;
         &[]
     }
 
@@ -128,19 +131,21 @@ impl Agent {
     pub fn closes(&self) -> &[u64]
         ensures { result.now ≡ self.now.closes }
     {
-        &self.closes
+        self.ports.closed()
     }
 
     /// The first second from which an identity is dead, or `None` where the clock comes to none.
     pub fn next_due(&self) -> Option<u64>
-        ensures { result ≡ next_death self.now.keys.table.identities }
+        ensures { result ≡ next_due self.now }
     {
         self.keys.next_death()
     }
 
-    /// How many identities are held.
+    /// How many identities are held. Each has its own blob and its own number, one message lists them all, and no
+    /// private string is longer than a message.
     pub fn held(&self) -> usize
-        ensures { result ≡ length self.now.keys.table.identities }
+        ensures value { result ≡ length self.now.held.table.identities }
+        ensures sound { IsSound self.now.held.table.identities self.now.held.table.last }
     {
         self.keys.len()
     }
@@ -168,52 +173,102 @@ impl Agent {
     {
         self.wall = moment.wall;
         self.keys.expire(self.keys.second().max(moment.mono));
-        self.closes.clear();
-        if let Some(port) = take_event(&mut self.ports, &mut self.keys, event)? {
-            self.closes.push(port)?;
-        }
-        Ok(())
+        self.ports.begin();
+        self.handle(event)
     }
-}
 
-// Takes one event at the ports, and tells the port that it closed.
-fn take_event(
-    ports: &mut Ports,
-    keys: &mut Keys,
-    event: &Event<'_>,
-) -> Result<Option<u64>, CoreMemory>
-    requires fits { FitsPorts (happening event.now) ports.old }
-    ensures { IfOk result
-        (Takes (happening event.now) keys.old keys.new ports.old ports.new) }
-{
-    match *event {
-        Event::Joined(_) => {
-            if ports.join()? {
-                Ok(None)
-            } else {
-                Ok(Some(ports.last()))
+    // Takes one event after its moment.
+    fn handle(&mut self, event: &Event<'_>) -> Result<(), CoreMemory>
+        requires fits { Fits (happening event.now) self.old }
+        requires idle { self.old.under_way ≡ nothing_under_way }
+        requires closes { self.old.closes ≡ [] }
+
+        ensures state { (c : List ℕ) → OnOk result (with_closes c self.new
+            ≡ (handle (happening event.now) (with_closes c self.old)).state) }
+        ensures closes { OnOk result (self.new.closes ≡ closed_between self.old self.new) }
+    {
+        match *event {
+            Event::Joined(Door::Clients) => self.join(),
+            Event::Heard { port, piece } => self.hear(port, piece),
+            Event::Ended { port } => {
+                self.end(port);
+                Ok(())
             }
+            Event::Took { port, count } => self.send(port, count),
+            Event::Tick => Ok(()),
+            // No child process is begun, so none of these fits.
+            Event::Joined(Door::Children) => unreachable!(),
+            Event::Started { .. } => unreachable!(),
+            Event::StartFailed { .. } => unreachable!(),
         }
-        Event::Heard { port, piece } => {
-            if ports.hear(keys, port, piece)? {
-                Ok(Some(port))
-            } else {
-                Ok(None)
+    }
+
+    // A client joins.
+    fn join(&mut self) -> Result<(), CoreMemory>
+        requires fits { Fits (Joined Clients) self.old }
+        requires closes { self.old.closes ≡ [] }
+
+        ensures state { (c : List ℕ) → OnOk result (with_closes c self.new
+            ≡ (handle (Joined Clients) (with_closes c self.old)).state) }
+        ensures closes { OnOk result (self.new.closes ≡ closed_between self.old self.new) }
+    {
+        let has_room = self.ports.len() < MOST_CLIENTS;
+        self.ports.join(has_room)
+    }
+
+    // A client sent more.
+    fn hear(&mut self, port: u64, piece: &[u8]) -> Result<(), CoreMemory>
+        requires is_open { IsSome (find_port port self.old.ports) }
+        requires closes { self.old.closes ≡ [] }
+
+        ensures state { (c : List ℕ) → OnOk result (with_closes c self.new
+            ≡ (handle (Heard port piece.now) (with_closes c self.old)).state) }
+        ensures closes { OnOk result (self.new.closes ≡ closed_between self.old self.new) }
+    {
+        self.ports.push(port, piece)?;
+        self.look(port)
+    }
+
+    // A client took some of what it is owed.
+    fn send(&mut self, port: u64, count: usize) -> Result<(), CoreMemory>
+        requires fits { Fits (Took port count) self.old }
+        requires closes { self.old.closes ≡ [] }
+
+        ensures state { (c : List ℕ) → OnOk result (with_closes c self.new
+            ≡ (handle (Took port count) (with_closes c self.old)).state) }
+        ensures closes { OnOk result (self.new.closes ≡ closed_between self.old self.new) }
+    {
+        self.ports.drop_sent(port, count);
+        self.look(port)
+    }
+
+    // A client has ended.
+    fn end(&mut self, port: u64)
+        requires is_open { IsSome (find_port port self.old.ports) }
+        requires closes { self.old.closes ≡ [] }
+
+        ensures state { (c : List ℕ) → with_closes c self.new
+            ≡ (handle (Ended port) (with_closes c self.old)).state }
+        ensures closes { self.new.closes ≡ closed_between self.old self.new }
+    {
+        self.ports.close(port);
+    }
+
+    // Takes the first request of a client where it is whole, and closes its port where its length is bad.
+    fn look(&mut self, port: u64) -> Result<(), CoreMemory>
+        requires { self.old.closes ≡ [] }
+
+        ensures state { (c : List ℕ) → OnOk result (with_closes c self.new
+            ≡ (looked port (with_closes c self.old)).state) }
+        ensures closes { OnOk result (self.new.closes ≡ closed_between self.old self.new) }
+    {
+        match self.ports.due(port) {
+            Look::Whole { body } => self.ports.serve(&mut self.keys, port, body),
+            Look::Bad { .. } => {
+                self.ports.close(port);
+                Ok(())
             }
+            Look::More => Ok(()),
         }
-        Event::Ended { port } => {
-            ports.close(port);
-            Ok(Some(port))
-        }
-        Event::Took { port, count } => {
-            if ports.send(keys, port, count)? {
-                Ok(Some(port))
-            } else {
-                Ok(None)
-            }
-        }
-        Event::Tick => Ok(None),
-        // No child process is begun, so none of these fits.
-        Event::Started { .. } | Event::StartFailed { .. } => unreachable!(),
     }
 }

@@ -4,7 +4,7 @@ ghost use Rattle.std.specs.Prelude.{◌≡◌, ◌≤◌, [], ◌++◌, drop, le
 ghost use Rattle.secret_buf.specs.Buffers.{KeepsRoom};
 ghost use Rattle.agent_msg.specs.Replies.{entries, identities_answer, status};
 ghost use Rattle.identity_table.specs.Identities.{answer_len, max_answer};
-ghost use Rattle.agent_core.specs.KeyStates.{shown};
+ghost use Rattle.agent_model.specs.KeyStates.{shown};
 
 use agent_msg::{put_list_entry, put_list_head, put_status};
 use identity_table::{Identity, listed_len};

@@ -1,6 +1,7 @@
 // Ports by their numbers, which rise.
 ghost use Rattle.std.specs.Prelude.{◌≡◌, ◌^◌, None, MatchOption};
-ghost use Rattle.agent_core.specs.State.{IsRising, find_port};
+ghost use Rattle.agent_model.specs.Sound.{IsRising};
+ghost use Rattle.agent_model.specs.State.{find_port};
 ghost use Rattle.agent_core.specs.Slots.{ports_of};
 ghost use Rattle.agent_core.specs.Places.{IsPlace};
 

@@ -1,7 +1,15 @@
-ghost use Rattle.std.specs.Prelude.{◌≡◌, ◌↔◌, IsTrue, ◌+◌, ◌≤◌, IfOk, OnOk, length};
-ghost use Rattle.wire_text.specs.Frames.{after_front, front, front_body, Whole, More};
-ghost use Rattle.agent_core.specs.Step.{heard, longest_body, sent};
-ghost use Rattle.agent_core.specs.PortLook.{answer_to, asks_of, fate_of, keys_after, port_kept, port_looked};
+//! One open port.
+
+ghost use Rattle.std.specs.Prelude.{◌≡◌, ◌+◌, ◌≤◌, ℕ, false, IfOk, OnOk, length};
+ghost use Rattle.wire_text.specs.Frames.{after_front, front, front_body, More, Whole};
+ghost use Rattle.frame_core.specs.Looks.{front_of};
+ghost use Rattle.agent_model.specs.Children.{heard_more};
+ghost use Rattle.agent_model.specs.Limits.{longest_body};
+ghost use Rattle.agent_model.specs.Looks.{due};
+ghost use Rattle.agent_model.specs.State.{is_more};
+ghost use Rattle.agent_model.specs.Step.{take_frame, took_some};
+ghost use Rattle.agent_model.specs.Verdicts.{tell};
+ghost use Rattle.agent_core.specs.Served.{served_body};
 ghost use Rattle.agent_core.specs.Slots.{port_of};
 
 use crate::CoreMemory;
@@ -34,22 +42,66 @@ impl Slot {
     }
 }
 
-/// What a look at a port brought.
-#[derive(Clone, Copy, Debug, PartialEq, Eq)]
-pub enum Fate {
-    /// Nothing.
-    Stays,
-    /// A request was taken, and its reply is owed.
-    Owes,
-    /// The length of the next message is bad.
-    Closes,
+/// Appends the piece to what was heard.
+pub fn push(slot: &mut Slot, piece: &[u8]) -> Result<(), CoreMemory>
+    ensures port { OnOk result (port_of slot.new ≡ heard_more piece.now (port_of slot.old)) }
+    ensures number { slot.new.number ≡ slot.old.number }
+    ensures owed { slot.new.owed ≡ slot.old.owed }
+{
+    slot.heard.push_slice(piece)?;
+    Ok(())
+}
+
+/// Drops the first `count` bytes that are owed.
+pub fn drop_sent(slot: &mut Slot, count: usize)
+    requires { count ≤ length slot.old.owed }
+    ensures port { port_of slot.new ≡ took_some count (port_of slot.old) }
+    ensures number { slot.new.number ≡ slot.old.number }
+{
+    slot.owed.consume(count);
+}
+
+/// What is to be taken: nothing while bytes are owed.
+pub fn due(slot: &Slot) -> Look
+    ensures { front_of result ≡ due (port_of slot.now) }
+{
+    if slot.owed.bytes().is_empty() {
+        look(slot.heard.live(), LONGEST_BODY)
+    } else {
+        Look::More
+    }
+}
+
+/// Whether the bytes are the front of a request that isn't whole.
+pub fn is_unfinished(heard: &[u8]) -> bool
+    ensures { result ≡ is_more (front longest_body heard.now) }
+{
+    matches!(look(heard, LONGEST_BODY), Look::More)
+}
+
+/// Takes the request with a body of this length, and owes its reply.
+pub fn serve(slot: &mut Slot, keys: &mut Keys, body_len: u32) -> Result<(), CoreMemory>
+    requires { due (port_of slot.old) ≡ Whole body_len }
+
+    ensures port { (wall : ℕ) → OnOk result (port_of slot.new ≡ tell
+        (served_body slot.old.number wall (front_body body_len slot.old.heard.live) keys.old).work.verdict
+        (take_frame body_len false (port_of slot.old))) }
+    ensures keys { (wall : ℕ) → OnOk result (keys.new
+        ≡ (served_body slot.old.number wall (front_body body_len slot.old.heard.live) keys.old).held) }
+    ensures number { slot.new.number ≡ slot.old.number }
+{
+    let body = first_body(slot.heard.live(), body_len);
+    keys.serve(slot.number, body, &mut slot.owed)?;
+    drop_frame(&mut slot.heard, body_len);
+    Ok(())
 }
 
 // The body of the whole frame at the front.
-#[tactic(auto, using(crate::proofs::LookLemmas::whole_within))]
+#[tactic(auto, using(crate::proofs::LookLemmas::whole_within, crate::proofs::LookLemmas::body_within))]
 fn first_body(heard: &[u8], body_len: u32) -> &[u8]
     requires { front longest_body heard.now ≡ Whole body_len }
     ensures body { result.now ≡ front_body body_len heard.now }
+    ensures short { length result.now ≤ longest_body }
     ensures within { 4 + body_len ≤ length heard.now }
 {
     let end = body_len as usize + 4;
@@ -65,65 +117,4 @@ fn drop_frame(heard: &mut ScrubBuf, body_len: u32)
     if body_len > LONG && heard.live().is_empty() {
         heard.wipe();
     }
-}
-
-// Takes the first request, where the port is owed nothing and the request is whole.
-fn look_at(slot: &mut Slot, keys: &mut Keys) -> Result<Fate, CoreMemory>
-    ensures fate { IfOk result (λ fate. fate ≡ fate_of (port_of slot.old)) }
-    ensures port { OnOk result (port_of slot.new
-        ≡ port_looked (answer_to (asks_of slot.old.number keys.old) keys.old) (port_of slot.old)) }
-    ensures keys { OnOk result (keys.new
-        ≡ port_kept (keys_after (asks_of slot.old.number keys.old) keys.old) keys.old (port_of slot.old)) }
-    ensures number { slot.new.number ≡ slot.old.number }
-{
-    if !slot.owed.bytes().is_empty() {
-        return Ok(Fate::Stays);
-    }
-    match look(slot.heard.live(), LONGEST_BODY) {
-        Look::Whole { body } => {
-            keys.serve(
-                slot.number,
-                first_body(slot.heard.live(), body),
-                &mut slot.owed,
-            )?;
-            drop_frame(&mut slot.heard, body);
-            Ok(Fate::Owes)
-        }
-        Look::Bad { .. } => Ok(Fate::Closes),
-        Look::More => Ok(Fate::Stays),
-    }
-}
-
-// Appends the piece to what was heard, and looks.
-pub fn hear(slot: &mut Slot, keys: &mut Keys, piece: &[u8]) -> Result<Fate, CoreMemory>
-    ensures fate { IfOk result (λ fate. fate ≡ fate_of (heard piece.now (port_of slot.old))) }
-    ensures port { OnOk result (port_of slot.new
-        ≡ port_looked (answer_to (asks_of slot.old.number keys.old) keys.old) (heard piece.now (port_of slot.old))) }
-    ensures keys { OnOk result (keys.new
-        ≡ port_kept (keys_after (asks_of slot.old.number keys.old) keys.old) keys.old (heard piece.now (port_of slot.old))) }
-    ensures number { slot.new.number ≡ slot.old.number }
-{
-    slot.heard.push_slice(piece)?;
-    look_at(slot, keys)
-}
-
-// Drops the first `count` bytes that are owed, and looks.
-pub fn send(slot: &mut Slot, keys: &mut Keys, count: usize) -> Result<Fate, CoreMemory>
-    requires count { count ≤ length slot.old.owed }
-    ensures fate { IfOk result (λ fate. fate ≡ fate_of (sent count (port_of slot.old))) }
-    ensures port { OnOk result (port_of slot.new
-        ≡ port_looked (answer_to (asks_of slot.old.number keys.old) keys.old) (sent count (port_of slot.old))) }
-    ensures keys { OnOk result (keys.new
-        ≡ port_kept (keys_after (asks_of slot.old.number keys.old) keys.old) keys.old (sent count (port_of slot.old))) }
-    ensures number { slot.new.number ≡ slot.old.number }
-{
-    slot.owed.consume(count);
-    look_at(slot, keys)
-}
-
-// Whether the bytes are the front of a request that isn't whole.
-pub fn is_unfinished(heard: &[u8]) -> bool
-    ensures { IsTrue result ↔ (front longest_body heard.now ≡ More) }
-{
-    matches!(look(heard, LONGEST_BODY), Look::More)
 }

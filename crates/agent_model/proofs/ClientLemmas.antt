@@ -1,5 +1,5 @@
 -- What an event brings at a client's port.
-use Rattle.std.proofs.Common.{◌≡◌, ℕ, List, [], ◌∷◌, refl, ap, sym, ◌∙◌, Option, Some, None, Bool, true, false}
+use Rattle.std.proofs.Common.{◌≡◌, ℕ, List, [], ◌∷◌, refl, ap, ◌∙◌, Option, Some, None}
 use Rattle.world_ports.specs.declared.Door.{Door}
 use Rattle.world_ports.specs.declared.Door.TheVariants.{Clients}
 use Rattle.wire_text.specs.Frames.{Front, Whole, Bad, More, front_body}
@@ -10,8 +10,8 @@ use Rattle.agent_model.specs.Dispatch.{Served, serve}
 use Rattle.agent_model.specs.Events.{Heard, Ended, Took}
 use Rattle.agent_model.specs.Looks.{due, due_by}
 use Rattle.agent_model.specs.State.{Nothing, OnAsk, OnConfirmation, Port, State, Waits, change_port, find_port}
-use Rattle.agent_model.specs.Step.{asker_at, attempts, ended_by_role, handle, heard_at, heard_by_role, look_front, look_port, look_waits, looked, take_frame, taken, took_at, took_by_role, took_some, ended_at}
-use Rattle.agent_model.specs.State.{Client, Role, role_of}
+use Rattle.agent_model.specs.Step.{asker_at, attempts, ended_by_role, handle, heard_at, heard_by_role, look_front, look_port, look_waits, looked, take_frame, took_at, took_by_role, took_some, ended_at}
+use Rattle.agent_model.specs.State.{Client, role_of}
 use Rattle.agent_model.specs.Verdicts.{tell}
 use Rattle.agent_model.proofs.PortsLemmas.{change_port-twice, found_number}
 
@@ -23,7 +23,7 @@ looked_by_due (OnAsk ask) owed port state waits is = rw waits
 looked_by_due (OnConfirmation job) owed port state waits is = rw waits
 
 -- among all ports
-looked-found : (number : ℕ) (port : Port) (state : State) (answer : Front) → find_port number state.ports ≡ Some port → due port ≡ answer → looked number state ≡ look_front answer port state
+pub looked-found : (number : ℕ) (port : Port) (state : State) (answer : Front) → find_port number state.ports ≡ Some port → due port ≡ answer → looked number state ≡ look_front answer port state
 looked-found number port state answer found is =
     ap (λ (o : Option Port). look_port o state) found ∙ looked_by_due port.waits port.owed port state refl refl ∙ ap (λ (f : Front). look_front f port state) is
 

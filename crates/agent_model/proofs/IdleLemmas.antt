@@ -4,12 +4,12 @@ use Rattle.std.specs.Str.{bytes_eq}
 use Rattle.constraint_rec.specs.declared.constraint.Constraint.{Constraint}
 use Rattle.identity_table.specs.Identities.{HeldKey, find_identity, max_answer}
 use Rattle.agent_msg.specs.declared.fault.MsgFault.{MsgFault}
-use Rattle.agent_msg.specs.Requests.{Addition, ClientRequest, Signing, ListIdentities, Sign, Add, Remove, RemoveAll, Lock, Unlock, OtherExtension, Unsupported}
+use Rattle.agent_msg.specs.Requests.{Addition, ClientRequest, Signing, ListIdentities, Sign, Add, Remove, RemoveAll, Lock, Unlock, Bind, OtherExtension, Unsupported}
 use Rattle.agent_model.specs.Actions.{Work}
-use Rattle.agent_model.specs.Dispatch.{Asker, Served, add_by, add_fault, add_seen, add_under, add_unless, length_with, lock_by, remove_by, remove_seen, sees, serve, serve_by, serve_locked, serve_unlocked, sign_by, sign_with, unlock_by}
+use Rattle.agent_model.specs.Dispatch.{Asker, add_by, add_fault, add_seen, add_under, add_unless, length_with, lock_by, remove_by, remove_seen, sees, serve, serve_by, serve_locked, serve_unlocked, sign_by, sign_with, unlock_by}
 use Rattle.agent_model.specs.KeyStates.{KeyState}
 use Rattle.agent_model.specs.Limits.{last_number}
-use Rattle.agent_model.specs.State.{Nothing, UnderWay, nothing_under_way}
+use Rattle.agent_model.specs.State.{Nothing, nothing_under_way}
 use Rattle.agent_model.specs.Verdicts.{Cause, verdict_waits}
 
 -- nothing is under way, and the client waits for nothing
@@ -72,6 +72,7 @@ idle-unlocked (Lock passphrase) asker held = idle-lock passphrase held
 idle-unlocked (Unlock passphrase) asker held = idle (serve_unlocked (Unlock passphrase) asker held nothing_under_way).work refl refl
 idle-unlocked (OtherExtension name) asker held = idle (serve_unlocked (OtherExtension name) asker held nothing_under_way).work refl refl
 idle-unlocked (Unsupported number) asker held = idle (serve_unlocked (Unsupported number) asker held nothing_under_way).work refl refl
+idle-unlocked (Bind bind) asker held = idle (serve_unlocked (Bind bind) asker held nothing_under_way).work refl refl
 
 idle-locked : (passphrase : List ℕ) (request : ClientRequest) (held : KeyState) → IsIdle (serve_locked passphrase request held nothing_under_way).work
 idle-locked passphrase ListIdentities held = idle (serve_locked passphrase ListIdentities held nothing_under_way).work refl refl
@@ -83,6 +84,7 @@ idle-locked passphrase (Lock other) held = idle (serve_locked passphrase (Lock o
 idle-locked passphrase (Unlock other) held = idle-unlock (bytes_eq passphrase other) held
 idle-locked passphrase (OtherExtension name) held = idle (serve_locked passphrase (OtherExtension name) held nothing_under_way).work refl refl
 idle-locked passphrase (Unsupported number) held = idle (serve_locked passphrase (Unsupported number) held nothing_under_way).work refl refl
+idle-locked passphrase (Bind bind) held = idle (serve_locked passphrase (Bind bind) held nothing_under_way).work refl refl
 
 idle-by : (lock : Option (List ℕ)) (request : ClientRequest) (asker : Asker) (held : KeyState) → IsIdle (serve_by lock request asker held nothing_under_way).work
 idle-by None request asker held = idle-unlocked request asker held

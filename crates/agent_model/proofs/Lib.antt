@@ -4,5 +4,14 @@ pub mod HeldLemmas
 pub mod SecondLemmas
 pub mod IdleLemmas
 pub mod BoundLemmas
-pub mod ServeLemmas
 pub mod ClientLemmas
+pub mod LeadLemmas
+pub mod RunLemmas
+pub mod GrowLemmas
+pub mod NumberLemmas
+pub mod BudgetLemmas
+pub mod VerdictLemmas
+pub mod ToldLemmas
+pub mod PiecesLemmas
+pub mod PartsLemmas
+pub mod AnswerLemmas

@@ -1,5 +1,5 @@
 -- Lemmas on lists of ports whose numbers rise.
-use Rattle.std.proofs.Common.{◌≡◌, ℕ, suc, ◌<◌, ◌≤◌, List, [], ◌∷◌, ◌++◌, refl, ap, arith, sym, ◌∙◌, Some, None, subst, inl, inr}
+use Rattle.std.proofs.Common.{◌≡◌, ℕ, ◌<◌, ◌≤◌, List, [], ◌∷◌, ◌++◌, refl, ap, arith, sym, ◌∙◌, Some, None, subst, inl, inr}
 use Rattle.std.proofs.lemmas.Bool.{cases_eq}
 use Rattle.std.proofs.lemmas.Bool.Decides.{nat_tests}
 use Rattle.std.specs.Option.{option_map}
@@ -129,4 +129,16 @@ found_number number [] port found = absurd (cc)
 found_number number (other ∷ ports) port found = elim (cases_eq number other.number) [
   | inl here ↦ (let is : other ≡ port = grind (arith, nat_tests) in let same : other.number ≡ port.number = ap (λ q. q.number) is in sym same ∙ sym here)
   | inr apart ↦ (let later : find_port number ports ≡ Some port = grind (arith, nat_tests) in found_number number ports port later)
+]
+
+-- a port that is removed isn't there any more
+pub find_port-remove_port : (number low high : ℕ) (ports : List Port) → IsRising low high ports → find_port number (remove_port number ports) ≡ None
+find_port-remove_port number low high [] rising = refl
+find_port-remove_port number low high (port ∷ ports) rising = elim (cases_eq number port.number) [
+  | inl here ↦
+      (let below : find_port number ports ≡ None = find_port-below number port.number high ports (omega arith) rising.1 in
+      grind (arith, nat_tests))
+  | inr apart ↦
+      (let rest : find_port number (remove_port number ports) ≡ None = find_port-remove_port number port.number high ports rising.1 in
+      grind (arith, nat_tests))
 ]

@@ -4,7 +4,7 @@ use Rattle.std.specs.Str.{bytes_eq}
 use Rattle.constraint_rec.specs.declared.constraint.Constraint.{Constraint}
 use Rattle.identity_table.specs.Identities.{HeldKey, find_identity, max_answer}
 use Rattle.agent_msg.specs.declared.fault.MsgFault.{MsgFault}
-use Rattle.agent_msg.specs.Requests.{Addition, ClientRequest, ListIdentities, Sign, Add, Remove, RemoveAll, Lock, Unlock, OtherExtension, Unsupported}
+use Rattle.agent_msg.specs.Requests.{Addition, ClientRequest, ListIdentities, Sign, Add, Remove, RemoveAll, Lock, Unlock, Bind, OtherExtension, Unsupported}
 use Rattle.agent_model.specs.Dispatch.{Asker, add_by, add_fault, add_seen, add_under, add_unless, length_with, lock_by, remove_by, remove_seen, sees, serve, serve_by, serve_locked, serve_unlocked, unlock_by}
 use Rattle.agent_model.specs.KeyStates.{KeyState}
 use Rattle.agent_model.specs.Limits.{last_number}
@@ -56,6 +56,7 @@ second-unlocked (Lock passphrase) asker held under_way same = second-lock passph
 second-unlocked (Unlock passphrase) asker held under_way same = refl
 second-unlocked (OtherExtension name) asker held under_way same = refl
 second-unlocked (Unsupported number) asker held under_way same = refl
+second-unlocked (Bind bind) asker held under_way same = refl
 
 second-locked : (passphrase : List ℕ) (request : ClientRequest) (held : KeyState) (under_way : UnderWay) → (serve_locked passphrase request held under_way).held.table.greatest ≡ held.table.greatest
 second-locked passphrase ListIdentities held under_way = refl
@@ -67,6 +68,7 @@ second-locked passphrase (Lock other) held under_way = refl
 second-locked passphrase (Unlock other) held under_way = second-unlock (bytes_eq passphrase other) held under_way
 second-locked passphrase (OtherExtension name) held under_way = refl
 second-locked passphrase (Unsupported number) held under_way = refl
+second-locked passphrase (Bind bind) held under_way = refl
 
 second-by : (lock : Option (List ℕ)) (request : ClientRequest) (asker : Asker) (held : KeyState) (under_way : UnderWay) → asker.mono ≡ held.table.greatest → (serve_by lock request asker held under_way).held.table.greatest ≡ held.table.greatest
 second-by None request asker held under_way same = second-unlocked request asker held under_way same

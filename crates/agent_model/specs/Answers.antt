@@ -83,6 +83,11 @@ abbrev pub answer_all : List Settled → Answering → Answering
 answer_all [] before = before
 answer_all (one ∷ later) before = answer_all later (answer_by one.answer one before)
 
+-- the clients that asked, in the order of the answers
+abbrev pub askers_of : List Settled → List ℕ
+askers_of [] = []
+askers_of (one ∷ later) = one.asker ∷ askers_of later
+
 -- what answers change in a state
 abbrev pub answers_in : List Settled → State → Answering
 answers_in settled state = answer_all settled

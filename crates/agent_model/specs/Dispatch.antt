@@ -8,7 +8,7 @@ use Rattle.constraint_rec.specs.declared.fault.TermFault.{TermFault}
 use Rattle.identity_table.specs.Identities.{HeldKey, TableState, added, answer_len, find_identity, identities_with, max_answer, remove_identity}
 use Rattle.agent_msg.specs.declared.fault.MsgFault.{MsgFault}
 use Rattle.agent_msg.specs.declared.fault.MsgFault.TheVariants as fault
-use Rattle.agent_msg.specs.Requests.{Addition, ClientRequest, Signing, ListIdentities, Sign, Add, Remove, RemoveAll, Lock, Unlock, OtherExtension, Unsupported}
+use Rattle.agent_msg.specs.Requests.{Addition, ClientRequest, Signing, ListIdentities, Sign, Add, Remove, RemoveAll, Lock, Unlock, Bind, OtherExtension, Unsupported}
 use Rattle.agent_model.specs.KeyStates.{KeyState, shown}
 use Rattle.agent_model.specs.Actions.{Work, settles}
 use Rattle.agent_model.specs.Errands.{Signs, ask_user, put_ask}
@@ -150,6 +150,7 @@ serve_unlocked (Lock passphrase) asker held under_way = lock_by passphrase held 
 serve_unlocked (Unlock passphrase) asker held under_way = refuses NotLocked held under_way
 serve_unlocked (OtherExtension name) asker held under_way = refuses Unserved held under_way
 serve_unlocked (Unsupported number) asker held under_way = refuses Unserved held under_way
+serve_unlocked (Bind bind) asker held under_way = refuses Unserved held under_way
 
 -- of an agent that is locked with this passphrase
 abbrev pub serve_locked : List ℕ → ClientRequest → KeyState → UnderWay → Served
@@ -162,6 +163,7 @@ serve_locked passphrase (Lock other) held under_way = refuses Locked held under_
 serve_locked passphrase (Unlock other) held under_way = unlock_by (bytes_eq passphrase other) held under_way
 serve_locked passphrase (OtherExtension name) held under_way = refuses Locked held under_way
 serve_locked passphrase (Unsupported number) held under_way = refuses Locked held under_way
+serve_locked passphrase (Bind bind) held under_way = refuses Locked held under_way
 
 -- by the lock
 abbrev pub serve_by : Option (List ℕ) → ClientRequest → Asker → KeyState → UnderWay → Served

@@ -3,7 +3,7 @@ use Rattle.std.specs.Prelude.{ℕ, ◌+◌, ◌==◌, nat_lt, not, List, [], ◌
 use Rattle.world_ports.specs.declared.Job.{Job}
 use Rattle.world_ports.specs.declared.JobKind.{JobKind}
 use Rattle.world_ports.specs.declared.JobKind.TheVariants as kinds
-use Rattle.agent_msg.specs.Requests.{Signing}
+use Rattle.agent_msg.specs.Requests.{BindRequest, Signing}
 use Rattle.child_msg.specs.Messages.{ToChildMessage}
 use Rattle.helper_link.specs.HelperLink.{HelperLink, sign_request, submitted, verify_request}
 use Rattle.helper_link.specs.declared.ask.AskKind.{AskKind}
@@ -11,7 +11,6 @@ use Rattle.helper_link.specs.declared.ask.AskKind.TheVariants as asks
 use Rattle.helper_link.specs.declared.state.LinkState.{LinkState}
 use Rattle.helper_link.specs.declared.state.LinkState.TheVariants as states
 use Rattle.identity_table.specs.Identities.{HeldKey}
-use Rattle.agent_model.specs.Binds.{BindRequest}
 use Rattle.dest_rule.specs.declared.binding.Binding.{Binding}
 use Rattle.confirm_desk.specs.Confirmations.{Held, raise}
 use Rattle.confirm_desk.specs.Prompt.{prompt_for}

@@ -2,7 +2,6 @@ pub mod Events
 pub mod Limits
 pub mod NumberLists
 pub mod KeyStates
-pub mod Binds
 pub mod State
 pub mod Verdicts
 pub mod Actions
@@ -14,5 +13,6 @@ pub mod Children
 pub mod Step
 pub mod Runs
 pub mod Looks
+pub mod Budget
+pub mod Rows
 pub mod Sound
-pub mod Bounds

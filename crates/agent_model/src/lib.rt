@@ -2,3 +2,16 @@
 //! `specs/Step.antt` is read first, from its end, and `specs/Dispatch.antt` has the table of requests.
 //! Source: draft-miller-ssh-agent and OpenSSH's PROTOCOL.agent; what is ours is said where it stands.
 #![tactic(auto)]
+
+mod laws;
+mod rows;
+
+pub use laws::{
+    a_closed_port_brings_nothing, a_failure_has_a_cause, a_lost_helper_answers_nothing,
+    a_moment_is_taken_in_once, a_piece_in_two_parts, answers_go_to_who_asked,
+    no_number_is_given_twice, no_number_is_used_again, ports_rise_and_are_few,
+};
+pub use rows::{
+    a_locked_agent_does_nothing, a_request_waits_for_the_reply_before, additions_are_listed,
+    limits_are_these_numbers, moments_are_taken_in, refusals_are_failures,
+};

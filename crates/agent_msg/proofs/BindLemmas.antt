@@ -68,9 +68,9 @@ bind_is bytes request each h =
     }
 
 -- an extension of any name that was read
-extension_by_is : (named : Bool) (name contents : List ℕ) (request : ClientRequest) → Decides named (name ≡ session_bind)
-    → length name < 2 ^ 32 → IsBytes contents → extension_by named name contents ≡ Ok request
-    → IsRequest (27 ∷ (string name ++ contents)) request
+extension_by_is : (named : Bool) (name contents : List ℕ) (request : ClientRequest)
+    → Decides named (name ≡ session_bind) → length name < 2 ^ 32 → IsBytes contents
+    → extension_by named name contents ≡ Ok request → IsRequest (27 ∷ (string name ++ contents)) request
 extension_by_is true name contents request decides fits each h =
     let P : List ℕ → Type 0 = λ text. IsRequest (27 ∷ (string text ++ contents)) request in
     subst P (sym (decides.0 refl)) (bind_is contents request each h)
@@ -84,8 +84,8 @@ extension_by_is false name contents request decides fits each h =
     }
 
 -- EXTENSION that was read
-pub extension_is : (bytes : List ℕ) (request : ClientRequest) → IsBytes bytes → extension_at bytes ≡ Ok request
-    → IsRequest (27 ∷ bytes) request
+pub extension_is : (bytes : List ℕ) (request : ClientRequest) → IsBytes bytes
+    → extension_at bytes ≡ Ok request → IsRequest (27 ∷ bytes) request
 extension_is bytes request each h =
     let one = field_or_is Short (string_at bytes)
     (λ name contents. extension_by (bytes_eq name session_bind) name contents) request h in
@@ -102,16 +102,19 @@ unfolding request_of request_of_number
 bind_is_read body bind named is =
     rw (
       is.printed,
-      string_at-string session_bind (string bind.host_key ++ (string bind.session ++ (string bind.signature ++ is.forwarding ∷ []))) named,
+      string_at-string session_bind
+          (string bind.host_key ++ (string bind.session ++ (string bind.signature ++ is.forwarding ∷ []))) named,
       (bytes_eq-Decides session_bind session_bind).1 refl,
-      string_at-string bind.host_key (string bind.session ++ (string bind.signature ++ is.forwarding ∷ [])) is.host_key_fits,
+      string_at-string bind.host_key
+          (string bind.session ++ (string bind.signature ++ is.forwarding ∷ [])) is.host_key_fits,
       string_at-string bind.session (string bind.signature ++ is.forwarding ∷ []) is.session_fits,
       string_at-string bind.signature (is.forwarding ∷ []) is.signature_fits,
       sym is.forwards,
     ) refl
 
 -- another extension is read
-pub extension_is_read : (body name : List ℕ) → IsExtension body name → request_of body ≡ Ok (OtherExtension name)
+pub extension_is_read : (body name : List ℕ) → IsExtension body name
+    → request_of body ≡ Ok (OtherExtension name)
 unfolding request_of request_of_number
 extension_is_read body name is =
     let other : bytes_eq name session_bind ≡ false =
@@ -123,7 +126,8 @@ behind_byte : (a b : ℕ) (s t : List ℕ) → a ∷ s ≡ b ∷ t → s ≡ t
 behind_byte a b s t same = cc
 
 -- a test of how a body begins
-pub names_bind_is : (named : Bool) (body : List ℕ) → named ≡ names_bind body → IsTrue named ↔ NamesBind body
+pub names_bind_is : (named : Bool) (body : List ℕ) → named ≡ names_bind body
+    → IsTrue named ↔ NamesBind body
 unfolding names_bind
 names_bind_is named body same =
     let is = starts_is Decides-eqb body bind_front named same in

@@ -97,8 +97,8 @@ pub record IsConstrainedAddition (body : List ℕ) (addition : Addition) : Type 
   pub constrained : IsConstraints constraints addition.terms
   pub printed : body ≡ 25 ∷ (addition.key.private ++ (string addition.comment ++ constraints))
 
--- the extension that binds a connection to a host (OpenSSH's PROTOCOL.agent, "session-bind@openssh.com
--- extension")
+-- the extension that binds a connection to a host (OpenSSH's PROTOCOL.agent,
+-- "session-bind@openssh.com extension")
 unfoldable pub session_bind : List ℕ
 session_bind = codes "session-bind@openssh.com"
 

@@ -214,5 +214,9 @@ fn replies_are_written(rt: HostRuntime) -> Result<(), Fail> {
     put_list_entry(&mut out, b"cc", b"")?;
     let list = b"\0\0\0\x1c\x0c\0\0\0\x02\0\0\0\x02bb\0\0\0\x03one\0\0\0\x02cc\0\0\0\0";
     assert_eq!(rt; out.live(), list.as_slice());
+    // A body of 262144 bytes is the longest.
+    out.wipe();
+    put_list_head(&mut out, 262144, 0)?;
+    assert_eq!(rt; out.live(), b"\0\x04\0\0\x0c\0\0\0\0".as_slice());
     Ok(())
 }

@@ -1,18 +1,12 @@
 //! An SSH agent in memory, run on a schedule: `agent_prog replay` reads events from standard input and
-//! writes what the agent does to standard output. Stands on replay_run; the format is this repository's
-//! own: docs/PROTOCOL.md, "Schedules".
+//! writes what the agent does to standard output. `agent_main` of agent_top is the program; here are
+//! its words, its streams, and what it says on standard error.
 #![tactic(auto)]
 
-mod agent;
-mod status;
-#[cfg(test)]
-mod tests;
 mod trouble;
-mod words;
 
-use crate::agent::agent_main;
-use crate::status::Status;
 use crate::trouble::Trouble;
+use agent_top::{Status, agent_main};
 use std::env;
 use std::io::{ErrorKind, Result as IoResult};
 use std::process::ExitCode;

@@ -1,6 +1,6 @@
 // What is told on standard error.
 
-use crate::status::Status;
+use agent_top::Status;
 use schedule_text::LineFault;
 use std::fmt;
 use thiserror::Error;
@@ -35,7 +35,7 @@ impl fmt::Display for FaultText {
             LineFault::Number => "not a number",
             LineFault::Hex => "not hexadecimal",
             LineFault::UnknownPort => "no such port",
-            LineFault::Order => "at the wrong time",
+            LineFault::Order => "more than the port is owed",
             LineFault::TooLong => "too long",
             LineFault::Memory => "out of memory",
         })

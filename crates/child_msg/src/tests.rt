@@ -35,8 +35,10 @@ fn a_child_s_bodies_are_read(rt: HostRuntime) {
 
 #[test]
 fn the_first_fault_is_told(rt: HostRuntime) {
-    // A ticket of one byte, and a byte behind it.
+    // A ticket of one byte, and a byte behind it; tickets of 15 and of 17 bytes.
     let ticket = [1, 0, 0, 0, 0, 0, 0, 0, 1, 0, 0, 0, 1, 5, 5];
+    let short = b"\x01\0\0\0\0\0\0\0\x01\0\0\0\x0fticket-of-15-by".as_slice();
+    let long = b"\x01\0\0\0\0\0\0\0\x01\0\0\0\x11ticket-of-17-byte".as_slice();
     let cases = [
         ([].as_slice(), ChildFault::Short),
         ([2].as_slice(), ChildFault::Kind),
@@ -46,6 +48,8 @@ fn the_first_fault_is_told(rt: HostRuntime) {
             ChildFault::Trailing,
         ),
         (ticket.as_slice(), ChildFault::TicketLength),
+        (short, ChildFault::TicketLength),
+        (long, ChildFault::TicketLength),
         (&SIGNED[..15], ChildFault::Short),
     ];
     for (body, want) in cases {

@@ -1,6 +1,7 @@
 //! What OpenSSH's tools send, and texts written out from draft-miller-ssh-agent, "Key Constraints",
 //! and OpenSSH's PROTOCOL.agent: each fault, some with a second fault behind the first.
 
+mod destination_cases;
 mod destinations;
 mod openssh;
 

@@ -1,11 +1,13 @@
 -- Chains as lists: the newest binding, and the binding of a session.
 use Rattle.std.proofs.Common.{◌≡◌, ℕ, zero, suc, ◌-◌, ◌<◌, Bool, true, false, List, [], ◌∷◌, length, Option, Some, None, refl, sym, ap, ◌∙◌, subst, arith, length-append, cond}
-use Rattle.std.specs.Prelude.{All, IsOk}
+use Rattle.std.specs.Prelude.{All, IsOk, ◌≢◌, ◌↔◌}
 use Rattle.std.specs.List.{slice_get}
+use Rattle.std.specs.Str.{bytes_eq}
 use Rattle.std.proofs.lemmas.Bool.{ltb-true}
+use Rattle.std.proofs.lemmas.Slice.Eq.{bytes_eq-Decides}
 use Rattle.std.proofs.lemmas.List.Elements.{All-append}
 use Rattle.key_blob.specs.PublicKeys.{public_key_of}
-use Rattle.dest_rule.specs.Chains.{Binding, New, Same, Refuse, ChainFull, OtherKey, SessionLength, newest, newest_after, find_session, is_open, judge_known, judge_open, judge, bound, IsChain, most_bindings}
+use Rattle.dest_rule.specs.Chains.{Binding, New, Same, Refuse, ChainFull, OtherKey, SessionLength, newest, newest_after, find_session, is_open, is_session, judge_known, judge_open, judge, bound, IsChain, most_bindings}
 
 -- the newest binding stands at the end
 newest_at : (first : Binding) (later : List Binding)
@@ -80,3 +82,55 @@ IsChain-pushed chain pushed binding host_key session is its_key its_session soun
     ap (λ k. judge k binding.session chain) its_key ∙ ap (λ s. judge host_key s chain) its_session ∙ new in
     subst IsChain (sym is) (IsChain-bound chain binding sound judged
     (subst (λ k. IsOk (public_key_of k)) (sym its_key) key))
+
+-- ---- known sessions
+
+-- by the binding that the session has
+known_is_never_new : (open_end : Bool) (host_key session : List ℕ) (chain : List Binding) (known : Binding)
+    → find_session session chain ≡ Some known → judge_open open_end host_key session chain ≢ New
+known_is_never_new true host_key session chain known is new =
+    known_is_not_new _ (ap (judge_known host_key chain) (sym is) ∙ new)
+known_is_never_new false host_key session chain known is new = absurd cc
+
+-- by whether the session is one
+session_is_never_new : (long : Bool) (host_key session : List ℕ) (chain : List Binding) (known : Binding)
+    → find_session session chain ≡ Some known
+    → cond long (judge_open (is_open (newest chain)) host_key session chain) (Refuse SessionLength) ≢ New
+session_is_never_new true host_key session chain known is new =
+    known_is_never_new _ host_key session chain known is new
+session_is_never_new false host_key session chain known is new = absurd cc
+
+-- a known session is never new
+pub known_judged : (host_key session : List ℕ) (chain : List Binding) (known : Binding)
+    → find_session session chain ≡ Some known → judge host_key session chain ≢ New
+unfolding judge
+known_judged host_key session chain known is new =
+    session_is_never_new _ host_key session chain known is new
+
+-- it is the same where its host key is
+same_from_key : (same : Bool) → (cond same Same (Refuse OtherKey) ≡ Same) ↔ (same ≡ true)
+same_from_key true = (λ is. refl, λ is. refl)
+same_from_key false = (λ is. absurd cc, λ is. absurd cc)
+
+-- and more may follow
+same_where_open : (open_end : Bool) (host_key session : List ℕ) (chain : List Binding) (known : Binding)
+    → find_session session chain ≡ Some known
+    → (judge_open open_end host_key session chain ≡ Same)
+    ↔ ((known.host_key ≡ host_key) × (open_end ≡ true))
+same_where_open true host_key session chain known is =
+    let at = ap (judge_known host_key chain) is in
+    let tested = bytes_eq-Decides known.host_key host_key in
+    let by = same_from_key (bytes_eq known.host_key host_key) in
+    (λ same. (tested.0 (by.0 (sym at ∙ same)), refl), λ both. at ∙ by.1 (tested.1 both.0))
+same_where_open false host_key session chain known is = (λ same. absurd cc, λ both. absurd (let wrong = both.1 in cc))
+
+-- of a session that is one
+pub same_judged : (host_key session : List ℕ) (chain : List Binding) (known : Binding)
+    → find_session session chain ≡ Some known → is_session session ≡ true
+    → (judge host_key session chain ≡ Same)
+    ↔ ((known.host_key ≡ host_key) × (is_open (newest chain) ≡ true))
+unfolding judge
+same_judged host_key session chain known is fits =
+    let at = ap (λ b. cond b (judge_open (is_open (newest chain)) host_key session chain) (Refuse SessionLength)) fits in
+    let by = same_where_open (is_open (newest chain)) host_key session chain known is in
+    (λ same. by.0 (sym at ∙ same), λ both. at ∙ by.1 both)

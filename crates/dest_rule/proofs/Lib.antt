@@ -1,3 +1,6 @@
 pub mod ChainLemmas
 pub mod PlaceLemmas
 pub mod AnswerLemmas
+pub mod OrderLemmas
+pub mod LeastLemmas
+pub mod LawLemmas

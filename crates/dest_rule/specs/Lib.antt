@@ -2,3 +2,5 @@ pub mod Chains
 pub mod Rules
 pub mod HostKeys
 pub mod GroundsOf
+pub mod Places
+pub mod Samples

@@ -1,5 +1,6 @@
--- Whether destination constraints permit a chain of bindings, and with it the use of a key (ours, over the records of
--- OpenSSH's PROTOCOL.agent, "restrict-destination-v00@openssh.com key constraint extension").
+-- Whether destination constraints permit a chain of bindings, and with it the use of a key (ours,
+-- over the records of OpenSSH's PROTOCOL.agent, "restrict-destination-v00@openssh.com key constraint
+-- extension").
 use Rattle.std.specs.Prelude.{ℕ, suc, Bool, true, false, not, List, [], ◌∷◌, Option, Some, None, Result, Ok, Err, is_none, ◌&&◌, ◌||◌, if◌then◌else◌}
 use Rattle.std.specs.List.{list_any}
 use Rattle.std.specs.Str.{bytes_eq}
@@ -22,7 +23,8 @@ pub use Rattle.dest_rule.specs.declared.denial.Denial.TheVariants.{Unbound, NotU
 
 -- ---- a hop
 
--- a host key is one of a hop's keys: it is equal, or its certificate is good for the host and of that authority
+-- a host key is one of a hop's keys: it is equal, or its certificate is good for the host and of
+-- that authority
 abbrev pub fits_key : Option CertificateParts → List ℕ → List ℕ → ℕ → KeySpec → Bool
 fits_key None host_key host wall key = not key.authority && bytes_eq key.blob host_key
 fits_key (Some certificate) host_key host wall key =
@@ -30,7 +32,8 @@ fits_key (Some certificate) host_key host wall key =
 
 -- as the host key reads: one that doesn't is no host's
 abbrev pub fits_hop : Result KeyParts KeyFault → Hop → List ℕ → ℕ → Bool
-fits_hop (Ok key) hop host_key wall = list_any (fits_key key.certificate host_key hop.host wall) hop.keys
+fits_hop (Ok key) hop host_key wall =
+    list_any (fits_key key.certificate host_key hop.host wall) hop.keys
 fits_hop (Err fault) hop host_key wall = false
 
 -- the host key is that of the hop's host, at this wall clock
@@ -58,7 +61,8 @@ admits pattern (Some user) = is_nothing pattern || is_match user pattern
 -- a constraint permits to go from the previous host key, or the agent's own host, to this one
 abbrev pub permits_pair : Grounds → Option (List ℕ) → List ℕ → Constraint → Bool
 permits_pair grounds previous host_key rule =
-    leaves rule.from previous grounds.wall && is_hop rule.to host_key grounds.wall && admits rule.to.user grounds.user
+    leaves rule.from previous grounds.wall && is_hop rule.to host_key grounds.wall
+    && admits rule.to.user grounds.user
 
 -- some constraint does
 abbrev pub is_pair : Grounds → Option (List ℕ) → List ℕ → Bool
@@ -116,20 +120,23 @@ leads_on grounds host_key = list_any (λ rule. is_hop rule.from host_key grounds
 abbrev pub goes_on : Grounds → Binding → Bool
 goes_on grounds binding = not binding.forwarding || leads_on grounds binding.host_key
 
--- every place is good, and the newest host may be left again where the agent is forwarded to it; nobody is to log in
+-- every place is good, and the newest host may be left again where the agent is forwarded to it;
+-- nobody is to log in
 abbrev pub permits_way : Grounds → Binding → List Binding → Bool
 permits_way grounds binding later =
     is_none (bad_place grounds binding later) && goes_on grounds (newest_after binding later)
 
 -- ---- what a connection sees, and what it may have signed
 
--- of a connection with these bindings, by whether it tried to bind: nothing is seen where every try failed
+-- of a connection with these bindings, by whether it tried to bind: nothing is seen where every try
+-- failed
 abbrev pub visible_from : List Constraint → List Binding → Bool → ℕ → Bool
 visible_from rules [] attempted wall = not attempted
 visible_from rules (binding ∷ later) attempted wall =
     permits_way (record { rules = rules; user = None; wall = wall }) binding later
 
--- an identity under these constraints is listed to the connection, and may be replaced and removed by it
+-- an identity under these constraints is listed to the connection, and may be replaced and removed
+-- by it
 unfoldable pub visible : List Constraint → List Binding → Bool → ℕ → Bool
 visible [] chain attempted wall = true
 visible (rule ∷ rules) chain attempted wall = visible_from (rule ∷ rules) chain attempted wall
@@ -155,16 +162,19 @@ denial_of_place None login binding later =
     denial_of_newest login (newest_after binding later) (is_empty later)
 
 -- the message is a login
-abbrev pub denial_of_login : Result Login AuthFault → List Constraint → ℕ → Binding → List Binding → Option Denial
+abbrev pub denial_of_login : Result Login AuthFault → List Constraint → ℕ → Binding → List Binding
+    → Option Denial
 denial_of_login (Err fault) rules wall binding later = Some (NotUserAuth fault)
 denial_of_login (Ok login) rules wall binding later =
-    denial_of_place (bad_place (record { rules = rules; user = Some login.user; wall = wall }) binding later)
-    login binding later
+    let grounds : Grounds = record { rules = rules; user = Some login.user; wall = wall } in
+    denial_of_place (bad_place grounds binding later) login binding later
 
--- why the key of this blob, under these constraints, isn't to sign the message for a connection so bound
+-- why the key of this blob, under these constraints, isn't to sign the message for a connection so
+-- bound
 unfoldable pub denial : List Constraint → List ℕ → List Binding → List ℕ → ℕ → Option Denial
 denial rules blob [] message wall = Some Unbound
-denial rules blob (binding ∷ later) message wall = denial_of_login (auth_of message blob) rules wall binding later
+denial rules blob (binding ∷ later) message wall =
+    denial_of_login (auth_of message blob) rules wall binding later
 
 -- the same of a key that may have no constraints: such a key is used for any message
 abbrev pub denial_under : List Constraint → List ℕ → List Binding → List ℕ → ℕ → Option Denial

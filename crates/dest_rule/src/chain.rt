@@ -106,18 +106,20 @@ impl Chain {
     /// session is not looked at.
     #[tactic(auto, unfolding(crate::specs::Chains::judge))]
     pub fn judge(&self, host_key: &[u8], session: &[u8]) -> Next
-        ensures { result ≡ judge host_key.now session.now self.now.bindings }
+        ensures value { result ≡ judge host_key.now session.now self.now.bindings }
+        ensures chain { IsChain self.now.bindings }
     {
+        let bindings = self.bindings();
         if !is_session(session) {
             return Next::Refuse(ChainFault::SessionLength);
         }
-        if !is_open(&self.bindings) {
+        if !is_open(bindings) {
             return Next::Refuse(ChainFault::AuthBound);
         }
-        match find_session(&self.bindings, session) {
+        match find_session(bindings, session) {
             Some(known) if known.host_key.as_slice() == host_key => Next::Same,
             Some(_) => Next::Refuse(ChainFault::OtherKey),
-            None if self.bindings.len() < MOST_BINDINGS => Next::New,
+            None if bindings.len() < MOST_BINDINGS => Next::New,
             None => Next::Refuse(ChainFault::ChainFull),
         }
     }

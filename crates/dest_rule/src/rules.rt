@@ -34,8 +34,8 @@ pub fn visible(rules: &[Constraint], chain: &Chain, wall: u64) -> bool
     }
 }
 
-/// Whether a login is to the newest session, and bound to its host key, which it has to be where the
-/// host isn't the only one.
+/// Whether a login is to the newest session, and bound to its host key, which it has to be where
+/// the host isn't the only one.
 fn check_newest(auth: &UserAuth<'_>, newest: &Binding, is_only: bool) -> Result<(), Denial>
     ensures { let why = denial_of_newest (login auth.now) newest.now is_only in
         MatchResult result (λ _. why ≡ None) (λ denial. why ≡ Some denial) }
@@ -51,8 +51,8 @@ fn check_newest(auth: &UserAuth<'_>, newest: &Binding, is_only: bool) -> Result<
     }
 }
 
-/// Whether the key of this blob, which has these constraints, may sign `message` for a connection at
-/// `wall`, in seconds since 1970.
+/// Whether the key of this blob, which has these constraints, may sign `message` for a connection
+/// at `wall`, in seconds since 1970.
 ///
 /// It may where the message is a login to the newest host that the connection is bound to, and the
 /// constraints permit each hop on the way there, and the user at its end. For no constraints

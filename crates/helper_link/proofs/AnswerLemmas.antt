@@ -26,15 +26,18 @@ Leads (Settles one left) asks = LeadTo (one ∷ []) asks left
 Leads (Stops fault) asks = Unit {0}
 
 -- an ask has the number that finds it
-found_number : (number : ℕ) (asks : List Ask) (ask : Ask) → find_ask number asks ≡ Some ask → ask.number ≡ number
+found_number : (number : ℕ) (asks : List Ask) (ask : Ask) → find_ask number asks ≡ Some ask →
+    ask.number ≡ number
 found_number number [] ask found = absurd cc
 found_number number (first ∷ asks) ask found =
     by_test (eqb first.number number) refl (found_number number asks ask) found
   where
-    by_test : (is : Bool) → eqb first.number number ≡ is → (find_ask number asks ≡ Some ask → ask.number ≡ number) →
+    by_test : (is : Bool) → eqb first.number number ≡ is →
+        (find_ask number asks ≡ Some ask → ask.number ≡ number) →
         cond is (Some first) (find_ask number asks) ≡ Some ask → ask.number ≡ number
     by_test true e later there =
-        let same : first ≡ ask = cc in sym (ap (λ (one : Ask). one.number) same) ∙ eqb-true first.number number e
+        let same : first ≡ ask = cc in sym (ap (λ (one : Ask). one.number) same)
+        ∙ eqb-true first.number number e
     by_test false e later there = later there
 
 -- the kinds that pass the test are the same
@@ -45,32 +48,41 @@ kinds_are Verifying Signing is = absurd cc
 kinds_are Verifying Verifying is = refl
 
 -- by the ask that is found
-found_leads : (kind : AskKind) (number : ℕ) (answer : Answer) (found : Option Ask) (asks : List Ask) → kind ≡ kind_answered answer →
+found_leads : (kind : AskKind) (number : ℕ) (answer : Answer) (found : Option Ask)
+    (asks : List Ask) → kind ≡ kind_answered answer →
     find_ask number asks ≡ found → Leads (answer_found kind number answer found asks) asks
 found_leads kind number answer None asks is at = tt
 found_leads kind number answer (Some ask) asks is at = by_test (same_kind kind ask.kind) refl
   where
     by_test : (test : Bool) → same_kind kind ask.kind ≡ test →
-        Leads (cond test (Settles (settled_ask number ask.asker answer) (remove_ask number asks)) (Stops (WrongKind number))) asks
+        Leads (cond test (Settles (settled_ask number ask.asker answer) (remove_ask number asks))
+        (Stops (WrongKind number))) asks
     by_test true same = (
       at ∙ ap (λ (n : ℕ). Some (ask_of n ask.asker ask.kind)) (found_number number asks ask at)
-          ∙ ap (λ (k : AskKind). Some (ask_of number ask.asker k)) (kinds_are kind ask.kind same ∙ is),
+          ∙ ap (λ (k : AskKind). Some (ask_of number ask.asker k))
+          (kinds_are kind ask.kind same ∙ is),
       refl,
     )
     by_test false same = tt
 
 -- by the message
-message_leads : (message : FromChildMessage) (asks : List Ask) → Leads (message_verdict message asks) asks
+message_leads : (message : FromChildMessage) (asks : List Ask) →
+    Leads (message_verdict message asks) asks
 message_leads (Hello job ticket) asks = tt
-message_leads (Signed ask signature) asks = found_leads Signing ask (answer.Signed signature) (find_ask ask asks) asks refl refl
-message_leads (Refused ask) asks = found_leads Signing ask answer.Refused (find_ask ask asks) asks refl refl
-message_leads (True ask) asks = found_leads Verifying ask answer.True (find_ask ask asks) asks refl refl
-message_leads (False ask) asks = found_leads Verifying ask answer.False (find_ask ask asks) asks refl refl
+message_leads (Signed ask signature) asks =
+    found_leads Signing ask (answer.Signed signature) (find_ask ask asks) asks refl refl
+message_leads (Refused ask) asks =
+    found_leads Signing ask answer.Refused (find_ask ask asks) asks refl refl
+message_leads (True ask) asks =
+    found_leads Verifying ask answer.True (find_ask ask asks) asks refl refl
+message_leads (False ask) asks =
+    found_leads Verifying ask answer.False (find_ask ask asks) asks refl refl
 message_leads (Granted job) asks = tt
 message_leads (Denied job) asks = tt
 
 -- by what is read
-reading_leads : (reading : Result FromChildMessage ChildFault) (asks : List Ask) → Leads (reading_verdict reading asks) asks
+reading_leads : (reading : Result FromChildMessage ChildFault) (asks : List Ask) →
+    Leads (reading_verdict reading asks) asks
 reading_leads (Ok message) asks = message_leads message asks
 reading_leads (Err fault) asks = tt
 
@@ -87,22 +99,27 @@ SettlingLeads settling asks = LeadTo settling.settled asks settling.asks
 
 -- a frame, and then what follows it
 after_leads : (v : Verdict) (later : List Ask → Settling) (asks : List Ask) → Leads v asks →
-    ((left : List Ask) → SettlingLeads (later left) left) → SettlingLeads (after_verdict v later asks) asks
+    ((left : List Ask) → SettlingLeads (later left) left) →
+    SettlingLeads (after_verdict v later asks) asks
 after_leads (Settles one left) later asks leads keeps = (
   leads.0,
-  subst (λ (all : List Ask). LeadTo (later left).settled all (later left).asks) leads.1 (keeps left),
+  subst (λ (all : List Ask). LeadTo (later left).settled all (later left).asks) leads.1
+      (keeps left),
 )
 after_leads (Stops fault) later asks leads keeps = refl
 
 -- all frames, and then what follows them
-settle_leads : (bodies : List (List ℕ)) (later : List Ask → Settling) → ((left : List Ask) → SettlingLeads (later left) left) →
+settle_leads : (bodies : List (List ℕ)) (later : List Ask → Settling) →
+    ((left : List Ask) → SettlingLeads (later left) left) →
     (asks : List Ask) → SettlingLeads (settle bodies later asks) asks
 settle_leads [] later keeps asks = keeps asks
 settle_leads (body ∷ bodies) later keeps asks =
-    after_leads (verdict body asks) (settle bodies later) asks (verdict_leads body asks) (settle_leads bodies later keeps)
+    after_leads (verdict body asks) (settle bodies later) asks (verdict_leads body asks)
+    (settle_leads bodies later keeps)
 
 -- the end of the stream leaves the asks as they are
-rest_leads : (answer : Front) (rest : List ℕ) (asks : List Ask) → SettlingLeads (at_rest answer rest asks) asks
+rest_leads : (answer : Front) (rest : List ℕ) (asks : List Ask) →
+    SettlingLeads (at_rest answer rest asks) asks
 rest_leads (Whole body_len) rest asks = refl
 rest_leads (Bad announced) rest asks = refl
 rest_leads More rest asks = refl
@@ -112,34 +129,45 @@ pub settling_leads : (bytes : List ℕ) (asks : List Ask) → SettlingLeads (set
 unfolding settling
 settling_leads bytes asks =
     let parts = split 262144 bytes in
-    settle_leads parts.bodies (at_rest (front 262144 parts.rest) parts.rest) (rest_leads (front 262144 parts.rest) parts.rest) asks
+    settle_leads parts.bodies (at_rest (front 262144 parts.rest) parts.rest)
+    (rest_leads (front 262144 parts.rest) parts.rest) asks
 
 -- ---- the asks that are left
 
 -- they are no more
-pub lead_fewer : (settled : List Settled) (asks left : List Ask) → LeadTo settled asks left → length left ≤ length asks
-lead_fewer [] asks left leads = let same : length left ≡ length asks = ap (λ (all : List Ask). length all) leads in omega arith
+pub lead_fewer : (settled : List Settled) (asks left : List Ask) → LeadTo settled asks left →
+    length left ≤ length asks
+lead_fewer [] asks left leads =
+    let same : length left ≡ length asks = ap (λ (all : List Ask). length all) leads in omega arith
 lead_fewer (one ∷ later) asks left leads =
-    omega (arith, remove_fewer one.ask asks, lead_fewer later (remove_ask one.ask asks) left leads.1)
+    let later_fewer = lead_fewer later (remove_ask one.ask asks) left leads.1 in
+    omega (arith, remove_fewer one.ask asks, later_fewer)
 
 -- they stay in order
-pub lead_rise : (settled : List Settled) (asks left : List Ask) (below last : ℕ) → LeadTo settled asks left → RiseTo below asks last →
+pub lead_rise : (settled : List Settled) (asks left : List Ask) (below last : ℕ) →
+    LeadTo settled asks left → RiseTo below asks last →
     RiseTo below left last
-lead_rise [] asks left below last leads rise = subst (λ (all : List Ask). RiseTo below all last) (sym leads) rise
+lead_rise [] asks left below last leads rise =
+    subst (λ (all : List Ask). RiseTo below all last) (sym leads) rise
 lead_rise (one ∷ later) asks left below last leads rise =
-    lead_rise later (remove_ask one.ask asks) left below last leads.1 (remove_rises one.ask below asks last rise)
+    lead_rise later (remove_ask one.ask asks) left below last leads.1
+    (remove_rises one.ask below asks last rise)
 
 -- a number that was answered finds none of them, and others find what they found
-pub lead_others : (number : ℕ) (settled : List Settled) (asks left : List Ask) (below last : ℕ) → LeadTo settled asks left →
-    RiseTo below asks last → find_ask number left ≡ cond (is_answered number settled) None (find_ask number asks)
+pub lead_others : (number : ℕ) (settled : List Settled) (asks left : List Ask) (below last : ℕ) →
+    LeadTo settled asks left →
+    RiseTo below asks last →
+    find_ask number left ≡ cond (is_answered number settled) None (find_ask number asks)
 lead_others number [] asks left below last leads rise = ap (find_ask number) leads
 lead_others number (one ∷ later) asks left below last leads rise =
-    lead_others number later (remove_ask one.ask asks) left below last leads.1 (remove_rises one.ask below asks last rise)
+    lead_others number later (remove_ask one.ask asks) left below last leads.1
+    (remove_rises one.ask below asks last rise)
     ∙ ap (cond (is_answered number later) None) (find-remove number one.ask below asks last rise)
     ∙ by_tests (one.ask == number) (is_answered number later)
   where
     by_tests : (is answered : Bool) →
-        cond answered None (cond is None (find_ask number asks)) ≡ cond (is || answered) None (find_ask number asks)
+        cond answered None (cond is None (find_ask number asks)) ≡ cond (is || answered) None
+        (find_ask number asks)
     by_tests true true = refl
     by_tests true false = refl
     by_tests false true = refl

@@ -22,57 +22,73 @@ nothing_is_part = front-short 262144 [] (omega arith)
 -- ---- asks
 
 -- fewer than the most are unanswered where no fault stands against an ask
-few_if : (full spent : Bool) (count : ℕ) → nat_lt (most_asks - 1) count ≡ full → ask_fault_by full spent ≡ None → count < most_asks
+few_if : (full spent : Bool) (count : ℕ) → nat_lt (most_asks - 1) count ≡ full →
+    ask_fault_by full spent ≡ None → count < most_asks
 few_if true spent count is none = absurd cc
 few_if false true count is none = absurd cc
 few_if false false count is none = grind arith
 
 -- more may be asked than nothing, as far as the link has come
-quiet_asked : (state : LinkState) (old new : HelperLink) → state ≢ states.None → new.heard ≡ old.heard → IsQuiet state old → IsQuiet state new
+quiet_asked : (state : LinkState) (old new : HelperLink) → state ≢ states.None →
+    new.heard ≡ old.heard → IsQuiet state old → IsQuiet state new
 quiet_asked states.None old new some same quiet = absurd (some refl)
 quiet_asked (states.Starting job) old new some same quiet = same ∙ quiet
 quiet_asked (states.Linked port) old new some same quiet = tt
 
 -- one ask more, where there is room, whatever is to be sent
-pub IsSound-push : (kind : AskKind) (asker : ℕ) (owed : List ℕ) (link : HelperLink) → link.state ≢ states.None → link.failed ≡ [] →
+pub IsSound-push : (kind : AskKind) (asker : ℕ) (owed : List ℕ) (link : HelperLink) →
+    link.state ≢ states.None → link.failed ≡ [] →
     length link.asks < most_asks → IsSound link →
-    IsSound (record link { asks = link.asks ++ (ask_of (link.last + 1) asker kind ∷ []); last = link.last + 1; owed = owed })
+    IsSound (record link {
+      asks = link.asks ++ (ask_of (link.last + 1) asker kind ∷ []);
+      last = link.last + 1;
+      owed = owed;
+    })
 IsSound-push kind asker owed link some none room sound = record {
   quiet = quiet_asked link.state link _ some refl sound.quiet;
   few = omega (arith, length-append link.asks (ask_of (link.last + 1) asker kind ∷ []), room);
   order = push_rises 0 link.asks link.last asker kind sound.order;
   failed = λ (are : 0 < length link.failed).
-      let count : length link.failed ≡ 0 = ap (λ (all : List ℕ). length all) none in absurd (omega (arith, are, count));
+      let count : length link.failed ≡ 0 = ap (λ (all : List ℕ). length all) none in
+      absurd (omega (arith, are, count));
   part = sound.part;
 }
 
 -- the same, by the fault
-pub IsSound-submitted : (kind : AskKind) (asker : ℕ) (request : ℕ → ToChildMessage) (link : HelperLink) → link.state ≢ states.None →
-    link.failed ≡ [] → ask_fault link ≡ None → IsSound link → IsSound (submitted kind asker request link)
+pub IsSound-submitted : (kind : AskKind) (asker : ℕ) (request : ℕ → ToChildMessage)
+    (link : HelperLink) → link.state ≢ states.None →
+    link.failed ≡ [] → ask_fault link ≡ None → IsSound link →
+    IsSound (submitted kind asker request link)
 IsSound-submitted kind asker request link some none fault sound =
     IsSound-push kind asker (submitted kind asker request link).owed link some none
-    (few_if (nat_lt (most_asks - 1) (length link.asks)) (link.last == 2 ^ 64 - 1) (length link.asks) refl fault) sound
+    (few_if (nat_lt (most_asks - 1) (length link.asks)) (link.last == 2 ^ 64 - 1)
+    (length link.asks) refl fault) sound
 
 -- ---- the helper's stream
 
 -- behind the whole frames there is less than a frame
-rest_part : (answer : Front) (rest : List ℕ) (asks : List Ask) → front 262144 rest ≡ answer → (StartsWithFrame 262144 rest → ⊥) →
+rest_part : (answer : Front) (rest : List ℕ) (asks : List Ask) → front 262144 rest ≡ answer →
+    (StartsWithFrame 262144 rest → ⊥) →
     front 262144 (at_rest answer rest asks).heard ≡ More
-rest_part (Whole body_len) rest asks is none = let whole = front_says 262144 rest (Whole body_len) is in absurd (none whole.0)
+rest_part (Whole body_len) rest asks is none =
+    let whole = front_says 262144 rest (Whole body_len) is in absurd (none whole.0)
 rest_part (Bad announced) rest asks is none = nothing_is_part
 rest_part More rest asks is none = is
 
 -- behind a frame there is what follows it, or nothing
-after_part : (v : Verdict) (later : List Ask → Settling) (asks : List Ask) → ((left : List Ask) → front 262144 (later left).heard ≡ More) →
+after_part : (v : Verdict) (later : List Ask → Settling) (asks : List Ask) →
+    ((left : List Ask) → front 262144 (later left).heard ≡ More) →
     front 262144 (after_verdict v later asks).heard ≡ More
 after_part (Settles one left) later asks keeps = keeps left
 after_part (Stops fault) later asks keeps = nothing_is_part
 
 -- and so behind all frames
-settle_part : (bodies : List (List ℕ)) (later : List Ask → Settling) → ((left : List Ask) → front 262144 (later left).heard ≡ More) →
+settle_part : (bodies : List (List ℕ)) (later : List Ask → Settling) →
+    ((left : List Ask) → front 262144 (later left).heard ≡ More) →
     (asks : List Ask) → front 262144 (settle bodies later asks).heard ≡ More
 settle_part [] later keeps asks = keeps asks
-settle_part (body ∷ bodies) later keeps asks = after_part (verdict body asks) (settle bodies later) asks (settle_part bodies later keeps)
+settle_part (body ∷ bodies) later keeps asks =
+    after_part (verdict body asks) (settle bodies later) asks (settle_part bodies later keeps)
 
 -- what a stream leaves is less than a frame
 settling_part : (bytes : List ℕ) (asks : List Ask) → front 262144 (settling bytes asks).heard ≡ More
@@ -80,13 +96,15 @@ unfolding settling
 settling_part bytes asks =
     let parts = split 262144 bytes in
     settle_part parts.bodies (at_rest (front 262144 parts.rest) parts.rest)
-    (λ left. rest_part (front 262144 parts.rest) parts.rest left refl (rest_has_no_frame 262144 bytes)) asks
+    (λ left. rest_part (front 262144 parts.rest) parts.rest left refl
+    (rest_has_no_frame 262144 bytes)) asks
 
 -- a list that is no longer than one without elements has none
 none_left : (left asks : List Ask) → length left ≤ length asks → asks ≡ [] → left ≡ []
 none_left [] asks fewer none = refl
 none_left (ask ∷ left) asks fewer none =
-    let count : length asks ≡ 0 = ap (λ (all : List Ask). length all) none in absurd (omega (arith, fewer, count))
+    let count : length asks ≡ 0 = ap (λ (all : List Ask). length all) none in
+    absurd (omega (arith, fewer, count))
 
 -- where the helper is there, anything may be
 quiet_linked : (state : LinkState) (link : HelperLink) → IsLinked state → IsQuiet state link
@@ -95,8 +113,10 @@ quiet_linked (states.Starting job) link is = absurd is
 quiet_linked (states.Linked port) link is = tt
 
 -- what a stream settles
-pub IsSound-settled : (bytes : List ℕ) (asks : List Ask) (heard : List ℕ) (link : HelperLink) → IsLinked link.state → IsSound link →
-    (settling bytes link.asks).asks ≡ asks → (settling bytes link.asks).heard ≡ heard → IsSound (record link { asks = asks; heard = heard })
+pub IsSound-settled : (bytes : List ℕ) (asks : List Ask) (heard : List ℕ) (link : HelperLink) →
+    IsLinked link.state → IsSound link →
+    (settling bytes link.asks).asks ≡ asks → (settling bytes link.asks).heard ≡ heard →
+    IsSound (record link { asks = asks; heard = heard })
 IsSound-settled bytes asks heard link is sound left rest =
     let all = settling bytes link.asks in
     let leads = settling_leads bytes link.asks in
@@ -110,7 +130,8 @@ IsSound-settled bytes asks heard link is sound left rest =
     }
 
 -- nothing unanswered and nothing heard
-pub IsSound-cleared : (link : HelperLink) → IsLinked link.state → IsSound (record link { asks = []; heard = [] })
+pub IsSound-cleared : (link : HelperLink) → IsLinked link.state →
+    IsSound (record link { asks = []; heard = [] })
 IsSound-cleared link is = record {
   quiet = quiet_linked link.state _ is;
   few = omega arith;
@@ -120,7 +141,8 @@ IsSound-cleared link is = record {
 }
 
 -- no helper, and nothing unanswered, to be sent or heard
-pub IsSound-gone : (link : HelperLink) → IsSound (record link { state = states.None; asks = []; owed = []; heard = [] })
+pub IsSound-gone : (link : HelperLink) →
+    IsSound (record link { state = states.None; asks = []; owed = []; heard = [] })
 IsSound-gone link = record {
   quiet = (refl, refl, refl);
   few = omega arith;
@@ -130,5 +152,7 @@ IsSound-gone link = record {
 }
 
 -- a piece of the helper's stream
-pub IsSound-telling : (piece : List ℕ) (link : HelperLink) → IsLinked link.state → IsSound link → IsSound (telling piece link).link
-IsSound-telling piece link is sound = IsSound-settled (link.heard ++ piece) _ _ link is sound refl refl
+pub IsSound-telling : (piece : List ℕ) (link : HelperLink) → IsLinked link.state → IsSound link →
+    IsSound (telling piece link).link
+IsSound-telling piece link is sound =
+    IsSound-settled (link.heard ++ piece) _ _ link is sound refl refl

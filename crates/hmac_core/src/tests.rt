@@ -28,6 +28,35 @@ fn rising_key() -> [u8; 25] {
     key
 }
 
+/// Keys of one block of 64 bytes, which is not hashed, and of one byte more, which is, by Python:
+/// hmac.new(b"\xaa" * 64, b"A key of one block", "sha256").hexdigest(), and so on.
+const ONE_BLOCK: [(usize, &str, &str); 2] = [
+    (
+        64,
+        "b5b86f81df168468b268232499050165f50178f034d3e22b81c4e2d7b6623d15",
+        "090d737322d8d64c275a5b69cc1efa2772fe364c",
+    ),
+    (
+        65,
+        "f2a2548c27e3eb2f9076b5e3af7c9bcbbd918e2565da84bb92e60d5fb654cd34",
+        "fab2db9c93628e5968a7ade22e24a1c169905a2b",
+    ),
+];
+
+#[test]
+fn a_key_of_one_block_is_not_hashed(rt: HostRuntime) {
+    let key = [0xaa; 65];
+    for (len, sha256, sha1) in ONE_BLOCK {
+        let key = &key[..len];
+        let message = b"A key of one block".as_slice();
+        assert!(rt;
+            shows(hmac_sha256(key, message).as_slice(), sha256),
+            "{len}"
+        );
+        assert!(rt; shows(hmac_sha1(key, message).as_slice(), sha1), "{len}");
+    }
+}
+
 #[test]
 fn sha256_gives_the_vectors_of_rfc_4231(rt: HostRuntime) {
     let rising = rising_key();

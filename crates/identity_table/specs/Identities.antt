@@ -91,11 +91,22 @@ HaveOwnNumbers last [] = Unit {0}
 HaveOwnNumbers last (key ∷ keys) =
     (key.number ≤ last) × (find_number key.number keys ≡ None) × HaveOwnNumbers last keys
 
--- each identity has its own blob and its own number, and one message lists them all
+-- the longest private string: as long as the longest message (ours)
+abbrev pub longest_private : ℕ
+longest_private = 262144
+
+-- none has a longer private string
+unfoldable pub AreShort : List HeldKey → Type 0
+AreShort [] = Unit {0}
+AreShort (key ∷ keys) = (length key.private ≤ longest_private) × AreShort keys
+
+-- each identity has its own blob and its own number, one message lists them all, and no private
+-- string is longer than a message
 pub record IsSound (keys : List HeldKey) (last : ℕ) : Type 0 where
   pub blobs : HaveOwnBlobs keys
   pub numbers : HaveOwnNumbers last keys
   pub fits : answer_len keys ≤ max_answer
+  pub short : AreShort keys
 
 -- ---- additions
 

@@ -18,6 +18,7 @@ pub use fault::AddFault;
 pub use identity::Identity;
 pub use laws::{
     addition_numbers_never_begin_again, blob_and_number_find_the_same, tables_stay_sound,
+    what_is_held_is_short,
 };
 pub use list::listed_len;
 pub use lock::Lock;

@@ -1,6 +1,6 @@
-ghost use Rattle.std.specs.Prelude.{◌≡◌, Some, None, is_some};
+ghost use Rattle.std.specs.Prelude.{◌≡◌, ◌≤◌, Some, None, is_some, length};
 ghost use Rattle.std.specs.Bool.{OnTrue, OnFalse};
-ghost use Rattle.identity_table.specs.Lock.{can_lock, can_unlock};
+ghost use Rattle.identity_table.specs.Lock.{HasShort, can_lock, can_unlock, longest_passphrase};
 
 use secret_buf::SecretBytes;
 use std::marker::Model;
@@ -15,10 +15,13 @@ pub struct Lock {
 
 impl Model for Lock {
     ghost use Rattle.std.specs.Prelude.{List, ℕ, Option};
+    ghost use Rattle.identity_table.specs.Lock.{HasShort};
 
     ghost Value = { Option (List ℕ) };
 
     ghost view = { λ lock. lock.passphrase };
+
+    ghost invariant = { λ lock. HasShort lock.passphrase };
 }
 
 impl Lock {
@@ -31,13 +34,15 @@ impl Lock {
 
     /// Whether it is locked.
     pub fn is_locked(&self) -> bool
-        ensures { result ≡ is_some self.now }
+        ensures value { result ≡ is_some self.now }
+        ensures short { HasShort self.now }
     {
         self.passphrase.is_some()
     }
 
     /// Locks it, unless it is locked or the passphrase is empty.
     pub fn lock(&mut self, passphrase: SecretBytes) -> bool
+        requires { length passphrase ≤ longest_passphrase }
         ensures value { result ≡ can_lock self.old passphrase }
         ensures locked { OnTrue result (self.new ≡ Some passphrase) }
         ensures unchanged { OnFalse result (self.new ≡ self.old) }

@@ -1,6 +1,6 @@
 ghost use Rattle.std.specs.Prelude.{◌≡◌, ◌+◌, ◌≤◌, ◌↔◌, IsSome, IsTrue, IfOk, MatchResult, None, OnOk, OnErr, length, slice_get};
 ghost use Rattle.std.specs.Option.{option_copied};
-ghost use Rattle.identity_table.specs.Identities.{IsSound, added, find_identity, find_number, next_death};
+ghost use Rattle.identity_table.specs.Identities.{IsSound, added, find_identity, find_number, longest_private, next_death};
 ghost use Rattle.identity_table.specs.Tables.{IsRefusedWith, add_fault, emptied, empty_table, expired, without};
 
 use crate::deadline::Deadline;
@@ -77,7 +77,8 @@ impl Table {
         comment: &[u8],
         now: u64,
     ) -> Result<u64, AddFault>
-        requires { self.old.greatest ≤ now }
+        requires clock { self.old.greatest ≤ now }
+        requires short { length key.private ≤ longest_private }
         ensures number { IfOk result (λ number. number ≡ self.old.last + 1) }
         ensures added { OnOk result (self.new ≡ added self.old key terms comment.now now) }
         ensures fault { MatchResult result (λ _. add_fault self.old key terms comment.now now ≡ None)
@@ -105,7 +106,8 @@ impl Table {
 
     /// The identity with this blob.
     pub fn find(&self, blob: &[u8]) -> Option<&Identity>
-        ensures { option_copied result ≡ find_identity blob.now self.now.identities }
+        ensures value { option_copied result ≡ find_identity blob.now self.now.identities }
+        ensures sound { IsSound self.now.identities self.now.last }
     {
         let place = place_of(&self.identities, blob)?;
         Some(&self.identities[place])
@@ -113,7 +115,8 @@ impl Table {
 
     /// The identity of this addition, where it is held and wasn't replaced.
     pub fn by_number(&self, addition: u64) -> Option<&Identity>
-        ensures { option_copied result ≡ find_number addition self.now.identities }
+        ensures value { option_copied result ≡ find_number addition self.now.identities }
+        ensures sound { IsSound self.now.identities self.now.last }
     {
         let place = place_of_number(&self.identities, addition)?;
         Some(&self.identities[place])

@@ -1,7 +1,7 @@
 //! Orders and times as OpenSSH's ssh-agent has them, worked out by hand; each public call once with
 //! ample memory.
 
-ghost use Rattle.std.specs.Prelude.{◌≡◌};
+ghost use Rattle.std.specs.Prelude.{◌≡◌, ◌≤◌, IfOk, length};
 
 use super::*;
 use constraint_rec::Terms;
@@ -11,7 +11,9 @@ use secret_buf::SecretBytes;
 use std::alloc::Global;
 use std::test::Fail;
 
-fn key(alloc: Global, blob: &[u8], private: &[u8]) -> Result<AddedKey, Fail> {
+fn key(alloc: Global, blob: &[u8], private: &[u8]) -> Result<AddedKey, Fail>
+    ensures { IfOk result (λ key. key.private ≡ private.now) }
+{
     Ok(AddedKey {
         blob: Bytes::from_vec(Vec::from_slice(alloc, blob)?),
         private: SecretBytes::from_slice(alloc, private)?,
@@ -28,7 +30,8 @@ fn terms(alloc: Global, life: Option<u32>, confirm: bool) -> Terms {
 
 // Adds a key without constraints, whose private bytes are its comment.
 fn add(alloc: Global, table: &mut Table, blob: &[u8], comment: &[u8]) -> Result<u64, Fail>
-    requires { table.old.greatest ≡ 0 }
+    requires clock { table.old.greatest ≡ 0 }
+    requires short { length comment.now ≤ 262144 }
     ensures { table.new.greatest ≡ 0 }
 {
     let key = key(alloc, blob, comment)?;

@@ -12,7 +12,8 @@ named_in host (Some found) later = is_match host found.0 || later found.1
 -- the same of so many strings at most
 unfoldable pub names_host_up_to : ℕ → List ℕ → List ℕ → Bool
 names_host_up_to zero host bytes = false
-names_host_up_to (suc count) host bytes = named_in host (string_at bytes) (names_host_up_to count host)
+names_host_up_to (suc count) host bytes =
+    named_in host (string_at bytes) (names_host_up_to count host)
 
 -- one of the strings that the bytes begin with is a pattern that matches the host (ours)
 abbrev pub names_host : List ℕ → List ℕ → Bool
@@ -22,4 +23,5 @@ names_host host bytes = names_host_up_to (length bytes) host bytes
 unfoldable pub is_valid : CertificateParts → List ℕ → ℕ → Bool
 is_valid parts host wall =
     (parts.cert_type == 2) && not (nat_lt wall parts.after) && nat_lt wall parts.before
-    && is_nothing parts.critical && (is_nothing parts.principals || names_host host parts.principals)
+    && is_nothing parts.critical
+    && (is_nothing parts.principals || names_host host parts.principals)

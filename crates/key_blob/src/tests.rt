@@ -1,6 +1,7 @@
 //! Keys of OpenSSH, and a text for each fault, some with a second fault behind the first.
 
 mod additions;
+mod certificate_faults;
 mod certificates;
 mod certified;
 mod hosts;

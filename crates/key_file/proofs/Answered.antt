@@ -7,7 +7,8 @@ use Rattle.key_file.specs.declared.fault.PubFault.{PubFault}
 use Rattle.key_file.specs.declared.fault.PubFault.TheVariants.{Key, Memory}
 use Rattle.key_file.specs.PublicLines.{IsTyped, IsPublicLine, typed_key, line_key}
 use Rattle.key_file.proofs.LineLemmas.{typed_is_found, typed_is_read, typed_needs_none}
-use Rattle.key_file.proofs.PublicLineLemmas.{line_is_found, line_is_read, line_needs_none}
+use Rattle.key_file.proofs.PublicLineLemmas.{line_is_found}
+use Rattle.key_file.proofs.PublicLineReading.{line_is_read, line_needs_none}
 
 -- the answer is the definition's blob or fault, or memory ran out
 abbrev IsAnswer : {V : Type 0} → (V → List ℕ) → Result V PubFault → Result (List ℕ) PubFault → Type 0

@@ -2,10 +2,13 @@ pub mod StepLemmas
 pub mod DecodedBytes
 pub mod Base64Lemmas
 pub mod PartLemmas
+pub mod Base64Letters
 pub mod LineLemmas
 pub mod PublicLineLemmas
+pub mod PublicLineReading
 pub mod PlainKeyLemmas
 pub mod FieldLemmas
+pub mod PrivateLemmas
 pub mod BodyLemmas
 pub mod WritingLemmas
 pub mod MemoryLemmas

@@ -8,8 +8,8 @@ ghost use Rattle.key_file.specs.Bodies.{IsBody, IsBodyText, IsWritable, body_byt
 ghost use Rattle.key_file.specs.BodyReading.{body_of, file_of};
 ghost use Rattle.key_file.specs.PublicLines.{IsPublicLine, line_key};
 
-/// A text is read as base64 exactly where it is that of some bytes, and as these: bits that are left
-/// over in its last character are zero, and `=` fills the last four characters.
+/// A text is read as base64 exactly where it is that of some bytes, and as these: bits that are
+/// left over in its last character are zero, and `=` fills the last four characters.
 pub fn base64_is_read_exactly()
     ensures { (text bytes : List ℕ) → IsBytes text
         → (bytes_of text ≡ Some bytes) ↔ IsBase64 text bytes }

@@ -1,6 +1,7 @@
 //! Keys as OpenSSH keeps them in files: private keys that aren't encrypted, and public keys.
 //!
-//! Stands on `key_blob` for the keys, on `wire_core` for fields and on `secret_buf` for private bytes.
+//! Stands on `key_blob` for the keys, on `wire_core` for fields and on `secret_buf` for private
+//! bytes.
 #![tactic(auto)]
 
 mod body;

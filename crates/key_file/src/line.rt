@@ -65,8 +65,8 @@ fn key_in(alloc: Global, text: &[u8]) -> Result<Vec<u8>, PubFault>
     read_typed(alloc, type_name, encoded)
 }
 
-/// Reads the blob of the public key whose line `text` begins with: type, base64 and a comment, which
-/// isn't read, with single spaces between them.
+/// Reads the blob of the public key whose line `text` begins with: type, base64 and a comment, with
+/// single spaces between them. The comment isn't read.
 pub fn read_pub_line(alloc: Global, text: &[u8]) -> Result<Vec<u8>, PubFault>
     // What is read is the key of the first line.
     ensures found { IfOk result (λ blob. IsPublicLine text.now blob.items) }

@@ -11,8 +11,8 @@ use std::marker::Model;
 
 /// Bytes on the heap that are set to zero before they are given back.
 ///
-/// The `Vec` is never grown: a growing one is moved by the C library's `realloc`, which leaves the old
-/// block's bytes as they are.
+/// The `Vec` is never grown: a growing one is moved by the C library's `realloc`, which leaves the
+/// old block's bytes as they are.
 pub struct Scratch {
     bytes: Vec<u8>,
 }
@@ -40,8 +40,8 @@ impl Scratch {
         self.bytes.as_slice()
     }
 
-    /// Writes the bytes whose base64 `text` is over the first ones, and gives their number. Where it
-    /// is that of none, some of the bytes may be written over too.
+    /// Writes the bytes whose base64 `text` is over the first ones, and gives their number. Where
+    /// it is that of none, some of the bytes may be written over too.
     #[tactic(auto, unfolding(crate::specs::Base64::bytes_of))]
     pub fn decode(&mut self, text: &[u8]) -> Option<usize>
         requires { decoded_estimate (length text.now) ≤ length self.old }
@@ -56,8 +56,8 @@ impl Scratch {
 }
 
 impl Drop for Scratch {
-    // What asks something before it is dropped can't be given to `forget`, or to any other call that
-    // drops or leaks what it is given.
+    // What asks something before it is dropped can't be given to `forget`, or to any other call
+    // that drops or leaks what it is given.
     fn drop(self)
         requires { self ≡ self }
     {

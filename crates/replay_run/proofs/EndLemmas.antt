@@ -6,7 +6,7 @@ use Rattle.schedule_text.specs.declared.fault.LineFault.{LineFault}
 use Rattle.replay_run.specs.Replay.{Run, last_turned, ending}
 use Rattle.replay_run.specs.Feeding.{Feeding, Wrote, IsReady}
 use Rattle.world_ports.specs.Streams.{StreamView, WritesPart}
-use Rattle.replay_run.specs.Claims.{end_by, end_of, ending_text, ending_run, Finishes, FinishesUnwritten}
+use Rattle.replay_run.specs.Finishing.{end_by, end_of, ending_text, ending_run, Finishes, FinishesAtWriteFault}
 use Rattle.replay_run.proofs.GoesOnLemmas.{printed-last, ran-last}
 
 -- nothing was written of a text
@@ -43,8 +43,8 @@ finished old new before after run_is out_is wrote =
     finished_by new.run.refused old new before after refl run_is (subst (λ (o : List ℕ). Wrote before after o) out_is wrote)
 
 -- some of it was written
-pub finishes_unwritten : (old new : Feeding) (before after : StreamView) → new.out ≡ ending_text old → WritesPart new.out before after → Rose before.write_faults after.write_faults → FinishesUnwritten old before after
-finishes_unwritten old new before after out_is some cause = record {
+pub finishes_at_write_fault : (old new : Feeding) (before after : StreamView) → new.out ≡ ending_text old → WritesPart new.out before after → Rose before.write_faults after.write_faults → FinishesAtWriteFault old before after
+finishes_at_write_fault old new before after out_is some cause = record {
   front = subst (λ (o : List ℕ). WritesPart o before after) out_is some;
   cause = cause;
 }

@@ -7,7 +7,8 @@ use Rattle.std.specs.Ordering.{nat_cmp}
 use Rattle.std.specs.Set.{remove_key}
 use Rattle.std.proofs.lemmas.Bool.{and_parts}
 use Rattle.std.proofs.lemmas.Bool.Decides.{nat_tests}
-use Rattle.agent_core.specs.State.{Port, IsRising, find_port, next_owed, owed_at, owed_by, is_some_bytes}
+use Rattle.agent_model.specs.Sound.{IsRising}
+use Rattle.agent_model.specs.State.{Port, UnderWay, find_port, is_some_bytes, next_owed_in, owed_by, owed_by_port}
 use Rattle.replay_run.specs.Holding.{free_port, hold_port, is_due, is_held, next_unheld}
 
 -- ---- the set of the standard library
@@ -64,12 +65,12 @@ none_by true false c n owed unheld none later = later none
 none_by false b c n owed unheld none later = later none
 
 -- where no port is owed bytes, none takes
-pub unheld_none : (after : ℕ) (held : List ℕ) (ports : List Port) → next_owed after ports ≡ None
-    → next_unheld after held ports ≡ None
-unheld_none after held [] none = refl
-unheld_none after held (first ∷ ports) none =
-    none_by (nat_lt after first.number) (is_some_bytes first.owed) (not (is_held first.number held)) first.number
-    (next_owed after ports) (next_unheld after held ports) none (λ h. unheld_none after held ports h)
+pub unheld_none : (u : UnderWay) (after : ℕ) (held : List ℕ) (ports : List Port) → next_owed_in after ports u ≡ None
+    → next_unheld u after held ports ≡ None
+unheld_none u after held [] none = refl
+unheld_none u after held (first ∷ ports) none =
+    none_by (nat_lt after first.number) (is_some_bytes (owed_by_port first u)) (not (is_held first.number held)) first.number
+    (next_owed_in after ports u) (next_unheld u after held ports) none (λ h. unheld_none u after held ports h)
 
 -- the same, where it is the one
 some_by : (a b c : Bool) (n port : ℕ) (owed unheld : Option ℕ) → (if a && b then Some n else owed) ≡ Some port
@@ -84,14 +85,14 @@ some_by true false c n port owed unheld is loose later = later is
 some_by false b c n port owed unheld is loose later = later is
 
 -- the next port that is owed bytes takes them where it isn't held
-pub unheld_some : (after : ℕ) (held : List ℕ) (ports : List Port) (port : ℕ) → next_owed after ports ≡ Some port
-    → is_held port held ≡ false → next_unheld after held ports ≡ Some port
-unheld_some after held [] port is loose = absurd (cc)
-unheld_some after held (first ∷ ports) port is loose =
-    some_by (nat_lt after first.number) (is_some_bytes first.owed) (not (is_held first.number held)) first.number port
-    (next_owed after ports) (next_unheld after held ports) is
+pub unheld_some : (u : UnderWay) (after : ℕ) (held : List ℕ) (ports : List Port) (port : ℕ) → next_owed_in after ports u ≡ Some port
+    → is_held port held ≡ false → next_unheld u after held ports ≡ Some port
+unheld_some u after held [] port is loose = absurd (cc)
+unheld_some u after held (first ∷ ports) port is loose =
+    some_by (nat_lt after first.number) (is_some_bytes (owed_by_port first u)) (not (is_held first.number held)) first.number port
+    (next_owed_in after ports u) (next_unheld u after held ports) is
     (λ (same : first.number ≡ port). ap (λ n. not (is_held n held)) same ∙ ap not loose)
-    (λ h. unheld_some after held ports port h loose)
+    (λ h. unheld_some u after held ports port h loose)
 
 -- numbers that rise end no lower than they begin
 rising-le : (low high : ℕ) (ports : List Port) → IsRising low high ports → low ≤ high
@@ -101,99 +102,99 @@ rising-le low high (first ∷ ports) rising =
     omega (arith, rising.0)
 
 -- by whether the first port is owed bytes
-bound_by : (after high port : ℕ) (first : Port) (ports : List Port) (test : Bool)
-    → (nat_lt after first.number && is_some_bytes first.owed) ≡ test → IsRising first.number high ports
-    → (if test then Some first.number else next_owed after ports) ≡ Some port
-    → (next_owed after ports ≡ Some port → (after < port) × (first.number < port) × (port ≤ high))
+bound_by : (u : UnderWay) (after high port : ℕ) (first : Port) (ports : List Port) (test : Bool)
+    → (nat_lt after first.number && is_some_bytes (owed_by_port first u)) ≡ test → IsRising first.number high ports
+    → (if test then Some first.number else next_owed_in after ports u) ≡ Some port
+    → (next_owed_in after ports u ≡ Some port → (after < port) × (first.number < port) × (port ≤ high))
     → (after < port) × (first.number ≤ port) × (port ≤ high)
-bound_by after high port first ports true is rising found later =
+bound_by u after high port first ports true is rising found later =
     let same : port ≡ first.number = cc in
-    let above = lt_is after first.number (and_parts (nat_lt after first.number) (is_some_bytes first.owed) is).0 in
+    let above = lt_is after first.number (and_parts (nat_lt after first.number) (is_some_bytes (owed_by_port first u)) is).0 in
     let last = rising-le first.number high ports rising in
     (omega arith, omega arith, omega arith)
-bound_by after high port first ports false is rising found later =
+bound_by u after high port first ports false is rising found later =
     let rest = later found in
     (rest.0, omega (arith, rest.1), rest.2)
 
 -- the next port that is owed bytes stands above, and among the ports
-pub next_bound : (after low high port : ℕ) (ports : List Port) → IsRising low high ports → next_owed after ports ≡ Some port
+pub next_bound : (u : UnderWay) (after low high port : ℕ) (ports : List Port) → IsRising low high ports → next_owed_in after ports u ≡ Some port
     → (after < port) × (low < port) × (port ≤ high)
-next_bound after low high port [] rising found = absurd (cc)
-next_bound after low high port (first ∷ ports) rising found =
-    let bound = bound_by after high port first ports (nat_lt after first.number && is_some_bytes first.owed) refl rising.1 found
-    (λ h. next_bound after first.number high port ports rising.1 h) in
+next_bound u after low high port [] rising found = absurd (cc)
+next_bound u after low high port (first ∷ ports) rising found =
+    let bound = bound_by u after high port first ports (nat_lt after first.number && is_some_bytes (owed_by_port first u)) refl rising.1 found
+    (λ h. next_bound u after first.number high port ports rising.1 h) in
     (bound.0, omega (arith, bound.1, rising.0), bound.2)
 
 -- below all ports it is the same from where one looks
-unheld_same : (low high a b : ℕ) (held : List ℕ) (ports : List Port) → IsRising low high ports → a ≤ low → b ≤ low
-    → next_unheld a held ports ≡ next_unheld b held ports
-unheld_same low high a b held [] rising below_a below_b = refl
-unheld_same low high a b held (first ∷ ports) rising below_a below_b =
+unheld_same : (u : UnderWay) (low high a b : ℕ) (held : List ℕ) (ports : List Port) → IsRising low high ports → a ≤ low → b ≤ low
+    → next_unheld u a held ports ≡ next_unheld u b held ports
+unheld_same u low high a b held [] rising below_a below_b = refl
+unheld_same u low high a b held (first ∷ ports) rising below_a below_b =
     let above = rising.0 in
-    let due = is_some_bytes first.owed && not (is_held first.number held) in
-    ap (λ t. if t && due then Some first.number else next_unheld a held ports) (lt_true a first.number (omega arith))
+    let due = is_some_bytes (owed_by_port first u) && not (is_held first.number held) in
+    ap (λ t. if t && due then Some first.number else next_unheld u a held ports) (lt_true a first.number (omega arith))
     ∙ ap (λ (rest : Option ℕ). if due then Some first.number else rest)
-    (unheld_same first.number high a b held ports rising.1 (omega arith) (omega arith))
-    ∙ sym (ap (λ t. if t && due then Some first.number else next_unheld b held ports) (lt_true b first.number (omega arith)))
+    (unheld_same u first.number high a b held ports rising.1 (omega arith) (omega arith))
+    ∙ sym (ap (λ t. if t && due then Some first.number else next_unheld u b held ports) (lt_true b first.number (omega arith)))
 
 -- by whether the first port is owed bytes
-held_by : (low high after port : ℕ) (held : List ℕ) (first : Port) (ports : List Port) (test : Bool)
-    → (nat_lt after first.number && is_some_bytes first.owed) ≡ test → IsRising low high (first ∷ ports)
-    → (if test then Some first.number else next_owed after ports) ≡ Some port → is_held port held ≡ true
-    → (next_owed after ports ≡ Some port → next_unheld after held ports ≡ next_unheld port held ports)
-    → next_unheld after held (first ∷ ports) ≡ next_unheld port held (first ∷ ports)
-held_by low high after port held first ports true is rising found there later =
+held_by : (u : UnderWay) (low high after port : ℕ) (held : List ℕ) (first : Port) (ports : List Port) (test : Bool)
+    → (nat_lt after first.number && is_some_bytes (owed_by_port first u)) ≡ test → IsRising low high (first ∷ ports)
+    → (if test then Some first.number else next_owed_in after ports u) ≡ Some port → is_held port held ≡ true
+    → (next_owed_in after ports u ≡ Some port → next_unheld u after held ports ≡ next_unheld u port held ports)
+    → next_unheld u after held (first ∷ ports) ≡ next_unheld u port held (first ∷ ports)
+held_by u low high after port held first ports true is rising found there later =
     let same : first.number ≡ port = cc in
-    let above = lt_is after first.number (and_parts (nat_lt after first.number) (is_some_bytes first.owed) is).0 in
-    pass_held (nat_lt after first.number) (is_some_bytes first.owed) (not (is_held first.number held)) first.number
-    (next_unheld after held ports) (ap (λ n. not (is_held n held)) same ∙ ap not there)
-    ∙ unheld_same first.number high after port held ports rising.1 (omega arith) (omega arith)
-    ∙ sym (pass_low (nat_lt port first.number) (is_some_bytes first.owed) (not (is_held first.number held)) first.number
-    (next_unheld port held ports) (lt_false port first.number (omega arith)))
-held_by low high after port held first ports false is rising found there later =
-    let above = (next_bound after first.number high port ports rising.1 found).1 in
-    pass_unowed (nat_lt after first.number) (is_some_bytes first.owed) (not (is_held first.number held)) first.number
-    (next_unheld after held ports) is
+    let above = lt_is after first.number (and_parts (nat_lt after first.number) (is_some_bytes (owed_by_port first u)) is).0 in
+    pass_held (nat_lt after first.number) (is_some_bytes (owed_by_port first u)) (not (is_held first.number held)) first.number
+    (next_unheld u after held ports) (ap (λ n. not (is_held n held)) same ∙ ap not there)
+    ∙ unheld_same u first.number high after port held ports rising.1 (omega arith) (omega arith)
+    ∙ sym (pass_low (nat_lt port first.number) (is_some_bytes (owed_by_port first u)) (not (is_held first.number held)) first.number
+    (next_unheld u port held ports) (lt_false port first.number (omega arith)))
+held_by u low high after port held first ports false is rising found there later =
+    let above = (next_bound u after first.number high port ports rising.1 found).1 in
+    pass_unowed (nat_lt after first.number) (is_some_bytes (owed_by_port first u)) (not (is_held first.number held)) first.number
+    (next_unheld u after held ports) is
     ∙ later found
-    ∙ sym (pass_low (nat_lt port first.number) (is_some_bytes first.owed) (not (is_held first.number held)) first.number
-    (next_unheld port held ports) (lt_false port first.number (omega arith)))
+    ∙ sym (pass_low (nat_lt port first.number) (is_some_bytes (owed_by_port first u)) (not (is_held first.number held)) first.number
+    (next_unheld u port held ports) (lt_false port first.number (omega arith)))
 
 -- and is passed over where it is held
-pub unheld_later : (low high after port : ℕ) (held : List ℕ) (ports : List Port) → IsRising low high ports
-    → next_owed after ports ≡ Some port → is_held port held ≡ true
-    → next_unheld after held ports ≡ next_unheld port held ports
-unheld_later low high after port held [] rising found there = absurd (cc)
-unheld_later low high after port held (first ∷ ports) rising found there =
-    held_by low high after port held first ports (nat_lt after first.number && is_some_bytes first.owed) refl rising found there
-    (λ h. unheld_later first.number high after port held ports rising.1 h there)
+pub unheld_later : (u : UnderWay) (low high after port : ℕ) (held : List ℕ) (ports : List Port) → IsRising low high ports
+    → next_owed_in after ports u ≡ Some port → is_held port held ≡ true
+    → next_unheld u after held ports ≡ next_unheld u port held ports
+unheld_later u low high after port held [] rising found there = absurd (cc)
+unheld_later u low high after port held (first ∷ ports) rising found there =
+    held_by u low high after port held first ports (nat_lt after first.number && is_some_bytes (owed_by_port first u)) refl rising found there
+    (λ h. unheld_later u first.number high after port held ports rising.1 h there)
 
 -- ---- what is found
 
 -- by whether the first port is the one
-found_by : (low after number : ℕ) (held : List ℕ) (first : Port) (ports : List Port) (test : Bool)
-    → (nat_lt after first.number && is_due held first) ≡ test → low < first.number
-    → (if test then Some first.number else next_unheld after held ports) ≡ Some number
-    → (next_unheld after held ports ≡ Some number
-    → (port : Port) × (find_port number ports ≡ Some port) × (is_some_bytes port.owed ≡ true) × (first.number < number))
-    → (port : Port) × (find_port number (first ∷ ports) ≡ Some port) × (is_some_bytes port.owed ≡ true) × (low < number)
-found_by low after number held first ports true is above found later =
+found_by : (u : UnderWay) (low after number : ℕ) (held : List ℕ) (first : Port) (ports : List Port) (test : Bool)
+    → (nat_lt after first.number && is_due u held first) ≡ test → low < first.number
+    → (if test then Some first.number else next_unheld u after held ports) ≡ Some number
+    → (next_unheld u after held ports ≡ Some number
+    → (port : Port) × (find_port number ports ≡ Some port) × (is_some_bytes (owed_by_port port u) ≡ true) × (first.number < number))
+    → (port : Port) × (find_port number (first ∷ ports) ≡ Some port) × (is_some_bytes (owed_by_port port u) ≡ true) × (low < number)
+found_by u low after number held first ports true is above found later =
     let same : number ≡ first.number = cc in
-    let due = (and_parts (nat_lt after first.number) (is_due held first) is).1 in
-    (first, grind (arith, nat_tests), (and_parts (is_some_bytes first.owed) (not (is_held first.number held)) due).0, omega arith)
-found_by low after number held first ports false is above found later =
+    let due = (and_parts (nat_lt after first.number) (is_due u held first) is).1 in
+    (first, grind (arith, nat_tests), (and_parts (is_some_bytes (owed_by_port first u)) (not (is_held first.number held)) due).0, omega arith)
+found_by u low after number held first ports false is above found later =
     let p = later found in
     let beyond : first.number < number = p.3 in
     let here : find_port number ports ≡ Some p.0 = p.1 in
     (p.0, grind (arith, nat_tests), p.2, omega arith)
 
 -- where numbers rise, the port that takes next is the one of its number, and owed bytes
-pub found_unheld : (low high after number : ℕ) (held : List ℕ) (ports : List Port) → IsRising low high ports
-    → next_unheld after held ports ≡ Some number
-    → (port : Port) × (find_port number ports ≡ Some port) × (is_some_bytes port.owed ≡ true) × (low < number)
-found_unheld low high after number held [] rising found = absurd (cc)
-found_unheld low high after number held (first ∷ ports) rising found =
-    found_by low after number held first ports (nat_lt after first.number && is_due held first) refl rising.0 found
-    (λ h. found_unheld first.number high after number held ports rising.1 h)
+pub found_unheld : (u : UnderWay) (low high after number : ℕ) (held : List ℕ) (ports : List Port) → IsRising low high ports
+    → next_unheld u after held ports ≡ Some number
+    → (port : Port) × (find_port number ports ≡ Some port) × (is_some_bytes (owed_by_port port u) ≡ true) × (low < number)
+found_unheld u low high after number held [] rising found = absurd (cc)
+found_unheld u low high after number held (first ∷ ports) rising found =
+    found_by u low after number held first ports (nat_lt after first.number && is_due u held first) refl rising.0 found
+    (λ h. found_unheld u first.number high after number held ports rising.1 h)
 
 -- ---- what is owed where no port takes next
 
@@ -209,20 +210,20 @@ unowed true true false none above loose = absurd (cc)
 unowed false true c none above loose = absurd (cc)
 
 -- by whether it is the first
-nothing_by : (number : ℕ) (held : List ℕ) (first : Port) (ports : List Port) (test : Bool) → (number == first.number) ≡ test
-    → 0 < first.number → (nat_lt 0 first.number && is_due held first) ≡ false → is_held number held ≡ false
-    → owed_at number ports ≡ [] → owed_by (if test then Some first else find_port number ports) ≡ []
-nothing_by number held first ports true is above none loose later =
+nothing_by : (u : UnderWay) (number : ℕ) (held : List ℕ) (first : Port) (ports : List Port) (test : Bool) → (number == first.number) ≡ test
+    → 0 < first.number → (nat_lt 0 first.number && is_due u held first) ≡ false → is_held number held ≡ false
+    → owed_by (find_port number ports) u ≡ [] → owed_by (if test then Some first else find_port number ports) u ≡ []
+nothing_by u number held first ports true is above none loose later =
     let same : number ≡ first.number = grind (arith, nat_tests) in
-    no_bytes first.owed (unowed (nat_lt 0 first.number) (is_some_bytes first.owed) (not (is_held first.number held)) none
+    no_bytes (owed_by_port first u) (unowed (nat_lt 0 first.number) (is_some_bytes (owed_by_port first u)) (not (is_held first.number held)) none
     (lt_true 0 first.number above) (sym (ap (λ n. not (is_held n held)) same) ∙ ap not loose))
-nothing_by number held first ports false is above none loose later = later
+nothing_by u number held first ports false is above none loose later = later
 
 -- nothing is owed to a port that isn't held
-pub nothing_unheld : (low high number : ℕ) (held : List ℕ) (ports : List Port) → IsRising low high ports
-    → next_unheld 0 held ports ≡ None → is_held number held ≡ false → owed_at number ports ≡ []
-nothing_unheld low high number held [] rising none loose = refl
-nothing_unheld low high number held (first ∷ ports) rising none loose =
-    let parts = none_of (nat_lt 0 first.number && is_due held first) first.number (next_unheld 0 held ports) none in
-    nothing_by number held first ports (number == first.number) refl (omega (arith, rising.0)) parts.0 loose
-    (nothing_unheld first.number high number held ports rising.1 parts.1 loose)
+pub nothing_unheld : (u : UnderWay) (low high number : ℕ) (held : List ℕ) (ports : List Port) → IsRising low high ports
+    → next_unheld u 0 held ports ≡ None → is_held number held ≡ false → owed_by (find_port number ports) u ≡ []
+nothing_unheld u low high number held [] rising none loose = refl
+nothing_unheld u low high number held (first ∷ ports) rising none loose =
+    let parts = none_of (nat_lt 0 first.number && is_due u held first) first.number (next_unheld u 0 held ports) none in
+    nothing_by u number held first ports (number == first.number) refl (omega (arith, rising.0)) parts.0 loose
+    (nothing_unheld u first.number high number held ports rising.1 parts.1 loose)

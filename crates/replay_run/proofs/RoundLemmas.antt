@@ -8,9 +8,11 @@ use Rattle.world_ports.specs.Causes.{Rose}
 use Rattle.replay_run.specs.declared.run_end.RunEnd.{RunEnd}
 use Rattle.replay_run.specs.declared.run_end.RunEnd.TheVariants.{Done, Refused, Memory, ReadFault, WriteFault}
 use Rattle.replay_run.specs.Replay.{Run, start_run, parts_of, printed, ran, output_of, run_of, output_so_far}
-use Rattle.replay_run.specs.Feeding.{Feeding, start_feeding, IsFront, Feeds, GoesOnFed, Halts}
+use Rattle.replay_run.specs.Feeding.{Feeding, start_feeding, Feeds, GoesOnFed, Halts}
 use Rattle.world_ports.specs.Streams.{StreamView, WritesPart}
-use Rattle.replay_run.specs.Claims.{Seen, HasRead, HoldsOfInput, IsRefused, EndsEarly, Ends, IsUnderWay, IsLonger, ending_text, ending_run, Finishes}
+use Rattle.replay_run.specs.Claims.{Seen, HasRead, HoldsOfInput, IsRefused, IsFront, EndsEarly, Ends}
+use Rattle.replay_run.specs.Finishing.{Finishes, ending_run, ending_text}
+use Rattle.replay_run.specs.Rounds.{IsLonger, IsUnderWay}
 use Rattle.replay_run.proofs.RunLemmas.{printed-refused, ran-refused}
 use Rattle.replay_run.proofs.GoesOnLemmas.{goes_on-same, begun-nothing, begun-same}
 use Rattle.replay_run.proofs.FeedsLemmas.{feeds_by, feeds_then, feeds_halts}
@@ -218,9 +220,9 @@ round_finishes WriteFault start mid new old under finishes taken left end reads 
 
 -- ---- a read that failed
 
-pub round_unread : (start mid new : Seen) (old : Feeding) → IsUnderWay start mid old → Keeps mid.input.taken new.input.taken → Keeps mid.input.left new.input.left → new.output ≡ mid.output → Rose mid.input.read_faults new.input.read_faults → Ends ReadFault start new
+pub round_at_read_fault : (start mid new : Seen) (old : Feeding) → IsUnderWay start mid old → Keeps mid.input.taken new.input.taken → Keeps mid.input.left new.input.left → new.output ≡ mid.output → Rose mid.input.read_faults new.input.read_faults → Ends ReadFault start new
 unfolding Ends
-round_unread start mid new old under taken left output cause =
+round_at_read_fault start mid new old under taken left output cause =
     let goes = under.feeds.goes in
     let text_is : output_so_far under.bytes ≡ under.feeds.text =
     sym (ap output_so_far (append-nil under.bytes))

@@ -2,9 +2,9 @@
 use Rattle.std.proofs.Common.{◌≡◌, ℕ, suc, ◌+◌, ◌<◌, ◌≤◌, List, [], length, refl, ap, sym, ◌∙◌, arith, Option, Some, None, Bool, true, false, nat_lt, if◌then◌else◌, Result, Ok, Err}
 use Rattle.std.proofs.lemmas.Bool.Decides.{nat_tests}
 use Rattle.world_ports.specs.declared.Door.TheVariants.{Clients, Children}
-use Rattle.agent_core.specs.State.{State, Port, find_port, owed_at}
-use Rattle.agent_core.specs.Step.{Happening, Joined, Heard, Ended, Took, Started, StartFailed, Tick}
-use Rattle.agent_core.proofs.SoundLemmas.{step-last_port, last_after}
+use Rattle.agent_model.specs.Events.{Happening, Joined, Heard, Ended, Took, Started, StartFailed, Tick}
+use Rattle.agent_model.specs.State.{State, Port, find_port, owed_of}
+use Rattle.agent_model.proofs.RunLemmas.{step-last_port, last_after}
 use Rattle.schedule_text.specs.declared.fault.LineFault.{LineFault}
 use Rattle.schedule_text.specs.declared.fault.LineFault.TheVariants.{TooLong}
 use Rattle.schedule_text.specs.declared.step.Step.{Step}
@@ -73,7 +73,7 @@ took_at-next : (found : Option Port) (port count size : ℕ) (run : Run) → 0 <
     → (at_port found (took port count size run) run).run.refused ≡ None → IsNext run size (at_port found (took port count size run) run).run
 took_at-next None port count size run some within counted accepted = absurd (cc)
 took_at-next (Some open_port) port count size run some within counted accepted =
-    took_by-next (nat_lt (length (owed_at port run.agent.ports)) count) port count size run some within counted accepted
+    took_by-next (nat_lt (length (owed_of port run.agent)) count) port count size run some within counted accepted
 
 -- what a step brings
 step_turned-next : (step : Step) (size : ℕ) (run : Run) → 0 < size → run.read + size ≤ longest_schedule → IsCounted run → (step_turned step size run).run.refused ≡ None → IsNext run size (step_turned step size run).run

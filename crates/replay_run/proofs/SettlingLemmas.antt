@@ -2,86 +2,90 @@
 use Rattle.std.proofs.Common.{◌≡◌, ℕ, zero, suc, ◌<◌, ◌≤◌, List, [], length, refl, ap, sym, ◌∙◌, arith, Option, Some, None, true, false}
 use Rattle.std.proofs.lemmas.Bool.Decides.{nat_tests}
 use Rattle.world_ports.specs.declared.Moment.{Moment}
-use Rattle.agent_core.specs.State.{State, owed_at, is_some_bytes}
-use Rattle.agent_core.specs.Step.{Took}
-use Rattle.agent_core.specs.Budget.{budget}
-use Rattle.agent_core.proofs.SoundLemmas.{IsNumbered, step_keeps-rising, step-last_port}
-use Rattle.replay_run.specs.Holding.{is_held, next_unheld}
-use Rattle.replay_run.specs.Settling.{Settled, delivered, delivery_lines, after_output, settled_from, settled_by, settled}
+use Rattle.agent_model.specs.Budget.{budget}
+use Rattle.agent_model.specs.Events.{Took}
+use Rattle.agent_model.specs.Sound.{IsSteady}
+use Rattle.agent_model.specs.State.{State, is_some_bytes, owed_by_port, owed_of}
+use Rattle.agent_model.proofs.RunLemmas.{step_keeps-rising, step-last_port}
+use Rattle.replay_run.specs.Holding.{is_held}
+use Rattle.replay_run.specs.Settling.{Settled, next_to_take, delivered, delivery_lines, after_output, settled_from, settled_by, settled}
 use Rattle.replay_run.proofs.HoldingLemmas.{found_unheld, nothing_unheld}
-use Rattle.agent_core.proofs.BudgetLemmas.{taking_lowers}
+use Rattle.agent_model.proofs.BudgetLemmas.{taking_lowers, taking_stays_alone}
 
 -- a taking lowers the budget
-pub delivered_lowers : (moment : Moment) (held : List ℕ) (port : ℕ) (state : State) → IsNumbered state
-    → next_unheld 0 held state.ports ≡ Some port → budget (delivered moment port state) < budget state
-delivered_lowers moment held port state rising next =
-    let found = found_unheld 0 state.last_port 0 port held state.ports rising next in
-    taking_lowers port found.0 moment state found.1 found.2
+pub delivered_lowers : (moment : Moment) (held : List ℕ) (port : ℕ) (state : State) → IsSteady state
+    → next_to_take held state ≡ Some port → budget (delivered moment port state) < budget state
+delivered_lowers moment held port state steady next =
+    let found = found_unheld state.under_way 0 state.last_port 0 port held state.ports steady.rising next in
+    taking_lowers port found.0 moment state steady found.1 found.2
 
--- a taking keeps rising numbers
-pub delivered-rising : (moment : Moment) (port : ℕ) (state : State) → IsNumbered state → IsNumbered (delivered moment port state)
-delivered-rising moment port state rising = step_keeps-rising state moment (Took port (length (owed_at port state.ports))) rising
+-- a taking keeps steady numbers
+pub delivered-steady : (moment : Moment) (port : ℕ) (state : State) → IsSteady state → IsSteady (delivered moment port state)
+delivered-steady moment port state steady = record {
+  rising = step_keeps-rising state moment (Took port (length (owed_of port state))) steady.rising;
+  alone = taking_stays_alone port (length (owed_of port state)) moment state steady.alone;
+}
 
 -- nothing is taken where nothing is owed
-settled_by-none : (moment : Moment) (held : List ℕ) (fuel : ℕ) (state : State) → next_unheld 0 held state.ports ≡ None
+settled_by-none : (moment : Moment) (held : List ℕ) (fuel : ℕ) (state : State) → next_to_take held state ≡ None
     → settled_by moment held fuel state ≡ record { agent = state; output = [] }
 settled_by-none moment held zero state none = refl
 settled_by-none moment held (suc fuel) state none = ap (settled_from moment (settled_by moment held fuel) state) none
 
 -- where a port takes next, there is a budget
-some_budget : (moment : Moment) (held : List ℕ) (port : ℕ) (state : State) → IsNumbered state
-    → next_unheld 0 held state.ports ≡ Some port → 0 < budget state
-some_budget moment held port state rising next = omega (arith, delivered_lowers moment held port state rising next)
+some_budget : (moment : Moment) (held : List ℕ) (port : ℕ) (state : State) → IsSteady state
+    → next_to_take held state ≡ Some port → 0 < budget state
+some_budget moment held port state steady next = omega (arith, delivered_lowers moment held port state steady next)
 
 -- the same at the port that is found
 fuel_from : (moment : Moment) (held : List ℕ) (fuel more : ℕ) (state : State) (found : Option ℕ)
-    → next_unheld 0 held state.ports ≡ found → IsNumbered state → budget state ≤ suc fuel → budget state ≤ suc more
+    → next_to_take held state ≡ found → IsSteady state → budget state ≤ suc fuel → budget state ≤ suc more
     → ((port : ℕ) → budget (delivered moment port state) ≤ fuel → budget (delivered moment port state) ≤ more
     → settled_by moment held fuel (delivered moment port state) ≡ settled_by moment held more (delivered moment port state))
     → settled_from moment (settled_by moment held fuel) state found ≡ settled_from moment (settled_by moment held more) state found
-fuel_from moment held fuel more state None next rising enough plenty later = refl
-fuel_from moment held fuel more state (Some port) next rising enough plenty later =
-    let lower = delivered_lowers moment held port state rising next in
+fuel_from moment held fuel more state None next steady enough plenty later = refl
+fuel_from moment held fuel more state (Some port) next steady enough plenty later =
+    let lower = delivered_lowers moment held port state steady next in
     ap (after_output (delivery_lines moment port state)) (later port (omega arith) (omega arith))
 
 -- where the budget is used up, no port takes
 spent_owes_nothing : (moment : Moment) (held : List ℕ) (state : State) (found : Option ℕ)
-    → next_unheld 0 held state.ports ≡ found → IsNumbered state → budget state ≤ 0 → next_unheld 0 held state.ports ≡ None
-spent_owes_nothing moment held state None next rising spent = next
-spent_owes_nothing moment held state (Some port) next rising spent =
-    absurd (omega (arith, some_budget moment held port state rising next))
+    → next_to_take held state ≡ found → IsSteady state → budget state ≤ 0 → next_to_take held state ≡ None
+spent_owes_nothing moment held state None next steady spent = next
+spent_owes_nothing moment held state (Some port) next steady spent =
+    absurd (omega (arith, some_budget moment held port state steady next))
 
 -- more fuel than the budget changes nothing
-pub settled_by-fuel : (moment : Moment) (held : List ℕ) (fuel more : ℕ) (state : State) → IsNumbered state
+pub settled_by-fuel : (moment : Moment) (held : List ℕ) (fuel more : ℕ) (state : State) → IsSteady state
     → budget state ≤ fuel → budget state ≤ more → settled_by moment held fuel state ≡ settled_by moment held more state
-settled_by-fuel moment held zero more state rising enough plenty =
+settled_by-fuel moment held zero more state steady enough plenty =
     sym (settled_by-none moment held more state
-    (spent_owes_nothing moment held state (next_unheld 0 held state.ports) refl rising enough))
-settled_by-fuel moment held (suc fuel) zero state rising enough plenty =
+    (spent_owes_nothing moment held state (next_to_take held state) refl steady enough))
+settled_by-fuel moment held (suc fuel) zero state steady enough plenty =
     settled_by-none moment held (suc fuel) state
-    (spent_owes_nothing moment held state (next_unheld 0 held state.ports) refl rising plenty)
-settled_by-fuel moment held (suc fuel) (suc more) state rising enough plenty =
-    fuel_from moment held fuel more state (next_unheld 0 held state.ports) refl rising enough plenty
-    (λ port h l. settled_by-fuel moment held fuel more (delivered moment port state) (delivered-rising moment port state rising) h l)
+    (spent_owes_nothing moment held state (next_to_take held state) refl steady plenty)
+settled_by-fuel moment held (suc fuel) (suc more) state steady enough plenty =
+    fuel_from moment held fuel more state (next_to_take held state) refl steady enough plenty
+    (λ port h l. settled_by-fuel moment held fuel more (delivered moment port state) (delivered-steady moment port state steady) h l)
 
 -- where nothing is owed, settling does nothing
-pub settled_none : (moment : Moment) (held : List ℕ) (state : State) → next_unheld 0 held state.ports ≡ None
+pub settled_none : (moment : Moment) (held : List ℕ) (state : State) → next_to_take held state ≡ None
     → settled moment held state ≡ record { agent = state; output = [] }
 unfolding settled
 settled_none moment held state none = settled_by-none moment held (budget state) state none
 
 -- else the next port takes all that it is owed, and the rest is settled
-pub settled_some : (moment : Moment) (held : List ℕ) (port : ℕ) (state : State) → IsNumbered state
-    → next_unheld 0 held state.ports ≡ Some port
+pub settled_some : (moment : Moment) (held : List ℕ) (port : ℕ) (state : State) → IsSteady state
+    → next_to_take held state ≡ Some port
     → settled moment held state ≡ after_output (delivery_lines moment port state) (settled moment held (delivered moment port state))
 unfolding settled
-settled_some moment held port state rising next =
-    let lower = delivered_lowers moment held port state rising next in
+settled_some moment held port state steady next =
+    let lower = delivered_lowers moment held port state steady next in
     let after = delivered moment port state in
-    settled_by-fuel moment held (budget state) (suc (budget state)) state rising (omega arith) (omega arith)
+    settled_by-fuel moment held (budget state) (suc (budget state)) state steady (omega arith) (omega arith)
     ∙ ap (settled_from moment (settled_by moment held (budget state)) state) next
     ∙ ap (after_output (delivery_lines moment port state))
-    (settled_by-fuel moment held (budget state) (budget after) after (delivered-rising moment port state rising) (omega arith) (omega arith))
+    (settled_by-fuel moment held (budget state) (budget after) after (delivered-steady moment port state steady) (omega arith) (omega arith))
 
 -- by whether a port takes
 kept_from : (P : State → Type 0) (moment : Moment) → (later : State → Settled) (state : State) (found : Option ℕ) → P state
@@ -95,63 +99,63 @@ kept_by : (P : State → Type 0) (moment : Moment) (held : List ℕ)
     → (fuel : ℕ) (state : State) → P state → P (settled_by moment held fuel state).agent
 kept_by P moment held keeps zero state here = here
 kept_by P moment held keeps (suc fuel) state here =
-    kept_from P moment (settled_by moment held fuel) state (next_unheld 0 held state.ports) here
+    kept_from P moment (settled_by moment held fuel) state (next_to_take held state) here
     (λ port. kept_by P moment held keeps fuel (delivered moment port state) (keeps port state here))
 
--- a settling keeps rising numbers
-pub settled-rising : (moment : Moment) (held : List ℕ) (state : State) → IsNumbered state → IsNumbered (settled moment held state).agent
+-- a settling keeps steady numbers
+pub settled-steady : (moment : Moment) (held : List ℕ) (state : State) → IsSteady state → IsSteady (settled moment held state).agent
 unfolding settled
-settled-rising moment held state rising = kept_by IsNumbered moment held (delivered-rising moment) (budget state) state rising
+settled-steady moment held state steady = kept_by IsSteady moment held (delivered-steady moment) (budget state) state steady
 
 -- a settling gives out no number
 pub settled-last_port : (moment : Moment) (held : List ℕ) (state : State) → (settled moment held state).agent.last_port ≡ state.last_port
 unfolding settled
 settled-last_port moment held state =
     kept_by (λ s. s.last_port ≡ state.last_port) moment held
-    (λ port s same. step-last_port s moment (Took port (length (owed_at port s.ports))) ∙ same)
+    (λ port s same. step-last_port s moment (Took port (length (owed_of port s))) ∙ same)
     (budget state) state refl
 
 -- by whether a port takes
 nothing_from : (moment : Moment) (held : List ℕ) (fuel : ℕ) (state : State) (found : Option ℕ)
-    → next_unheld 0 held state.ports ≡ found → IsNumbered state → budget state ≤ suc fuel
+    → next_to_take held state ≡ found → IsSteady state → budget state ≤ suc fuel
     → ((port : ℕ) → budget (delivered moment port state) ≤ fuel
-    → next_unheld 0 held (settled_by moment held fuel (delivered moment port state)).agent.ports ≡ None)
-    → next_unheld 0 held (settled_from moment (settled_by moment held fuel) state found).agent.ports ≡ None
-nothing_from moment held fuel state None next rising enough later = next
-nothing_from moment held fuel state (Some port) next rising enough later =
-    let lower = delivered_lowers moment held port state rising next in
+    → next_to_take held (settled_by moment held fuel (delivered moment port state)).agent ≡ None)
+    → next_to_take held (settled_from moment (settled_by moment held fuel) state found).agent ≡ None
+nothing_from moment held fuel state None next steady enough later = next
+nothing_from moment held fuel state (Some port) next steady enough later =
+    let lower = delivered_lowers moment held port state steady next in
     later port (omega arith)
 
 -- with fuel for the budget no port takes next
-nothing_by : (moment : Moment) (held : List ℕ) (fuel : ℕ) (state : State) → IsNumbered state → budget state ≤ fuel
-    → next_unheld 0 held (settled_by moment held fuel state).agent.ports ≡ None
-nothing_by moment held zero state rising enough =
-    spent_owes_nothing moment held state (next_unheld 0 held state.ports) refl rising enough
-nothing_by moment held (suc fuel) state rising enough =
-    nothing_from moment held fuel state (next_unheld 0 held state.ports) refl rising enough
-    (λ port h. nothing_by moment held fuel (delivered moment port state) (delivered-rising moment port state rising) h)
+nothing_by : (moment : Moment) (held : List ℕ) (fuel : ℕ) (state : State) → IsSteady state → budget state ≤ fuel
+    → next_to_take held (settled_by moment held fuel state).agent ≡ None
+nothing_by moment held zero state steady enough =
+    spent_owes_nothing moment held state (next_to_take held state) refl steady enough
+nothing_by moment held (suc fuel) state steady enough =
+    nothing_from moment held fuel state (next_to_take held state) refl steady enough
+    (λ port h. nothing_by moment held fuel (delivered moment port state) (delivered-steady moment port state steady) h)
 
 -- after a settling no port takes next
-settled-next : (moment : Moment) (held : List ℕ) (state : State) → IsNumbered state
-    → next_unheld 0 held (settled moment held state).agent.ports ≡ None
+settled-next : (moment : Moment) (held : List ℕ) (state : State) → IsSteady state
+    → next_to_take held (settled moment held state).agent ≡ None
 unfolding settled
-settled-next moment held state rising = nothing_by moment held (budget state) state rising (omega arith)
+settled-next moment held state steady = nothing_by moment held (budget state) state steady (omega arith)
 
 -- and nothing is owed to a port that isn't held
-pub nothing_is_owed : (moment : Moment) (held : List ℕ) (state : State) (port : ℕ) → IsNumbered state
-    → is_held port held ≡ false → owed_at port (settled moment held state).agent.ports ≡ []
-nothing_is_owed moment held state port rising loose =
+pub nothing_is_owed : (moment : Moment) (held : List ℕ) (state : State) (port : ℕ) → IsSteady state
+    → is_held port held ≡ false → owed_of port (settled moment held state).agent ≡ []
+nothing_is_owed moment held state port steady loose =
     let after = (settled moment held state).agent in
-    nothing_unheld 0 after.last_port port held after.ports (settled-rising moment held state rising)
-    (settled-next moment held state rising) loose
+    nothing_unheld after.under_way 0 after.last_port port held after.ports (settled-steady moment held state steady).rising
+    (settled-next moment held state steady) loose
 
 -- where the test says that bytes are there, some are
 bytes_some : (bytes : List ℕ) → is_some_bytes bytes ≡ true → 0 < length bytes
 bytes_some bytes some = grind (arith, nat_tests)
 
 -- the port that takes next is owed some bytes
-pub owed_some : (held : List ℕ) (port : ℕ) (state : State) → IsNumbered state → next_unheld 0 held state.ports ≡ Some port
-    → 0 < length (owed_at port state.ports)
-owed_some held port state rising next =
-    let found = found_unheld 0 state.last_port 0 port held state.ports rising next in
-    rw found.1 (bytes_some found.0.owed found.2)
+pub owed_some : (held : List ℕ) (port : ℕ) (state : State) → IsSteady state → next_to_take held state ≡ Some port
+    → 0 < length (owed_of port state)
+owed_some held port state steady next =
+    let found = found_unheld state.under_way 0 state.last_port 0 port held state.ports steady.rising next in
+    rw found.1 (bytes_some (owed_by_port found.0 state.under_way) found.2)

@@ -1,13 +1,13 @@
--- What a run says of its source and its sink (ours).
-use Rattle.std.specs.Prelude.{◌≡◌, ◌≤◌, ◌<◌, ℕ, true, false, List, [], ◌++◌, Option, None, Some, IfSome}
+-- How the run of a schedule may end, a record an end (ours). The file is read from its end, `Ends`.
+-- What a schedule prints, `output_of`, is in specs/Replay.antt.
+use Rattle.std.specs.Prelude.{◌≡◌, ℕ, false, List, ◌++◌, Option, None, Some, IfSome}
 use Rattle.std.specs.Io.KnownBytes.{Appends, Consumes, IsAtEnd}
 use Rattle.world_ports.specs.Causes.{Rose}
+use Rattle.world_ports.specs.Streams.{StreamView}
 use Rattle.schedule_text.specs.declared.fault.LineFault.{LineFault}
 use Rattle.replay_run.specs.declared.run_end.RunEnd.{RunEnd}
 use Rattle.replay_run.specs.declared.run_end.RunEnd.TheVariants.{Done, Refused, Memory, ReadFault, WriteFault}
-use Rattle.replay_run.specs.Replay.{Run, start_run, parts_of, printed, ran, output_of, run_of, output_so_far, longest_schedule}
-use Rattle.replay_run.specs.Feeding.{Feeding, Wrote, start_feeding, IsReady, IsFront, Feeds, fed_so_far}
-use Rattle.world_ports.specs.Streams.{StreamView, WritesPart}
+use Rattle.replay_run.specs.Replay.{start_run, parts_of, ran, output_of, run_of, output_so_far}
 
 -- what the source and the sink tell at one time
 pub record Seen : Type 0 where
@@ -34,6 +34,11 @@ pub record IsRefused (line : ℕ) (fault : LineFault) (text schedule : List ℕ)
   pub output : output_of schedule ≡ text
   pub refused : (run_of schedule).refused ≡ Some fault
   pub number : (run_of schedule).line ≡ line
+
+-- a text stands at the front of another
+pub record IsFront (text all : List ℕ) : Type 0 where
+  pub more : List ℕ
+  pub is : text ++ more ≡ all
 
 -- the input was read to its end, no line of it is refused, and all that it prints is written
 pub record EndsDone (old new : Seen) : Type 0 where
@@ -63,7 +68,7 @@ pub record EndsEarly (old new : Seen) : Type 0 where
 
 -- what the whole lines print that were read before is written, none of them is refused, and a read
 -- failed
-pub record EndsUnread (old new : Seen) : Type 0 where
+pub record EndsAtReadFault (old new : Seen) : Type 0 where
   pub bytes : List ℕ
   pub read : HasRead old new bytes
   pub wrote : Appends old.output.written new.output.written (output_so_far bytes)
@@ -72,7 +77,7 @@ pub record EndsUnread (old new : Seen) : Type 0 where
   pub writes : new.output.write_faults ≡ old.output.write_faults
 
 -- a front of what the input prints is written, and a write failed
-pub record EndsUnwritten (old new : Seen) : Type 0 where
+pub record EndsAtWriteFault (old new : Seen) : Type 0 where
   pub early : EndsEarly old new
   pub cause : Rose old.output.write_faults new.output.write_faults
   pub reads : new.input.read_faults ≡ old.input.read_faults
@@ -83,61 +88,5 @@ Ends Done old new = EndsDone old new
 Ends (Refused line fault) old new = EndsRefused line fault old new
 -- want of memory says nothing of the input
 Ends Memory old new = EndsEarly old new
-Ends ReadFault old new = EndsUnread old new
-Ends WriteFault old new = EndsUnwritten old new
-
--- a run that goes on: these bytes were read and fed, and all that they print is written
-pub record IsUnderWay (old new : Seen) (feeding : Feeding) : Type 0 where
-  pub bytes : List ℕ
-  pub read : HasRead old new bytes
-  pub feeds : Feeds start_feeding bytes feeding old.output new.output
-  pub ready : IsReady feeding
-  pub empty : feeding.out ≡ []
-  pub reads : new.input.read_faults ≡ old.input.read_faults
-
--- more of the schedule was fed, and no more than it may have
-pub record IsLonger (old new : Feeding) : Type 0 where
-  pub more : fed_so_far old < fed_so_far new
-  pub within : fed_so_far new ≤ longest_schedule
-
--- the end of a run with its last line
-abbrev pub end_by : ℕ → Option LineFault → RunEnd
-end_by line None = Done
-end_by line (Some fault) = Refused line fault
-
-abbrev pub end_of : Run → RunEnd
-end_of run = end_by run.line run.refused
-
--- all that a run prints whose schedule ends here
-abbrev pub ending_text : Feeding → List ℕ
-ending_text feeding = feeding.out ++ printed true feeding.run (parts_of feeding.pending)
-
--- the run after its last line
-abbrev pub ending_run : Feeding → Run
-ending_run feeding = ran true feeding.run (parts_of feeding.pending)
-
--- the schedule ended, and all is written
-pub record FinishesDone (old : Feeding) (before after : StreamView) : Type 0 where
-  pub wrote : Wrote before after (ending_text old)
-  pub accepted : (ending_run old).refused ≡ None
-
--- its last line is refused, and all is written
-pub record FinishesRefused
-    (line : ℕ) (fault : LineFault) (old : Feeding) (before after : StreamView) : Type 0 where
-  pub wrote : Wrote before after (ending_text old)
-  pub refused : (ending_run old).refused ≡ Some fault
-  pub number : (ending_run old).line ≡ line
-
--- a write failed
-pub record FinishesUnwritten
-    (old : Feeding) (before after : StreamView) : Type 0 where
-  pub front : WritesPart (ending_text old) before after
-  pub cause : Rose before.write_faults after.write_faults
-
--- how a run ends with its schedule
-abbrev pub Finishes : RunEnd → Feeding → StreamView → StreamView → Type 0
-Finishes Done old before after = FinishesDone old before after
-Finishes (Refused line fault) old before after = FinishesRefused line fault old before after
-Finishes Memory old before after = WritesPart (ending_text old) before after
-Finishes ReadFault old before after = ⊥
-Finishes WriteFault old before after = FinishesUnwritten old before after
+Ends ReadFault old new = EndsAtReadFault old new
+Ends WriteFault old new = EndsAtWriteFault old new

@@ -6,6 +6,7 @@ use Rattle.world_ports.specs.Streams.{StreamView}
 use Rattle.schedule_text.specs.declared.fault.LineFault.{LineFault}
 use Rattle.replay_run.specs.declared.run_end.RunEnd.{RunEnd}
 use Rattle.replay_run.specs.declared.run_end.RunEnd.TheVariants.{Done, Refused, Memory, ReadFault, WriteFault}
+use Rattle.replay_run.specs.Claims.{IsFront}
 use Rattle.replay_run.specs.Replay.{Run, start_run, parts_of, printed}
 use Rattle.replay_run.specs.Counts.{IsCounted}
 use Rattle.replay_run.specs.GoesOn.{IsBegun, GoesOn}
@@ -24,11 +25,6 @@ start_feeding = record { run = start_run; pending = []; out = [] }
 pub record IsReady (feeding : Feeding) : Type 0 where
   pub counted : IsCounted feeding.run
   pub begun : IsBegun feeding.run feeding.pending
-
--- a text stands at the front of another
-pub record IsFront (text all : List ℕ) : Type 0 where
-  pub more : List ℕ
-  pub is : text ++ more ≡ all
 
 -- all of this text was written, and no write failed
 pub record Wrote (before after : StreamView) (text : List ℕ) : Type 0 where

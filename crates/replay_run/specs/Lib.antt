@@ -1,7 +1,11 @@
-pub mod Holding
-pub mod Settling
-pub mod Replay
-pub mod GoesOn
-pub mod Counts
-pub mod Feeding
+-- what public contracts say: how a run ends, what a schedule prints, and how ports settle
 pub mod Claims
+pub mod Replay
+pub mod Settling
+pub mod Holding
+-- of private functions
+pub mod Counts
+pub mod GoesOn
+pub mod Feeding
+pub mod Rounds
+pub mod Finishing

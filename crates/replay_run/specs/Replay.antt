@@ -1,10 +1,13 @@
--- The run of a schedule: what it prints, and where it stops (ours: docs/PROTOCOL.md, "Schedules").
+-- The run of a schedule: what it prints, `output_of`, and where it stops (ours: docs/PROTOCOL.md,
+-- "Schedules"). The file is read from its end. A line is read by schedule_text's specs/Lines.antt;
+-- its event is one step of the abstract agent, agent_model's specs/Step.antt, and what ports take
+-- after it is in specs/Settling.antt.
 use Rattle.std.specs.Prelude.{ℕ, suc, ◌+◌, ◌==◌, ◌||◌, nat_lt, Bool, true, false, if◌then◌else◌, List, [], ◌∷◌, ◌++◌, length, Option, None, Some, Result, Ok, Err}
 use Rattle.std.specs.List.{slice_split}
 use Rattle.world_ports.specs.declared.Door.TheVariants.{Clients, Children}
 use Rattle.world_ports.specs.declared.Moment.{Moment}
-use Rattle.agent_core.specs.State.{State, Port, opening_state, find_port, owed_of}
-use Rattle.agent_core.specs.Step.{Happening, Joined, Heard, Ended, Tick}
+use Rattle.agent_model.specs.Events.{Happening, Joined, Heard, Ended, Tick}
+use Rattle.agent_model.specs.State.{State, Port, first_state, find_port, owed_of}
 use Rattle.schedule_text.specs.declared.fault.LineFault.{LineFault}
 use Rattle.schedule_text.specs.declared.fault.LineFault.TheVariants.{Word, UnknownPort, Order, TooLong}
 use Rattle.schedule_text.specs.declared.step.Step.{Step}
@@ -27,7 +30,7 @@ pub record Run : Type 0 where
 -- the run before the first line
 abbrev pub start_run : Run
 start_run = record {
-  agent = opening_state None;
+  agent = first_state None;
   moment = record { mono = 0; wall = 0 };
   held = [];
   line = 0;

@@ -1,9 +1,10 @@
 -- Settling: after a line every port that isn't held takes what it is owed (ours: docs/PROTOCOL.md, "Output").
 use Rattle.std.specs.Prelude.{ℕ, zero, suc, List, [], ◌∷◌, ◌++◌, length, take, Option, None, Some}
 use Rattle.world_ports.specs.declared.Moment.{Moment}
-use Rattle.agent_core.specs.State.{State, owed_of}
-use Rattle.agent_core.specs.Step.{Happening, Took, step}
-use Rattle.agent_core.specs.Budget.{budget}
+use Rattle.agent_model.specs.Budget.{budget}
+use Rattle.agent_model.specs.Events.{Happening, Took}
+use Rattle.agent_model.specs.State.{State, owed_of}
+use Rattle.agent_model.specs.Step.{step}
 use Rattle.schedule_text.specs.Deeds.{to_line, close_line}
 use Rattle.replay_run.specs.Holding.{next_unheld}
 
@@ -32,6 +33,10 @@ delivered moment port state = sent moment port (length (owed_of port state)) sta
 abbrev pub delivery_lines : Moment → ℕ → State → List ℕ
 delivery_lines moment port state = sending_lines moment port (length (owed_of port state)) state
 
+-- the open port of the least number that isn't held and is owed bytes
+abbrev pub next_to_take : List ℕ → State → Option ℕ
+next_to_take held state = next_unheld state.under_way 0 held state.ports
+
 -- the state that a settling leaves, and what it prints
 pub record Settled : Type 0 where
   pub agent : State
@@ -51,7 +56,7 @@ settled_from moment later state (Some port) =
 abbrev pub settled_by : Moment → List ℕ → ℕ → State → Settled
 settled_by moment held zero state = record { agent = state; output = [] }
 settled_by moment held (suc fuel) state =
-    settled_from moment (settled_by moment held fuel) state (next_unheld 0 held state.ports)
+    settled_from moment (settled_by moment held fuel) state (next_to_take held state)
 
 -- takings until no port that isn't held is owed bytes: each one lowers the budget
 unfoldable pub settled : Moment → List ℕ → State → Settled

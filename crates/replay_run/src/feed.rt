@@ -2,7 +2,7 @@
 ghost use Rattle.std.specs.Prelude.{◌≡◌, ◌∷◌, [], ◌++◌, ◌≤◌, ◌+◌, length, true};
 ghost use Rattle.std.specs.Prelude.{MatchOption, None, OnErr, OnOk};
 ghost use Rattle.world_ports.specs.Causes.{HasCause};
-ghost use Rattle.replay_run.specs.Claims.{Finishes, end_of};
+ghost use Rattle.replay_run.specs.Finishing.{Finishes, end_of};
 ghost use Rattle.replay_run.specs.Replay.{last_turned, ending};
 ghost use Rattle.replay_run.specs.Feeding.{Wrote, start_feeding, IsReady, GoesOnFed, Halts, fed_so_far};
 ghost use Rattle.replay_run.specs.GoesOn.{HasNoLf, IsLineEnd, GoesOn};

@@ -1,8 +1,8 @@
 // A run of a schedule, a line at a time.
-ghost use Rattle.std.specs.Prelude.{◌≡◌, ◌≢◌, ◌+◌, ◌<◌, ◌≤◌, ◌++◌, ◌^◌, OnOk, None, length, []};
+ghost use Rattle.std.specs.Prelude.{◌≡◌, ◌≢◌, ◌+◌, ◌<◌, ◌≤◌, ◌++◌, ◌^◌, IsSome, OnOk, None, length, []};
 ghost use Rattle.agent_core.specs.Happenings.{happening};
-ghost use Rattle.agent_core.specs.State.{IsOpen, find_port};
-ghost use Rattle.agent_core.specs.Step.{Fits, Tick};
+ghost use Rattle.agent_model.specs.Events.{Tick};
+ghost use Rattle.agent_model.specs.State.{Fits, find_port};
 ghost use Rattle.schedule_text.specs.Steps.{SaysSome};
 ghost use Rattle.replay_run.specs.Counts.{IsCounted};
 ghost use Rattle.replay_run.specs.Holding.{free_port, hold_port};
@@ -223,7 +223,7 @@ impl Replay {
         requires counted { IsCounted self.old }
         requires some { 0 < size }
         requires within { self.old.read + size ≤ longest_schedule }
-        requires fits { IsOpen port self.old.agent.ports →
+        requires fits { IsSome (find_port port self.old.agent.ports) →
             Fits (happening event.now) self.old.agent }
         ensures run { OnOk result (self.new ≡ (at_port (find_port port self.old.agent.ports)
             (happened (happening event.now) size self.old) self.old).run) }

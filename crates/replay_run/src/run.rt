@@ -1,7 +1,8 @@
 // The loop over reads.
 ghost use Rattle.std.specs.Prelude.{◌≡◌, ◌<◌, IfOk, MatchOption, length, vec_len};
-ghost use Rattle.replay_run.specs.Claims.{Seen, Ends, IsUnderWay, IsLonger};
+ghost use Rattle.replay_run.specs.Claims.{Seen, Ends};
 ghost use Rattle.replay_run.specs.Feeding.{IsReady};
+ghost use Rattle.replay_run.specs.Rounds.{IsLonger, IsUnderWay};
 ghost use Rattle.world_ports.specs.Streams.{OnlyReads, OnlyWrites};
 
 use crate::limits::ROOM;
@@ -64,7 +65,8 @@ fn run_rounds<I: Source, O: Sink>(
     }
 }
 
-/// Runs the schedule that the source gives, and writes to the sink what it prints.
+/// Runs the schedule that the source gives, and writes to the sink what it prints: `Ends` of
+/// specs/Claims.antt says what each end means.
 ///
 /// Lines are run as they are read, and what they print is written before the next read. A line may
 /// have 65536 bytes and a schedule 268435456. Reading stops at the first refused line, and nothing is

@@ -1,10 +1,9 @@
 // One event of the agent, and the settling after it.
 ghost use Rattle.std.specs.Prelude.{◌≡◌, ◌++◌, ◌<◌, ◌≤◌, OnOk, ◌∷◌, length};
 ghost use Rattle.agent_core.specs.Happenings.{happening};
-ghost use Rattle.agent_core.specs.State.{IsRising, owed_of};
-ghost use Rattle.agent_core.specs.Step.{Fits};
-ghost use Rattle.replay_run.specs.Holding.{next_unheld};
-ghost use Rattle.replay_run.specs.Settling.{after_event, close_lines, settled};
+ghost use Rattle.agent_model.specs.Sound.{IsSteady};
+ghost use Rattle.agent_model.specs.State.{Fits, owed_of};
+ghost use Rattle.replay_run.specs.Settling.{after_event, close_lines, next_to_take, settled};
 ghost use Rattle.replay_run.specs.Settling.{sending_lines, sent};
 
 use crate::held::Held;
@@ -59,8 +58,8 @@ pub fn send(
 
 // The open port of the least number that isn't held and is owed bytes.
 fn next_unheld(agent: &Agent, held: &Held) -> Option<u64>
-    ensures next { result ≡ next_unheld 0 held.now agent.now.ports }
-    ensures rising { IsRising 0 agent.now.last_port agent.now.ports }
+    ensures next { result ≡ next_to_take held.now agent.now }
+    ensures steady { IsSteady agent.now }
 {
     let mut after = 0;
     'owed: while let Some(port) = agent.next_owed(after) {

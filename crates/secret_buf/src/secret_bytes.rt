@@ -34,7 +34,8 @@ impl SecretBytes {
         self.storage.len()
     }
 
-    /// Whether `bytes` are these bytes. Where they are as many, all are looked at, whichever differ.
+    /// Whether `bytes` are these bytes. Where they are as many, the code looks at all of them,
+    /// whichever differ; that the built program does so is not proved.
     pub fn same(&self, bytes: &[u8]) -> bool
         ensures { IsTrue result ↔ (self.now ≡ bytes.now) }
     {
@@ -70,7 +71,8 @@ impl Drop for SecretBytes {
     }
 }
 
-// Whether two slices are equal, found without an early exit.
+// Whether two slices are equal. Where they are as long, the loop has no early exit, so that the
+// time tells nothing of where they differ. No clause says so, and nothing holds a compiler to it.
 fn is_same(a: &[u8], b: &[u8]) -> bool
     ensures { IsTrue result ↔ (a.now ≡ b.now) }
 {

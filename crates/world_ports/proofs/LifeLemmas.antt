@@ -1,5 +1,5 @@
 -- Lemmas on specs/Life.antt: a number that is out of range stays so.
-use Rattle.std.proofs.Common.{◌≡◌, ◌+◌, ◌-◌, ◌*◌, ◌^◌, ◌≤◌, ◌==◌, Bool, true, false, ℕ, List, [], ◌∷◌, Option, Some, None, IfSome, if◌then◌else◌, unwrap_or, arith}
+use Rattle.std.proofs.Common.{◌≡◌, ◌+◌, ◌-◌, ◌*◌, ◌^◌, ◌≤◌, true, false, ℕ, List, [], ◌∷◌, Option, Some, None, IfSome, if◌then◌else◌, unwrap_or, arith}
 use Rattle.std.proofs.lemmas.Grind.{common_steps}
 use Rattle.std.proofs.Math.Nat.{mul-le-mul_left}
 use Rattle.std.specs.Char.{is_ascii_digit, to_ascii_lowercase}

@@ -1,5 +1,5 @@
 -- Lifetimes as text (after the time formats of sshd_config(5)): `90`, `1h30m`, `2W`.
-use Rattle.std.specs.Prelude.{◌+◌, ◌-◌, ◌*◌, ◌^◌, ◌==◌, ℕ, List, [], ◌∷◌, Option, Some, None, nat_lt, option_map, option_and_then, unwrap_or, if◌then◌else◌}
+use Rattle.std.specs.Prelude.{◌+◌, ◌-◌, ◌*◌, ◌^◌, ◌==◌, ℕ, List, [], ◌∷◌, Option, Some, None, nat_lt, option_and_then, unwrap_or, if◌then◌else◌}
 use Rattle.std.specs.Char.{is_ascii_digit, to_ascii_lowercase}
 
 -- the seconds of a unit, by its small letter: s, m, h, d or w

@@ -1,5 +1,5 @@
 -- Programs that are run to their end (ours): which runs were made, and how many failed.
-use Rattle.std.specs.Prelude.{◌≡◌, ◌≤◌, Bool, true, false, ℕ, List, Option, Result, Ok, Err, OnOk, IfErr}
+use Rattle.std.specs.Prelude.{◌≤◌, Bool, true, false, ℕ, List, Option, Result, Ok, Err}
 use Rattle.world_ports.specs.Causes.{Rose}
 use Rattle.world_ports.specs.declared.spawner.Ran.{Ran}
 use Rattle.world_ports.specs.declared.spawner.Run.{Run}

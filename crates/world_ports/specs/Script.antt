@@ -1,5 +1,5 @@
 -- Connections of a scripted world (ours): what was sent and not read, and how much is taken.
-use Rattle.std.specs.Prelude.{ℕ, zero, suc, ◌+◌, ◌-◌, ◌^◌, Bool, true, false, List, [], Option, Some, None, length, min, option_map, unwrap_or}
+use Rattle.std.specs.Prelude.{ℕ, zero, suc, ◌+◌, ◌-◌, ◌^◌, ◌==◌, Bool, true, false, List, [], Option, None, length, min, option_map, unwrap_or, slice_get, replicate, if◌then◌else◌}
 use Rattle.std.specs.Ordering.{nat_cmp}
 use Rattle.std.specs.BTreeMap.{BTreeMap, get}
 use Rattle.world_ports.specs.declared.answers.Accepted.{Accepted}
@@ -8,6 +8,8 @@ use Rattle.world_ports.specs.declared.events.Door.{Door}
 use Rattle.world_ports.specs.declared.events.Door.TheVariants.{Clients, Children}
 use Rattle.world_ports.specs.declared.answers.Got.{Got}
 use Rattle.world_ports.specs.declared.answers.Got.TheVariants as got
+use Rattle.world_ports.specs.declared.answers.Polled.{Polled}
+use Rattle.world_ports.specs.declared.answers.Polled.TheVariants as polled
 use Rattle.world_ports.specs.declared.answers.Wrote.{Wrote}
 use Rattle.world_ports.specs.declared.answers.Wrote.TheVariants as wrote
 
@@ -66,3 +68,11 @@ waiting_at clients children Children = children
 abbrev pub next_accepted : ℕ → ℕ → Accepted
 next_accepted zero last = accepted.NotNow
 next_accepted (suc waiting) last = accepted.Port (last + 1)
+
+-- what a poll is answered where so many turns are left
+abbrev pub next_polled : ℕ → Polled
+next_polled turns = if turns == 0 then polled.Over else polled.Some
+
+-- the one-time token of the next start: sixteen zero bytes where no cue gave one
+abbrev pub next_ticket : List (List ℕ) → List ℕ
+next_ticket tickets = unwrap_or (slice_get tickets 0) (replicate 16 0)

@@ -1,6 +1,6 @@
-//! What the agent's programs meet of the outside: readers and writers whose failures are counted,
-//! in memory and over std's, and the plain types of listeners, child processes and clock readings.
-//! Stands on std alone; docs/DEFINITIONS.md says what a count of faults means.
+//! What the programs meet of the outside: the world of the agent's loop, with its journal; readers
+//! and writers, files and runs of programs, whose failures are counted; all of them in memory.
+//! Stands on plain_lists; docs/DEFINITIONS.md, "The outside", says what contracts see of them.
 #![tactic(auto)]
 
 mod answers;

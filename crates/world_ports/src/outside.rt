@@ -1,6 +1,6 @@
 // What is there in a scripted world: connections, clocks and one-time tokens.
-ghost use Rattle.std.specs.Prelude.{◌≡◌, ◌++◌, ◌+◌, ◌-◌, ◌^◌, ◌<◌, ◌≤◌, IfOk, length, min, take, replicate, unwrap_or, slice_get};
-ghost use Rattle.world_ports.specs.Script.{next_accepted, next_got, next_wrote, pipe_of, waiting_at};
+ghost use Rattle.std.specs.Prelude.{◌≡◌, ◌++◌, ◌+◌, ◌-◌, ◌^◌, ◌<◌, ◌≤◌, IfOk, length, min, take};
+ghost use Rattle.world_ports.specs.Script.{next_accepted, next_got, next_ticket, next_wrote, pipe_of, waiting_at};
 
 use crate::pipe::Pipe;
 use crate::{Accepted, Cue, Door, Got, Moment, Ready, Spot, Wrote};
@@ -231,7 +231,7 @@ impl Outside {
 
     // The token of the next start.
     pub fn next_ticket(&self) -> [u8; 16]
-        ensures { result ≡ unwrap_or (slice_get self.now.tickets.items 0) (replicate 16 0) }
+        ensures { result ≡ next_ticket self.now.tickets.items }
     {
         self.tickets.front().copied().unwrap_or([0; 16])
     }

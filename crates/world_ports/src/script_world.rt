@@ -1,10 +1,10 @@
 // A world in memory that plays a script.
-ghost use Rattle.std.specs.Prelude.{◌≡◌, ◌++◌, ◌∷◌, ◌≤◌, ◌<◌, ◌-◌, ◌^◌, [], IfOk, OnOk, OnErr, Some, length, take};
+ghost use Rattle.std.specs.Prelude.{◌≡◌, ◌++◌, ◌∷◌, ◌≤◌, ◌<◌, ◌-◌, ◌^◌, [], IfOk, OnOk, OnErr, Some, length, take, vec_len};
 ghost use Rattle.world_ports.specs.declared.entry.Entry.{Entry};
 ghost use Rattle.world_ports.specs.declared.entry.Entry.TheVariants as entry;
 ghost use Rattle.world_ports.specs.Journal.{Tells, got_of, is_short};
 ghost use Rattle.world_ports.specs.Memory.{FailsAsListed};
-ghost use Rattle.world_ports.specs.Script.{next_accepted, next_got, next_wrote, pipe_of, waiting_at};
+ghost use Rattle.world_ports.specs.Script.{next_accepted, next_got, next_polled, next_ticket, next_wrote, pipe_of, waiting_at};
 ghost use Rattle.world_ports.specs.Worlds.{IsCounted, GotWithin, KeepsRest, NumbersPort, TookWithin};
 
 use crate::calls::Calls;
@@ -73,6 +73,7 @@ impl ScriptWorld {
         ensures calls { self.new.calls ≡ self.old.calls }
         ensures ports { self.new.outside.last_port ≡ self.old.outside.last_port }
         ensures greatest { self.new.greatest ≡ self.old.greatest }
+        ensures answer { IfOk result (λ polled. polled ≡ next_polled (vec_len self.old.turns)) }
     {
         let Some(turn) = self.turns.pop() else {
             return Ok(Polled::Over);
@@ -115,6 +116,7 @@ impl World for ScriptWorld {
         ensures ports { self.new.outside.last_port ≡ self.old.outside.last_port }
         ensures moment { self.new.greatest ≡ self.old.greatest }
         ensures fails { FailsAsListed self.old.calls result }
+        ensures answer { IfOk result (λ polled. polled ≡ next_polled (vec_len self.old.turns)) }
     {
         out.clear();
         let answer = match self.calls.begin(false) {
@@ -235,6 +237,8 @@ impl World for ScriptWorld {
         ensures ports { self.new.outside.last_port ≡ self.old.outside.last_port }
         ensures moment { self.new.greatest ≡ self.old.greatest }
         ensures fails { FailsAsListed self.old.calls result }
+        ensures answer { IfOk result (λ ticket.
+            ticket ≡ next_ticket self.old.outside.tickets.items) }
     {
         let answer = match self.calls.begin(false) {
             Ok(()) => Ok(self.outside.next_ticket()),

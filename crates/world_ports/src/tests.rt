@@ -2,6 +2,10 @@ ghost use Rattle.std.specs.Prelude.{◌≡◌, ◌⊎◌, ◌<◌, IfNone, IfSom
 ghost use Rattle.std.specs.Io.KnownBytes.{Appends, IsAtEnd};
 ghost use Rattle.world_ports.specs.Causes.{Rose};
 
+mod life;
+mod script_world;
+mod tools;
+
 use super::*;
 use std::io::{self, Error, ErrorKind, Read, Write};
 use std::test::Fail;
@@ -9,10 +13,10 @@ use std::test::Fail;
 // What code over any source learns of one read.
 fn pull<I: Source>(input: &mut I, room: &mut [u8]) -> Option<u32>
     requires { 0 < length room.old }
-    ensures bytes { IfSome result (λ n. Appends (I.taken input.old) (I.taken input.new)
+    ensures bytes { IfSome result (λ n. Appends (I.seen input.old).taken (I.seen input.new).taken
         (take n room.new)) }
-    ensures none { IfNone result (Rose (I.read_faults input.old) (I.read_faults input.new)
-        ⊎ IsAtEnd (I.left input.new)) }
+    ensures none { IfNone result (Rose (I.seen input.old).read_faults (I.seen input.new).read_faults
+        ⊎ IsAtEnd (I.seen input.new).left) }
 {
     match input.read(room) {
         Ok(Pulled::Bytes(n)) => Some(n),
@@ -23,9 +27,9 @@ fn pull<I: Source>(input: &mut I, room: &mut [u8]) -> Option<u32>
 // What code over any sink learns of one write.
 fn push<O: Sink>(output: &mut O, bytes: &[u8]) -> Option<u32>
     requires { 0 < length bytes.now }
-    ensures bytes { IfSome result (λ n. Appends (O.written output.old) (O.written output.new)
+    ensures bytes { IfSome result (λ n. Appends (O.seen output.old).written (O.seen output.new).written
         (take n bytes.now)) }
-    ensures none { IfNone result (Rose (O.write_faults output.old) (O.write_faults output.new)) }
+    ensures none { IfNone result (Rose (O.seen output.old).write_faults (O.seen output.new).write_faults) }
 {
     let Ok(n) = output.write(bytes) else {
         return None;

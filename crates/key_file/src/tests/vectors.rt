@@ -1,8 +1,8 @@
 //! Keys that `ssh-keygen` of OpenSSH 9.2p1 made for these tests alone
 //! (`ssh-keygen -q OPTIONS -N '' -C COMMENT -f FILE`).
 //!
-//! `body` is FILE's lines between those of the armour. `type_name`, `blob` and `comment` are the words
-//! of `ssh-keygen -y -f FILE`, and `shown` is the second word of `ssh-keygen -l -f FILE.pub`.
+//! `body` is FILE's lines between those of the armour. `type_name`, `blob` and `comment` are the
+//! words of `ssh-keygen -y -f FILE`, and `shown` is the second word of `ssh-keygen -l -f FILE.pub`.
 
 /// A key as OpenSSH writes and shows it.
 pub struct Vector {

@@ -1,7 +1,7 @@
 use Rattle.std.proofs.Common.{◌∙◌, ◌++◌, arith, ap, sym, map, drop, append_assoc, ◌+◌}
 use Rattle.identity_table.proofs.PlaceLemmas.{entries_len-more}
 use Rattle.agent_msg.specs.Replies.{entries, entry}
-use Rattle.agent_core.specs.KeyStates.{shown}
+use Rattle.agent_model.specs.KeyStates.{shown}
 use Rattle.agent_core.proofs.HeldLemmas.{entries-more, entry_of}
 use Rattle.agent_core.proofs.owed.put_entries.Goals as goal
 

@@ -2,7 +2,7 @@ use Rattle.std.proofs.Common.{◌≡◌, ◌≤◌, ◌++◌, map, drop}
 use Rattle.secret_buf.specs.Buffers.{KeepsRoom}
 use Rattle.identity_table.specs.Identities.{answer_len, max_answer}
 use Rattle.agent_msg.specs.Replies.{entries}
-use Rattle.agent_core.specs.KeyStates.{shown}
+use Rattle.agent_model.specs.KeyStates.{shown}
 use Rattle.agent_core.proofs.owed.put_entries.Given as goal
 
 abbrev pub invariant-loop-identity : goal.invariant-loop-identity

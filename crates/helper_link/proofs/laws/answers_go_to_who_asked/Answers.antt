@@ -9,4 +9,5 @@ returns-clause-askers c = λ piece link. settling_leads (link.heard ++ piece) li
 pub returns-clause-others : goal.returns-clause-others
 returns-clause-others c = λ number piece link sound.
     let all = settling (link.heard ++ piece) link.asks in
-    lead_others number all.settled link.asks all.asks 0 link.last (settling_leads (link.heard ++ piece) link.asks) sound.order
+    lead_others number all.settled link.asks all.asks 0 link.last
+    (settling_leads (link.heard ++ piece) link.asks) sound.order

@@ -1,6 +1,6 @@
 use Rattle.std.proofs.Common.{take, refl}
 use Rattle.replay_run.specs.Claims.{Seen}
-use Rattle.replay_run.proofs.RoundLemmas.{round_answer, round_finishes, round_unread, take_some}
+use Rattle.replay_run.proofs.RoundLemmas.{round_answer, round_finishes, round_at_read_fault, take_some}
 use Rattle.replay_run.proofs.run.run_round.Goals as goal
 
 pub returns-in-Ok-Bytes-clause-round : goal.returns-in-Ok-Bytes-clause-round
@@ -24,4 +24,4 @@ pub returns-in-Err-clause-round : goal.returns-in-Err-clause-round
 returns-in-Err-clause-round g c start under =
     let mid : Seen = record { input = g.I.Stream.seen c.args.input.now; output = g.O.Stream.seen c.args.output.now } in
     let new : Seen = record { input = g.I.Stream.seen c.read.new.self; output = g.O.Stream.seen c.args.output.now } in
-    round_unread start mid new c.args.feed.now under c.in-Err.ensures.reads.taken c.in-Err.ensures.reads.left refl c.in-Err.ensures.cause.fault
+    round_at_read_fault start mid new c.args.feed.now under c.in-Err.ensures.reads.taken c.in-Err.ensures.reads.left refl c.in-Err.ensures.cause.fault

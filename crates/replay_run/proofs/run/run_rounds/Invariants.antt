@@ -1,6 +1,6 @@
 use Rattle.std.proofs.Common.{◌-◌}
 use Rattle.world_ports.specs.Streams.{OnlyReads, OnlyWrites}
-use Rattle.replay_run.specs.Claims.{IsUnderWay}
+use Rattle.replay_run.specs.Rounds.{IsUnderWay}
 use Rattle.replay_run.specs.Feeding.{fed_so_far}
 use Rattle.replay_run.specs.Replay.{longest_schedule}
 use Rattle.replay_run.proofs.run.run_rounds.Given as goal

@@ -1,10 +1,11 @@
 use Rattle.std.proofs.Common.{◌≡◌, ◌-◌}
 use Rattle.replay_run.specs.Holding.{next_unheld}
+use Rattle.replay_run.specs.Settling.{next_to_take}
 use Rattle.replay_run.proofs.settle.next_unheld.Given as goal
 
 -- the ports that were passed over take nothing
 abbrev pub invariant-owed : goal.invariant-owed
-invariant-owed l = next_unheld l.after l.held l.agent.ports ≡ next_unheld 0 l.held l.agent.ports
+invariant-owed l = next_unheld l.agent.under_way l.after l.held l.agent.ports ≡ next_to_take l.held l.agent
 
 abbrev pub decreases-owed : goal.decreases-owed
 decreases-owed l = l.agent.last_port - l.after

@@ -1,6 +1,6 @@
 use Rattle.std.proofs.Common.{◌≡◌, ◌++◌, List, ℕ, length, ap, sym, ◌∙◌, append_assoc}
 use Rattle.std.proofs.lemmas.List.{append-nil}
-use Rattle.agent_core.specs.State.{State}
+use Rattle.agent_model.specs.State.{State}
 use Rattle.replay_run.specs.Settling.{Settled, delivered, delivery_lines, sending_lines, sent, settled}
 use Rattle.replay_run.proofs.SettlingLemmas.{delivered_lowers, owed_some, settled_none, settled_some}
 use Rattle.replay_run.proofs.settle.settle.Goals as goal
@@ -8,7 +8,7 @@ use Rattle.replay_run.proofs.settle.settle.Goals as goal
 pub send-requires-clause-some : goal.send-requires-clause-some
 send-requires-clause-some c =
     rw c.owed-count.ensures
-    (owed_some c.args.held.now c.in-Some.port c.takings.agent c.in-Some.ensures.rising (sym c.in-Some.ensures.next))
+    (owed_some c.args.held.now c.in-Some.port c.takings.agent c.in-Some.ensures.steady (sym c.in-Some.ensures.next))
 
 pub takings-smaller : goal.takings-smaller
 takings-smaller c =
@@ -17,7 +17,7 @@ takings-smaller c =
     let state = c.takings.agent in
     let agent_is : c.send.new.agent ≡ delivered moment port state =
     c.in_ok-send.ensures.agent ∙ ap (λ (b : List ℕ). sent moment port (length b) state) c.owed-count.ensures in
-    rw agent_is (delivered_lowers moment c.args.held.now port state c.in-Some.ensures.rising (sym c.in-Some.ensures.next))
+    rw agent_is (delivered_lowers moment c.args.held.now port state c.in-Some.ensures.steady (sym c.in-Some.ensures.next))
 
 pub takings-preserved : goal.takings-preserved
 takings-preserved c =
@@ -26,7 +26,7 @@ takings-preserved c =
     let port = c.in-Some.port in
     let state = c.takings.agent in
     let out = c.takings.out.items in
-    let next = settled_some moment held port state c.in-Some.ensures.rising (sym c.in-Some.ensures.next) in
+    let next = settled_some moment held port state c.in-Some.ensures.steady (sym c.in-Some.ensures.next) in
     let agent_is : c.send.new.agent ≡ delivered moment port state =
     c.in_ok-send.ensures.agent ∙ ap (λ (b : List ℕ). sent moment port (length b) state) c.owed-count.ensures in
     let out_is : c.send.new.out.items ≡ out ++ delivery_lines moment port state =

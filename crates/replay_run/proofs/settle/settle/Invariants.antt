@@ -1,5 +1,5 @@
 use Rattle.std.proofs.Common.{◌≡◌, ◌++◌}
-use Rattle.agent_core.specs.Budget.{budget}
+use Rattle.agent_model.specs.Budget.{budget}
 use Rattle.replay_run.specs.Settling.{settled}
 use Rattle.replay_run.proofs.settle.settle.Given as goal
 

@@ -1,4 +1,4 @@
-use Rattle.std.proofs.Common.{◌≡◌, ◌+◌, ◌-◌, ◌*◌, None, unwrap_or, ap, sym, ◌∙◌}
+use Rattle.std.proofs.Common.{◌≡◌, ◌+◌, ◌-◌, ◌*◌, None, unwrap_or, sym, ◌∙◌}
 use Rattle.world_ports.proofs.LifeLemmas.{sum_from-digit_out}
 use Rattle.world_ports.specs.Life.{in_range}
 use Rattle.world_ports.proofs.life.next.Goals as goal

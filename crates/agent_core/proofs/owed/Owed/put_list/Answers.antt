@@ -2,7 +2,7 @@ use Rattle.std.proofs.Common.{◌≡◌, ◌∙◌, [], ◌++◌, length, arith,
 use Rattle.std.proofs.lemmas.List.{length-map}
 use Rattle.agent_msg.proofs.ReplyLemmas.{list_head-entries}
 use Rattle.agent_msg.specs.Replies.{entries, list_head}
-use Rattle.agent_core.specs.KeyStates.{shown}
+use Rattle.agent_model.specs.KeyStates.{shown}
 use Rattle.agent_core.proofs.HeldLemmas.{answer_len-shown, length-entries_len}
 use Rattle.agent_core.proofs.owed.Owed.put_list.Goals as goal
 

@@ -1,32 +1,41 @@
 use Rattle.std.proofs.Common.{◌≡◌, ◌∙◌, sym, ap}
 use Rattle.agent_core.specs.Slots.{OpenPorts, ports_of}
-use Rattle.agent_core.specs.State.{remove_port}
-use Rattle.agent_core.proofs.KeptLemmas.{kept_rising, kept_numbers, kept-removed, ports_of-remove, found_port}
-use Rattle.agent_core.proofs.StepLemmas.{gone-removed}
+use Rattle.agent_model.specs.State.{remove_port}
+use Rattle.agent_model.proofs.ClosesLemmas.{gone-removed}
+use Rattle.agent_core.proofs.KeptLemmas.{are_plain, closed_room, found_port, kept-removed, kept_numbers, kept_rising, ports_of-remove}
 use Rattle.agent_core.proofs.ports.Ports.close.Goals as goal
 
 pub place_of-requires : goal.place_of-requires
-place_of-requires c = rw c.deref.ensures.value (kept_rising _ _ _ _ c.self.invariant)
+place_of-requires c = rw c.deref.ensures.value (kept_rising _ _ _ _ _ _ c.self.invariant)
 
 pub take_out-requires : goal.take_out-requires
-take_out-requires c = kept_numbers _ _ _ _ c.self.invariant
+take_out-requires c = kept_numbers _ _ _ _ _ _ c.self.invariant
+
+pub put_in-requires-clause-room : goal.put_in-requires-clause-room
+put_in-requires-clause-room c =
+    let is = rw c.deref.ensures.value at c.in-Some.ensures in
+    closed_room _ _ _ _ _ _ c.args.number c.in-Some.place c.self.invariant is
 
 pub invariant_of-self : goal.invariant_of-self
 invariant_of-self c =
     let is = rw c.deref.ensures.value at c.in-Some.ensures in
-    rw (c.remove.ensures.items, c.take_out.ensures.items) (kept-removed _ _ _ _ c.args.number c.in-Some.place _ c.self.invariant is c.take_out.ensures.room)
+    rw (c.remove.ensures.items, c.take_out.ensures.items, c.put_in.ensures.items) (kept-removed _ _ _ _ _ _ c.args.number c.in-Some.place _ _ c.self.invariant is c.take_out.ensures.room c.put_in.ensures.room)
 
 pub returns-clause-ports : goal.returns-clause-ports
 returns-clause-ports c =
     let is = rw c.deref.ensures.value at c.in-Some.ensures in
     let same : ports_of c.remove.new.self.items ≡ remove_port c.args.number (ports_of c.self.inside.slots.items) =
     ap ports_of c.remove.ensures.items ∙ ports_of-remove _ c.in-Some.place ∙ sym is.removed in
-    rw (← c.self.view_is) (ap (λ ports. let after : OpenPorts = record { ports = ports; last = c.self.inside.last } in after) same)
+    rw (← c.self.view_is) (ap (λ ports. let after : OpenPorts = record { ports = ports; last = c.self.inside.last; closed = c.put_in.new.numbers.items } in after) same
+    ∙ ap (λ closed. let after : OpenPorts = record { ports = remove_port c.args.number (ports_of c.self.inside.slots.items); last = c.self.inside.last; closed = closed } in after) c.put_in.ensures.items)
 
-pub returns-clause-closed : goal.returns-clause-closed
-returns-clause-closed c =
+pub returns-clause-gone : goal.returns-clause-gone
+returns-clause-gone c =
     let is = rw c.deref.ensures.value at c.in-Some.ensures in
     let same : ports_of c.remove.new.self.items ≡ remove_port c.args.number (ports_of c.self.inside.slots.items) =
     ap ports_of c.remove.ensures.items ∙ ports_of-remove _ c.in-Some.place ∙ sym is.removed in
     let found = found_port _ _ _ is in
     rw (← c.self.view_is, same) (gone-removed c.args.number c.self.inside.last _ _ found c.self.invariant.rising)
+
+pub returns-clause-plain : goal.returns-clause-plain
+returns-clause-plain c = rw (← c.self.view_is) (are_plain c.self.inside.slots.items)

@@ -1,30 +1,27 @@
-use Rattle.std.proofs.Common.{◌≡◌, ◌∙◌, ◌++◌, [], ◌∷◌, ◌<◌, ◌^◌, ◌+◌, suc, ap, add-one, refl, arith, true, false}
-use Rattle.agent_core.proofs.KeptLemmas.{kept-refused, kept-joined, joined_port, ports_of-push}
-use Rattle.agent_core.proofs.StepLemmas.{gone-admitted}
-use Rattle.agent_core.specs.Slots.{ports_of}
-use Rattle.agent_core.specs.State.{new_client}
+use Rattle.std.proofs.Common.{◌≡◌, ◌∙◌, [], ◌<◌, ◌^◌, ◌+◌, suc, ap, add-one, arith, length, sym, false}
+use Rattle.world_ports.specs.declared.Door.TheVariants.{Clients}
+use Rattle.agent_model.proofs.ClosesLemmas.{gone-admitted}
+use Rattle.agent_core.specs.Rising.{inserted}
+use Rattle.agent_core.specs.Slots.{OpenPorts, ports_of}
+use Rattle.agent_core.proofs.KeptLemmas.{kept-refused}
+use Rattle.agent_core.proofs.PlaceLemmas.{length-ports_of}
 use Rattle.agent_core.proofs.ports.Ports.join.Goals as goal
 
 pub invariant_of-self : goal.invariant_of-self
 invariant_of-self c =
-    let last = ap (λ v. v.last) c.self.view_is in
-    let below : suc c.self.inside.last < 2 ^ 64 = omega (arith, c.requires, last) in
-    rw add-one (kept-refused _ _ _ _ c.self.invariant below)
+    let last = ap (λ (v : OpenPorts). v.last) c.self.view_is in
+    let below : suc c.self.inside.last < 2 ^ 64 = omega (arith, c.requires.last, last) in
+    let none : c.self.inside.closed.items ≡ [] = ap (λ (v : OpenPorts). v.closed) c.self.view_is ∙ c.requires.closed in
+    let some : 0 < length c.self.inside.slots.items =
+    omega (arith, c.requires.some c.if-has_room.false, ap (λ (v : OpenPorts). length v.ports) c.self.view_is, length-ports_of c.self.inside.slots.items) in
+    rw (c.put_in.ensures.items, add-one) (kept-refused _ _ _ _ _ _ _ c.self.invariant none c.put_in.ensures.room some below)
 
-pub invariant_of-self-2 : goal.invariant_of-self-2
-invariant_of-self-2 c =
-    let last = ap (λ v. v.last) c.self.view_is in
-    let below : suc c.self.inside.last < 2 ^ 64 = omega (arith, c.requires, last) in
-    let new = joined_port c.self.inside.last (suc c.self.inside.last) c.new-2.result c.in_ok-owed.owed refl c.new-2.ensures c.in_ok-owed.ensures in
-    rw (c.in_default.ensures.items, c.in_ok-reserve.ensures.items, add-one) (kept-joined _ _ _ _ _ _ c.self.invariant new (omega arith) (omega (arith, c.in_ok-reserve.ensures.ok)) below)
+pub returns-in_ok-admit-clause-closed : goal.returns-in_ok-admit-clause-closed
+returns-in_ok-admit-clause-closed c =
+    ap (λ (v : OpenPorts). v.closed) c.in_ok-admit.ensures.ports ∙ c.requires.closed ∙ sym c.in_ok-admit.ensures.gone
 
-pub returns-then-len-ge-MOST_CLIENTS-clause-closed : goal.returns-then-len-ge-MOST_CLIENTS-clause-closed
-returns-then-len-ge-MOST_CLIENTS-clause-closed c =
-    rw (← c.self.view_is, add-one) (gone-admitted false c.self.inside.last _ c.self.invariant.rising)
-
-pub returns-clause-closed : goal.returns-clause-closed
-returns-clause-closed c =
-    let new = joined_port c.self.inside.last (c.self.inside.last + 1) c.new-2.result c.in_ok-owed.owed (add-one c.self.inside.last) c.new-2.ensures c.in_ok-owed.ensures in
-    let same : ports_of c.push.new.self.items ≡ ports_of c.self.inside.slots.items ++ new_client (suc c.self.inside.last) ∷ [] =
-    ap ports_of c.in_default.ensures.items ∙ ports_of-push _ _ ∙ ap (λ port. ports_of c.self.inside.slots.items ++ port ∷ []) new in
-    rw (← c.self.view_is, same, add-one) (gone-admitted true c.self.inside.last _ c.self.invariant.rising)
+pub returns-else-has_room-clause-closed : goal.returns-else-has_room-clause-closed
+returns-else-has_room-clause-closed c =
+    let none : c.self.inside.closed.items ≡ [] = ap (λ (v : OpenPorts). v.closed) c.self.view_is ∙ c.requires.closed in
+    rw (← c.self.view_is) (c.put_in.ensures.items ∙ ap (inserted (c.self.inside.last + 1)) none
+    ∙ (rw add-one (sym (gone-admitted false c.self.inside.last Clients (ports_of c.self.inside.slots.items) c.self.invariant.rising))))

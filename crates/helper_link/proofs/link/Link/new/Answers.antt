@@ -3,4 +3,6 @@ use Rattle.helper_link.proofs.SoundLemmas.{IsSound-gone}
 use Rattle.helper_link.proofs.link.Link.new.Goals as goal
 
 pub invariant_of-result : goal.invariant_of-result
-invariant_of-result c = rw (c.new.ensures.items, c.new-2.ensures, c.new-3.ensures, c.new-4.ensures.items) (IsSound-gone no_link)
+invariant_of-result c =
+    rw (c.new.ensures.items, c.new-2.ensures, c.new-3.ensures, c.new-4.ensures.items)
+    (IsSound-gone no_link)

@@ -7,11 +7,15 @@ use Rattle.helper_link.proofs.link.Link.submit.Goals as goal
 
 pub invariant_of-self-2 : goal.invariant_of-self-2
 invariant_of-self-2 c =
-    let old : HelperLink = link_of c.self.inside.state c.self.inside.asks.items c.self.inside.last c.self.inside.owed.live
-    c.self.inside.heard.live c.self.inside.failed.items c.self.inside.faults in
+    let inside = c.self.inside in
+    let old : HelperLink = link_of inside.state inside.asks.items inside.last inside.owed.live
+    inside.heard.live inside.failed.items inside.faults in
     let same : old ≡ c.args.self.now = c.self.view_is in
-    let some = subst (λ (link : HelperLink). link.state ≢ states.None) (sym same) c.requires.state in
+    let some = subst (λ (link : HelperLink). link.state ≢ states.None)
+    (sym same) c.requires.state in
     let none = subst (λ (link : HelperLink). link.failed ≡ []) (sym same) c.requires.failed in
-    let room = subst (λ (link : HelperLink). length link.asks < most_asks) (sym same) c.requires.few in
+    let room = subst (λ (link : HelperLink). length link.asks < most_asks)
+    (sym same) c.requires.few in
     rw (c.in_ok-push.ensures.items, c.in_ok-reserve.ensures.items)
-    (IsSound-push c.args.kind c.args.asker c.write_to_child.new.out.live old some none room c.self.invariant)
+    (IsSound-push c.args.kind c.args.asker c.write_to_child.new.out.live old some none room
+    c.self.invariant)

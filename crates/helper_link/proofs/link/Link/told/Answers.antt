@@ -7,17 +7,21 @@ use Rattle.helper_link.proofs.link.Link.told.Goals as goal
 
 pub invariant_of-self-in_default : goal.invariant_of-self-in_default
 invariant_of-self-in_default c =
-    let old : HelperLink = link_of c.self.inside.state c.self.inside.asks.items c.self.inside.last c.self.inside.owed.live
-    c.self.inside.heard.live c.self.inside.failed.items c.self.inside.faults in
+    let inside = c.self.inside in
+    let old : HelperLink = link_of inside.state inside.asks.items inside.last inside.owed.live
+    inside.heard.live inside.failed.items inside.faults in
     let is = subst (λ (link : HelperLink). IsLinked link.state) (sym c.self.view_is) c.requires in
     rw (c.clear.ensures.items, c.wipe.ensures) (IsSound-cleared old is)
 
 pub invariant_of-self-2 : goal.invariant_of-self-2
 invariant_of-self-2 c =
-    let old : HelperLink = link_of c.self.inside.state c.self.inside.asks.items c.self.inside.last c.self.inside.owed.live
-    c.self.inside.heard.live c.self.inside.failed.items c.self.inside.faults in
+    let inside = c.self.inside in
+    let old : HelperLink = link_of inside.state inside.asks.items inside.last inside.owed.live
+    inside.heard.live inside.failed.items inside.faults in
     let is = subst (λ (link : HelperLink). IsLinked link.state) (sym c.self.view_is) c.requires in
-    IsSound-settled c.live.result.now c.settle_stream.new.asks.items c.consume.new.self.live old is c.self.invariant
+    IsSound-settled c.live.result.now c.settle_stream.new.asks.items c.consume.new.self.live old is
+    c.self.invariant
     (ap (λ (all : Settling). all.asks) c.in-Ok.ensures.settled)
     (ap (λ (all : Settling). all.heard) c.in-Ok.ensures.settled
-    ∙ ap (λ (bytes : List ℕ). drop c.in-Ok.end.read bytes) c.live.ensures ∙ sym c.consume.ensures.live)
+    ∙ ap (λ (bytes : List ℕ). drop c.in-Ok.end.read bytes) c.live.ensures
+    ∙ sym c.consume.ensures.live)

@@ -4,8 +4,8 @@ use Rattle.identity_table.specs.Places.{IsPlaceOf}
 use Rattle.identity_table.proofs.PlaceLemmas.{find_identity-at}
 use Rattle.identity_table.proofs.table.Table.find.Goals as goal
 
-pub returns : goal.returns
-returns c =
+pub returns-clause-value : goal.returns-clause-value
+returns-clause-value c =
     let keys = c.self.inside.identities.items in
     let at : IsPlaceOf c.args.blob.now keys c.in_ok-place.place = rw c.deref.ensures.value at c.in_ok-place.ensures in
     ap (λ (key : HeldKey). Some key) c.index.ensures

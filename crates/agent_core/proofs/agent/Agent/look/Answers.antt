@@ -1,0 +1,33 @@
+use Rattle.std.proofs.Common.{◌≡◌, ◌∙◌, ℕ, List, [], ap, refl, sym}
+use Rattle.agent_model.specs.State.{State, find_port}
+use Rattle.agent_model.proofs.ClosesLemmas.{gone-none}
+use Rattle.agent_core.proofs.AgentLemmas.{agent_closed, agent_served, bad_port, closes_none, whole_port}
+use Rattle.agent_core.proofs.HeldLemmas.{after_ok, both_ok}
+use Rattle.agent_core.proofs.agent.Agent.look.Goals as goal
+
+pub returns-in-Whole-clause-state : goal.returns-in-Whole-clause-state
+returns-in-Whole-clause-state c =
+    let there = whole_port (find_port c.args.port c.self.inside.ports.ports) c.in-Whole.body (sym c.in-Whole.ensures) in
+    rw (← c.self.view_is) (λ (closes : List ℕ).
+    both_ok c.serve.result (λ kept told.
+    agent_served c.self.inside.wall c.self.inside.keys c.serve.new.keys c.self.inside.ports c.serve.new.self closes c.args.port c.in-Whole.body there.0 c.serve.ensures.plain there.1 there.2 kept told)
+    (c.serve.ensures.keys c.self.inside.wall there.0 there.1)
+    (c.serve.ensures.ports c.self.inside.wall there.0 there.1))
+
+pub returns-in-Whole-clause-closes : goal.returns-in-Whole-clause-closes
+returns-in-Whole-clause-closes c =
+    let there = whole_port (find_port c.args.port c.self.inside.ports.ports) c.in-Whole.body (sym c.in-Whole.ensures) in
+    let none : c.self.inside.ports.closed ≡ [] = ap (λ (s : State). s.closes) c.self.view_is ∙ c.requires in
+    rw (← c.self.view_is) (after_ok c.serve.result (λ told.
+    closes_none c.self.inside.ports c.serve.new.self c.args.port _ (λ p. refl) none told)
+    (c.serve.ensures.ports c.self.inside.wall there.0 there.1))
+
+pub returns-in-Bad-clause-state : goal.returns-in-Bad-clause-state
+returns-in-Bad-clause-state c =
+    let there = bad_port (find_port c.args.port c.self.inside.ports.ports) c.in-Bad.announced (sym c.in-Bad.ensures) in
+    rw (← c.self.view_is) (λ (closes : List ℕ).
+    agent_closed c.self.inside.wall c.self.inside.keys c.self.inside.ports c.close.new.self closes c.args.port c.in-Bad.announced there.0 there.1 there.2 c.close.ensures.ports)
+
+pub returns-in-More-clause-closes : goal.returns-in-More-clause-closes
+returns-in-More-clause-closes c =
+    c.requires ∙ sym (gone-none c.args.self.now.last_port c.args.self.now.ports c.args.self.now.ports refl)

@@ -1,0 +1,53 @@
+use Rattle.std.proofs.Common.{◌≡◌, ◌∙◌, ℕ, Some, ap}
+use Rattle.agent_model.specs.State.{Port, find_port}
+use Rattle.agent_model.proofs.PortsLemmas.{found_number}
+use Rattle.agent_core.specs.Slots.{OpenPorts, port_of, ports_of}
+use Rattle.agent_core.proofs.HeldLemmas.{after_ok}
+use Rattle.agent_core.proofs.KeptLemmas.{are_plain, found_slot, kept-changed, kept_numbers, kept_rising, kept_room, serve_changed, serve_kept}
+use Rattle.agent_core.proofs.ports.Ports.serve.Goals as goal
+
+pub place_of-requires : goal.place_of-requires
+place_of-requires c = rw c.deref.ensures.value (kept_rising _ _ _ _ _ _ c.self.invariant)
+
+pub serve_at-requires-clause-due : goal.serve_at-requires-clause-due
+serve_at-requires-clause-due c =
+    let is = rw c.deref.ensures.value at c.in-Some.ensures in
+    let found = found_slot _ _ _ _ is c.index_mut.ensures.value in
+    rw (← c.self.view_is, found) at c.requires
+
+pub serve_at-requires-clause-rising : goal.serve_at-requires-clause-rising
+serve_at-requires-clause-rising c = kept_numbers _ _ _ _ _ _ c.self.invariant
+
+pub serve_at-requires-clause-room : goal.serve_at-requires-clause-room
+serve_at-requires-clause-room c =
+    let is = rw c.deref.ensures.value at c.in-Some.ensures in
+    let found = found_slot _ _ _ _ is c.index_mut.ensures.value in
+    let same = found_number c.args.number (ports_of c.self.inside.slots.items) (port_of c.index_mut.result.now) found in
+    rw same (kept_room _ _ _ _ _ _ c.args.number (port_of c.index_mut.result.now) c.self.invariant found)
+
+pub invariant_of-self : goal.invariant_of-self
+invariant_of-self c =
+    let is = rw c.deref.ensures.value at c.in-Some.ensures in
+    let found = found_slot _ _ _ _ is c.index_mut.ensures.value in
+    let same = found_number c.args.number (ports_of c.self.inside.slots.items) (port_of c.index_mut.result.now) found in
+    rw (c.serve_at.ensures.items, same) (kept-changed _ _ _ _ _ _ c.args.number c.in-Some.place _ c.serve_at.new.slot c.index_mut.result.now c.self.invariant is found c.serve_at.ensures.number c.serve_at.ensures.room)
+
+pub returns-clause-ports : goal.returns-clause-ports
+returns-clause-ports c =
+    let is = rw c.deref.ensures.value at c.in-Some.ensures in
+    let found = found_slot _ _ _ _ is c.index_mut.ensures.value in
+    rw (← c.self.view_is) (λ (wall : ℕ) (port : Port) (there : find_port c.args.number (ports_of c.self.inside.slots.items) ≡ Some port).
+    after_ok c.serve_at.result (λ told.
+    ap (λ ports. let v : OpenPorts = record { ports = ports; last = c.self.inside.last; closed = c.self.inside.closed.items } in v)
+    (serve_changed c.self.inside.slots.items c.args.number c.in-Some.place c.serve_at.new.slot c.index_mut.result.now wall c.args.body_len c.args.keys.now port is found there told)) (c.serve_at.ensures.port wall))
+
+pub returns-clause-keys : goal.returns-clause-keys
+returns-clause-keys c =
+    let is = rw c.deref.ensures.value at c.in-Some.ensures in
+    let found = found_slot _ _ _ _ is c.index_mut.ensures.value in
+    rw (← c.self.view_is) (λ (wall : ℕ) (port : Port) (there : find_port c.args.number (ports_of c.self.inside.slots.items) ≡ Some port).
+    after_ok c.serve_at.result (λ kept.
+    kept ∙ serve_kept c.self.inside.slots.items c.args.number c.index_mut.result.now wall c.args.body_len c.args.keys.now port found there) (c.serve_at.ensures.keys wall))
+
+pub returns-clause-plain : goal.returns-clause-plain
+returns-clause-plain c = rw (← c.self.view_is) (are_plain c.self.inside.slots.items)

@@ -1,0 +1,355 @@
+-- A taking of all that a port is owed lowers the budget of a state in which no confirmation is waited for.
+use Rattle.std.proofs.Common.{drop, inl, inr, ◌≡◌, ℕ, ◌+◌, ◌<◌, ◌≤◌, List, [], ◌∷◌, length, refl, ap, sym, arith, ◌∙◌, Option, Some, None, Bool, true, false, if◌then◌else◌, length-drop, ◌==◌}
+use Rattle.std.proofs.Math.Seq.{drop-length}
+use Rattle.std.proofs.lemmas.Bool.Decides.{nat_tests}
+use Rattle.world_ports.specs.declared.Door.{Door}
+use Rattle.world_ports.specs.declared.Door.TheVariants.{Clients, Children}
+use Rattle.world_ports.specs.declared.events.Moment.{Moment}
+use Rattle.wire_text.specs.Frames.{Front, front, front_body, Whole, Bad, More}
+use Rattle.wire_text.proofs.FrontLemmas.{front_says}
+use Rattle.agent_model.specs.Actions.{Outcome}
+use Rattle.agent_model.specs.Budget.{asking_bytes, budget, port_budget, ports_budget}
+use Rattle.agent_model.specs.Children.{changed}
+use Rattle.agent_model.specs.Dispatch.{Served}
+use Rattle.agent_model.specs.Events.{Took}
+use Rattle.agent_model.specs.Limits.{longest_body}
+use Rattle.agent_model.specs.Looks.{due, due_at, due_by}
+use Rattle.agent_model.specs.State.{Nothing, OnAsk, OnConfirmation, Port, State, UnderWay, Waits, change_port, find_port, is_some_bytes, owed_as, owed_by, owed_by_port, owed_of, remove_port, role_of}
+use Rattle.agent_model.specs.Step.{asker_at, at_moment, attempts, looked, step, take_frame, took_at, took_by_role, took_some}
+use Rattle.agent_model.specs.Verdicts.{tell}
+use Rattle.agent_msg.specs.Reading.{request_of}
+use Rattle.agent_model.proofs.ClientLemmas.{handle-took, looked-bad, looked-stays, looked-whole, served_at}
+use Rattle.agent_model.proofs.GrowLemmas.{AsksMore, asks_more}
+use Rattle.agent_model.proofs.PortsLemmas.{rising-change_port}
+use Rattle.agent_model.specs.Sound.{IsRising, IsSteady}
+use Rattle.agent_model.specs.State.{Client, Confirmer, Helper, Role, Unnamed, is_linked_to, role_by_helper, role_by_link}
+use Rattle.agent_model.specs.Step.{look_front, look_owed, look_port, look_waits}
+use Rattle.helper_link.specs.HelperLink.{sendable, sent}
+use Rattle.confirm_desk.specs.Confirmations.{Confirmation, find_linked, took}
+use Rattle.helper_link.specs.declared.state.LinkState.{LinkState}
+use Rattle.helper_link.specs.declared.state.LinkState.TheVariants as states
+use Rattle.std.proofs.lemmas.Bool.{cases_eq}
+
+-- a change of the port of this number changes its part of the budget alone
+budget-change : (under_way : UnderWay) (number : ℕ) (f : Port → Port) (ports : List Port) (port : Port) → find_port number ports ≡ Some port → ports_budget under_way (change_port number f ports) + port_budget under_way port ≡ ports_budget under_way ports + port_budget under_way (f port)
+budget-change under_way number f [] port found = absurd (cc)
+budget-change under_way number f (first ∷ ports) port found = by_test (number == first.number) refl (budget-change under_way number f ports port)
+  where
+    by_test : (same : Bool) → (number == first.number) ≡ same → (find_port number ports ≡ Some port → ports_budget under_way (change_port number f ports) + port_budget under_way port ≡ ports_budget under_way ports + port_budget under_way (f port)) → ports_budget under_way (change_port number f (first ∷ ports)) + port_budget under_way port ≡ ports_budget under_way (first ∷ ports) + port_budget under_way (f port)
+    by_test true is later =
+        let here : first ≡ port = grind (arith, nat_tests) in
+        let front : change_port number f (first ∷ ports) ≡ f first ∷ ports = grind (arith, nat_tests) in
+        let budget_is : ports_budget under_way (change_port number f (first ∷ ports)) ≡ port_budget under_way (f first) + ports_budget under_way ports = ap (ports_budget under_way) front in
+        let a : port_budget under_way first ≡ port_budget under_way port = ap (port_budget under_way) here in
+        let b : port_budget under_way (f first) ≡ port_budget under_way (f port) = ap (λ q. port_budget under_way (f q)) here in
+        omega (arith, budget_is, a, b)
+    by_test false is later =
+        let there : find_port number ports ≡ Some port = grind (arith, nat_tests) in
+        let front : change_port number f (first ∷ ports) ≡ first ∷ change_port number f ports = grind (arith, nat_tests) in
+        let budget_is : ports_budget under_way (change_port number f (first ∷ ports)) ≡ port_budget under_way first + ports_budget under_way (change_port number f ports) = ap (ports_budget under_way) front in
+        omega (arith, budget_is, later there)
+
+-- the port of this number takes its part of the budget with it
+budget-remove : (under_way : UnderWay) (number : ℕ) (ports : List Port) → ports_budget under_way (remove_port number ports) ≤ ports_budget under_way ports
+budget-remove under_way number [] = omega arith
+budget-remove under_way number (first ∷ ports) = by_test (number == first.number) refl (budget-remove under_way number ports)
+  where
+    by_test : (same : Bool) → (number == first.number) ≡ same → ports_budget under_way (remove_port number ports) ≤ ports_budget under_way ports → ports_budget under_way (remove_port number (first ∷ ports)) ≤ ports_budget under_way (first ∷ ports)
+    by_test true is later =
+        let front : remove_port number (first ∷ ports) ≡ ports = grind (arith, nat_tests) in
+        omega (arith, ap (ports_budget under_way) front)
+    by_test false is later =
+        let front : remove_port number (first ∷ ports) ≡ first ∷ remove_port number ports = grind (arith, nat_tests) in
+        let budget_is : ports_budget under_way (remove_port number (first ∷ ports)) ≡ port_budget under_way first + ports_budget under_way (remove_port number ports) = ap (ports_budget under_way) front in
+        omega (arith, budget_is, later)
+
+-- the port that was changed is found so, where its number stays
+found_changed : (number : ℕ) (f : Port → Port) (ports : List Port) (port : Port) → ((p : Port) → (f p).number ≡ p.number) → find_port number ports ≡ Some port → find_port number (change_port number f ports) ≡ Some (f port)
+found_changed number f [] port keeps found = absurd (cc)
+found_changed number f (first ∷ ports) port keeps found = grind (arith, nat_tests, found_changed number f ports port keeps, keeps first)
+
+-- what a client has of the budget
+client_budget : (under_way : UnderWay) (port : Port) → port.door ≡ Clients → port_budget under_way port ≡ length port.heard + (if is_some_bytes port.owed then 1 else 0)
+client_budget under_way port door =
+    ap (λ d. asking_bytes d port.heard + (if is_some_bytes (owed_as (role_of d port.number under_way) port under_way) then 1 else 0)) door
+
+one_or_none : (b : Bool) → (if b then 1 else 0) ≤ 1
+one_or_none true = omega arith
+one_or_none false = omega arith
+
+-- a whole frame that is to be taken has four bytes of length
+due_whole : (waits : Waits) (owed heard : List ℕ) (body_len : ℕ) → due_at waits owed heard ≡ Whole body_len → 4 ≤ length heard
+due_whole Nothing [] heard body_len is = (front_says longest_body heard (Whole body_len) is).0.header
+due_whole Nothing (byte ∷ bytes) heard body_len is = absurd (cc)
+due_whole (OnAsk ask) owed heard body_len is = absurd (cc)
+due_whole (OnConfirmation job) owed heard body_len is = absurd (cc)
+
+-- what a port is owed counts as one, by its door
+abbrev unit_as : Door → Port → UnderWay → ℕ
+unit_as door port under_way = if is_some_bytes (owed_as (role_of door port.number under_way) port under_way) then 1 else 0
+
+-- who is at a child process's port, by whether it is the helper and by the confirmation that is linked to it
+abbrev by_helper : Bool → Option Confirmation → Role
+by_helper true found = Helper
+by_helper false found = role_by_link found
+
+role-by : (linked : Bool) (number : ℕ) (confirmations : List Confirmation) → role_by_helper linked number confirmations ≡ by_helper linked (find_linked number confirmations)
+role-by true number confirmations = refl
+role-by false number confirmations = refl
+
+role-children : (number : ℕ) (under_way : UnderWay) → role_of Children number under_way ≡ by_helper (is_linked_to number under_way.link.state) (find_linked number under_way.confirmations)
+role-children number under_way = role-by (is_linked_to number under_way.link.state) number under_way.confirmations
+
+-- ---- what an ask adds: the helper's port is owed bytes
+
+-- one where the helper is at the port
+abbrev helper_unit : ℕ → LinkState → ℕ
+helper_unit number state = if is_linked_to number state then 1 else 0
+
+-- the helper's ports
+abbrev helpers : LinkState → List Port → ℕ
+helpers state [] = 0
+helpers state (port ∷ ports) = helper_unit port.number state + helpers state ports
+
+no_helper-above : (low high number : ℕ) (ports : List Port) → number ≤ low → IsRising low high ports → helpers (states.Linked number) ports ≡ 0
+no_helper-above low high number [] below rising = refl
+no_helper-above low high number (port ∷ ports) below rising =
+    let rest : helpers (states.Linked number) ports ≡ 0 = no_helper-above port.number high number ports (omega (arith, rising.0)) rising.1 in
+    let above : low < port.number = rising.0 in
+    grind (arith, nat_tests)
+
+one_helper-linked : (low high number : ℕ) (ports : List Port) → IsRising low high ports → helpers (states.Linked number) ports ≤ 1
+one_helper-linked low high number [] rising = omega arith
+one_helper-linked low high number (port ∷ ports) rising = elim (cases_eq number port.number) [
+  | inl here ↦
+      (let rest : helpers (states.Linked number) ports ≡ 0 = no_helper-above port.number high number ports (omega arith) rising.1 in
+      let most = one_or_none (number == port.number) in
+      omega (arith, rest, most))
+  | inr apart ↦
+      (let rest : helpers (states.Linked number) ports ≤ 1 = one_helper-linked port.number high number ports rising.1 in
+      let none : helper_unit port.number (states.Linked number) ≡ 0 = grind (arith, nat_tests) in
+      omega (arith, rest, none))
+]
+
+no_helpers : (state : LinkState) (ports : List Port) → ((number : ℕ) → is_linked_to number state ≡ false) → helpers state ports ≡ 0
+no_helpers state [] none = refl
+no_helpers state (port ∷ ports) none =
+    let rest : helpers state ports ≡ 0 = no_helpers state ports none in
+    let here : helper_unit port.number state ≡ 0 = ap (λ b. if b then 1 else 0) (none port.number) in
+    omega (arith, rest, here)
+
+-- at most one port is the helper's
+one_helper : (state : LinkState) (low high : ℕ) (ports : List Port) → IsRising low high ports → helpers state ports ≤ 1
+one_helper states.None low high ports rising = omega (arith, no_helpers states.None ports (λ n. refl))
+one_helper (states.Starting job) low high ports rising = omega (arith, no_helpers (states.Starting job) ports (λ n. refl))
+one_helper (states.Linked number) low high ports rising = one_helper-linked low high number ports rising
+
+-- what an ask adds to a child process's part
+child_adds : (linked : Bool) (found : Option Confirmation) (port : Port) (old new : UnderWay) → (if is_some_bytes (owed_as (by_helper linked found) port new) then 1 else 0) ≤ (if is_some_bytes (owed_as (by_helper linked found) port old) then 1 else 0) + (if linked then 1 else 0)
+child_adds true found port old new =
+    omega (arith, one_or_none (is_some_bytes (owed_as Helper port new)))
+child_adds false None port old new = omega arith
+child_adds false (Some confirmation) port old new = omega arith
+
+-- by the door
+adds_by : (door : Door) (port : Port) (old new : UnderWay) → AsksMore old new → unit_as door port new ≤ unit_as door port old + helper_unit port.number old.link.state
+adds_by Clients port old new more = omega arith
+adds_by Children port old new more =
+    let role : role_of Children port.number new ≡ by_helper (is_linked_to port.number old.link.state) (find_linked port.number old.confirmations) =
+    role-children port.number new ∙ ap (λ b. by_helper b (find_linked port.number new.confirmations)) (more.helper port.number) ∙ ap (by_helper (is_linked_to port.number old.link.state)) (more.confirmers port.number) in
+    let before : role_of Children port.number old ≡ by_helper (is_linked_to port.number old.link.state) (find_linked port.number old.confirmations) = role-children port.number old in
+    let a : unit_as Children port new ≡ (if is_some_bytes (owed_as (by_helper (is_linked_to port.number old.link.state) (find_linked port.number old.confirmations)) port new) then 1 else 0) = ap (λ r. if is_some_bytes (owed_as r port new) then 1 else 0) role in
+    let b : unit_as Children port old ≡ (if is_some_bytes (owed_as (by_helper (is_linked_to port.number old.link.state) (find_linked port.number old.confirmations)) port old) then 1 else 0) = ap (λ r. if is_some_bytes (owed_as r port old) then 1 else 0) before in
+    omega (arith, a, b, child_adds (is_linked_to port.number old.link.state) (find_linked port.number old.confirmations) port old new)
+
+-- over all ports
+adds_helpers : (ports : List Port) (old new : UnderWay) → AsksMore old new → ports_budget new ports ≤ ports_budget old ports + helpers old.link.state ports
+adds_helpers [] old new more = omega arith
+adds_helpers (port ∷ ports) old new more =
+    omega (arith, adds_by port.door port old new more, adds_helpers ports old new more)
+
+-- ---- a client
+
+-- by what is to be taken of a client that is owed nothing
+look_lowers : (number : ℕ) (port : Port) (state : State) (at : Front) → IsRising 0 state.last_port state.ports → port.door ≡ Clients → find_port number state.ports ≡ Some port → due port ≡ at → budget (looked number state).state ≤ budget state
+look_lowers number port state (Whole body_len) rising door found is =
+    let served : Served = served_at body_len port state in
+    let f : Port → Port = λ p. tell served.work.verdict (take_frame body_len (attempts state.held.lock (front_body body_len port.heard)) p) in
+    let more = asks_more (request_of (front_body body_len port.heard)) (asker_at state.moment port) state.held state.under_way in
+    let after : budget (looked number state).state ≡ ports_budget served.work.under_way (change_port number f state.ports) = ap budget (looked-whole number body_len port state found is) in
+    let changed_rising = rising-change_port number 0 state.last_port f state.ports (λ p. refl) rising in
+    let added = adds_helpers (change_port number f state.ports) state.under_way served.work.under_way more in
+    let one = one_helper state.under_way.link.state 0 state.last_port (change_port number f state.ports) changed_rising in
+    let change = budget-change state.under_way number f state.ports port found in
+    let had = client_budget state.under_way port door in
+    let has = client_budget state.under_way (f port) door in
+    let most = one_or_none (is_some_bytes (f port).owed) in
+    let some : 4 ≤ length port.heard = due_whole port.waits port.owed port.heard body_len is in
+    let shorter = length-drop (4 + body_len) port.heard in
+    let left : length (f port).heard + 4 ≤ length port.heard = omega arith in
+    omega (arith, after, added, one, change, had, has, most, left)
+look_lowers number port state (Bad announced) rising door found is =
+    omega (arith, ap budget (looked-bad number announced port state found is), budget-remove state.under_way number state.ports)
+look_lowers number port state More rising door found is =
+    omega (arith, ap budget (looked-stays number state (ap (λ (o : Option Port). due_by o) found ∙ is)))
+
+-- a client takes all that it is owed: the budget falls
+client_lowers : (number : ℕ) (port : Port) (moment : Moment) (state : State) → IsRising 0 state.last_port state.ports → port.door ≡ Clients → find_port number state.ports ≡ Some port → is_some_bytes port.owed ≡ true → budget (step state moment (Took number (length (owed_of number state)))).state < budget state
+client_lowers number port moment state rising door found some =
+    let count = length (owed_of number state) in
+    let owed_is : owed_by_port port state.under_way ≡ port.owed = ap (λ d. owed_as (role_of d port.number state.under_way) port state.under_way) door in
+    let count_is : count ≡ length port.owed = ap (λ (o : Option Port). length (owed_by o state.under_way)) found ∙ ap length owed_is in
+    let after : Port = took_some count port in
+    let opened : State = at_moment moment state in
+    let mid : State = changed number (took_some count) opened in
+    let nothing_owed : after.owed ≡ [] = rw count_is (drop-length port.owed) in
+    let change = budget-change state.under_way number (took_some count) state.ports port found in
+    let there = found_changed number (took_some count) state.ports port (λ q. refl) found in
+    let mid_rising = rising-change_port number 0 state.last_port (took_some count) state.ports (λ q. refl) rising in
+    let look = look_lowers number after mid (due after) mid_rising door there refl in
+    let handled = handle-took number count port opened found door in
+    let stepped : budget (step state moment (Took number count)).state ≡ budget (looked number mid).state = ap (λ (o : Outcome). budget o.state) handled in
+    let had : port_budget state.under_way port ≡ length port.heard + 1 = client_budget state.under_way port door ∙ ap (λ b. length port.heard + (if b then 1 else 0)) some in
+    let has : port_budget state.under_way after ≡ length port.heard + 0 = client_budget state.under_way after door ∙ ap (λ bytes. length port.heard + (if is_some_bytes bytes then 1 else 0)) nothing_owed in
+    omega (arith, look, stepped, change, had, has)
+
+-- ---- the helper
+
+-- the helper took all that it was owed
+abbrev paid : UnderWay → UnderWay
+paid under_way = record under_way { link = sent (length (sendable under_way.link.state under_way.link.owed)) under_way.link }
+
+nothing_left : (state : LinkState) (owed : List ℕ) → sendable state (drop (length (sendable state owed)) owed) ≡ []
+nothing_left states.None owed = refl
+nothing_left (states.Starting job) owed = refl
+nothing_left (states.Linked port) owed = drop-length owed
+
+-- what isn't there counts for nothing
+nothing_counts : (some : Bool) (most : ℕ) → some ≡ false → (if some then 1 else 0) ≤ most
+nothing_counts true most none = absurd (cc)
+nothing_counts false most none = omega arith
+
+-- then it is owed nothing, and every other port what it was owed
+child_pays : (linked : Bool) (found : Option Confirmation) (port : Port) (under_way : UnderWay) → (if is_some_bytes (owed_as (by_helper linked found) port (paid under_way)) then 1 else 0) ≤ (if is_some_bytes (owed_as (by_helper linked found) port under_way) then 1 else 0)
+child_pays true found port under_way =
+    nothing_counts (is_some_bytes (owed_as Helper port (paid under_way))) _ (ap is_some_bytes (nothing_left under_way.link.state under_way.link.owed))
+child_pays false None port under_way = omega arith
+child_pays false (Some confirmation) port under_way = omega arith
+
+pays_by : (door : Door) (port : Port) (under_way : UnderWay) → unit_as door port (paid under_way) ≤ unit_as door port under_way
+pays_by Clients port under_way = omega arith
+pays_by Children port under_way =
+    let role = role-children port.number under_way in
+    let new_role : role_of Children port.number (paid under_way) ≡ by_helper (is_linked_to port.number under_way.link.state) (find_linked port.number under_way.confirmations) = role-children port.number (paid under_way) in
+    let a : unit_as Children port (paid under_way) ≡ (if is_some_bytes (owed_as (by_helper (is_linked_to port.number under_way.link.state) (find_linked port.number under_way.confirmations)) port (paid under_way)) then 1 else 0) = ap (λ r. if is_some_bytes (owed_as r port (paid under_way)) then 1 else 0) new_role in
+    let b : unit_as Children port under_way ≡ (if is_some_bytes (owed_as (by_helper (is_linked_to port.number under_way.link.state) (find_linked port.number under_way.confirmations)) port under_way) then 1 else 0) = ap (λ r. if is_some_bytes (owed_as r port under_way) then 1 else 0) role in
+    omega (arith, a, b, child_pays (is_linked_to port.number under_way.link.state) (find_linked port.number under_way.confirmations) port under_way)
+
+pays : (port : Port) (under_way : UnderWay) → port_budget (paid under_way) port ≤ port_budget under_way port
+pays port under_way = omega (arith, pays_by port.door port under_way)
+
+all_pay : (ports : List Port) (under_way : UnderWay) → ports_budget (paid under_way) ports ≤ ports_budget under_way ports
+all_pay [] under_way = omega arith
+all_pay (port ∷ ports) under_way = omega (arith, pays port under_way, all_pay ports under_way)
+
+-- so that the budget falls where one port had some
+one_pays : (number : ℕ) (ports : List Port) (port : Port) (under_way : UnderWay) → find_port number ports ≡ Some port → port_budget (paid under_way) port < port_budget under_way port → ports_budget (paid under_way) ports < ports_budget under_way ports
+one_pays number [] port under_way found lower = absurd (cc)
+one_pays number (first ∷ ports) port under_way found lower = elim (cases_eq number first.number) [
+  | inl here ↦
+      (let is : first ≡ port = grind (arith, nat_tests) in
+      let a : port_budget under_way first ≡ port_budget under_way port = ap (port_budget under_way) is in
+      let b : port_budget (paid under_way) first ≡ port_budget (paid under_way) port = ap (port_budget (paid under_way)) is in
+      omega (arith, a, b, lower, all_pay ports under_way))
+  | inr apart ↦
+      (let later : find_port number ports ≡ Some port = grind (arith, nat_tests) in
+      omega (arith, pays first under_way, one_pays number ports port under_way later lower))
+]
+
+-- who is at the helper's port
+helper_role : (port : Port) (under_way : UnderWay) → port.door ≡ Children → is_linked_to port.number under_way.link.state ≡ true → role_of port.door port.number under_way ≡ Helper
+helper_role port under_way door linked =
+    ap (λ d. role_of d port.number under_way) door ∙ role-children port.number under_way
+    ∙ ap (λ b. by_helper b (find_linked port.number under_way.confirmations)) linked
+
+-- the helper takes all that it is owed: the budget falls
+helper_lowers : (number : ℕ) (port : Port) (moment : Moment) (state : State) → port.door ≡ Children → is_linked_to port.number state.under_way.link.state ≡ true → find_port number state.ports ≡ Some port → is_some_bytes (owed_by_port port state.under_way) ≡ true → budget (step state moment (Took number (length (owed_of number state)))).state < budget state
+helper_lowers number port moment state door linked found some =
+    let opened : State = at_moment moment state in
+    let uw : UnderWay = state.under_way in
+    let role = helper_role port uw door linked in
+    let new_role = helper_role port (paid uw) door linked in
+    let owed_is : owed_by_port port uw ≡ sendable uw.link.state uw.link.owed = ap (λ r. owed_as r port uw) role in
+    let count_is : length (owed_of number state) ≡ length (sendable uw.link.state uw.link.owed) = ap (λ (o : Option Port). length (owed_by o uw)) found ∙ ap length owed_is in
+    let handled : budget (step state moment (Took number (length (owed_of number state)))).state ≡ ports_budget (paid uw) state.ports =
+    ap (λ (o : Option Port). budget (took_at o (length (owed_of number state)) opened).state) found
+    ∙ ap (λ r. budget (took_by_role r port.number (length (owed_of number state)) opened).state) role
+    ∙ ap (λ n. ports_budget (record uw { link = sent n uw.link }) state.ports) count_is in
+    let left : is_some_bytes (owed_by_port port (paid uw)) ≡ false =
+    ap (λ r. is_some_bytes (owed_as r port (paid uw))) new_role ∙ ap is_some_bytes (nothing_left uw.link.state uw.link.owed) in
+    omega (arith, handled, one_pays number state.ports port uw found (counts_less (asking_bytes port.door port.heard) (is_some_bytes (owed_by_port port (paid uw))) (is_some_bytes (owed_by_port port uw)) left some))
+  where
+    counts_less : (bytes : ℕ) (new old : Bool) → new ≡ false → old ≡ true → bytes + (if new then 1 else 0) < bytes + (if old then 1 else 0)
+    counts_less bytes true old none some = absurd (cc)
+    counts_less bytes false true none some = omega arith
+    counts_less bytes false false none some = absurd (cc)
+
+-- ---- any port
+
+-- a child process is the helper, or owed nothing
+child_lowers : (linked : Bool) (number : ℕ) (port : Port) (moment : Moment) (state : State) → is_linked_to port.number state.under_way.link.state ≡ linked → state.under_way.confirmations ≡ [] → port.door ≡ Children → find_port number state.ports ≡ Some port → is_some_bytes (owed_by_port port state.under_way) ≡ true → budget (step state moment (Took number (length (owed_of number state)))).state < budget state
+child_lowers true number port moment state linked alone door found some =
+    helper_lowers number port moment state door linked found some
+child_lowers false number port moment state linked alone door found some =
+    let unnamed : owed_by_port port state.under_way ≡ [] =
+    ap (λ d. owed_as (role_of d port.number state.under_way) port state.under_way) door
+    ∙ ap (λ r. owed_as r port state.under_way) (role-children port.number state.under_way ∙ ap (λ b. by_helper b (find_linked port.number state.under_way.confirmations)) linked ∙ ap (λ (cs : List Confirmation). by_helper false (find_linked port.number cs)) alone) in
+    let no : false ≡ true = sym (ap is_some_bytes unnamed) ∙ some in
+    absurd (cc)
+
+by_door : (door : Door) (number : ℕ) (port : Port) (moment : Moment) (state : State) → IsSteady state → port.door ≡ door → find_port number state.ports ≡ Some port → is_some_bytes (owed_by_port port state.under_way) ≡ true → budget (step state moment (Took number (length (owed_of number state)))).state < budget state
+by_door Clients number port moment state steady door found some =
+    client_lowers number port moment state steady.rising door found
+    (ap is_some_bytes (sym (ap (λ d. owed_as (role_of d port.number state.under_way) port state.under_way) door)) ∙ some)
+by_door Children number port moment state steady door found some =
+    child_lowers (is_linked_to port.number state.under_way.link.state) number port moment state refl steady.alone door found some
+
+-- a port takes all that it is owed: the budget falls
+pub taking_lowers : (number : ℕ) (port : Port) (moment : Moment) (state : State) → IsSteady state → find_port number state.ports ≡ Some port → is_some_bytes (owed_by_port port state.under_way) ≡ true → budget (step state moment (Took number (length (owed_of number state)))).state < budget state
+taking_lowers number port moment state steady found some = by_door port.door number port moment state steady refl found some
+
+-- ---- no confirmation is waited for
+
+alone_front : (answer : Front) (port : Port) (state : State) → state.under_way.confirmations ≡ [] → (look_front answer port state).state.under_way.confirmations ≡ []
+alone_front (Whole body_len) port state alone =
+    (asks_more (request_of (front_body body_len port.heard)) (asker_at state.moment port) state.held state.under_way).alone alone
+alone_front (Bad announced) port state alone = alone
+alone_front More port state alone = alone
+
+alone_owed : (owed : List ℕ) (port : Port) (state : State) → state.under_way.confirmations ≡ [] → (look_owed owed port state).state.under_way.confirmations ≡ []
+alone_owed [] port state alone = alone_front (front longest_body port.heard) port state alone
+alone_owed (byte ∷ bytes) port state alone = alone
+
+alone_waits : (waits : Waits) (port : Port) (state : State) → state.under_way.confirmations ≡ [] → (look_waits waits port state).state.under_way.confirmations ≡ []
+alone_waits Nothing port state alone = alone_owed port.owed port state alone
+alone_waits (OnAsk ask) port state alone = alone
+alone_waits (OnConfirmation job) port state alone = alone
+
+alone_look : (found : Option Port) (state : State) → state.under_way.confirmations ≡ [] → (look_port found state).state.under_way.confirmations ≡ []
+alone_look None state alone = alone
+alone_look (Some port) state alone = alone_waits port.waits port state alone
+
+alone_role : (role : Role) (number count : ℕ) (state : State) → state.under_way.confirmations ≡ [] → (took_by_role role number count state).state.under_way.confirmations ≡ []
+alone_role Client number count state alone =
+    alone_look (find_port number (changed number (took_some count) state).ports) (changed number (took_some count) state) alone
+alone_role Unnamed number count state alone = alone
+alone_role Helper number count state alone = alone
+alone_role (Confirmer confirmation) number count state alone = ap (took confirmation.job count) alone
+
+alone_found : (found : Option Port) (count : ℕ) (state : State) → state.under_way.confirmations ≡ [] → (took_at found count state).state.under_way.confirmations ≡ []
+alone_found None count state alone = alone
+alone_found (Some port) count state alone = alone_role (role_of port.door port.number state.under_way) port.number count state alone
+
+-- a taking begins no confirmation
+pub taking_stays_alone : (number count : ℕ) (moment : Moment) (state : State) → state.under_way.confirmations ≡ [] → (step state moment (Took number count)).state.under_way.confirmations ≡ []
+taking_stays_alone number count moment state alone = alone_found (find_port number state.ports) count (at_moment moment state) alone

@@ -1,0 +1,24 @@
+-- How many takings can still follow in a state: what makes settling end (ours).
+use Rattle.std.specs.Prelude.{ℕ, ◌+◌, List, [], ◌∷◌, length, if◌then◌else◌}
+use Rattle.world_ports.specs.declared.Door.{Door}
+use Rattle.world_ports.specs.declared.Door.TheVariants.{Clients, Children}
+use Rattle.agent_model.specs.State.{Port, State, UnderWay, is_some_bytes, owed_by_port}
+
+-- the bytes that requests may yet be taken from: a child process's are none
+abbrev pub asking_bytes : Door → List ℕ → ℕ
+asking_bytes Clients heard = length heard
+asking_bytes Children heard = 0
+
+-- those of a port, and one more where it is owed bytes
+abbrev pub port_budget : UnderWay → Port → ℕ
+port_budget under_way port =
+    asking_bytes port.door port.heard + (if is_some_bytes (owed_by_port port under_way) then 1 else 0)
+
+-- the same over all ports
+abbrev pub ports_budget : UnderWay → List Port → ℕ
+ports_budget under_way [] = 0
+ports_budget under_way (port ∷ ports) = port_budget under_way port + ports_budget under_way ports
+
+-- the same over the open ports of a state
+abbrev pub budget : State → ℕ
+budget state = ports_budget state.under_way state.ports

@@ -1,0 +1,88 @@
+-- What the end of the program says of its input and its output (ours): `ReplaysExactly`, a line a
+-- status. From here on down, each file read from its end:
+--   replay_run, specs/Claims.antt: how the run of a schedule may end
+--   replay_run, specs/Replay.antt: what a schedule prints, by what each line brings
+--   replay_run, specs/Settling.antt: what ports take after each line
+--   schedule_text, specs/Lines.antt and Deeds.antt: the lines that are read, and those that are printed
+--   agent_model, specs/Step.antt: one step of the abstract agent
+--   agent_model, specs/Dispatch.antt: the table of requests
+use Rattle.std.specs.Prelude.{◌≡◌, ℕ, None, IfSome}
+use Rattle.world_ports.specs.Causes.{Rose}
+use Rattle.agent_top.specs.declared.status.Status.{Status}
+use Rattle.agent_top.specs.declared.status.Status.TheVariants as status
+use Rattle.replay_run.specs.declared.run_end.RunEnd.{RunEnd}
+use Rattle.replay_run.specs.declared.run_end.RunEnd.TheVariants.{Done, Refused, Memory, ReadFault, WriteFault}
+use Rattle.replay_run.specs.Replay.{run_of}
+use Rattle.replay_run.specs.Claims.{Seen, EndsDone, EndsRefused, EndsEarly, EndsAtReadFault, EndsAtWriteFault}
+
+-- the status of a run that ended so
+abbrev pub status_of : RunEnd → Status
+status_of Done = status.Done
+status_of (Refused line fault) = status.ScheduleRefused line fault
+status_of Memory = status.Memory
+status_of ReadFault = status.ReadFault
+status_of WriteFault = status.WriteFault
+
+-- the output is what the abstract agent prints for the input, as far as the status says
+abbrev pub ReplaysExactly : Status → Seen → Seen → Type 0
+-- the input was read to its end, no line of it is refused, and all that it prints is written
+ReplaysExactly status.Done old new = EndsDone old new
+-- the first refused line of the input is this one, and all that the input prints is written
+ReplaysExactly (status.ScheduleRefused line fault) old new = EndsRefused line fault old new
+-- the word was `replay`
+ReplaysExactly status.Usage old new = ⊥
+-- no socket is bound
+ReplaysExactly status.BindFault old new = ⊥
+-- nothing is waited for
+ReplaysExactly status.PollFault old new = ⊥
+-- a front of what the input prints is written
+ReplaysExactly status.Memory old new = EndsEarly old new
+-- a read failed, and all that the whole lines before it print is written
+ReplaysExactly status.ReadFault old new = EndsAtReadFault old new
+-- a write failed, and a front of what the input prints is written
+ReplaysExactly status.WriteFault old new = EndsAtWriteFault old new
+
+-- the input was run to its end or to its first refused line, unless memory ran out
+abbrev pub IsComplete : Status → Type 0
+IsComplete status.Done = Unit {0}
+IsComplete (status.ScheduleRefused line fault) = Unit {0}
+IsComplete status.Usage = ⊥
+IsComplete status.BindFault = ⊥
+IsComplete status.PollFault = ⊥
+IsComplete status.Memory = Unit {0}
+IsComplete status.ReadFault = ⊥
+IsComplete status.WriteFault = ⊥
+
+-- the input was run to its end, unless memory ran out
+abbrev pub IsFinished : Status → Type 0
+IsFinished status.Done = Unit {0}
+IsFinished (status.ScheduleRefused line fault) = ⊥
+IsFinished status.Usage = ⊥
+IsFinished status.BindFault = ⊥
+IsFinished status.PollFault = ⊥
+IsFinished status.Memory = Unit {0}
+IsFinished status.ReadFault = ⊥
+IsFinished status.WriteFault = ⊥
+
+-- no read and no write failed
+pub record HasNoFault (old new : Seen) : Type 0 where
+  pub reads : ¬ (Rose old.input.read_faults new.input.read_faults)
+  pub writes : ¬ (Rose old.output.write_faults new.output.write_faults)
+
+-- where no read and no write failed, the run is complete, and it is finished where no line of the
+-- input is refused
+pub record Completes (result : Status) (old new : Seen) : Type 0 where
+  pub complete : HasNoFault old new → IsComplete result
+  pub finished : HasNoFault old new →
+      IfSome old.input.left (λ input. (run_of input).refused ≡ None → IsFinished result)
+
+-- the exit status
+abbrev pub code_of : Status → ℕ
+code_of status.Done = 0
+code_of (status.ScheduleRefused line fault) = 1
+code_of status.Usage = 2
+code_of status.BindFault = 3
+code_of status.PollFault = 4
+code_of status.Memory = 5
+code_of status.ReadFault = 6
+code_of status.WriteFault = 7

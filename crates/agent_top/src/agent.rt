@@ -1,0 +1,55 @@
+// The program over any input and output.
+ghost use Rattle.std.specs.Prelude.{◌≡◌, ◌↔◌};
+ghost use Rattle.agent_top.specs.Program.{ReplaysExactly, Completes, status_of};
+ghost use Rattle.agent_top.specs.Words.{IsReplay};
+ghost use Rattle.replay_run.specs.Claims.{Seen};
+ghost use Rattle.world_ports.specs.Streams.{OnlyReads, OnlyWrites};
+
+use crate::status::Status;
+use crate::words::is_replay;
+use replay_run::{RunEnd, run_replay};
+use std::alloc::Global;
+use world_ports::{Sink, Source};
+
+// The status of a run that ended so.
+fn status_of_end(end: RunEnd) -> Status
+    ensures { result ≡ status_of end }
+{
+    match end {
+        RunEnd::Done => Status::Done,
+        RunEnd::Refused { line, fault } => Status::ScheduleRefused { line, fault },
+        RunEnd::Memory => Status::Memory,
+        RunEnd::ReadFault => Status::ReadFault,
+        RunEnd::WriteFault => Status::WriteFault,
+    }
+}
+
+/// The program: `words` are those of the command line after the program's name.
+///
+/// With the word `replay` it runs the schedule that the input gives, and writes to the output what that
+/// prints. With any other words it neither reads nor writes.
+///
+/// What the clauses say stands in specs/Program.antt, whose head names where to read on, down to the
+/// table of requests.
+pub fn agent_main<I: Source, O: Sink>(
+    alloc: Global,
+    words: &[String],
+    input: &mut I,
+    output: &mut O,
+) -> Status
+    ensures replays { IsReplay words.now → ReplaysExactly result
+        (record { input = I.seen input.old; output = O.seen output.old })
+        (record { input = I.seen input.new; output = O.seen output.new }) }
+    ensures completes { IsReplay words.now → Completes result
+        (record { input = I.seen input.old; output = O.seen output.old })
+        (record { input = I.seen input.new; output = O.seen output.new }) }
+    ensures usage { (result ≡ Status.Usage) ↔ ¬ (IsReplay words.now) }
+    ensures unused { ¬ (IsReplay words.now) → (input.new ≡ input.old) × (output.new ≡ output.old) }
+    ensures input_only { OnlyReads (I.seen input.old) (I.seen input.new) }
+    ensures output_only { OnlyWrites (O.seen output.old) (O.seen output.new) }
+{
+    if !is_replay(words) {
+        return Status::Usage;
+    }
+    status_of_end(run_replay(alloc, input, output))
+}

@@ -1,0 +1,13 @@
+use Rattle.std.proofs.Common.{refl}
+use Rattle.wire_text.specs.Wire as WireTextWire
+use Rattle.wire_core.specs.Fields as WireCoreFields
+use Rattle.key_blob.specs.KeyTypes as KeyBlobKeyTypes
+use Rattle.key_blob.specs.PublicKeys as KeyBlobPublicKeys
+use Rattle.key_blob.specs.Reading as KeyBlobReading
+use Rattle.dest_rule.specs.Rules as Rules
+use Rattle.pattern_core.specs.Patterns as PatternCorePatterns
+use Rattle.dest_rule.proofs.rows.each_hop_counts.Goals as goal
+
+pub returns : goal.returns
+unfolding WireTextWire.uint32 WireTextWire.uint64 WireTextWire.string WireTextWire.announced_len WireCoreFields.uint32_at WireCoreFields.uint64_at WireCoreFields.string_len WireCoreFields.string_at PatternCorePatterns.is_match KeyBlobKeyTypes.form_named KeyBlobPublicKeys.public_key_of KeyBlobReading.field_at KeyBlobReading.fields_at KeyBlobReading.after_fields KeyBlobReading.form_at Rules.is_hop Rules.bad_place Rules.visible Rules.denial
+returns c = record { on_the_way = refl; both = refl; not_beyond = refl; other_user = refl; user = refl; other_start = refl; forwarded = refl; other_key = refl }

@@ -1,0 +1,14 @@
+//! Files, runs of programs and connections of the real system, as the programs meet them.
+//! Stands on world_ports and plain_lists.
+#![tactic(auto)]
+
+mod errors;
+mod files;
+mod peer;
+mod spawner;
+#[cfg(test)]
+mod tests;
+
+pub use files::RealFiles;
+pub use peer::{Peer, connect};
+pub use spawner::RealSpawner;

@@ -1,0 +1,51 @@
+-- How a run ends with its schedule (ours).
+use Rattle.std.specs.Prelude.{◌≡◌, ℕ, true, List, ◌++◌, Option, None, Some}
+use Rattle.world_ports.specs.Causes.{Rose}
+use Rattle.world_ports.specs.Streams.{StreamView, WritesPart}
+use Rattle.schedule_text.specs.declared.fault.LineFault.{LineFault}
+use Rattle.replay_run.specs.declared.run_end.RunEnd.{RunEnd}
+use Rattle.replay_run.specs.declared.run_end.RunEnd.TheVariants.{Done, Refused, Memory, ReadFault, WriteFault}
+use Rattle.replay_run.specs.Replay.{Run, parts_of, printed, ran}
+use Rattle.replay_run.specs.Feeding.{Feeding, Wrote}
+
+-- the end of a run with its last line
+abbrev pub end_by : ℕ → Option LineFault → RunEnd
+end_by line None = Done
+end_by line (Some fault) = Refused line fault
+
+-- the same of a run
+abbrev pub end_of : Run → RunEnd
+end_of run = end_by run.line run.refused
+
+-- all that a run prints whose schedule ends here
+abbrev pub ending_text : Feeding → List ℕ
+ending_text feeding = feeding.out ++ printed true feeding.run (parts_of feeding.pending)
+
+-- the run after its last line
+abbrev pub ending_run : Feeding → Run
+ending_run feeding = ran true feeding.run (parts_of feeding.pending)
+
+-- the schedule ended, and all is written
+pub record FinishesDone (old : Feeding) (before after : StreamView) : Type 0 where
+  pub wrote : Wrote before after (ending_text old)
+  pub accepted : (ending_run old).refused ≡ None
+
+-- its last line is refused, and all is written
+pub record FinishesRefused
+    (line : ℕ) (fault : LineFault) (old : Feeding) (before after : StreamView) : Type 0 where
+  pub wrote : Wrote before after (ending_text old)
+  pub refused : (ending_run old).refused ≡ Some fault
+  pub number : (ending_run old).line ≡ line
+
+-- a write failed
+pub record FinishesAtWriteFault (old : Feeding) (before after : StreamView) : Type 0 where
+  pub front : WritesPart (ending_text old) before after
+  pub cause : Rose before.write_faults after.write_faults
+
+-- how a run ends with its schedule
+abbrev pub Finishes : RunEnd → Feeding → StreamView → StreamView → Type 0
+Finishes Done old before after = FinishesDone old before after
+Finishes (Refused line fault) old before after = FinishesRefused line fault old before after
+Finishes Memory old before after = WritesPart (ending_text old) before after
+Finishes ReadFault old before after = ⊥
+Finishes WriteFault old before after = FinishesAtWriteFault old before after

@@ -1,0 +1,68 @@
+-- The words of `serve`, by clap's own definitions: what it takes, and what it reads.
+use Rattle.std.specs.Prelude.{◌==◌, ◌&&◌, ◌||◌, ℕ, Bool, true, false, not, List, [], ◌∷◌, Option, Some, None, codes, is_some, if◌then◌else◌, option_and_then}
+use Rattle.std.specs.Str.{bytes_eq}
+use Rattle.clap.specs.Faults.{fault_of}
+use Rattle.clap.specs.Simple.{App, matches_of, new_app, with_rule}
+use Rattle.clap.specs.Walk.{first_of, is_empty}
+use Rattle.serve_words.specs.Rules.{flag_rule, long_rule, short_rule}
+use Rattle.world_ports.specs.Life.{life_of}
+
+-- the command line: -a PATH and --helper PROGRAM, which both have to be there, and those that may be
+unfoldable pub serve_app : App
+serve_app =
+    with_rule (with_rule (with_rule (with_rule (with_rule (with_rule (with_rule (new_app (codes "serve"))
+    (short_rule (codes "path") 97 true))
+    (long_rule (codes "helper") true))
+    (long_rule (codes "helper-data") false))
+    (long_rule (codes "relay") false))
+    (long_rule (codes "askpass") false))
+    (short_rule (codes "lifetime") 116 false))
+    (flag_rule (codes "until-idle"))
+
+-- clap takes the words, of which the first is the command's own
+unfoldable pub is_taken : List (List ℕ) → Bool
+is_taken words = is_empty (fault_of serve_app words)
+
+-- the value that clap reads for an argument
+unfoldable pub value_of : List ℕ → List (List ℕ) → Option (List ℕ)
+value_of id words = first_of id (matches_of serve_app words)
+
+-- the first word is `serve`
+abbrev pub begins : List (List ℕ) → Bool
+begins [] = false
+begins (word ∷ words) = bytes_eq word (codes "serve")
+
+-- one of the two is there and not the other
+abbrev pub is_one_alone : Option (List ℕ) → Option (List ℕ) → Bool
+is_one_alone (Some _) (Some _) = false
+is_one_alone None None = false
+is_one_alone _ _ = true
+
+-- the word is there and says no lifetime
+abbrev pub is_no_life : Option (List ℕ) → Bool
+is_no_life None = false
+is_no_life (Some word) = not (is_some (life_of word))
+
+-- the words are none of the forms
+abbrev pub is_usage : List (List ℕ) → Bool
+is_usage words = not (begins words && is_taken words
+    && is_some (value_of (codes "path") words) && is_some (value_of (codes "helper") words))
+    || is_one_alone (value_of (codes "relay") words) (value_of (codes "askpass") words)
+    || is_no_life (value_of (codes "lifetime") words)
+
+-- a lifetime that is not 0
+abbrev pub some_life : ℕ → Option ℕ
+some_life seconds = if seconds == 0 then None else Some seconds
+
+-- the lifetime that a word says, where it is there: none for 0
+abbrev pub default_life : Option (List ℕ) → Option ℕ
+default_life word = option_and_then some_life (option_and_then life_of word)
+
+-- the lifetime of identities that are added without one
+abbrev pub life_in : List (List ℕ) → Option ℕ
+life_in words = default_life (value_of (codes "lifetime") words)
+
+-- the flag was given
+abbrev pub is_set : Option (List ℕ) → Bool
+is_set None = false
+is_set (Some value) = bytes_eq value (codes "true")

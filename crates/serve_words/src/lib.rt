@@ -1,0 +1,11 @@
+//! The words of the command `serve`: what clap takes as one simple command, and what they say.
+//! Stands on world_ports, and on clap of the kit.
+#![tactic(auto)]
+
+mod args;
+mod command;
+#[cfg(test)]
+mod tests;
+mod words;
+
+pub use words::{ServeFault, ServeWords, read_serve};

@@ -1,0 +1,46 @@
+//! Jobs by their numbers.
+
+ghost use Rattle.std.specs.Prelude.{◌≡◌, ◌==◌, None, MatchOption};
+ghost use Rattle.std.specs.List.{position};
+ghost use Rattle.world_ports.specs.declared.Job.{Job as AJob};
+ghost use Rattle.agent_model.specs.Consents.{find_started};
+ghost use Rattle.agent_model.specs.State.{find_to_start};
+ghost use Rattle.under_way.specs.Jobs.{IsJobAt, IsStartedAt, all_started};
+ghost use Rattle.under_way.specs.declared.jobs.Started.{Started as AStarted};
+
+use world_ports::Job;
+
+/// A child process that was started, and that hasn't named itself by its ticket yet.
+#[derive(Clone, Copy)]
+pub struct Started {
+    pub job: Job,
+    pub ticket: [u8; 16],
+}
+
+/// Where the job of this number stands.
+pub fn place_of(jobs: &[Job], number: u64) -> Option<usize>
+    ensures { MatchOption result (find_to_start number jobs.now ≡ None)
+        (λ place. IsJobAt number jobs.now place) }
+{
+    first_of(jobs, number)
+}
+
+fn first_of(jobs: &[Job], number: u64) -> Option<usize>
+    ensures { result ≡ position (λ (job : AJob). job.number == number) jobs.now }
+{
+    jobs.iter().position(|job| job.number == number)
+}
+
+/// Where the started job of this number stands.
+pub fn place_of_started(started: &[Started], number: u64) -> Option<usize>
+    ensures { MatchOption result (find_started number (all_started started.now) ≡ None)
+        (λ place. IsStartedAt number started.now place) }
+{
+    first_of_started(started, number)
+}
+
+fn first_of_started(started: &[Started], number: u64) -> Option<usize>
+    ensures { result ≡ position (λ (one : AStarted). one.job.number == number) started.now }
+{
+    started.iter().position(|one| one.job.number == number)
+}

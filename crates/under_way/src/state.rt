@@ -1,0 +1,256 @@
+//! What is under way.
+
+ghost use Rattle.std.specs.Prelude.{◌≡◌, ◌≢◌, ◌+◌, ◌-◌, ◌^◌, ◌<◌, ◌≤◌, [], ◌++◌, ◌∷◌, IfOk, IsSome, MatchOption, OnOk, length, slice_get, Some, None};
+ghost use Rattle.helper_link.specs.HelperLink.{IsLinked, IsStarting, handed_out, linked_to, lost, sendable, sent};
+ghost use Rattle.helper_link.specs.Telling.{telling};
+ghost use Rattle.agent_model.specs.Children.{remove_to_start, started_if};
+ghost use Rattle.agent_model.specs.Consents.{find_started, remove_started};
+ghost use Rattle.agent_model.specs.Errands.{job_of, link_begun};
+ghost use Rattle.world_ports.specs.declared.Job.{Job as AJob};
+ghost use Rattle.under_way.specs.Jobs.{started_job};
+ghost use Rattle.agent_model.specs.State.{find_to_start, nothing_under_way};
+ghost use Rattle.under_way.specs.Parts.{TellsOf, sign_work};
+
+use crate::jobs::{Started, place_of, place_of_started};
+use helper_link::{AskFault, Link, LinkState, Told};
+use identity_table::Identity;
+use std::alloc::{AllocError, AllocFailed, Global};
+use std::marker::Model;
+use world_ports::{Job, JobKind};
+
+/// Memory ran out. What is under way is only to be dropped.
+#[derive(Clone, Copy, Debug, PartialEq, Eq)]
+pub struct JobMemory;
+
+impl From<AllocError> for JobMemory {
+    ghost from_gives = { λ _ _. Unit {0} };
+
+    fn from(_: AllocError) -> JobMemory {
+        JobMemory
+    }
+}
+
+impl<T: Drop> From<AllocFailed<T>> for JobMemory {
+    ghost from_gives = { λ _ _. Unit {0} };
+
+    fn from(_: AllocFailed<T>) -> JobMemory {
+        JobMemory
+    }
+}
+
+/// The link to the helper, the jobs to start, and those that were started and that no child process has named.
+#[derive(Drop)]
+pub struct UnderWay {
+    link: Link,
+    to_start: Vec<Job>,
+    started: Vec<Started>,
+    last_job: u64,
+}
+
+impl Model for UnderWay {
+    ghost use Rattle.std.specs.Prelude.{vec_capacity};
+    ghost use Rattle.agent_model.specs.State.{UnderWay as State};
+    ghost use Rattle.under_way.specs.Parts.{HasRoom, under_way_of};
+
+    ghost Value = { State };
+
+    ghost view = { λ u. under_way_of u.link u.to_start.items u.started.items u.last_job };
+
+    ghost invariant = { λ u. HasRoom u.to_start.items u.started.items (vec_capacity u.started) };
+}
+
+impl UnderWay {
+    /// Nothing is under way. Takes no memory.
+    pub fn new(alloc: Global) -> UnderWay
+        ensures { result ≡ nothing_under_way }
+    {
+        UnderWay {
+            link: Link::new(alloc),
+            to_start: Vec::new(alloc),
+            started: Vec::new(alloc),
+            last_job: 0,
+        }
+    }
+
+    /// How far the link has come.
+    pub fn link_state(&self) -> LinkState
+        ensures { result ≡ self.now.link.state }
+    {
+        self.link.state()
+    }
+
+    /// How often the link was lost.
+    pub fn link_faults(&self) -> u64
+        ensures { result ≡ self.now.link.faults }
+    {
+        self.link.faults()
+    }
+
+    /// The child processes that wait to be started.
+    pub fn starts(&self) -> &[Job]
+        ensures { result.now ≡ self.now.to_start }
+    {
+        &self.to_start
+    }
+
+    /// What is to be sent to the helper: nothing before it is there.
+    pub fn owed(&self) -> &[u8]
+        ensures { result.now ≡ sendable self.now.link.state self.now.link.owed }
+    {
+        self.link.owed()
+    }
+
+    /// Puts a signature of `message` by a held key to the helper, for the client of port `asker`, and gives the
+    /// number of the ask: `None` where it is refused. Where no helper is there or coming, the job that starts one
+    /// is begun.
+    pub fn put_sign(
+        &mut self,
+        asker: u64,
+        key: &Identity,
+        message: &[u8],
+        flags: u32,
+    ) -> Result<Option<u64>, JobMemory>
+        requires failed { self.old.link.failed ≡ [] }
+        requires short { 25 + length key.now.private + length key.now.blob + length message.now ≤ 1048576 }
+
+        ensures work { OnOk result (self.new ≡ (sign_work key.now
+            record { blob = key.now.blob; message = message.now; flags = flags } asker self.old).under_way) }
+        ensures told { IfOk result (TellsOf (sign_work key.now
+            record { blob = key.now.blob; message = message.now; flags = flags } asker self.old).verdict) }
+    {
+        if self.link.state() == LinkState::None {
+            if self.link.spent() || self.last_job == u64::MAX {
+                return Ok(None);
+            }
+            self.begin_helper()?;
+        }
+        match self
+            .link
+            .ask_sign(asker, key.private(), key.blob(), message, flags)
+        {
+            Ok(ask) => Ok(Some(ask)),
+            Err(AskFault::Memory) => Err(JobMemory),
+            Err(AskFault::Full | AskFault::NumbersSpent) => Ok(None),
+        }
+    }
+
+    /// The job of this number was started, and its child process is to name itself by this ticket. Takes no memory.
+    pub fn job_started(&mut self, job: u64, ticket: [u8; 16])
+        requires { IsSome (find_to_start job self.old.to_start) }
+
+        ensures { self.new ≡ record self.old {
+          to_start = remove_to_start job self.old.to_start;
+          started = self.old.started ++ started_if (find_to_start job self.old.to_start) ticket [];
+        } }
+    {
+        let Some(place) = place_of(&self.to_start, job) else {
+            unreachable!()
+        };
+        let job = self.to_start.remove(place);
+        if job.kind == JobKind::Helper {
+            let pushed = self.started.push(Started { job, ticket });
+            if pushed.is_err() {
+                unreachable!()
+            }
+        }
+    }
+
+    /// The start of the job of this number failed. Takes no memory.
+    pub fn job_failed(&mut self, job: u64) -> JobKind
+        requires { IsSome (find_to_start job self.old.to_start) }
+
+        ensures kind { (failed : AJob) → find_to_start job self.old.to_start ≡ Some failed → result ≡ failed.kind }
+        ensures left { self.new ≡ record self.old { to_start = remove_to_start job self.old.to_start } }
+    {
+        let Some(place) = place_of(&self.to_start, job) else {
+            unreachable!()
+        };
+        self.to_start.remove(place).kind
+    }
+
+    /// The started job of this number, which a child process names.
+    pub fn find_started(&self, job: u64) -> Option<&Started>
+        ensures { MatchOption result (find_started job self.now.started ≡ None)
+            (λ one. find_started job self.now.started ≡ Some (started_job one.now)) }
+    {
+        let place = place_of_started(&self.started, job)?;
+        Some(&self.started[place])
+    }
+
+    /// The helper named itself by this job, and came to this port. Takes no memory.
+    pub fn helper_named(&mut self, job: u64, port: u64)
+        requires starting { IsStarting self.old.link.state }
+        requires started { IsSome (find_started job self.old.started) }
+
+        ensures { self.new ≡ record self.old {
+          link = linked_to port self.old.link;
+          started = remove_started job self.old.started;
+        } }
+    {
+        let Some(place) = place_of_started(&self.started, job) else {
+            unreachable!()
+        };
+        self.started.remove(place);
+        self.link.linked(port);
+    }
+
+    /// The first `count` bytes of `owed` were sent. Takes no memory.
+    pub fn helper_took(&mut self, count: usize)
+        requires { count ≤ length (sendable self.old.link.state self.old.link.owed) }
+        ensures { self.new ≡ record self.old { link = sent count self.old.link } }
+    {
+        self.link.took(count);
+    }
+
+    /// Takes in a piece of the helper's stream, and tells what it settles.
+    pub fn helper_told(&mut self, piece: &[u8]) -> Result<Told, JobMemory>
+        requires { IsLinked self.old.link.state }
+
+        ensures link { OnOk result
+            (self.new ≡ record self.old { link = (telling piece.now self.old.link).link }) }
+        ensures settled { IfOk result (λ told. told.settled ≡ (telling piece.now self.old.link).settled) }
+        ensures fault { IfOk result (λ told. told.fault ≡ (telling piece.now self.old.link).fault) }
+    {
+        Ok(self.link.told(piece)?)
+    }
+
+    /// The helper is gone, or failed to start: `next_failed` gives the askers of what was unanswered. Takes no memory.
+    pub fn lose(&mut self)
+        requires { self.old.link.state ≢ LinkState.None }
+        ensures { self.new ≡ record self.old { link = lost self.old.link } }
+    {
+        self.link.lose();
+    }
+
+    /// Hands out the asker of the first ask that failed. Takes no memory.
+    pub fn next_failed(&mut self) -> Option<u64>
+        ensures value { result ≡ slice_get self.old.link.failed 0 }
+        ensures link { self.new ≡ record self.old { link = handed_out self.old.link } }
+    {
+        self.link.next_failed()
+    }
+}
+
+impl UnderWay {
+    // A helper is to be started; room is taken for its ticket.
+    fn begin_helper(&mut self) -> Result<(), JobMemory>
+        requires { self.old.last_job < 2 ^ 64 - 1 }
+
+        ensures { OnOk result (self.new ≡ record self.old {
+          link = link_begun (self.old.last_job + 1) self.old.link;
+          to_start = self.old.to_start ++ (job_of (self.old.last_job + 1) JobKind.Helper ∷ []);
+          last_job = self.old.last_job + 1;
+        }) }
+    {
+        let room = self.to_start.len() + 1;
+        self.started.reserve(room)?;
+        let job = Job {
+            number: self.last_job + 1,
+            kind: JobKind::Helper,
+        };
+        self.to_start.push(job)?;
+        self.last_job += 1;
+        self.link.begin(self.last_job);
+        Ok(())
+    }
+}

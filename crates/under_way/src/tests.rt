@@ -1,0 +1,80 @@
+//! What no clause says: the bytes that are put, and each call with ample memory.
+
+ghost use Rattle.std.specs.Prelude.{◌≡◌, []};
+
+use crate::*;
+use agent_msg::{Request, read_request};
+use helper_link::LinkState;
+use identity_table::Table;
+use std::alloc::Global;
+use std::test::*;
+use world_ports::{Job, JobKind};
+
+// SSH_AGENTC_ADD_IDENTITY of draft-miller-ssh-agent, 17, with a key of the type keyed-sha256@example.com, its
+// tag 11.., its secret 21.. and the comment "one"; and the blob of that key.
+const ADD: &[u8] = b"\x11\
+    \0\0\0\x18keyed-sha256@example.com\
+    \0\0\0\x20\x11\x11\x11\x11\x11\x11\x11\x11\x11\x11\x11\x11\x11\x11\x11\x11\
+    \x11\x11\x11\x11\x11\x11\x11\x11\x11\x11\x11\x11\x11\x11\x11\x11\
+    \0\0\0\x20\x21\x21\x21\x21\x21\x21\x21\x21\x21\x21\x21\x21\x21\x21\x21\x21\
+    \x21\x21\x21\x21\x21\x21\x21\x21\x21\x21\x21\x21\x21\x21\x21\x21\
+    \0\0\0\x03one";
+
+const BLOB: &[u8] = b"\0\0\0\x18keyed-sha256@example.com\
+    \0\0\0\x20\x11\x11\x11\x11\x11\x11\x11\x11\x11\x11\x11\x11\x11\x11\x11\x11\
+    \x11\x11\x11\x11\x11\x11\x11\x11\x11\x11\x11\x11\x11\x11\x11\x11";
+
+// A table with that key.
+fn one_key(alloc: Global) -> Option<Table> {
+    let mut table = Table::new(alloc, None);
+    let Ok(
+        Request::Add {
+            key,
+            comment,
+            terms,
+        },
+    ) = read_request(alloc, ADD)
+    else {
+        return None;
+    };
+    if key.private.len() > 1000 || table.add(key, terms, comment, 0).is_err() {
+        return None;
+    }
+    Some(table)
+}
+
+// An ask of the client of port 7 for a signature of two bytes with that key.
+fn ask(under_way: &mut UnderWay, table: &Table) -> Option<u64>
+    requires { under_way.old.link.failed ≡ [] }
+    ensures { under_way.new.link.failed ≡ [] }
+{
+    let key = table.find(BLOB)?;
+    if key.private().len() > 1000 || key.blob().len() > 1000 {
+        return None;
+    }
+    match under_way.put_sign(7, key, &[1, 2], 0) {
+        Ok(ask) => ask,
+        Err(JobMemory) => None,
+    }
+}
+
+#[test]
+fn the_first_ask_starts_a_helper(rt: HostRuntime) -> Result<(), Fail> {
+    let table = one_key(rt.alloc());
+    assert!(rt; table.is_some());
+    let Some(table) = table else {
+        return Ok(());
+    };
+    let mut under_way = UnderWay::new(rt.alloc());
+    assert_eq!(rt; ask(&mut under_way, &table), Some(1));
+    let helper = Job {
+        number: 1,
+        kind: JobKind::Helper,
+    };
+    assert_eq!(rt; under_way.starts(), [helper].as_slice());
+    assert_eq!(rt; under_way.link_state(), LinkState::Starting { job: 1 });
+    assert_eq!(rt; under_way.link_faults(), 0);
+    // Nothing is sent before the helper is there.
+    assert!(rt; under_way.owed().is_empty());
+    Ok(())
+}
