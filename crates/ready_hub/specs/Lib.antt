@@ -1,3 +1,5 @@
 pub mod Things
 pub mod Servable
+pub mod Answered
 pub mod LegalJournal
+pub mod Rows

@@ -1,9 +1,9 @@
 -- What can be served in a state of the agent (ours).
-use Rattle.std.specs.Prelude.{ℕ, ◌-◌, ◌^◌, Bool, true, false, List, [], ◌∷◌, Option, Some, None, nat_lt, is_some, ◌&&◌, ◌||◌, not}
+use Rattle.std.specs.Prelude.{◌-◌, ◌^◌, Bool, true, false, List, [], ◌∷◌, nat_lt, ◌&&◌, not}
 use Rattle.std.specs.List.{list_any}
 use Rattle.world_ports.specs.declared.events.Door.TheVariants.{Clients, Children}
 use Rattle.world_ports.specs.declared.events.Job.{Job}
-use Rattle.agent_model.specs.State.{Port, State, is_open, is_some_bytes, owed_of, starts, wants}
+use Rattle.agent_model.specs.State.{Port, State, is_some_bytes, owed_of, starts, wants}
 use Rattle.ready_hub.specs.Things.{Hot}
 use Rattle.ready_hub.specs.declared.thing.Thing.{Thing}
 use Rattle.ready_hub.specs.declared.thing.Thing.TheVariants.{Accept, Read, Write}

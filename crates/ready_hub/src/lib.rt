@@ -1,6 +1,9 @@
 //! The readiness loop's definitions: which journals of a world are legal for the abstract agent.
+//! Stands on agent_model (the state and its steps) and world_ports (the entries of a journal).
 #![tactic(auto)]
 
+mod rows;
 mod thing;
 
+pub use rows::{a_wait_follows_a_look, only_what_is_ready_is_tried, what_is_owed_is_written};
 pub use thing::Thing;
