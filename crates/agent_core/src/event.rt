@@ -10,8 +10,9 @@ pub struct Settings {
     pub default_life: Option<u32>,
 }
 
-/// What happens to the agent: the atomic step of its clients, its children and the clock.
-#[derive(Clone, Copy, Debug)]
+/// What happens to the agent: the atomic step of its clients, its children and the clock. Prints
+/// nothing, since it carries what clients sent, and one-time tokens.
+#[derive(Clone, Copy)]
 pub enum Event<'a> {
     /// Somebody connected at a listener. The new port has the next number, from 1.
     Joined(Door),

@@ -25,7 +25,7 @@ const JOINED: Event<'static> = Event::Joined(Door::Clients);
 
 // One event that fits.
 fn tell(rt: &impl Abort, agent: &mut Agent, event: &Event<'_>) -> Result<(), Fail> {
-    assert!(rt; agent.fits(event), "at {event:?}");
+    assert!(rt; agent.fits(event));
     agent.step(NOW, event)?;
     Ok(())
 }
