@@ -46,7 +46,6 @@ fn one_key(alloc: Global) -> Option<Table> {
 // An ask of the client of port 7 for a signature of two bytes with that key.
 fn ask(under_way: &mut UnderWay, table: &Table) -> Option<u64>
     requires { under_way.old.link.failed ≡ [] }
-    ensures { under_way.new.link.failed ≡ [] }
 {
     let key = table.find(BLOB)?;
     if key.private().len() > 1000 || key.blob().len() > 1000 {
