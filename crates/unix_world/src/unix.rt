@@ -38,6 +38,7 @@ const CHILDREN: Token = Token(usize::MAX);
 ///
 /// A port's number is its token. A connection is registered for reading; for writing only once a write found no
 /// room. Ended child processes are reaped at each start and each close.
+#[derive(Drop)]
 pub struct UnixWorld<'a, R: Processes> {
     rt: &'a R,
     alloc: Global,
@@ -58,14 +59,16 @@ pub struct UnixWorld<'a, R: Processes> {
 }
 
 impl<'a, R: Files + Net + Processes + Env + AllocGlobal> UnixWorld<'a, R> {
-    /// A world with no listener yet. The child processes are told `socket`, the path at which the agent listens
+    /// A world with no listener and no connection yet. The child processes are told `socket`, the path at which the agent listens
     /// for them. Fails where the system or memory does.
     pub fn new(
         rt: &'a R,
         alloc: Global,
         socket: String,
         programs: Programs,
-    ) -> io::Result<UnixWorld<'a, R>> {
+    ) -> io::Result<UnixWorld<'a, R>>
+        ensures { IfOk result (λ world. world.last_port ≡ 0) }
+    {
         Ok(UnixWorld {
             rt,
             alloc,
