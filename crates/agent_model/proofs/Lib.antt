@@ -2,7 +2,6 @@ pub mod PortsLemmas
 pub mod ClosesLemmas
 pub mod HeldLemmas
 pub mod SecondLemmas
-pub mod IdleLemmas
 pub mod BoundLemmas
 pub mod ClientLemmas
 pub mod LeadLemmas

@@ -119,8 +119,7 @@ last_after-le Tick last = omega arith
 
 -- and where the event may come it fits 64 bits
 pub last_after-fits : (event : Happening) (state : State) → Fits event state → state.last_port < 2 ^ 64 → last_after event state.last_port < 2 ^ 64
-last_after-fits (Joined Clients) state fits below = omega (arith, fits)
-last_after-fits (Joined Children) state fits below = absurd fits
+last_after-fits (Joined door) state fits below = omega (arith, fits)
 last_after-fits (Heard port piece) state fits below = below
 last_after-fits (Ended port) state fits below = below
 last_after-fits (Took port count) state fits below = below

@@ -12,6 +12,6 @@ pub use laws::{
     no_number_is_given_twice, no_number_is_used_again, ports_rise_and_are_few,
 };
 pub use rows::{
-    a_locked_agent_does_nothing, a_request_waits_for_the_reply_before, additions_are_listed,
-    limits_are_these_numbers, moments_are_taken_in, refusals_are_failures,
+    a_locked_agent_does_nothing, a_request_waits_for_the_reply_before, a_signature_is_waited_for,
+    additions_are_listed, limits_are_these_numbers, moments_are_taken_in, refusals_are_failures,
 };
