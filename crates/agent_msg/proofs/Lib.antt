@@ -6,3 +6,5 @@ pub mod MemoryLemmas
 pub mod ReadLemmas
 pub mod ReplyLemmas
 pub mod Theorems
+pub mod ReplyReadLemmas
+pub mod WriteLemmas

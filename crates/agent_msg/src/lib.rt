@@ -3,15 +3,21 @@
 //! Stands on `key_blob` and `constraint_rec` for added keys, and on `secret_buf` for replies.
 #![tactic(auto)]
 
+mod agent_reply;
 mod bind;
 mod fault;
 mod laws;
 mod read;
 mod reply;
+mod reply_reader;
 mod request;
 #[cfg(test)]
 mod tests;
+mod writer;
+#[cfg(test)]
+mod writer_tests;
 
+pub use agent_reply::{Reply, ReplyFault};
 pub use bind::names_bind;
 pub use fault::MsgFault;
 pub use laws::{
@@ -19,4 +25,6 @@ pub use laws::{
 };
 pub use read::read_request;
 pub use reply::{put_list_entry, put_list_head, put_signature, put_status};
+pub use reply_reader::{a_written_reply_is_read_back, read_reply};
 pub use request::Request;
+pub use writer::write_request;
