@@ -16,3 +16,5 @@ pub mod Looks
 pub mod Budget
 pub mod Rows
 pub mod Sound
+pub mod Fates
+pub mod Askable
