@@ -1,28 +1,26 @@
 -- Lemmas on the words of the command line.
-use Rattle.std.proofs.Common.{◌≡◌, ℕ, ◌<◌, ◌≤◌, List, [], ◌∷◌, length, get_or, ap, sym, ◌∙◌, arith, Bool, IsTrue, eqb, codes}
-use Rattle.std.proofs.lemmas.Bool.Decides.{Decides-eqb}
-use Rattle.std.proofs.lemmas.Slice.Eq.{slice_eq-Decides}
-use Rattle.std.specs.Cmp.Lexicographic.{pointwise}
-use Rattle.std.specs.String.{string_bytes}
-use Rattle.std.specs.declared.string.String.{String}
-use Rattle.std.specs.declared.alloc.Global.{Global}
-use Rattle.agent_top.specs.Words.{texts_of, IsReplay}
+use Rattle.std.proofs.Common.{◌≡◌, ℕ, ◌<◌, ◌≤◌, List, [], ◌∷◌, length, get_or, ap, refl, arith, None}
+use Rattle.agent_top.specs.Words.{replay_life}
 
 -- a list of one element
-only_one : {A : Type 0} (xs : List A) (x : A) → 1 ≤ length xs → length xs < 2 → x ≡ get_or xs 0 x → xs ≡ x ∷ []
+pub only_one : {A : Type 0} (xs : List A) (x : A) → 1 ≤ length xs → length xs < 2 → x ≡ get_or xs 0 x → xs ≡ x ∷ []
 only_one [] x some few is = absurd (omega arith)
-only_one (y ∷ []) x some few is = ap (λ z. z ∷ []) (sym is)
-only_one (y ∷ z ∷ zs) x some few is = absurd (omega arith)
+only_one (a ∷ []) x some few is = ap (λ y. y ∷ []) (cc)
+only_one (a ∷ b ∷ xs) x some few is = absurd (omega arith)
 
--- lists of one element that are the same
-same_only : (x y : List ℕ) → (x ∷ []) ≡ (y ∷ []) → x ≡ y
-same_only x y same = cc
+-- and of three
+pub only_three : {A : Type 0} (xs : List A) (x y z : A) → 3 ≤ length xs → length xs < 4
+    → x ≡ get_or xs 0 x → y ≡ get_or xs 1 y → z ≡ get_or xs 2 z → xs ≡ x ∷ y ∷ z ∷ []
+only_three [] x y z some few first second third = absurd (omega arith)
+only_three (a ∷ []) x y z some few first second third = absurd (omega arith)
+only_three (a ∷ b ∷ []) x y z some few first second third = absurd (omega arith)
+only_three (a ∷ b ∷ c ∷ []) x y z some few first second third = cc
+only_three (a ∷ b ∷ c ∷ d ∷ xs) x y z some few first second third = absurd (omega arith)
 
--- what a comparison with the one word says
-pub is_replay_by : (words : List (String Global)) (word : String Global) (bytes other : List ℕ) (result : Bool) → 1 ≤ length words → length words < 2 → word ≡ get_or words 0 word → bytes ≡ string_bytes word → other ≡ codes "replay" → result ≡ pointwise eqb bytes other → (IsTrue result → IsReplay words) × (IsReplay words → IsTrue result)
-is_replay_by words word bytes other result some few word_is bytes_is other_is same =
-    let tests = slice_eq-Decides Decides-eqb bytes other result same in
-    let all : words ≡ word ∷ [] = only_one words word some few word_is in (
-      λ true. ap texts_of all ∙ ap (λ (b : List ℕ). b ∷ []) (sym bytes_is ∙ tests.0 true ∙ other_is),
-      λ replay. tests.1 (bytes_is ∙ same_only (string_bytes word) (codes "replay") (sym (ap texts_of all) ∙ replay) ∙ sym other_is),
-    )
+-- words of another number ask for nothing
+pub other_number : (words : List (List ℕ)) → (length words ≡ 1 → ⊥) → (length words ≡ 3 → ⊥) → replay_life words ≡ None
+other_number [] one three = refl
+other_number (a ∷ []) one three = absurd (one refl)
+other_number (a ∷ b ∷ []) one three = refl
+other_number (a ∷ b ∷ c ∷ []) one three = absurd (three refl)
+other_number (a ∷ b ∷ c ∷ d ∷ words) one three = refl
