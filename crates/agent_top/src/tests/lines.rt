@@ -171,9 +171,9 @@ fn lines_of_held_ports_are_refused(rt: HostRuntime) -> Result<(), Fail> {
             b"join child\n".as_slice(),
             Status::ScheduleRefused {
                 line: 1,
-                fault: LineFault::Word,
+                fault: LineFault::Order,
             },
-            b"refused 1 word\n".as_slice(),
+            b"refused 1 order\n".as_slice(),
         ),
     ];
     for (schedule, status, output) in cases {
