@@ -19,12 +19,12 @@ use Rattle.helper_link.proofs.CutLemmas.{told_in_turn-joined}
 use Rattle.agent_model.specs.Actions.{Action, Outcome, acted, and_then, stay}
 use Rattle.agent_model.specs.Answers.{Answering, answer_all, answer_by, answer_true, answers_in, find_verification, helper_tells, lose, lose_if, with_answers}
 use Rattle.agent_model.specs.Events.{Heard}
-use Rattle.agent_model.specs.Fates.{answer_verdict}
+use Rattle.agent_model.specs.Fates.{answer_verdict, fate_of, fault_fate, or_later, settled_fate}
 use Rattle.agent_model.specs.Runs.{forget_closes}
 use Rattle.agent_model.specs.Sound.{IsRising, IsSound}
 use Rattle.agent_model.specs.State.{Port, State, Verification, change_port, find_port, is_linked_to, role_by_helper, role_of}
 use Rattle.agent_model.specs.Step.{at_moment, handle, heard_at, heard_by_role, step}
-use Rattle.agent_model.proofs.FateLemmas.{AnswersAs, answers_as}
+use Rattle.agent_model.proofs.FateLemmas.{AnswersAs, answers_as, fate-append, settled-fates}
 use Rattle.agent_model.proofs.LeadLemmas.{leads-answers, same}
 use Rattle.agent_model.proofs.PiecesLemmas.{Agree}
 use Rattle.agent_model.proofs.PortsLemmas.{find_port-apart, find_port-change_port, found_number}
@@ -77,8 +77,8 @@ stays_open number [] before port found = (port, found, refl)
 stays_open number (one ∷ later) before port found = elim (cases_eq number one.asker) [
   | inl equal ↦
       (let rest = stays_open number later (answer_by one.answer one before) (told.change port)
-          (ap (find_port number) told.ports ∙ ap (λ n. find_port number (change_port n told.change before.ports)) (sym equal)
-          ∙ find_port-change_port number told.change before.ports told.number ∙ ap (option_map told.change) found) in
+      (ap (find_port number) told.ports ∙ ap (λ n. find_port number (change_port n told.change before.ports)) (sym equal)
+      ∙ find_port-change_port number told.change before.ports told.number ∙ ap (option_map told.change) found) in
       (rest.0, rest.1, rest.2 ∙ told.door port))
   | inr other ↦
       stays_open number later (answer_by one.answer one before) port
@@ -175,3 +175,18 @@ helper_parts_agree state moment number a b port sound found door linked =
       actions = ap (λ (o : Outcome). o.actions) whole ∙ parts.actions ∙ ap (λ (o : Outcome). o.actions ++ (second o).actions) (sym first);
       put = ap (λ (o : Outcome). o.put) whole ∙ parts.put ∙ ap (λ (o : Outcome). o.put ++ (second o).put) (sym first);
     }
+
+-- what the helper's stream says is what becomes of an ask
+pub stream-fate : (ask number : ℕ) (piece : List ℕ) (port : Port) (state : State) (moment : Moment) → find_port number state.ports ≡ Some port → port.door ≡ Children → state.under_way.link.state ≡ states.Linked number → fate_of ask (step state moment (Heard number piece)).actions ≡ or_later (settled_fate ask (telling piece state.under_way.link).settled) (fault_fate (telling piece state.under_way.link).fault)
+stream-fate ask number piece port state moment found door linked =
+    let opened : State = at_moment moment state in
+    let told : Telling = telling piece state.under_way.link in
+    let answering : Answering = answers_in told.settled opened in
+    ap (λ (o : Outcome). fate_of ask o.actions) (handle-helper number piece port opened found door linked)
+    ∙ fate-append ask answering.actions (lose_if told.fault (with_answers told.link answering opened)).actions
+    ∙ ap (λ fate. or_later fate (fate_of ask (lose_if told.fault (with_answers told.link answering opened)).actions)) (settled-fates ask told.settled (fresh opened))
+    ∙ ap (or_later (settled_fate ask told.settled)) (by_fault told.fault (with_answers told.link answering opened))
+  where
+    by_fault : (fault : Option LinkFault) (left : State) → fate_of ask (lose_if fault left).actions ≡ fault_fate fault
+    by_fault None left = refl
+    by_fault (Some fault) left = refl

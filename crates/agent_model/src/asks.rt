@@ -2,6 +2,7 @@
 
 ghost use Rattle.std.specs.Prelude.{◌≡◌, ◌≢◌, ◌↔◌, ◌+◌, ◌++◌, ◌≤◌, ℕ, List, [], Option, None, Ok, Some, false};
 ghost use Rattle.helper_link.specs.Settling.{find_ask};
+ghost use Rattle.helper_link.specs.Telling.{telling};
 ghost use Rattle.helper_link.specs.declared.state.LinkState.TheVariants as states;
 ghost use Rattle.world_ports.specs.declared.Door.TheVariants.{Children};
 ghost use Rattle.agent_msg.specs.Requests.{Sign, Signing};
@@ -9,7 +10,7 @@ ghost use Rattle.agent_model.specs.Askable.{HasRoom, IsRefusedFor, IsUsable};
 ghost use Rattle.agent_model.specs.Dispatch.{Asker, serve};
 ghost use Rattle.agent_model.specs.Errands.{Signs, put_unless};
 ghost use Rattle.agent_model.specs.Events.{Ended, Happening, Heard, Timed};
-ghost use Rattle.agent_model.specs.Fates.{Fails, IsTold, NoneEnds, Unanswered, actions_of, fate_of, fate_verdict, times_answered, times_asked};
+ghost use Rattle.agent_model.specs.Fates.{Fails, IsTold, NoneEnds, Unanswered, actions_of, fate_of, fate_verdict, fault_fate, or_later, settled_fate, times_answered, times_asked};
 ghost use Rattle.agent_model.specs.KeyStates.{KeyState};
 ghost use Rattle.agent_model.specs.Runs.{forget_closes, run};
 ghost use Rattle.agent_model.specs.Sound.{IsSound, IsTied};
@@ -20,7 +21,7 @@ ghost use Rattle.world_ports.specs.declared.Moment.{Moment};
 
 /// Whatever happened before, and while its port stays: a client that waits for an ask is owed nothing, and goes on
 /// waiting until the first answer of the helper to that ask, of which it is told as the helper gave it, or until the
-/// helper is lost, of which it is told SSH_AGENT_FAILURE.
+/// helper is lost, of which it is told SSH_AGENT_FAILURE. The first answer is the first one in the helper's stream.
 pub fn a_client_gets_its_own_answer()
     ensures tied { (life : Option ℕ) (events : List Timed) → IsTied (run (first_state life) events) }
     ensures waits { (state : State) (number ask : ℕ) (port : Port) → IsTied state
@@ -35,6 +36,12 @@ pub fn a_client_gets_its_own_answer()
         → IsTold number (Awaits (OnAsk ask)) state.ports
         → IsTold number (fate_verdict (fate_of ask (step state moment event).actions) ask)
         (step state moment event).state.ports }
+    ensures stream { (ask number : ℕ) (piece : List ℕ) (port : Port) (state : State) (moment : Moment)
+        → find_port number state.ports ≡ Some port → port.door ≡ Children
+        → state.under_way.link.state ≡ states.Linked number
+        → fate_of ask (step state moment (Heard number piece)).actions
+        ≡ or_later (settled_fate ask (telling piece state.under_way.link).settled)
+        (fault_fate (telling piece state.under_way.link).fault) }
 {}
 
 /// However many events there are, an ask is answered at most once, and its number is given at most once; and once a
