@@ -1,19 +1,16 @@
 -- Where the helper's bytes are cut does not matter.
-use Rattle.std.proofs.Common.{◌≡◌, ◌==◌, ℕ, List, [], ◌∷◌, ◌++◌, arith, refl, ap, sym, ◌∙◌, Option, Some, None, Bool, true, false, inl, inr}
+use Rattle.std.proofs.Common.{◌≡◌, ◌==◌, ℕ, List, [], ◌∷◌, ◌++◌, arith, refl, ap, sym, ◌∙◌, Option, Some, None, true, inl, inr}
 use Rattle.std.specs.Option.{option_map}
 use Rattle.std.proofs.lemmas.Bool.{cases_eq}
 use Rattle.std.proofs.lemmas.Bool.Decides.{nat_tests}
 use Rattle.std.proofs.lemmas.List.{append-nil, append_assoc}
-use Rattle.world_ports.specs.declared.Door.{Door}
 use Rattle.world_ports.specs.declared.Door.TheVariants.{Children}
 use Rattle.world_ports.specs.declared.Moment.{Moment}
-use Rattle.confirm_desk.specs.Confirmations.{Confirmation}
-use Rattle.helper_link.specs.Telling.{Telling, settled_before, telling, told_in_turn, unless_faulty}
+use Rattle.helper_link.specs.Telling.{Telling, settled_before, telling, unless_faulty}
 use Rattle.helper_link.specs.declared.answer.Answer.{Answer}
 use Rattle.helper_link.specs.declared.answer.Answer.TheVariants as answer
 use Rattle.helper_link.specs.declared.answer.Settled.{Settled}
 use Rattle.helper_link.specs.declared.fault.LinkFault.{LinkFault}
-use Rattle.helper_link.specs.declared.state.LinkState.{LinkState}
 use Rattle.helper_link.specs.declared.state.LinkState.TheVariants as states
 use Rattle.helper_link.proofs.CutLemmas.{told_in_turn-joined}
 use Rattle.agent_model.specs.Actions.{Action, Outcome, acted, and_then, stay}

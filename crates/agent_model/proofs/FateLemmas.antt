@@ -3,7 +3,6 @@ use Rattle.std.proofs.Common.{◌≡◌, ◌≢◌, ℕ, List, [], ◌∷◌, �
 use Rattle.std.specs.Option.{option_map}
 use Rattle.std.proofs.lemmas.Bool.{cases_eq}
 use Rattle.std.proofs.lemmas.Bool.Decides.{nat_tests}
-use Rattle.world_ports.specs.declared.Door.TheVariants.{Clients}
 use Rattle.helper_link.specs.Answered.{LeadTo, kind_answered}
 use Rattle.helper_link.specs.HelperLink.{ask_of, askers}
 use Rattle.helper_link.specs.Settling.{find_ask, remove_ask}
@@ -17,7 +16,7 @@ use Rattle.agent_model.specs.Actions.{Action, Answered}
 use Rattle.agent_model.specs.Answers.{Answering, answer_all, answer_asker, answer_by, answer_true, find_verification, prove, proved_at, tell_each}
 use Rattle.agent_model.specs.Fates.{Fate, Fails, Gets, IsTold, Unanswered, answer_verdict, fate_by, fate_of, fate_verdict, or_later, settled_fate, times_answered, times_asked}
 use Rattle.agent_model.specs.Sound.{AreTied}
-use Rattle.agent_model.specs.State.{Nothing, OnAsk, Port, Verification, change_port, find_port, remove_port}
+use Rattle.agent_model.specs.State.{Nothing, OnAsk, Port, Verification, change_port, find_port}
 use Rattle.agent_model.specs.Verdicts.{Awaits, HelperLost, HelperRefused, Refuses, Replies, Signature, SignatureWrong, Success, Verdict, tell, verdict_text, verdict_waits}
 use Rattle.agent_model.proofs.PortsLemmas.{find_port-apart, find_port-change_port}
 use Rattle.agent_model.proofs.TieLemmas.{not_asker, tied-told}
