@@ -25,6 +25,6 @@ replay_life _ = None
 abbrev pub IsReplay : List (String Global) → Option ℕ → Type 0
 IsReplay words life = replay_life (texts_of words) ≡ Some life
 
--- the words ask for nothing that the program does
-abbrev pub IsNone : List (String Global) → Type 0
-IsNone words = replay_life (texts_of words) ≡ None
+-- the words are none of the forms
+abbrev pub IsUsage : List (String Global) → Type 0
+IsUsage words = replay_life (texts_of words) ≡ None

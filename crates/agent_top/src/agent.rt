@@ -1,7 +1,7 @@
 // The program over any input and output.
 ghost use Rattle.std.specs.Prelude.{◌≡◌, ◌↔◌, ℕ, Option};
 ghost use Rattle.agent_top.specs.Program.{ReplaysExactly, Completes, status_of};
-ghost use Rattle.agent_top.specs.Words.{IsNone, IsReplay};
+ghost use Rattle.agent_top.specs.Words.{IsUsage, IsReplay};
 ghost use Rattle.replay_run.specs.Claims.{Seen};
 ghost use Rattle.world_ports.specs.Streams.{OnlyReads, OnlyWrites};
 
@@ -44,8 +44,8 @@ pub fn agent_main<I: Source, O: Sink>(
     ensures completes { (life : Option ℕ) → IsReplay words.now life → Completes life result
         (record { input = I.seen input.old; output = O.seen output.old })
         (record { input = I.seen input.new; output = O.seen output.new }) }
-    ensures usage { (result ≡ Status.Usage) ↔ IsNone words.now }
-    ensures unused { IsNone words.now → (input.new ≡ input.old) × (output.new ≡ output.old) }
+    ensures usage { (result ≡ Status.Usage) ↔ IsUsage words.now }
+    ensures unused { IsUsage words.now → (input.new ≡ input.old) × (output.new ≡ output.old) }
     ensures input_only { OnlyReads (I.seen input.old) (I.seen input.new) }
     ensures output_only { OnlyWrites (O.seen output.old) (O.seen output.new) }
 {
