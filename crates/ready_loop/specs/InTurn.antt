@@ -107,7 +107,7 @@ has_port (Err fault) = false
 abbrev pub is_joining : Entry → Bool
 is_joining (entry.Bind door path answer) = false
 is_joining (entry.Poll wait items answer) = false
-is_joining (entry.Accept door answer) = is_client door && has_port answer
+is_joining (entry.Accept door answer) = has_port answer && is_client door
 is_joining (entry.Read port room bytes answer) = false
 is_joining (entry.Write port offered answer) = false
 is_joining (entry.Close port answer) = false
@@ -130,7 +130,7 @@ is_in_turn state queue (entry.Now answer) = true
 -- the line after an entry
 abbrev pub line_after : State → Entry → Line → Line
 line_after state next line =
-    record { queue = queue_after state next line.queue; joined = line.joined || is_joining next }
+    record { queue = queue_after state next line.queue; joined = is_joining next || line.joined }
 
 -- where it is in turn, the entry may come as ready_hub says
 abbrev pub taken_if : Bool → Turning → Entry → Option Turning

@@ -9,10 +9,10 @@ use Rattle.world_ports.specs.declared.entry.Entry.TheVariants as entry
 use Rattle.agent_model.specs.State.{State}
 use Rattle.ready_hub.specs.Answered.{Due, Free, Nothing}
 use Rattle.ready_loop.specs.InTurn.{Line, Turning, in_state, turned}
-use Rattle.ready_loop.specs.declared.hub.Turn.{Turn}
-use Rattle.ready_loop.specs.declared.hub.Turn.TheVariants.{Served, Polled, Over}
-use Rattle.ready_loop.specs.declared.hub.HubFault.{HubFault}
-use Rattle.ready_loop.specs.declared.hub.HubFault.TheVariants as faults
+use Rattle.ready_loop.specs.declared.outcome.Turn.{Turn}
+use Rattle.ready_loop.specs.declared.outcome.Turn.TheVariants.{Served, Polled, Over}
+use Rattle.ready_loop.specs.declared.outcome.HubFault.{HubFault}
+use Rattle.ready_loop.specs.declared.outcome.HubFault.TheVariants as faults
 
 -- the calls that were added may come from the first reading on, and lead to the second
 pub record Continues (from : Turning) (old new : Option (List Entry)) (to : Turning) : Type 0 where

@@ -12,47 +12,11 @@ use crate::look::{is_idle, look};
 use crate::queue::Queue;
 use crate::room::Room;
 use crate::turn::{accept, read, start, write};
-use crate::{Core, CoreMemory};
+use crate::{Core, HubFault, Turn};
 use ready_hub::Thing;
 use std::alloc::{AllocError, Global};
 use std::marker::Model;
 use world_ports::{Ready, World};
-
-/// How a turn ended.
-#[derive(Clone, Copy, Debug, PartialEq, Eq)]
-pub enum Turn {
-    /// Something was served, a job was started, or a look at the clock brought something to do.
-    Served,
-    /// The world was polled.
-    Polled,
-    /// Nothing will become ready any more.
-    Over,
-}
-
-/// Why a turn failed. The hub can only be dropped then.
-#[derive(Clone, Copy, Debug, PartialEq, Eq)]
-pub enum HubFault {
-    /// The outside refused a poll.
-    Poll,
-    /// Memory ran out. Says nothing of the outside.
-    Memory,
-}
-
-impl From<AllocError> for HubFault {
-    ghost from_gives = { λ _ fault. fault ≡ HubFault.Memory };
-
-    fn from(_: AllocError) -> HubFault {
-        HubFault::Memory
-    }
-}
-
-impl From<CoreMemory> for HubFault {
-    ghost from_gives = { λ _ fault. fault ≡ HubFault.Memory };
-
-    fn from(_: CoreMemory) -> HubFault {
-        HubFault::Memory
-    }
-}
 
 /// What is ready to be served: what a poll or an accept said, until a call found otherwise.
 ///

@@ -6,6 +6,7 @@ mod core;
 mod event;
 mod hub;
 mod look;
+mod outcome;
 mod queue;
 mod room;
 mod things;
@@ -13,4 +14,5 @@ mod turn;
 
 pub use core::Core;
 pub use event::{CoreMemory, Event};
-pub use hub::{Hub, HubFault, Turn};
+pub use hub::Hub;
+pub use outcome::{HubFault, Turn};

@@ -68,13 +68,13 @@ impl Queue {
     pub fn accept(&mut self, door: Door, port: u64) -> Result<(), AllocError>
         ensures { OnOk result (self.new ≡ record {
             queue = put_back (Accept door) (queued_port port self.old.queue);
-            joined = self.old.joined || is_client door;
+            joined = is_client door || self.old.joined;
         }) }
     {
         add_if(&mut self.things, true, Thing::Read(port))?;
         add_if(&mut self.things, true, Thing::Write(port))?;
         put_last(&mut self.things, Thing::Accept(door))?;
-        self.joined = self.joined || is_clients(door);
+        self.joined = is_clients(door) || self.joined;
         Ok(())
     }
 

@@ -1,0 +1,4 @@
+pub mod ThingLemmas
+pub mod SetLemmas
+pub mod IdleLemmas
+pub mod TurningLemmas
