@@ -1,11 +1,12 @@
 -- The first thing of a queue that can be served, and that there is none.
-use Rattle.std.proofs.Common.{◌≡◌, ◌∙◌, ℕ, Bool, true, false, List, [], ◌∷◌, Option, Some, None, refl, sym, ap, subst, cond, not, ◌&&◌, ◌||◌, ◌==◌, if◌then◌else◌, arith}
+use Rattle.std.proofs.Common.{◌≡◌, ◌∙◌, ℕ, Bool, true, false, List, [], ◌∷◌, Option, Some, None, suc, length, refl, sym, ap, subst, cond, not, ◌&&◌, ◌||◌, ◌==◌, if◌then◌else◌, arith}
 use Rattle.std.specs.Prelude.{is_some}
 use Rattle.std.specs.List.{list_any}
 use Rattle.std.proofs.lemmas.Bool.Decides.{nat_tests}
 use Rattle.world_ports.specs.declared.events.Door.TheVariants.{Clients, Children}
-use Rattle.agent_model.specs.State.{Port, State, find_port, is_some_bytes, owed_by, owed_of, wants, wants_by}
-use Rattle.ready_hub.specs.Servable.{is_servable, may_serve, things_of, things_of_ports}
+use Rattle.world_ports.specs.declared.events.Job.{Job}
+use Rattle.agent_model.specs.State.{Port, State, find_port, is_some_bytes, owed_by, owed_of, starts, wants, wants_by}
+use Rattle.ready_hub.specs.Servable.{has_job, is_idle, is_servable, may_serve, things_of, things_of_ports}
 use Rattle.ready_hub.specs.Things.{same_thing, set_of}
 use Rattle.ready_hub.specs.declared.thing.Thing.{Thing}
 use Rattle.ready_hub.specs.declared.thing.Thing.TheVariants.{Accept, Read, Write}
@@ -110,3 +111,19 @@ idle_by (Some thing) state queue is =
 -- something can be served exactly where the queue has a first thing that can
 pub servable-is_some : (state : State) (queue : List Thing) → list_any (may_serve state (set_of queue)) (things_of state) ≡ is_some (first_servable state queue)
 servable-is_some state queue = idle_by (first_servable state queue) state queue refl
+
+-- ---- nothing to do
+
+no_jobs : (jobs : List Job) → (length jobs == 0) ≡ true → has_job jobs ≡ false
+no_jobs [] empty = refl
+no_jobs (job ∷ jobs) empty = let some : (suc (length jobs) == 0) ≡ true = empty in grind (arith, nat_tests)
+
+not_not : (b : Bool) → not (not b) ≡ b
+not_not true = refl
+not_not false = refl
+
+-- no job waits, and the queue has nothing that can be served
+pub idle-is : (state : State) (queue : List Thing) (none : Bool) → (length (starts state) == 0) ≡ true → is_some (first_servable state queue) ≡ not none → none ≡ is_idle state (set_of queue)
+idle-is state queue none empty found =
+    sym (ap (λ (b : Bool). not b && not (list_any (may_serve state (set_of queue)) (things_of state))) (no_jobs (starts state) empty)
+    ∙ ap not (servable-is_some state queue ∙ found) ∙ not_not none)

@@ -2,3 +2,4 @@ pub mod ThingLemmas
 pub mod SetLemmas
 pub mod IdleLemmas
 pub mod TurningLemmas
+pub mod CallLemmas

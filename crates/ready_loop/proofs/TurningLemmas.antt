@@ -1,13 +1,18 @@
 -- Calls one after another.
-use Rattle.std.proofs.Common.{◌≡◌, ◌∙◌, ◌⊎◌, inl, inr, ℕ, ◌<◌, Bool, true, false, List, [], ◌∷◌, ◌++◌, length, Option, Some, None, refl, sym, ap, append_assoc, length-append, arith}
+use Rattle.std.proofs.Common.{◌≡◌, ◌∙◌, ◌⊎◌, inl, inr, ℕ, ◌<◌, Bool, true, false, List, [], ◌∷◌, ◌++◌, length, Option, Some, None, Result, Ok, Err, refl, sym, ap, subst, append_assoc, length-append, arith}
 use Rattle.std.proofs.lemmas.List.{append-nil}
 use Rattle.std.specs.Prelude.{option_and_then, option_map}
 use Rattle.world_ports.specs.Journal.{Grows, Tells}
 use Rattle.world_ports.specs.declared.entry.Entry.{Entry}
 use Rattle.ready_hub.specs.Answered.{Reading}
 use Rattle.ready_hub.specs.LegalJournal.{allowed}
-use Rattle.ready_loop.specs.InTurn.{Turning, is_in_turn, line_after, taken, taken_if, turned}
-use Rattle.ready_loop.specs.Moves.{Advances, Continues, EndsWith, Stops}
+use Rattle.agent_model.specs.State.{State}
+use Rattle.ready_loop.specs.declared.outcome.HubFault.{HubFault}
+use Rattle.ready_loop.specs.declared.outcome.HubFault.TheVariants as faults
+use Rattle.ready_loop.specs.declared.outcome.Turn.{Turn}
+use Rattle.ready_loop.specs.declared.outcome.Turn.TheVariants.{Served, Polled, Over}
+use Rattle.ready_loop.specs.InTurn.{Line, Turning, is_in_turn, line_after, taken, taken_if, turned}
+use Rattle.ready_loop.specs.Moves.{Advances, Continues, EndsWith, Goes, GoesBy, Serves, ServesBy, Stops, Turns}
 
 -- ---- the journal grows
 
@@ -74,6 +79,15 @@ advances {from} {mid} {to} {old} {between} {new} next is told later = record {
   some = omega (arith, length-append (next ∷ []) later.added);
 }
 
+-- some calls, and then one at least
+pub advances_later : {from mid to : Turning} {old between new : Option (List Entry)} → Continues from old between mid → Advances mid between new to → Advances from old new to
+advances_later {from} {mid} {to} {old} {between} {new} first later = record {
+  added = first.added ++ later.added;
+  told = grows_more old between new first.added later.added first.told later.told;
+  legal = turned_on from mid to first.added later.added first.legal later.legal;
+  some = omega (arith, length-append first.added later.added, later.some);
+}
+
 -- one call alone
 pub advances_once : (from to : Turning) (old new : Option (List Entry)) (next : Entry) → taken from next ≡ Some to → Grows old new (next ∷ []) → Advances from old new to
 advances_once from to old new next is told = record {
@@ -104,3 +118,67 @@ pub taken-is : (from : Turning) (next : Entry) (reading : Reading) → is_in_tur
 taken-is from next reading turn may =
     ap (λ (b : Bool). taken_if b from next) turn
     ∙ ap (option_map (λ (r : Reading). record { reading = r; line = line_after from.reading.state next from.line })) may
+
+-- ---- by how it ended
+
+stops_by : {T E : Type 0} (result : Result T E) (from to : Turning) (old new : Option (List Entry)) → GoesBy result from old new to → Stops from old new
+stops_by (Ok value) from to old new goes = stops_there goes
+stops_by (Err fault) from to old new goes = goes
+
+-- what goes on where memory sufficed, stops otherwise
+pub goes_stops : {T E : Type 0} {result : Result T E} {from to : Turning} {old new : Option (List Entry)} → Goes result from old new to → Stops from old new
+goes_stops {T} {E} {result} {from} {to} {old} {new} goes = stops_by result from to old new goes.by
+
+goes_by : {T E : Type 0} (result : Result T E) (from mid to : Turning) (old between new : Option (List Entry)) → Continues from old between mid → GoesBy result mid between new to → GoesBy result from old new to
+goes_by (Ok value) from mid to old between new first later = goes_on first later
+goes_by (Err fault) from mid to old between new first later = stops_later first later
+
+-- one call, and then others while memory suffices
+pub goes_then : {T E : Type 0} {result : Result T E} {from mid to : Turning} {old between new : Option (List Entry)} (next : Entry) → taken from next ≡ Some mid → Grows old between (next ∷ []) → Goes result mid between new to → Goes result from old new to
+goes_then {T} {E} {result} {from} {mid} {to} {old} {between} {new} next is told later = record {
+  by = goes_by result from mid to old between new (one_call from mid old between next is told) later.by;
+}
+
+serves_by : {T E : Type 0} (result : Result T E) (from mid to : Turning) (old between new : Option (List Entry)) (next : Entry) → taken from next ≡ Some mid → Grows old between (next ∷ []) → GoesBy result mid between new to → ServesBy result from old new to
+serves_by (Ok value) from mid to old between new next is told later = advances next is told later
+serves_by (Err fault) from mid to old between new next is told later = stops_later (one_call from mid old between next is told) later
+
+-- the same, by one call at least
+pub serves_then : {T E : Type 0} {result : Result T E} {from mid to : Turning} {old between new : Option (List Entry)} (next : Entry) → taken from next ≡ Some mid → Grows old between (next ∷ []) → Goes result mid between new to → Serves result from old new to
+serves_then {T} {E} {result} {from} {mid} {to} {old} {between} {new} next is told later = record {
+  by = serves_by result from mid to old between new next is told later.by;
+}
+
+-- some calls, and then a last one
+pub ends_later : {from mid : Turning} {old between new : Option (List Entry)} {last : Entry} → Continues from old between mid → EndsWith mid between new last → EndsWith from old new last
+ends_later {from} {mid} {old} {between} {new} {last} first ends = record {
+  to = ends.to;
+  before = first.added ++ ends.before;
+  told = rw (append_assoc first.added ends.before (last ∷ []))
+      (grows_more old between new first.added (ends.before ++ last ∷ []) first.told ends.told);
+  legal = rw (append_assoc first.added ends.before (last ∷ []))
+      (turned_on from mid ends.to first.added (ends.before ++ last ∷ []) first.legal ends.legal);
+}
+
+-- a last call alone
+pub ends_once : (from to : Turning) (old new : Option (List Entry)) (last : Entry) → taken from last ≡ Some to → Grows old new (last ∷ []) → EndsWith from old new last
+ends_once from to old new last is told = record { to = to; before = []; told = told; legal = turned_one from to last is }
+
+-- the readings that calls lead to are the same
+pub lands_at : {from : Turning} {old new : Option (List Entry)} (to other : Turning) → to ≡ other → Continues from old new to → Continues from old new other
+lands_at {from} {old} {new} to other is calls = subst (Continues from old new) is calls
+
+-- some calls, and then what a turn does
+turns_by : (result : Result Turn HubFault) (from mid : Turning) (old between new : Option (List Entry)) (state : State) (line : Line) → Continues from old between mid → Turns result mid between new state line → Turns result from old new state line
+turns_by (Ok Served) from mid old between new state line first later = advances_later first later
+turns_by (Ok Polled) from mid old between new state line first later = advances_later first later
+turns_by (Ok Over) from mid old between new state line first later =
+    record { wait = later.wait; items = later.items; ends = ends_later first later.ends }
+turns_by (Err faults.Poll) from mid old between new state line first later =
+    record { wait = later.wait; items = later.items; ends = ends_later first later.ends }
+turns_by (Err faults.Memory) from mid old between new state line first later = stops_later first later
+
+-- one call, and then what a turn does
+pub turns_then : (result : Result Turn HubFault) (from mid : Turning) (old between new : Option (List Entry)) (state : State) (line : Line) (next : Entry) → taken from next ≡ Some mid → Grows old between (next ∷ []) → Turns result mid between new state line → Turns result from old new state line
+turns_then result from mid old between new state line next is told later =
+    turns_by result from mid old between new state line (one_call from mid old between next is told) later

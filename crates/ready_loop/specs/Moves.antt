@@ -52,9 +52,22 @@ pub record EndsOver (from : Turning) (old new : Option (List Entry)) : Type 0 wh
   pub ends : EndsWith from old new (entry.Poll wait items (Ok polled.Over))
 
 -- by whether memory sufficed
-abbrev pub Goes : {T E : Type 0} → Result T E → Turning → Option (List Entry) → Option (List Entry) → Turning → Type 0
-Goes (Ok _) from old new to = Continues from old new to
-Goes (Err _) from old new to = Stops from old new
+abbrev pub GoesBy : {T E : Type 0} → Result T E → Turning → Option (List Entry) → Option (List Entry) → Turning → Type 0
+GoesBy (Ok _) from old new to = Continues from old new to
+GoesBy (Err _) from old new to = Stops from old new
+
+-- where memory sufficed, the calls that were added lead from the first reading to the second
+pub record Goes {T E : Type 0} (result : Result T E) (from : Turning) (old new : Option (List Entry)) (to : Turning) : Type 0 where
+  pub by : GoesBy result from old new to
+
+-- by whether memory sufficed
+abbrev pub ServesBy : {T E : Type 0} → Result T E → Turning → Option (List Entry) → Option (List Entry) → Turning → Type 0
+ServesBy (Ok _) from old new to = Advances from old new to
+ServesBy (Err _) from old new to = Stops from old new
+
+-- the same, by one call at least
+pub record Serves {T E : Type 0} (result : Result T E) (from : Turning) (old new : Option (List Entry)) (to : Turning) : Type 0 where
+  pub by : ServesBy result from old new to
 
 -- by how a turn ended
 abbrev pub Turns : Result Turn HubFault → Turning → Option (List Entry) → Option (List Entry) → State → Line → Type 0
@@ -64,7 +77,7 @@ Turns (Ok Over) from old new state line = EndsOver from old new
 Turns (Err faults.Poll) from old new state line = EndsWithPoll from old new
 Turns (Err faults.Memory) from old new state line = Stops from old new
 
--- by whether memory sufficed, with one call at least
-abbrev pub Serves : {T E : Type 0} → Result T E → Turning → Option (List Entry) → Option (List Entry) → Turning → Type 0
-Serves (Ok _) from old new to = Advances from old new to
-Serves (Err _) from old new to = Stops from old new
+-- a turn that served something, where memory sufficed
+abbrev pub served_by : {E : Type 0} → Result Unit E → Result Turn HubFault
+served_by (Ok unit) = Ok Served
+served_by (Err want) = Err faults.Memory

@@ -5,14 +5,14 @@ ghost use Rattle.ready_hub.specs.LegalJournal.{read_room};
 ghost use Rattle.ready_hub.specs.Servable.{is_idle};
 ghost use Rattle.ready_hub.specs.Things.{set_of};
 ghost use Rattle.ready_loop.specs.InTurn.{in_state};
-ghost use Rattle.ready_loop.specs.Moves.{Turns};
+ghost use Rattle.ready_loop.specs.Moves.{Turns, served_by};
 ghost use Rattle.world_ports.specs.Causes.{Rose};
 
 use crate::look::{is_idle, look};
 use crate::queue::Queue;
 use crate::room::Room;
 use crate::turn::{accept, read, start, write};
-use crate::{Core, HubFault, Turn};
+use crate::{Core, CoreMemory, HubFault, Turn};
 use ready_hub::Thing;
 use std::alloc::{AllocError, Global};
 use std::marker::Model;
@@ -34,6 +34,16 @@ impl Model for Hub {
     ghost Value = { Line };
 
     ghost view = { λ h. h.queue };
+}
+
+// The turn served something, where memory sufficed.
+fn served(outcome: Result<(), CoreMemory>) -> Result<Turn, HubFault>
+    ensures { result ≡ served_by outcome }
+{
+    match outcome {
+        Ok(()) => Ok(Turn::Served),
+        Err(_) => Err(HubFault::Memory),
+    }
 }
 
 impl Hub {
@@ -73,23 +83,18 @@ impl Hub {
     {
         if let Some(job) = agent.starts().first() {
             let job = *job;
-            start(&mut self.queue, agent, world, job)?;
-            return Ok(Turn::Served);
+            return served(start(&mut self.queue, agent, world, job));
         }
         match self.queue.first(agent) {
-            Some(Thing::Accept(door)) => {
-                accept(&mut self.queue, agent, world, door)?;
-                Ok(Turn::Served)
-            }
+            Some(Thing::Accept(door)) => served(accept(&mut self.queue, agent, world, door)),
             Some(Thing::Read(port)) => {
-                self.room.take()?;
-                read(&mut self.queue, agent, world, port, &mut self.room.bytes)?;
-                Ok(Turn::Served)
+                let Ok(()) = self.room.take() else {
+                    return Err(HubFault::Memory);
+                };
+                let room = &mut self.room.bytes;
+                served(read(&mut self.queue, agent, world, port, room))
             }
-            Some(Thing::Write(port)) => {
-                write(&mut self.queue, agent, world, port)?;
-                Ok(Turn::Served)
-            }
+            Some(Thing::Write(port)) => served(write(&mut self.queue, agent, world, port)),
             None => look(&mut self.queue, agent, world, &mut self.ready),
         }
     }

@@ -44,7 +44,9 @@ fn poll<A: Core, W: World>(
 {
     match world.poll(wait_of(agent), ready) {
         Ok(Polled::Some) => {
-            queue.add(agent, ready)?;
+            let Ok(()) = queue.add(agent, ready) else {
+                return Err(HubFault::Memory);
+            };
             Ok(Turn::Polled)
         }
         Ok(Polled::Over) => Ok(Turn::Over),
@@ -71,9 +73,13 @@ pub fn look<A: Core, W: World>(
     let Ok(moment) = world.now() else {
         return Err(HubFault::Memory);
     };
-    agent.step(moment, &Event::Tick)?;
+    let Ok(()) = agent.step(moment, &Event::Tick) else {
+        return Err(HubFault::Memory);
+    };
     if !agent.closes().is_empty() {
-        close_all(queue, agent, world)?;
+        let Ok(()) = close_all(queue, agent, world) else {
+            return Err(HubFault::Memory);
+        };
         return Ok(Turn::Served);
     }
     if !is_idle(queue, agent) {

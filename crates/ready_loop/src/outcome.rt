@@ -1,10 +1,4 @@
 // How a turn ends.
-ghost use Rattle.std.specs.Prelude.{◌≡◌};
-ghost use Rattle.ready_loop.specs.declared.outcome.HubFault.TheVariants.{Memory};
-
-use crate::CoreMemory;
-use std::alloc::AllocError;
-
 /// How a turn ended.
 #[derive(Clone, Copy, Debug, PartialEq, Eq)]
 pub enum Turn {
@@ -23,20 +17,4 @@ pub enum HubFault {
     Poll,
     /// Memory ran out. Says nothing of the outside.
     Memory,
-}
-
-impl From<AllocError> for HubFault {
-    ghost from_gives = { λ _ fault. fault ≡ Memory };
-
-    fn from(_: AllocError) -> HubFault {
-        HubFault::Memory
-    }
-}
-
-impl From<CoreMemory> for HubFault {
-    ghost from_gives = { λ _ fault. fault ≡ Memory };
-
-    fn from(_: CoreMemory) -> HubFault {
-        HubFault::Memory
-    }
 }

@@ -1,0 +1,48 @@
+use Rattle.std.proofs.Common.{rules, ◌≡◌, ◌≤◌, OnOk, Some, length, true, ℕ, ◌+◌, ◌-◌, ◌*◌, ◌<◌, ◌/◌, ◌%◌, Bool, false, nat_eq, nat_lt, List, [], ◌∷◌, ◌++◌, slice_index_or, slice_set, bit_and, bit_or, w8, w32, w64, Bor, MutBor}
+use Rattle.agent_model.specs.Events.{Ended, Heard, Took}
+use Rattle.agent_model.specs.State.{Fits, starts}
+use Rattle.ready_hub.specs.Answered.{Free, NowFor, due_of}
+use Rattle.ready_hub.specs.LegalJournal.{is_first_job, read_room}
+use Rattle.ready_hub.specs.declared.thing.Thing.TheVariants.{Accept, Read, Write}
+use Rattle.ready_loop.specs.Happenings.{happening, number_after}
+use Rattle.ready_loop.specs.InTurn.{in_state}
+use Rattle.ready_loop.specs.Moves.{Goes, Serves}
+use Rattle.ready_loop.specs.Queues.{dropped, first_servable, put_back}
+use Rattle.ready_loop.specs.Rooms.{IsWiped}
+use Rattle.ready_loop.proofs.turn.read.Goals as goal
+
+-- src/turn.rt:164:17
+pub hear-heard-requires-clause-fits : goal.hear-heard-requires-clause-fits
+hear-heard-requires-clause-fits g c = ?
+
+-- src/turn.rt:168:25
+pub end-requires-clause-fits : goal.end-requires-clause-fits
+end-requires-clause-fits g c = ?
+
+-- src/turn.rt:173:36
+pub end-requires-in-Err-Failed-clause-fits : goal.end-requires-in-Err-Failed-clause-fits
+end-requires-in-Err-Failed-clause-fits g c = ?
+
+-- src/turn.rt:145:1
+pub returns-in-Ok-Bytes-clause-legal : goal.returns-in-Ok-Bytes-clause-legal
+returns-in-Ok-Bytes-clause-legal g c = ?
+
+-- src/turn.rt:145:1
+pub returns-in-Ok-Bytes-clause-zero : goal.returns-in-Ok-Bytes-clause-zero
+returns-in-Ok-Bytes-clause-zero g c = ?
+
+-- src/turn.rt:145:1
+pub returns-in-Ok-End-clause-legal : goal.returns-in-Ok-End-clause-legal
+returns-in-Ok-End-clause-legal g c = ?
+
+-- src/turn.rt:145:1
+pub returns-in-Ok-NotNow-clause-legal : goal.returns-in-Ok-NotNow-clause-legal
+returns-in-Ok-NotNow-clause-legal g c = ?
+
+-- src/turn.rt:145:1
+pub returns-in-Err-Failed-clause-legal : goal.returns-in-Err-Failed-clause-legal
+returns-in-Err-Failed-clause-legal g c = ?
+
+-- src/turn.rt:145:1
+pub returns-in-Err-Memory-clause-legal : goal.returns-in-Err-Memory-clause-legal
+returns-in-Err-Memory-clause-legal g c = ?
