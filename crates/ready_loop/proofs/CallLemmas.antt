@@ -1,10 +1,11 @@
 -- What each call leaves of the readings, by its answer.
-use Rattle.std.proofs.Common.{◌≡◌, ◌∙◌, ℕ, suc, ◌+◌, ◌<◌, Bool, true, false, List, [], ◌∷◌, length, drop, get_or, Option, Some, None, Result, Ok, Err, refl, sym, ap, ◌&&◌, ◌||◌, ◌==◌, add-one, arith}
+use Rattle.std.proofs.Common.{◌≡◌, ◌∙◌, ℕ, suc, ◌+◌, ◌-◌, ◌^◌, ◌<◌, Bool, true, false, List, [], ◌∷◌, length, drop, get_or, Option, Some, None, Result, Ok, Err, refl, sym, ap, ◌&&◌, ◌||◌, ◌==◌, add-one, arith}
 use Rattle.std.proofs.Math.Seq.{drop-cons}
-use Rattle.std.specs.Prelude.{AllocError}
+use Rattle.std.specs.Prelude.{IsSome, is_some}
+use Rattle.std.specs.declared.alloc.AllocError.{AllocError}
 use Rattle.std.specs.Str.{bytes_eq}
 use Rattle.std.specs.Cmp.Lexicographic.{bytes_decides}
-use Rattle.std.proofs.lemmas.Bool.Decides.{Decides-eqb, nat_tests}
+use Rattle.std.proofs.lemmas.Bool.Decides.{Decides-eqb, Decides-ltb, nat_tests}
 use Rattle.world_ports.specs.declared.answers.Accepted.{Accepted}
 use Rattle.world_ports.specs.declared.answers.Accepted.TheVariants as accepted
 use Rattle.world_ports.specs.declared.answers.Got.{Got}
@@ -22,18 +23,18 @@ use Rattle.world_ports.specs.declared.events.Door.{Door}
 use Rattle.world_ports.specs.declared.events.Job.{Job}
 use Rattle.world_ports.specs.declared.events.Moment.{Moment}
 use Rattle.agent_model.specs.Events.{Happening, Joined, Heard, Ended, Took, Started, StartFailed, Tick}
-use Rattle.agent_model.specs.State.{State, is_client, owed_of, starts}
+use Rattle.agent_model.specs.State.{State, find_port, find_to_start, is_client, owed_of, starts}
 use Rattle.agent_model.specs.Step.{step}
 use Rattle.ready_hub.specs.Answered as hub
 use Rattle.ready_hub.specs.Answered.{Closing, Due, Free, Nothing, NowFor, Polling, Reading, at, due_after_look, due_of, only_if, same_wait, wait_of}
-use Rattle.ready_hub.specs.LegalJournal.{allowed, is_first_job, read_room}
+use Rattle.ready_hub.specs.LegalJournal.{allowed, is_first_job, read_room, same_kind}
 use Rattle.ready_hub.specs.Servable.{is_idle, is_servable, may_serve}
 use Rattle.ready_hub.specs.Things.{Hot, cooled, cooled_port, heated_port, set_of}
 use Rattle.ready_hub.specs.declared.thing.Thing.{Thing}
 use Rattle.ready_hub.specs.declared.thing.Thing.TheVariants.{Accept, Read, Write}
 use Rattle.ready_loop.specs.InTurn.{Line, Turning, in_state, is_in_turn, line_after, taken}
 use Rattle.ready_loop.specs.Queues.{dropped, dropped_port, first_servable, is_next, is_thing, put_back, queued_all, queued_port}
-use Rattle.ready_loop.proofs.IdleLemmas.{first_is_found}
+use Rattle.ready_loop.proofs.IdleLemmas.{first_is_found, owed_is_open, wanted_is_open}
 use Rattle.ready_loop.proofs.SetLemmas.{set_of-dropped, set_of-dropped_port, set_of-put_back, set_of-queued_all, set_of-queued_port}
 use Rattle.ready_loop.proofs.ThingLemmas.{same_thing-refl}
 use Rattle.ready_loop.proofs.TurningLemmas.{taken-is}
@@ -77,7 +78,7 @@ close-taken state line port later =
 
 -- what is left to close, from an index on
 pub due-drop : (ports : List ℕ) (index : ℕ) → index < length ports → due_of (drop index ports) ≡ Closing (get_or ports index 0) (drop (index + 1) ports)
-due-drop ports index below = ap due_of (rw (add-one, drop-cons ports index 0) refl)
+due-drop ports index below = ap due_of (drop-cons ports index 0 below) ∙ ap (λ (n : ℕ). Closing (get_or ports index 0) (drop n ports)) (sym (add-one index))
 
 -- ---- a look, and a poll
 
@@ -150,8 +151,10 @@ start-any state line job answer first =
     (ap (λ (b : Bool). only_if b (hub.after_start job.number state (set_of line.queue) answer)) first)
 
 -- a thing that was found not ready is dropped
-pub dropped-lands : (state : State) (line : Line) (thing : Thing) (due : Due) → Some (record { reading = at state (cooled thing (set_of line.queue)) due; line = record line { queue = dropped thing line.queue } }) ≡ Some (in_state state (record line { queue = dropped thing line.queue }) due)
-dropped-lands state line thing due = lands state (record line { queue = dropped thing line.queue }) (cooled thing (set_of line.queue)) due (set_of-dropped thing line.queue)
+pub dropped-lands : (state : State) (line next : Line) (thing : Thing) (due : Due) → next ≡ record line { queue = dropped thing line.queue } → Some (record { reading = at state (cooled thing (set_of line.queue)) due; line = record line { queue = dropped thing line.queue } }) ≡ Some (in_state state next due)
+dropped-lands state line next thing due is =
+    lands state (record line { queue = dropped thing line.queue }) (cooled thing (set_of line.queue)) due (set_of-dropped thing line.queue)
+    ∙ ap (λ (l : Line). Some (in_state state l due)) (sym is)
 
 -- one that was served goes to the back
 pub back-lands : (state : State) (line : Line) (thing : Thing) (due : Due) → first_servable state line.queue ≡ Some thing → Some (record { reading = at state (set_of line.queue) due; line = record line { queue = put_back thing line.queue } }) ≡ Some (in_state state (record line { queue = put_back thing line.queue }) due)
@@ -170,3 +173,32 @@ accept-taken state line door number found =
     ∙ lands state (record { queue = put_back (Accept door) queue; joined = is_client door || line.joined })
     (heated_port number (set_of line.queue)) (NowFor (Joined door))
     (set_of-put_back (Accept door) queue ready ∙ set_of-queued_port number line.queue)
+
+-- ---- what fits
+
+pub joined-fits : (state : State) (line : Line) (door : Door) → first_servable state line.queue ≡ Some (Accept door) → state.last_port < 2 ^ 64 - 1
+joined-fits state line door found =
+    (Decides-ltb state.last_port (2 ^ 64 - 1)).0 (first_is_found state line.queue (Accept door) found).servable
+
+some_is : {T : Type 0} (found : Option T) → is_some found ≡ true → IsSome found
+some_is None is = cc
+some_is (Some value) is = refl
+
+-- a port that is to be read is open
+pub read-open : (state : State) (line : Line) (port : ℕ) → first_servable state line.queue ≡ Some (Read port) → IsSome (find_port port state.ports)
+read-open state line port found =
+    some_is (find_port port state.ports) (wanted_is_open (find_port port state.ports) (first_is_found state line.queue (Read port) found).servable)
+
+-- and so is one that is owed bytes
+pub write-open : (state : State) (line : Line) (port : ℕ) → first_servable state line.queue ≡ Some (Write port) → IsSome (find_port port state.ports)
+write-open state line port found =
+    some_is (find_port port state.ports) (owed_is_open (find_port port state.ports) state (first_is_found state line.queue (Write port) found).servable)
+
+pub write-some : (state : State) (line : Line) (port : ℕ) → first_servable state line.queue ≡ Some (Write port) → 0 < length (owed_of port state)
+write-some state line port found =
+    (Decides-ltb 0 (length (owed_of port state))).0 (first_is_found state line.queue (Write port) found).servable
+
+-- the first job that waits is one that waits
+pub first-waits : (job : Job) (jobs : List Job) → is_first_job job jobs ≡ true → IsSome (find_to_start job.number jobs)
+first-waits job [] is = cc
+first-waits job (first ∷ later) is = let here : ((job.number == first.number) && same_kind job.kind first.kind) ≡ true = is in grind (arith, nat_tests)

@@ -3,3 +3,4 @@ pub mod SetLemmas
 pub mod IdleLemmas
 pub mod TurningLemmas
 pub mod CallLemmas
+pub mod RoomLemmas

@@ -2,7 +2,8 @@
 use Rattle.std.proofs.Common.{◌≡◌, ◌∙◌, ◌⊎◌, inl, inr, ℕ, ◌<◌, Bool, true, false, List, [], ◌∷◌, ◌++◌, length, Option, Some, None, Result, Ok, Err, refl, sym, ap, subst, append_assoc, length-append, arith}
 use Rattle.std.proofs.lemmas.List.{append-nil}
 use Rattle.std.specs.Prelude.{option_and_then, option_map}
-use Rattle.world_ports.specs.Journal.{Grows, Tells}
+use Rattle.world_ports.specs.Journal.{Grows, Tells, is_short}
+use Rattle.world_ports.specs.declared.answers.WorldFault.{WorldFault}
 use Rattle.world_ports.specs.declared.entry.Entry.{Entry}
 use Rattle.ready_hub.specs.Answered.{Reading}
 use Rattle.ready_hub.specs.LegalJournal.{allowed}
@@ -96,6 +97,10 @@ advances_once from to old new next is told = record {
   legal = turned_one from to next is;
   some = omega arith;
 }
+
+-- what was told of a call, at the answer that it had
+pub told_at : {T : Type 0} (of : Result T WorldFault → Entry) (old new : Option (List Entry)) {result answer : Result T WorldFault} → result ≡ answer → Tells old new (is_short result) (of result) → Tells old new (is_short answer) (of answer)
+told_at of old new is told = subst (λ r. Tells old new (is_short r) (of r)) is told
 
 -- what continues, stops there
 pub stops_there : {from to : Turning} {old new : Option (List Entry)} → Continues from old new to → Stops from old new

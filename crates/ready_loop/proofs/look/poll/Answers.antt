@@ -1,33 +1,87 @@
-use Rattle.std.proofs.Common.{Ok, Err, Option, List, ap, sym, ◌∙◌}
-use Rattle.world_ports.specs.Journal.{is_short}
+use Rattle.std.proofs.Common.{Ok, Err, Result, Some, List, ap, sym, ◌∙◌, true}
+use Rattle.world_ports.specs.declared.answers.Polled.{Polled}
 use Rattle.world_ports.specs.declared.answers.Polled.TheVariants as polled
+use Rattle.world_ports.specs.declared.answers.Ready.{Ready}
+use Rattle.world_ports.specs.declared.answers.WorldFault.{WorldFault}
 use Rattle.world_ports.specs.declared.answers.WorldFault.TheVariants.{Failed, Memory}
 use Rattle.world_ports.specs.declared.entry.Entry.TheVariants as entry
 use Rattle.ready_hub.specs.Answered as hub
-use Rattle.ready_hub.specs.Answered.{Polling}
+use Rattle.ready_hub.specs.Answered.{Free, Polling}
 use Rattle.ready_hub.specs.Things.{set_of}
-use Rattle.ready_loop.specs.InTurn.{in_state}
+use Rattle.ready_loop.specs.InTurn.{Line, in_state}
+use Rattle.ready_loop.specs.Queues.{queued_all}
 use Rattle.ready_loop.proofs.CallLemmas.{left, poll-any, poll-taken}
-use Rattle.ready_loop.proofs.TurningLemmas.{advances_once, ends_once, one_call, stops_short, stops_there}
+use Rattle.ready_loop.proofs.TurningLemmas.{advances_once, ends_once, one_call, stops_short, stops_there, told_at}
 use Rattle.ready_loop.proofs.look.poll.Goals as goal
 
 pub returns-in_default-clause-legal : goal.returns-in_default-clause-legal
 returns-in_default-clause-legal g c =
     let state = g.A.Core.state c.args.agent.now in
     let line = c.args.queue.now in
-    let next = entry.Poll c.wait_of.result c.poll.new.out.items (Ok polled.Some) in
-    stops_there (one_call (in_state state line Polling) (left state line next (hub.after_poll c.poll.new.out.items state (set_of line.queue) (Ok polled.Some)))
+    let answer = Ok polled.Some in
+    let next = entry.Poll c.wait_of.result c.poll.new.out.items answer in
+    stops_there (one_call (in_state state line Polling) (left state line next (hub.after_poll c.poll.new.out.items state (set_of line.queue) answer))
     (g.W.World.journal c.args.world.now) (g.W.World.journal c.poll.new.self) next
-    (poll-any state line c.wait_of.result c.poll.new.out.items (Ok polled.Some) c.wait_of.ensures) ?)
+    (poll-any state line c.wait_of.result c.poll.new.out.items answer c.wait_of.ensures)
+    (told_at (λ r. entry.Poll c.wait_of.result c.poll.new.out.items r) (g.W.World.journal c.args.world.now) (g.W.World.journal c.poll.new.self)
+    (c.in-Ok-Some.is ∙ ap Ok c.in-Ok-Some.field-0-is) c.poll.ensures.told))
 
 pub returns-in-Ok-clause-legal : goal.returns-in-Ok-clause-legal
-returns-in-Ok-clause-legal g c = ?
+returns-in-Ok-clause-legal g c =
+    let state = g.A.Core.state c.args.agent.now in
+    let line = c.args.queue.now in
+    let items = c.poll.new.out.items in
+    let added = c.in-Ok.ensures ∙ ap (λ (is : List Ready). record line { queue = queued_all state is line.queue }) c.deref.ensures.value in
+    advances_once (in_state state line Polling) (in_state state c.add.new.self Free)
+    (g.W.World.journal c.args.world.now) (g.W.World.journal c.poll.new.self) (entry.Poll c.wait_of.result items (Ok polled.Some))
+    (poll-taken state line c.wait_of.result items c.wait_of.ensures
+    ∙ ap (λ (l : Line). Some (in_state state l Free)) (sym added))
+    (told_at (λ r. entry.Poll c.wait_of.result c.poll.new.out.items r) (g.W.World.journal c.args.world.now) (g.W.World.journal c.poll.new.self)
+    (c.in-Ok-Some.is ∙ ap Ok c.in-Ok-Some.field-0-is) c.poll.ensures.told)
 
 pub returns-in-Ok-Over-clause-legal : goal.returns-in-Ok-Over-clause-legal
-returns-in-Ok-Over-clause-legal g c = ?
+returns-in-Ok-Over-clause-legal g c =
+    let state = g.A.Core.state c.args.agent.now in
+    let line = c.args.queue.now in
+    let items = c.poll.new.out.items in
+    let answer = Ok polled.Over in
+    let next = entry.Poll c.wait_of.result items answer in
+    record {
+      wait = c.wait_of.result;
+      items = items;
+      ends = ends_once (in_state state line Polling) (left state line next (hub.after_poll items state (set_of line.queue) answer))
+          (g.W.World.journal c.args.world.now) (g.W.World.journal c.poll.new.self) next
+          (poll-any state line c.wait_of.result items answer c.wait_of.ensures)
+          (told_at (λ r. entry.Poll c.wait_of.result c.poll.new.out.items r) (g.W.World.journal c.args.world.now) (g.W.World.journal c.poll.new.self)
+    (c.in-Ok-Over.is ∙ ap Ok c.in-Ok-Over.field-0-is) c.poll.ensures.told);
+    }
 
 pub returns-in-Err-Failed-clause-legal : goal.returns-in-Err-Failed-clause-legal
-returns-in-Err-Failed-clause-legal g c = ?
+returns-in-Err-Failed-clause-legal g c =
+    let state = g.A.Core.state c.args.agent.now in
+    let line = c.args.queue.now in
+    let items = c.poll.new.out.items in
+    let answer : Result Polled WorldFault = Err Failed in
+    let next = entry.Poll c.wait_of.result items answer in
+    record {
+      wait = c.wait_of.result;
+      items = items;
+      ends = ends_once (in_state state line Polling) (left state line next (hub.after_poll items state (set_of line.queue) answer))
+          (g.W.World.journal c.args.world.now) (g.W.World.journal c.poll.new.self) next
+          (poll-any state line c.wait_of.result items answer c.wait_of.ensures)
+          (told_at (λ r. entry.Poll c.wait_of.result c.poll.new.out.items r) (g.W.World.journal c.args.world.now) (g.W.World.journal c.poll.new.self)
+    (c.in-Err-Failed.is ∙ ap Err c.in-Err-Failed.field-0-is) c.poll.ensures.told);
+    }
 
 pub returns-in-Err-Memory-clause-legal : goal.returns-in-Err-Memory-clause-legal
-returns-in-Err-Memory-clause-legal g c = ?
+returns-in-Err-Memory-clause-legal g c =
+    let state = g.A.Core.state c.args.agent.now in
+    let line = c.args.queue.now in
+    let items = c.poll.new.out.items in
+    let answer : Result Polled WorldFault = Err Memory in
+    let next = entry.Poll c.wait_of.result items answer in
+    stops_short (in_state state line Polling) (left state line next (hub.after_poll items state (set_of line.queue) answer))
+    (g.W.World.journal c.args.world.now) (g.W.World.journal c.poll.new.self) true next
+    (poll-any state line c.wait_of.result items answer c.wait_of.ensures)
+    (told_at (λ r. entry.Poll c.wait_of.result c.poll.new.out.items r) (g.W.World.journal c.args.world.now) (g.W.World.journal c.poll.new.self)
+    (c.in-Err-Memory.is ∙ ap Err c.in-Err-Memory.field-0-is) c.poll.ensures.told)

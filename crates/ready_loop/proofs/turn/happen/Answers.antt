@@ -1,4 +1,6 @@
-use Rattle.std.proofs.Common.{Ok}
+use Rattle.std.proofs.Common.{Ok, Result}
+use Rattle.std.specs.declared.alloc.AllocError.{AllocError}
+use Rattle.world_ports.specs.declared.events.Moment.{Moment}
 use Rattle.std.specs.Prelude.{is_err}
 use Rattle.world_ports.specs.declared.entry.Entry.TheVariants as entry
 use Rattle.ready_hub.specs.Answered as hub
@@ -16,19 +18,24 @@ returns-in_default-clause-legal g c =
     let line = c.args.queue.now in
     let event = happening c.args.event.now in
     let next = entry.Now c.now.result in
-    stops_short (in_state state line (NowFor event)) (left state line next (hub.after_now event state (set_of line.queue) c.now.result))
-    (g.W.World.journal c.args.world.now) (g.W.World.journal c.now.new.self) (is_err c.now.result) next
-    (now-any state line event c.now.result) c.now.ensures.told
+    record {
+      by = stops_short (in_state state line (NowFor event)) (left state line next (hub.after_now event state (set_of line.queue) c.now.result))
+          (g.W.World.journal c.args.world.now) (g.W.World.journal c.now.new.self) (is_err c.now.result) next
+          (now-any state line event c.now.result) c.now.ensures.told;
+    }
 
 pub returns-in_default-step-clause-legal : goal.returns-in_default-step-clause-legal
 returns-in_default-step-clause-legal g c =
     let state = g.A.Core.state c.args.agent.now in
     let line = c.args.queue.now in
     let event = happening c.args.event.now in
-    let next = entry.Now (Ok c.in-Ok.moment) in
-    stops_there (one_call (in_state state line (NowFor event)) (left state line next (hub.after_now event state (set_of line.queue) (Ok c.in-Ok.moment)))
-    (g.W.World.journal c.args.world.now) (g.W.World.journal c.now.new.self) next
-    (now-any state line event (Ok c.in-Ok.moment)) c.in-Ok.ensures.told)
+    let answer : Result Moment AllocError = Ok c.in-Ok.moment in
+    let next = entry.Now answer in
+    record {
+      by = stops_there (one_call (in_state state line (NowFor event)) (left state line next (hub.after_now event state (set_of line.queue) answer))
+          (g.W.World.journal c.args.world.now) (g.W.World.journal c.now.new.self) next
+          (now-any state line event answer) c.in-Ok.ensures.told);
+    }
 
 pub returns-clause-legal : goal.returns-clause-legal
 returns-clause-legal g c =

@@ -1,17 +1,16 @@
-use Rattle.std.proofs.Common.{rules, ◌≡◌, ◌↔◌, ◌≤◌, Err, IsTrue, MatchResult, OnOk, [], false, length, true, ℕ, ◌+◌, ◌-◌, ◌*◌, ◌<◌, ◌/◌, ◌%◌, Bool, nat_eq, nat_lt, List, ◌∷◌, ◌++◌, slice_index_or, slice_set, bit_and, bit_or, Fits, w8, w32, w64, Bor, MutBor}
-use Rattle.ready_hub.specs.Answered.{Free, Polling}
-use Rattle.ready_hub.specs.LegalJournal.{read_room}
-use Rattle.ready_hub.specs.Servable.{is_idle}
-use Rattle.ready_hub.specs.Things.{set_of}
-use Rattle.ready_loop.specs.InTurn.{in_state}
-use Rattle.ready_loop.specs.Moves.{Turns, served_by}
-use Rattle.world_ports.specs.Causes.{Rose}
+use Rattle.std.proofs.Common.{List, length, ◌==◌, true, ap, sym, ◌∙◌}
+use Rattle.std.specs.Prelude.{is_some}
+use Rattle.world_ports.specs.declared.events.Job.{Job}
+use Rattle.ready_loop.proofs.IdleLemmas.{idle-is, no_first}
+use Rattle.ready_loop.proofs.TurningLemmas.{no_call, stops_there}
 use Rattle.ready_loop.proofs.hub.Hub.turn.Goals as goal
 
--- src/hub.rt:92:21
 pub returns-in_default-take-clause-legal : goal.returns-in_default-take-clause-legal
-returns-in_default-take-clause-legal g c = ?
+returns-in_default-take-clause-legal g c = stops_there (no_call _ (g.W.World.journal c.args.world.now))
 
--- src/hub.rt:98:21
 pub look-requires-clause-idle : goal.look-requires-clause-idle
-look-requires-clause-idle g c = ?
+look-requires-clause-idle g c =
+    let state = g.A.Core.state c.args.agent.now in
+    sym (idle-is state c.self.inside.queue.queue true
+    (ap (λ (jobs : List Job). length jobs == 0) (sym c.starts.ensures) ∙ no_first c.starts.result.now c.in_default.ensures.value)
+    (ap is_some (sym c.first-2.ensures ∙ c.in-None.is)))
