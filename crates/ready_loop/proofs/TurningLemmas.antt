@@ -1,19 +1,26 @@
 -- Calls one after another.
 use Rattle.std.proofs.Common.{◌≡◌, ◌∙◌, ◌⊎◌, inl, inr, ℕ, ◌<◌, Bool, true, false, List, [], ◌∷◌, ◌++◌, length, Option, Some, None, Result, Ok, Err, refl, sym, ap, subst, append_assoc, length-append, arith}
 use Rattle.std.proofs.lemmas.List.{append-nil}
-use Rattle.std.specs.Prelude.{option_and_then, option_map}
+use Rattle.std.specs.Prelude.{option_and_then, option_map, ◌||◌}
+use Rattle.std.specs.List.{list_any}
+use Rattle.world_ports.specs.declared.events.Moment.{Moment}
+use Rattle.world_ports.specs.declared.answers.Polled.{Polled}
+use Rattle.world_ports.specs.declared.answers.Polled.TheVariants as polled
+use Rattle.world_ports.specs.declared.answers.WorldFault.TheVariants.{Failed, Memory}
 use Rattle.world_ports.specs.Journal.{Grows, Tells, is_short}
+use Rattle.world_ports.specs.declared.answers.Ready.{Ready}
 use Rattle.world_ports.specs.declared.answers.WorldFault.{WorldFault}
 use Rattle.world_ports.specs.declared.entry.Entry.{Entry}
-use Rattle.ready_hub.specs.Answered.{Reading}
+use Rattle.world_ports.specs.declared.entry.Entry.TheVariants as entry
+use Rattle.ready_hub.specs.Answered.{Free, Reading}
 use Rattle.ready_hub.specs.LegalJournal.{allowed}
 use Rattle.agent_model.specs.State.{State}
 use Rattle.ready_loop.specs.declared.outcome.HubFault.{HubFault}
 use Rattle.ready_loop.specs.declared.outcome.HubFault.TheVariants as faults
 use Rattle.ready_loop.specs.declared.outcome.Turn.{Turn}
-use Rattle.ready_loop.specs.declared.outcome.Turn.TheVariants.{Served, Polled, Over}
-use Rattle.ready_loop.specs.InTurn.{Line, Turning, is_in_turn, line_after, taken, taken_if, turned}
-use Rattle.ready_loop.specs.Moves.{Advances, Continues, EndsWith, Goes, GoesBy, Serves, ServesBy, Stops, Turns}
+use Rattle.ready_loop.specs.declared.outcome.Turn.TheVariants as turns
+use Rattle.ready_loop.specs.InTurn.{Line, Turning, in_state, is_in_turn, line_after, taken, taken_if, turned}
+use Rattle.ready_loop.specs.Moves.{Advances, Continues, Goes, GoesBy, Looks, PollsOr, Serves, ServesBy, Stops, Turns, Waits, WaitsLast, WaitsOnce, is_poll, served_by}
 
 -- ---- the journal grows
 
@@ -23,10 +30,6 @@ grows_more (Some before) None new first later told more = absurd told
 grows_more (Some before) (Some between) None first later told more = absurd more
 grows_more (Some before) (Some between) (Some now) first later told more =
     more ∙ ap (λ (es : List Entry). es ++ later) told ∙ append_assoc before first later
-
--- it doesn't grow
-pub grows_none : (old new : Option (List Entry)) → Grows old new [] → Grows old new []
-grows_none old new told = told
 
 -- ---- the fold over two parts
 
@@ -45,6 +48,20 @@ turned_on from mid to first later legal more =
 turned_one : (from to : Turning) (next : Entry) → taken from next ≡ Some to → turned from (next ∷ []) ≡ Some to
 turned_one from to next is = ap (option_and_then (λ (after : Turning). turned after [])) is
 
+-- ---- none of them is a poll
+
+quiet_by : (here : Bool) (first later : Bool) → (here || first) ≡ false → (first ≡ false → later ≡ false) → (here || later) ≡ false
+quiet_by true first later quiet rest = cc
+quiet_by false first later quiet rest = rest quiet
+
+quiet_both : (first later : List Entry) → list_any is_poll first ≡ false → list_any is_poll later ≡ false → list_any is_poll (first ++ later) ≡ false
+quiet_both [] later quiet more = more
+quiet_both (next ∷ first) later quiet more =
+    quiet_by (is_poll next) (list_any is_poll first) (list_any is_poll (first ++ later)) quiet (λ rest. quiet_both first later rest more)
+
+quiet_one : (next : Entry) → is_poll next ≡ false → list_any is_poll (next ∷ []) ≡ false
+quiet_one next quiet = ap (λ (b : Bool). b || false) quiet
+
 -- ---- calls one after another
 
 -- no call
@@ -53,14 +70,16 @@ no_call from journal = record {
   added = [];
   told = elim journal as (λ j. Grows j j []) [ None ↦ tt | Some entries ↦ sym (append-nil entries) ];
   legal = refl;
+  quiet = refl;
 }
 
 -- one call
-pub one_call : (from to : Turning) (old new : Option (List Entry)) (next : Entry) → taken from next ≡ Some to → Grows old new (next ∷ []) → Continues from old new to
-one_call from to old new next is told = record {
+pub one_call : (from to : Turning) (old new : Option (List Entry)) (next : Entry) → is_poll next ≡ false → taken from next ≡ Some to → Grows old new (next ∷ []) → Continues from old new to
+one_call from to old new next quiet is told = record {
   added = next ∷ [];
   told = told;
   legal = turned_one from to next is;
+  quiet = quiet_one next quiet;
 }
 
 -- some calls, and then others
@@ -69,32 +88,22 @@ goes_on {from} {mid} {to} {old} {between} {new} first later = record {
   added = first.added ++ later.added;
   told = grows_more old between new first.added later.added first.told later.told;
   legal = turned_on from mid to first.added later.added first.legal later.legal;
+  quiet = quiet_both first.added later.added first.quiet later.quiet;
 }
 
 -- one call, and then others
-pub advances : {from mid to : Turning} {old between new : Option (List Entry)} (next : Entry) → taken from next ≡ Some mid → Grows old between (next ∷ []) → Continues mid between new to → Advances from old new to
-advances {from} {mid} {to} {old} {between} {new} next is told later = record {
-  added = (next ∷ []) ++ later.added;
-  told = grows_more old between new (next ∷ []) later.added told later.told;
-  legal = turned_on from mid to (next ∷ []) later.added (turned_one from mid next is) later.legal;
+pub advances : {from mid to : Turning} {old between new : Option (List Entry)} (next : Entry) → is_poll next ≡ false → taken from next ≡ Some mid → Grows old between (next ∷ []) → Continues mid between new to → Advances from old new to
+unfolding goes_on one_call
+advances {from} {mid} {to} {old} {between} {new} next quiet is told later = record {
+  calls = goes_on (one_call from mid old between next quiet is told) later;
   some = omega (arith, length-append (next ∷ []) later.added);
 }
 
--- some calls, and then one at least
-pub advances_later : {from mid to : Turning} {old between new : Option (List Entry)} → Continues from old between mid → Advances mid between new to → Advances from old new to
-advances_later {from} {mid} {to} {old} {between} {new} first later = record {
-  added = first.added ++ later.added;
-  told = grows_more old between new first.added later.added first.told later.told;
-  legal = turned_on from mid to first.added later.added first.legal later.legal;
-  some = omega (arith, length-append first.added later.added, later.some);
-}
-
 -- one call alone
-pub advances_once : (from to : Turning) (old new : Option (List Entry)) (next : Entry) → taken from next ≡ Some to → Grows old new (next ∷ []) → Advances from old new to
-advances_once from to old new next is told = record {
-  added = next ∷ [];
-  told = told;
-  legal = turned_one from to next is;
+pub advances_once : (from to : Turning) (old new : Option (List Entry)) (next : Entry) → is_poll next ≡ false → taken from next ≡ Some to → Grows old new (next ∷ []) → Advances from old new to
+unfolding one_call
+advances_once from to old new next quiet is told = record {
+  calls = one_call from to old new next quiet is told;
   some = omega arith;
 }
 
@@ -107,14 +116,19 @@ pub stops_there : {from to : Turning} {old new : Option (List Entry)} → Contin
 stops_there {from} {to} calls = record { to = to; calls = calls }
 
 -- a call that may be missing from the journal
-pub stops_short : (from to : Turning) (old new : Option (List Entry)) (short : Bool) (next : Entry) → taken from next ≡ Some to → Tells old new short next → Stops from old new
-stops_short from to old new false next is told = stops_there (one_call from to old new next is told)
-stops_short from to old new true next is (inl told) = stops_there (one_call from to old new next is told)
-stops_short from to old new true next is (inr told) = stops_there (record { added = []; told = told; legal = refl })
+pub stops_short : (from to : Turning) (old new : Option (List Entry)) (short : Bool) (next : Entry) → is_poll next ≡ false → taken from next ≡ Some to → Tells old new short next → Stops from old new
+stops_short from to old new false next quiet is told = stops_there (one_call from to old new next quiet is told)
+stops_short from to old new true next quiet is (inl told) = stops_there (one_call from to old new next quiet is told)
+stops_short from to old new true next quiet is (inr told) =
+    stops_there (record { added = []; told = told; legal = refl; quiet = refl })
 
 -- some calls, and then a stop
 pub stops_later : {from mid : Turning} {old between new : Option (List Entry)} → Continues from old between mid → Stops mid between new → Stops from old new
 stops_later first later = record { to = later.to; calls = goes_on first later.calls }
+
+-- the readings that calls lead to are the same
+pub lands_at : {from : Turning} {old new : Option (List Entry)} (to other : Turning) → to ≡ other → Continues from old new to → Continues from old new other
+lands_at {from} {old} {new} to other is calls = subst (Continues from old new) is calls
 
 -- ---- an entry that may come
 
@@ -124,7 +138,7 @@ taken-is from next reading turn may =
     ap (λ (b : Bool). taken_if b from next) turn
     ∙ ap (option_map (λ (r : Reading). record { reading = r; line = line_after from.reading.state next from.line })) may
 
--- ---- by how it ended
+-- ---- by whether memory sufficed
 
 stops_by : {T E : Type 0} (result : Result T E) (from to : Turning) (old new : Option (List Entry)) → GoesBy result from old new to → Stops from old new
 stops_by (Ok value) from to old new goes = stops_there goes
@@ -139,51 +153,78 @@ goes_by (Ok value) from mid to old between new first later = goes_on first later
 goes_by (Err fault) from mid to old between new first later = stops_later first later
 
 -- one call, and then others while memory suffices
-pub goes_then : {T E : Type 0} {result : Result T E} {from mid to : Turning} {old between new : Option (List Entry)} (next : Entry) → taken from next ≡ Some mid → Grows old between (next ∷ []) → Goes result mid between new to → Goes result from old new to
-goes_then {T} {E} {result} {from} {mid} {to} {old} {between} {new} next is told later = record {
-  by = goes_by result from mid to old between new (one_call from mid old between next is told) later.by;
+pub goes_then : {T E : Type 0} {result : Result T E} {from mid to : Turning} {old between new : Option (List Entry)} (next : Entry) → is_poll next ≡ false → taken from next ≡ Some mid → Grows old between (next ∷ []) → Goes result mid between new to → Goes result from old new to
+goes_then {T} {E} {result} {from} {mid} {to} {old} {between} {new} next quiet is told later = record {
+  by = goes_by result from mid to old between new (one_call from mid old between next quiet is told) later.by;
 }
 
-serves_by : {T E : Type 0} (result : Result T E) (from mid to : Turning) (old between new : Option (List Entry)) (next : Entry) → taken from next ≡ Some mid → Grows old between (next ∷ []) → GoesBy result mid between new to → ServesBy result from old new to
-serves_by (Ok value) from mid to old between new next is told later = advances next is told later
-serves_by (Err fault) from mid to old between new next is told later = stops_later (one_call from mid old between next is told) later
+serves_by : {T E : Type 0} (result : Result T E) (from mid to : Turning) (old between new : Option (List Entry)) (next : Entry) → is_poll next ≡ false → taken from next ≡ Some mid → Grows old between (next ∷ []) → GoesBy result mid between new to → ServesBy result from old new to
+serves_by (Ok value) from mid to old between new next quiet is told later = advances next quiet is told later
+serves_by (Err fault) from mid to old between new next quiet is told later = stops_later (one_call from mid old between next quiet is told) later
 
 -- the same, by one call at least
-pub serves_then : {T E : Type 0} {result : Result T E} {from mid to : Turning} {old between new : Option (List Entry)} (next : Entry) → taken from next ≡ Some mid → Grows old between (next ∷ []) → Goes result mid between new to → Serves result from old new to
-serves_then {T} {E} {result} {from} {mid} {to} {old} {between} {new} next is told later = record {
-  by = serves_by result from mid to old between new next is told later.by;
+pub serves_then : {T E : Type 0} {result : Result T E} {from mid to : Turning} {old between new : Option (List Entry)} (next : Entry) → is_poll next ≡ false → taken from next ≡ Some mid → Grows old between (next ∷ []) → Goes result mid between new to → Serves result from old new to
+serves_then {T} {E} {result} {from} {mid} {to} {old} {between} {new} next quiet is told later = record {
+  by = serves_by result from mid to old between new next quiet is told later.by;
 }
 
--- some calls, and then a last one
-pub ends_later : {from mid : Turning} {old between new : Option (List Entry)} {last : Entry} → Continues from old between mid → EndsWith mid between new last → EndsWith from old new last
-ends_later {from} {mid} {old} {between} {new} {last} first ends = record {
-  to = ends.to;
-  before = first.added ++ ends.before;
-  told = rw (append_assoc first.added ends.before (last ∷ []))
-      (grows_more old between new first.added (ends.before ++ last ∷ []) first.told ends.told);
-  legal = rw (append_assoc first.added ends.before (last ∷ []))
-      (turned_on from mid ends.to first.added (ends.before ++ last ∷ []) first.legal ends.legal);
+-- ---- a look, and then a poll
+
+waits_by : (moment : Moment) (from mid to : Turning) (old between new : Option (List Entry)) (answer : Result Polled WorldFault) → taken from (entry.Now (Ok moment)) ≡ Some mid → Grows old between (entry.Now (Ok moment) ∷ []) → Waits [] mid between new answer to → Waits (entry.Now (Ok moment) ∷ []) from old new answer to
+waits_by moment from mid to old between new answer is told later =
+    let look = entry.Now (Ok moment) ∷ [] in
+    let poll = entry.Poll later.wait later.items answer ∷ [] in
+    record {
+      wait = later.wait;
+      items = later.items;
+      told = grows_more old between new look poll told later.told;
+      legal = turned_on from mid to look poll (turned_one from mid (entry.Now (Ok moment)) is) later.legal;
+    }
+
+-- one call that looks at the clock, and then a poll
+pub looks_by : (result : Result Turn HubFault) (moment : Moment) (from mid : Turning) (old between new : Option (List Entry)) (state : State) (line : Line) → taken from (entry.Now (Ok moment)) ≡ Some mid → Grows old between (entry.Now (Ok moment) ∷ []) → PollsOr result mid between new state line → Turns result from old new state line
+looks_by (Ok turns.Served) moment from mid old between new state line is told polls = absurd polls
+looks_by (Ok turns.Polled) moment from mid old between new state line is told polls = record {
+  moment = moment;
+  polls = waits_by moment from mid (in_state state line Free) old between new (Ok polled.Some) is told polls;
+}
+looks_by (Ok turns.Over) moment from mid old between new state line is told polls = record {
+  moment = moment;
+  polls = record { to = polls.to; waits = waits_by moment from mid polls.to old between new (Ok polled.Over) is told polls.waits };
+}
+looks_by (Err faults.Poll) moment from mid old between new state line is told polls = record {
+  moment = moment;
+  polls = record { to = polls.to; waits = waits_by moment from mid polls.to old between new (Err Failed) is told polls.waits };
+}
+looks_by (Err faults.Memory) moment from mid old between new state line is told (inl stops) =
+    inl (stops_later (one_call from mid old between (entry.Now (Ok moment)) refl is told) stops)
+looks_by (Err faults.Memory) moment from mid old between new state line is told (inr polls) = inr (record {
+  moment = moment;
+  polls = record {
+    answer = polls.answer;
+    last = record { to = polls.last.to; waits = waits_by moment from mid polls.last.to old between new polls.answer is told polls.last.waits };
+  };
+})
+
+-- a poll alone
+pub waits_once : (from to : Turning) (old new : Option (List Entry)) (wait : Option ℕ) (items : List Ready) (answer : Result Polled WorldFault) → taken from (entry.Poll wait items answer) ≡ Some to → Grows old new (entry.Poll wait items answer ∷ []) → Waits [] from old new answer to
+waits_once from to old new wait items answer is told = record {
+  wait = wait;
+  items = items;
+  told = told;
+  legal = turned_one from to (entry.Poll wait items answer) is;
 }
 
--- a last call alone
-pub ends_once : (from to : Turning) (old new : Option (List Entry)) (last : Entry) → taken from last ≡ Some to → Grows old new (last ∷ []) → EndsWith from old new last
-ends_once from to old new last is told = record { to = to; before = []; told = told; legal = turned_one from to last is }
+-- a poll that wants memory
+pub waits_short : (from to : Turning) (old new : Option (List Entry)) (wait : Option ℕ) (items : List Ready) → taken from (entry.Poll wait items (Err Memory)) ≡ Some to → Tells old new true (entry.Poll wait items (Err Memory)) → Stops from old new ⊎ WaitsOnce [] from old new
+waits_short from to old new wait items is (inl told) = inr (record {
+  answer = Err Memory;
+  last = record { to = to; waits = waits_once from to old new wait items (Err Memory) is told };
+})
+waits_short from to old new wait items is (inr told) =
+    inl (stops_there (record { added = []; told = told; legal = refl; quiet = refl }))
 
--- the readings that calls lead to are the same
-pub lands_at : {from : Turning} {old new : Option (List Entry)} (to other : Turning) → to ≡ other → Continues from old new to → Continues from old new other
-lands_at {from} {old} {new} to other is calls = subst (Continues from old new) is calls
-
--- some calls, and then what a turn does
-turns_by : (result : Result Turn HubFault) (from mid : Turning) (old between new : Option (List Entry)) (state : State) (line : Line) → Continues from old between mid → Turns result mid between new state line → Turns result from old new state line
-turns_by (Ok Served) from mid old between new state line first later = advances_later first later
-turns_by (Ok Polled) from mid old between new state line first later = advances_later first later
-turns_by (Ok Over) from mid old between new state line first later =
-    record { wait = later.wait; items = later.items; ends = ends_later first later.ends }
-turns_by (Err faults.Poll) from mid old between new state line first later =
-    record { wait = later.wait; items = later.items; ends = ends_later first later.ends }
-turns_by (Err faults.Memory) from mid old between new state line first later = stops_later first later
-
--- one call, and then what a turn does
-pub turns_then : (result : Result Turn HubFault) (from mid : Turning) (old between new : Option (List Entry)) (state : State) (line : Line) (next : Entry) → taken from next ≡ Some mid → Grows old between (next ∷ []) → Turns result mid between new state line → Turns result from old new state line
-turns_then result from mid old between new state line next is told later =
-    turns_by result from mid old between new state line (one_call from mid old between next is told) later
+-- a turn that served something
+pub served_turns : {E : Type 0} (result : Result Unit E) (from : Turning) (old new : Option (List Entry)) (state : State) (line : Line) → Serves result from old new (in_state state line Free) → Turns (served_by result) from old new state line
+served_turns (Ok unit) from old new state line serves = serves.by
+served_turns (Err want) from old new state line serves = inl serves.by

@@ -4,7 +4,7 @@ ghost use Rattle.ready_hub.specs.Answered.{Free, Polling, wait_of};
 ghost use Rattle.ready_hub.specs.Servable.{is_idle};
 ghost use Rattle.ready_hub.specs.Things.{set_of};
 ghost use Rattle.ready_loop.specs.InTurn.{in_state};
-ghost use Rattle.ready_loop.specs.Moves.{Turns};
+ghost use Rattle.ready_loop.specs.Moves.{PollsOr, Turns};
 ghost use Rattle.world_ports.specs.Causes.{Rose};
 
 use crate::queue::Queue;
@@ -36,7 +36,7 @@ fn poll<A: Core, W: World>(
     world: &mut W,
     ready: &mut Vec<Ready>,
 ) -> Result<Turn, HubFault>
-    ensures legal { Turns result (in_state (A.state agent.now) queue.old Polling)
+    ensures legal { PollsOr result (in_state (A.state agent.now) queue.old Polling)
         (W.journal world.old) (W.journal world.new) (A.state agent.now) queue.new }
     ensures ports { OnOk result (W.last_port world.new ≡ W.last_port world.old) }
     ensures cause { result ≡ Err HubFault.Poll → Rose (W.faults world.old) (W.faults world.new) }

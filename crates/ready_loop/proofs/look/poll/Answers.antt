@@ -1,4 +1,4 @@
-use Rattle.std.proofs.Common.{Ok, Err, Result, Some, List, ap, sym, ◌∙◌, true}
+use Rattle.std.proofs.Common.{Ok, Err, Result, Some, List, ap, sym, ◌∙◌, true, inr}
 use Rattle.world_ports.specs.declared.answers.Polled.{Polled}
 use Rattle.world_ports.specs.declared.answers.Polled.TheVariants as polled
 use Rattle.world_ports.specs.declared.answers.Ready.{Ready}
@@ -11,20 +11,23 @@ use Rattle.ready_hub.specs.Things.{set_of}
 use Rattle.ready_loop.specs.InTurn.{Line, in_state}
 use Rattle.ready_loop.specs.Queues.{queued_all}
 use Rattle.ready_loop.proofs.CallLemmas.{left, poll-any, poll-taken}
-use Rattle.ready_loop.proofs.TurningLemmas.{advances_once, ends_once, one_call, stops_short, stops_there, told_at}
+use Rattle.ready_loop.proofs.TurningLemmas.{told_at, waits_once, waits_short}
 use Rattle.ready_loop.proofs.look.poll.Goals as goal
 
 pub returns-in_default-clause-legal : goal.returns-in_default-clause-legal
 returns-in_default-clause-legal g c =
     let state = g.A.Core.state c.args.agent.now in
     let line = c.args.queue.now in
-    let answer = Ok polled.Some in
-    let next = entry.Poll c.wait_of.result c.poll.new.out.items answer in
-    stops_there (one_call (in_state state line Polling) (left state line next (hub.after_poll c.poll.new.out.items state (set_of line.queue) answer))
-    (g.W.World.journal c.args.world.now) (g.W.World.journal c.poll.new.self) next
-    (poll-any state line c.wait_of.result c.poll.new.out.items answer c.wait_of.ensures)
-    (told_at (λ r. entry.Poll c.wait_of.result c.poll.new.out.items r) (g.W.World.journal c.args.world.now) (g.W.World.journal c.poll.new.self)
-    (c.in-Ok-Some.is ∙ ap Ok c.in-Ok-Some.field-0-is) c.poll.ensures.told))
+    let items = c.poll.new.out.items in
+    let answer : Result Polled WorldFault = Ok polled.Some in
+    let to = left state line (entry.Poll c.wait_of.result items answer) (hub.after_poll items state (set_of line.queue) answer) in
+    inr (record { answer = answer; last = record {
+      to = to;
+      waits = waits_once (in_state state line Polling) to (g.W.World.journal c.args.world.now) (g.W.World.journal c.poll.new.self) c.wait_of.result items answer
+          (poll-any state line c.wait_of.result items answer c.wait_of.ensures)
+          (told_at (λ r. entry.Poll c.wait_of.result c.poll.new.out.items r) (g.W.World.journal c.args.world.now) (g.W.World.journal c.poll.new.self)
+    (c.in-Ok-Some.is ∙ ap Ok c.in-Ok-Some.field-0-is) c.poll.ensures.told);
+    } })
 
 pub returns-in-Ok-clause-legal : goal.returns-in-Ok-clause-legal
 returns-in-Ok-clause-legal g c =
@@ -32,8 +35,7 @@ returns-in-Ok-clause-legal g c =
     let line = c.args.queue.now in
     let items = c.poll.new.out.items in
     let added = c.in-Ok.ensures ∙ ap (λ (is : List Ready). record line { queue = queued_all state is line.queue }) c.deref.ensures.value in
-    advances_once (in_state state line Polling) (in_state state c.add.new.self Free)
-    (g.W.World.journal c.args.world.now) (g.W.World.journal c.poll.new.self) (entry.Poll c.wait_of.result items (Ok polled.Some))
+    waits_once (in_state state line Polling) (in_state state c.add.new.self Free) (g.W.World.journal c.args.world.now) (g.W.World.journal c.poll.new.self) c.wait_of.result items (Ok polled.Some)
     (poll-taken state line c.wait_of.result items c.wait_of.ensures
     ∙ ap (λ (l : Line). Some (in_state state l Free)) (sym added))
     (told_at (λ r. entry.Poll c.wait_of.result c.poll.new.out.items r) (g.W.World.journal c.args.world.now) (g.W.World.journal c.poll.new.self)
@@ -44,13 +46,11 @@ returns-in-Ok-Over-clause-legal g c =
     let state = g.A.Core.state c.args.agent.now in
     let line = c.args.queue.now in
     let items = c.poll.new.out.items in
-    let answer = Ok polled.Over in
-    let next = entry.Poll c.wait_of.result items answer in
+    let answer : Result Polled WorldFault = Ok polled.Over in
+    let to = left state line (entry.Poll c.wait_of.result items answer) (hub.after_poll items state (set_of line.queue) answer) in
     record {
-      wait = c.wait_of.result;
-      items = items;
-      ends = ends_once (in_state state line Polling) (left state line next (hub.after_poll items state (set_of line.queue) answer))
-          (g.W.World.journal c.args.world.now) (g.W.World.journal c.poll.new.self) next
+      to = to;
+      waits = waits_once (in_state state line Polling) to (g.W.World.journal c.args.world.now) (g.W.World.journal c.poll.new.self) c.wait_of.result items answer
           (poll-any state line c.wait_of.result items answer c.wait_of.ensures)
           (told_at (λ r. entry.Poll c.wait_of.result c.poll.new.out.items r) (g.W.World.journal c.args.world.now) (g.W.World.journal c.poll.new.self)
     (c.in-Ok-Over.is ∙ ap Ok c.in-Ok-Over.field-0-is) c.poll.ensures.told);
@@ -62,12 +62,10 @@ returns-in-Err-Failed-clause-legal g c =
     let line = c.args.queue.now in
     let items = c.poll.new.out.items in
     let answer : Result Polled WorldFault = Err Failed in
-    let next = entry.Poll c.wait_of.result items answer in
+    let to = left state line (entry.Poll c.wait_of.result items answer) (hub.after_poll items state (set_of line.queue) answer) in
     record {
-      wait = c.wait_of.result;
-      items = items;
-      ends = ends_once (in_state state line Polling) (left state line next (hub.after_poll items state (set_of line.queue) answer))
-          (g.W.World.journal c.args.world.now) (g.W.World.journal c.poll.new.self) next
+      to = to;
+      waits = waits_once (in_state state line Polling) to (g.W.World.journal c.args.world.now) (g.W.World.journal c.poll.new.self) c.wait_of.result items answer
           (poll-any state line c.wait_of.result items answer c.wait_of.ensures)
           (told_at (λ r. entry.Poll c.wait_of.result c.poll.new.out.items r) (g.W.World.journal c.args.world.now) (g.W.World.journal c.poll.new.self)
     (c.in-Err-Failed.is ∙ ap Err c.in-Err-Failed.field-0-is) c.poll.ensures.told);
@@ -79,9 +77,8 @@ returns-in-Err-Memory-clause-legal g c =
     let line = c.args.queue.now in
     let items = c.poll.new.out.items in
     let answer : Result Polled WorldFault = Err Memory in
-    let next = entry.Poll c.wait_of.result items answer in
-    stops_short (in_state state line Polling) (left state line next (hub.after_poll items state (set_of line.queue) answer))
-    (g.W.World.journal c.args.world.now) (g.W.World.journal c.poll.new.self) true next
+    let to = left state line (entry.Poll c.wait_of.result items answer) (hub.after_poll items state (set_of line.queue) answer) in
+    waits_short (in_state state line Polling) to (g.W.World.journal c.args.world.now) (g.W.World.journal c.poll.new.self) c.wait_of.result items
     (poll-any state line c.wait_of.result items answer c.wait_of.ensures)
     (told_at (λ r. entry.Poll c.wait_of.result c.poll.new.out.items r) (g.W.World.journal c.args.world.now) (g.W.World.journal c.poll.new.self)
     (c.in-Err-Memory.is ∙ ap Err c.in-Err-Memory.field-0-is) c.poll.ensures.told)

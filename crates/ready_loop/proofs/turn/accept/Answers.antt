@@ -1,4 +1,4 @@
-use Rattle.std.proofs.Common.{Ok, Err, Result, ap, sym, ◌∙◌, true, Some}
+use Rattle.std.proofs.Common.{refl, Ok, Err, Result, ap, sym, ◌∙◌, true, Some}
 use Rattle.world_ports.specs.Journal.{got_of, is_short}
 use Rattle.world_ports.specs.declared.answers.Accepted.{Accepted}
 use Rattle.world_ports.specs.declared.answers.Accepted.TheVariants as accepted
@@ -35,7 +35,7 @@ returns-in_default-clause-legal g c =
     let next = entry.Accept c.args.door answer in
     record {
       by = stops_there (one_call (in_state state line Free) (calls.left state line next (hub.after_accept c.args.door state (set_of line.queue) answer))
-          (g.W.World.journal c.args.world.now) (g.W.World.journal c.accept.new.self) next
+          (g.W.World.journal c.args.world.now) (g.W.World.journal c.accept.new.self) next refl
           (calls.accept-any state line c.args.door answer c.requires.next)
           (told_at (λ r. entry.Accept c.args.door r) (g.W.World.journal c.args.world.now) (g.W.World.journal c.accept.new.self)
           (c.in-Ok-Port.is ∙ ap Ok c.in-Ok-Port.field-0-is) c.accept.ensures.told));
@@ -45,7 +45,7 @@ pub returns-in-Ok-clause-legal : goal.returns-in-Ok-clause-legal
 returns-in-Ok-clause-legal g c =
     let state = g.A.Core.state c.args.agent.now in
     let line = c.args.queue.now in
-    serves_then (entry.Accept c.args.door (Ok (accepted.Port c.in-Ok-Port.number)))
+    serves_then (entry.Accept c.args.door (Ok (accepted.Port c.in-Ok-Port.number))) refl
     (calls.accept-taken state line c.args.door c.in-Ok-Port.number c.requires.next
     ∙ ap (λ (l : Line). Some (in_state state l (NowFor (Joined c.args.door)))) (sym c.in-Ok.ensures))
     (told_at (λ r. entry.Accept c.args.door r) (g.W.World.journal c.args.world.now) (g.W.World.journal c.accept.new.self)
@@ -59,7 +59,7 @@ returns-in-Ok-NotNow-clause-legal g c =
     let answer = Ok accepted.NotNow in
     record {
       by = advances_once (in_state state line Free) (in_state state c.remove.new.self Free)
-          (g.W.World.journal c.args.world.now) (g.W.World.journal c.accept.new.self) (entry.Accept c.args.door answer)
+          (g.W.World.journal c.args.world.now) (g.W.World.journal c.accept.new.self) (entry.Accept c.args.door answer) refl
           (calls.accept-any state line c.args.door answer c.requires.next
           ∙ calls.dropped-lands state line c.remove.new.self (Accept c.args.door) Free c.remove.ensures)
           (told_at (λ r. entry.Accept c.args.door r) (g.W.World.journal c.args.world.now) (g.W.World.journal c.accept.new.self)
@@ -73,7 +73,7 @@ returns-in-Err-Failed-clause-legal g c =
     let answer : Result Accepted WorldFault = Err Failed in
     record {
       by = advances_once (in_state state line Free) (in_state state c.remove-in-Err-Failed.new.self Free)
-          (g.W.World.journal c.args.world.now) (g.W.World.journal c.accept.new.self) (entry.Accept c.args.door answer)
+          (g.W.World.journal c.args.world.now) (g.W.World.journal c.accept.new.self) (entry.Accept c.args.door answer) refl
           (calls.accept-any state line c.args.door answer c.requires.next
           ∙ calls.dropped-lands state line c.remove-in-Err-Failed.new.self (Accept c.args.door) Free c.remove-in-Err-Failed.ensures)
           (told_at (λ r. entry.Accept c.args.door r) (g.W.World.journal c.args.world.now) (g.W.World.journal c.accept.new.self)
@@ -88,7 +88,7 @@ returns-in-Err-Memory-clause-legal g c =
     let next = entry.Accept c.args.door answer in
     record {
       by = stops_short (in_state state line Free) (calls.left state line next (hub.after_accept c.args.door state (set_of line.queue) answer))
-          (g.W.World.journal c.args.world.now) (g.W.World.journal c.accept.new.self) true next
+          (g.W.World.journal c.args.world.now) (g.W.World.journal c.accept.new.self) true next refl
           (calls.accept-any state line c.args.door answer c.requires.next)
           (told_at (λ r. entry.Accept c.args.door r) (g.W.World.journal c.args.world.now) (g.W.World.journal c.accept.new.self)
           (c.in-Err-Memory.is ∙ ap Err c.in-Err-Memory.field-0-is) c.accept.ensures.told);

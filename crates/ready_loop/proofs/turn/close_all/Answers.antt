@@ -1,4 +1,4 @@
-use Rattle.std.proofs.Common.{◌≡◌, ◌∙◌, Ok, Some, List, ℕ, ◌+◌, ap, sym, subst, drop, get_or, arith}
+use Rattle.std.proofs.Common.{refl, ◌≡◌, ◌∙◌, Ok, Some, List, ℕ, ◌+◌, ap, sym, subst, drop, get_or, arith}
 use Rattle.std.specs.Prelude.{is_err}
 use Rattle.world_ports.specs.declared.entry.Entry.TheVariants as entry
 use Rattle.ready_hub.specs.Answered as hub
@@ -23,7 +23,7 @@ returns-in_default-clause-legal g c =
     record {
       by = stops_later before
           (stops_short (in_state state line (Closing port later)) (left state line next (hub.after_close port later state (set_of line.queue) c.close.result))
-          (g.W.World.journal c.ports.world) (g.W.World.journal c.close.new.self) (is_err c.close.result) next
+          (g.W.World.journal c.ports.world) (g.W.World.journal c.close.new.self) (is_err c.close.result) next refl
           (close-any state line port later c.close.result) c.close.ensures.told);
     }
 
@@ -40,7 +40,7 @@ ports-preserved g c =
         (ap (λ (d : Due). in_state state line d) due) c.ports.invariant.calls in
     record {
       calls = goes_on before (one_call (in_state state line (Closing port later)) (in_state state c.close-in-ports.new.self (due_of later))
-          (g.W.World.journal c.ports.world) (g.W.World.journal c.close.new.self) next
+          (g.W.World.journal c.ports.world) (g.W.World.journal c.close.new.self) next refl
           (close-taken state line port later ∙ ap (λ (l : Line). Some (in_state state l (due_of later))) (sym c.close-in-ports.ensures))
           c.in-Ok.ensures.told);
       ports = c.close.ensures.ports ∙ c.ports.invariant.ports;

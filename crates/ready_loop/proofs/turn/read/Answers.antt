@@ -40,7 +40,7 @@ returns-in-Ok-Bytes-clause-legal g c =
     let line = c.args.queue.now in
     let answer = Ok (got.Bytes c.in-Ok-Bytes.n) in
     let bytes = take c.in-Ok-Bytes.n c.read.new.room in
-    serves_then (entry.Read c.args.port (length c.args.room.now) bytes answer)
+    serves_then (entry.Read c.args.port (length c.args.room.now) bytes answer) refl
     (calls.read-any state line c.args.port (length c.args.room.now) bytes answer c.requires.next c.requires.room
     ∙ calls.back-lands state line (Read c.args.port) (NowFor (Heard c.args.port bytes)) c.requires.next)
     (told_at (λ r. entry.Read c.args.port (length c.args.room.now) (got_of r c.read.new.room) r) (g.W.World.journal c.args.world.now) (g.W.World.journal c.read.new.self)
@@ -58,7 +58,7 @@ returns-in-Ok-End-clause-legal g c =
     let state = g.A.Core.state c.args.agent.now in
     let line = c.args.queue.now in
     let answer = Ok got.End in
-    serves_then (entry.Read c.args.port (length c.args.room.now) [] answer)
+    serves_then (entry.Read c.args.port (length c.args.room.now) [] answer) refl
     (calls.read-any state line c.args.port (length c.args.room.now) [] answer c.requires.next c.requires.room
     ∙ calls.dropped-lands state line _ (Read c.args.port) (NowFor (Ended c.args.port)) refl)
     (told_at (λ r. entry.Read c.args.port (length c.args.room.now) (got_of r c.read.new.room) r) (g.W.World.journal c.args.world.now) (g.W.World.journal c.read.new.self)
@@ -72,7 +72,7 @@ returns-in-Ok-NotNow-clause-legal g c =
     let answer = Ok got.NotNow in
     record {
       by = advances_once (in_state state line Free) (in_state state c.remove.new.self Free)
-          (g.W.World.journal c.args.world.now) (g.W.World.journal c.read.new.self) (entry.Read c.args.port (length c.args.room.now) [] answer)
+          (g.W.World.journal c.args.world.now) (g.W.World.journal c.read.new.self) (entry.Read c.args.port (length c.args.room.now) [] answer) refl
           (calls.read-any state line c.args.port (length c.args.room.now) [] answer c.requires.next c.requires.room
           ∙ calls.dropped-lands state line c.remove.new.self (Read c.args.port) Free c.remove.ensures)
           (told_at (λ r. entry.Read c.args.port (length c.args.room.now) (got_of r c.read.new.room) r) (g.W.World.journal c.args.world.now) (g.W.World.journal c.read.new.self)
@@ -84,7 +84,7 @@ returns-in-Err-Failed-clause-legal g c =
     let state = g.A.Core.state c.args.agent.now in
     let line = c.args.queue.now in
     let answer : Result Got WorldFault = Err Failed in
-    serves_then (entry.Read c.args.port (length c.args.room.now) [] answer)
+    serves_then (entry.Read c.args.port (length c.args.room.now) [] answer) refl
     (calls.read-any state line c.args.port (length c.args.room.now) [] answer c.requires.next c.requires.room
     ∙ calls.dropped-lands state line _ (Read c.args.port) (NowFor (Ended c.args.port)) refl)
     (told_at (λ r. entry.Read c.args.port (length c.args.room.now) (got_of r c.read.new.room) r) (g.W.World.journal c.args.world.now) (g.W.World.journal c.read.new.self)
@@ -99,7 +99,7 @@ returns-in-Err-Memory-clause-legal g c =
     let next = entry.Read c.args.port (length c.args.room.now) [] answer in
     record {
       by = stops_short (in_state state line Free) (calls.left state line next (hub.after_read c.args.port [] state (set_of line.queue) answer))
-          (g.W.World.journal c.args.world.now) (g.W.World.journal c.read.new.self) true next
+          (g.W.World.journal c.args.world.now) (g.W.World.journal c.read.new.self) true next refl
           (calls.read-any state line c.args.port (length c.args.room.now) [] answer c.requires.next c.requires.room)
           (told_at (λ r. entry.Read c.args.port (length c.args.room.now) (got_of r c.read.new.room) r) (g.W.World.journal c.args.world.now) (g.W.World.journal c.read.new.self)
     (c.in-Err-Memory.is ∙ ap Err c.in-Err-Memory.field-0-is) c.read.ensures.told);

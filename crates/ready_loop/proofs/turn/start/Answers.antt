@@ -1,4 +1,4 @@
-use Rattle.std.proofs.Common.{Ok, Err, Result, List, ℕ, ap, sym, ◌∙◌, true, Some}
+use Rattle.std.proofs.Common.{refl, Ok, Err, Result, List, ℕ, ap, sym, ◌∙◌, true, Some}
 use Rattle.world_ports.specs.Journal.{got_of, is_short}
 use Rattle.world_ports.specs.declared.answers.Accepted.{Accepted}
 use Rattle.world_ports.specs.declared.answers.Accepted.TheVariants as accepted
@@ -23,7 +23,7 @@ pub returns-in-Ok-clause-legal : goal.returns-in-Ok-clause-legal
 returns-in-Ok-clause-legal g c =
     let state = g.A.Core.state c.args.agent.now in
     let answer : Result (List ℕ) WorldFault = Ok c.in-Ok.ticket in
-    serves_then (entry.Start c.args.job answer)
+    serves_then (entry.Start c.args.job answer) refl
     (calls.start-any state c.args.queue.now c.args.job answer c.requires.first)
     c.in-Ok.ensures.told c.happen.ensures.legal
 
@@ -31,7 +31,7 @@ pub returns-in-Err-Failed-clause-legal : goal.returns-in-Err-Failed-clause-legal
 returns-in-Err-Failed-clause-legal g c =
     let state = g.A.Core.state c.args.agent.now in
     let answer : Result (List ℕ) WorldFault = Err Failed in
-    serves_then (entry.Start c.args.job answer)
+    serves_then (entry.Start c.args.job answer) refl
     (calls.start-any state c.args.queue.now c.args.job answer c.requires.first)
     (told_at (λ r. entry.Start c.args.job r) (g.W.World.journal c.args.world.now) (g.W.World.journal c.start.new.self)
     (c.in-Err-Failed.is ∙ ap Err c.in-Err-Failed.field-0-is) c.start.ensures.told)
@@ -45,7 +45,7 @@ returns-in-Err-Memory-clause-legal g c =
     let next = entry.Start c.args.job answer in
     record {
       by = stops_short (in_state state line Free) (calls.left state line next (hub.after_start c.args.job.number state (set_of line.queue) answer))
-          (g.W.World.journal c.args.world.now) (g.W.World.journal c.start.new.self) true next
+          (g.W.World.journal c.args.world.now) (g.W.World.journal c.start.new.self) true next refl
           (calls.start-any state line c.args.job answer c.requires.first)
           (told_at (λ r. entry.Start c.args.job r) (g.W.World.journal c.args.world.now) (g.W.World.journal c.start.new.self)
     (c.in-Err-Memory.is ∙ ap Err c.in-Err-Memory.field-0-is) c.start.ensures.told);

@@ -30,7 +30,7 @@ returns-in-Ok-Took-clause-legal g c =
     let state = g.A.Core.state c.args.agent.now in
     let line = c.args.queue.now in
     let answer = Ok (wrote.Took c.in-Ok-Took.n) in
-    serves_then (entry.Write c.args.port c.owed.result.now answer)
+    serves_then (entry.Write c.args.port c.owed.result.now answer) refl
     (calls.write-any state line c.args.port c.owed.result.now answer c.requires.next c.owed.ensures
     ∙ calls.back-lands state line (Write c.args.port) (NowFor (Took c.args.port c.in-Ok-Took.n)) c.requires.next)
     (told_at (λ r. entry.Write c.args.port c.owed.result.now r) (g.W.World.journal c.args.world.now) (g.W.World.journal c.write.new.self)
@@ -44,7 +44,7 @@ returns-in-Ok-NotNow-clause-legal g c =
     let answer = Ok wrote.NotNow in
     record {
       by = advances_once (in_state state line Free) (in_state state c.remove.new.self Free)
-          (g.W.World.journal c.args.world.now) (g.W.World.journal c.write.new.self) (entry.Write c.args.port c.owed.result.now answer)
+          (g.W.World.journal c.args.world.now) (g.W.World.journal c.write.new.self) (entry.Write c.args.port c.owed.result.now answer) refl
           (calls.write-any state line c.args.port c.owed.result.now answer c.requires.next c.owed.ensures
           ∙ calls.dropped-lands state line c.remove.new.self (Write c.args.port) Free c.remove.ensures)
           (told_at (λ r. entry.Write c.args.port c.owed.result.now r) (g.W.World.journal c.args.world.now) (g.W.World.journal c.write.new.self)
@@ -56,7 +56,7 @@ returns-in-Err-Failed-clause-legal g c =
     let state = g.A.Core.state c.args.agent.now in
     let line = c.args.queue.now in
     let answer : Result Wrote WorldFault = Err Failed in
-    serves_then (entry.Write c.args.port c.owed.result.now answer)
+    serves_then (entry.Write c.args.port c.owed.result.now answer) refl
     (calls.write-any state line c.args.port c.owed.result.now answer c.requires.next c.owed.ensures
     ∙ calls.dropped-lands state line _ (Write c.args.port) (NowFor (Ended c.args.port)) refl)
     (told_at (λ r. entry.Write c.args.port c.owed.result.now r) (g.W.World.journal c.args.world.now) (g.W.World.journal c.write.new.self)
@@ -71,7 +71,7 @@ returns-in-Err-Memory-clause-legal g c =
     let next = entry.Write c.args.port c.owed.result.now answer in
     record {
       by = stops_short (in_state state line Free) (calls.left state line next (hub.after_write c.args.port state (set_of line.queue) answer))
-          (g.W.World.journal c.args.world.now) (g.W.World.journal c.write.new.self) true next
+          (g.W.World.journal c.args.world.now) (g.W.World.journal c.write.new.self) true next refl
           (calls.write-any state line c.args.port c.owed.result.now answer c.requires.next c.owed.ensures)
           (told_at (λ r. entry.Write c.args.port c.owed.result.now r) (g.W.World.journal c.args.world.now) (g.W.World.journal c.write.new.self)
     (c.in-Err-Memory.is ∙ ap Err c.in-Err-Memory.field-0-is) c.write.ensures.told);

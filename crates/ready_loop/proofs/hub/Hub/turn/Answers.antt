@@ -1,4 +1,4 @@
-use Rattle.std.proofs.Common.{List, length, ◌==◌, true, ap, sym, ◌∙◌}
+use Rattle.std.proofs.Common.{inl, List, length, ◌==◌, true, ap, sym, ◌∙◌}
 use Rattle.std.specs.Prelude.{is_some}
 use Rattle.world_ports.specs.declared.events.Job.{Job}
 use Rattle.ready_loop.proofs.IdleLemmas.{idle-is, no_first}
@@ -6,7 +6,7 @@ use Rattle.ready_loop.proofs.TurningLemmas.{no_call, stops_there}
 use Rattle.ready_loop.proofs.hub.Hub.turn.Goals as goal
 
 pub returns-in_default-take-clause-legal : goal.returns-in_default-take-clause-legal
-returns-in_default-take-clause-legal g c = stops_there (no_call _ (g.W.World.journal c.args.world.now))
+returns-in_default-take-clause-legal g c = inl (stops_there (no_call _ (g.W.World.journal c.args.world.now)))
 
 pub look-requires-clause-idle : goal.look-requires-clause-idle
 look-requires-clause-idle g c =
