@@ -4,3 +4,4 @@ pub mod IdleLemmas
 pub mod TurningLemmas
 pub mod CallLemmas
 pub mod RoomLemmas
+pub mod ServingLemmas

@@ -3,3 +3,4 @@ pub mod Queues
 pub mod Rooms
 pub mod InTurn
 pub mod Moves
+pub mod Serving

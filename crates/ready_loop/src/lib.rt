@@ -5,14 +5,17 @@
 mod core;
 mod event;
 mod hub;
+mod listeners;
 mod look;
 mod outcome;
 mod queue;
 mod room;
+mod serving;
 mod things;
 mod turn;
 
 pub use core::Core;
 pub use event::{CoreMemory, Event};
 pub use hub::Hub;
-pub use outcome::{HubFault, Turn};
+pub use outcome::{HubFault, ServeEnd, Turn};
+pub use serving::serve;

@@ -18,3 +18,18 @@ pub enum HubFault {
     /// Memory ran out. Says nothing of the outside.
     Memory,
 }
+
+/// How the loop ended.
+#[derive(Clone, Copy, Debug, PartialEq, Eq)]
+pub enum ServeEnd {
+    /// Nothing will become ready any more.
+    Over,
+    /// A client has come, none is left, and nothing can be served.
+    Idle,
+    /// A listener couldn't be bound.
+    BindFault,
+    /// The outside refused a poll.
+    PollFault,
+    /// Memory ran out. Says nothing of the outside.
+    Memory,
+}
