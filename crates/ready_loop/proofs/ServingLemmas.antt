@@ -1,0 +1,283 @@
+-- A whole run, from the listeners on.
+use Rattle.std.proofs.Common.{◌≡◌, ◌∙◌, ◌⊎◌, inl, inr, ℕ, Bool, true, false, List, [], ◌∷◌, ◌++◌, Option, Some, None, Result, Ok, Err, refl, sym, ap, subst, append_assoc, not, ◌&&◌, ◌||◌}
+use Rattle.std.specs.Prelude.{option_and_then, option_map}
+use Rattle.std.specs.declared.alloc.AllocError.{AllocError}
+use Rattle.std.specs.List.{list_any}
+use Rattle.std.specs.Str.{bytes_eq}
+use Rattle.std.specs.Cmp.Lexicographic.{bytes_decides}
+use Rattle.world_ports.specs.Journal.{Grows, Tells, is_short}
+use Rattle.world_ports.specs.declared.answers.Polled.{Polled}
+use Rattle.world_ports.specs.declared.answers.Polled.TheVariants as polled
+use Rattle.world_ports.specs.declared.answers.WorldFault.{WorldFault}
+use Rattle.world_ports.specs.declared.answers.WorldFault.TheVariants.{Failed, Memory}
+use Rattle.world_ports.specs.declared.entry.Entry.{Entry}
+use Rattle.world_ports.specs.declared.entry.Entry.TheVariants as entry
+use Rattle.world_ports.specs.declared.answers.Ready.{Ready}
+use Rattle.world_ports.specs.declared.events.Door.TheVariants.{Clients, Children}
+use Rattle.world_ports.specs.declared.events.Moment.{Moment}
+use Rattle.agent_model.specs.Events.{Tick}
+use Rattle.agent_model.specs.State.{State}
+use Rattle.agent_model.specs.Step.{step}
+use Rattle.ready_hub.specs.Answered.{Free, Reading, after_look, only_if}
+use Rattle.ready_hub.specs.Servable.{is_idle}
+use Rattle.ready_hub.specs.Things.{set_of}
+use Rattle.ready_loop.specs.InTurn.{Line, Turning, in_state, taken, turned}
+use Rattle.ready_loop.specs.Moves.{Advances, Looks, Stops, Turns, WaitsOnce, is_poll}
+use Rattle.ready_loop.specs.Serving.{HalfBound, Opens, Refused, Running, Runs, RunsOut, RunsUpTo, RunsUpToBind, RunsUpToPoll, RunsUntilIdle, Serves, Setting, Stage, Unbound, begun, children_path, gone_on, is_deserted, may_come, ran, running_if, stage_if}
+use Rattle.ready_loop.specs.declared.outcome.HubFault.{HubFault}
+use Rattle.ready_loop.specs.declared.outcome.HubFault.TheVariants as faults
+use Rattle.ready_loop.specs.declared.outcome.Turn.{Turn}
+use Rattle.ready_loop.specs.declared.outcome.ServeEnd.{ServeEnd}
+use Rattle.ready_loop.specs.declared.outcome.ServeEnd.TheVariants as ends
+use Rattle.ready_loop.specs.declared.outcome.Turn.TheVariants as turns
+use Rattle.ready_loop.proofs.TurningLemmas.{grows_more}
+
+-- ---- one part after another
+
+ran_by : (setting : Setting) (going : Option Stage) (first later : List Entry) → ((stage : Stage) → ran setting stage (first ++ later) ≡ option_and_then (λ after. ran setting after later) (ran setting stage first)) → option_and_then (λ after. ran setting after (first ++ later)) going ≡ option_and_then (λ after. ran setting after later) (option_and_then (λ after. ran setting after first) going)
+ran_by setting None first later rest = refl
+ran_by setting (Some stage) first later rest = rest stage
+
+ran-append : (setting : Setting) (from : Stage) (first later : List Entry) → ran setting from (first ++ later) ≡ option_and_then (λ after. ran setting after later) (ran setting from first)
+ran-append setting from [] later = refl
+ran-append setting from (next ∷ first) later =
+    ran_by setting (gone_on setting from next) first later (λ stage. ran-append setting stage first later)
+
+ran_on : (setting : Setting) (from mid to : Stage) (first later : List Entry) → ran setting from first ≡ Some mid → ran setting mid later ≡ Some to → ran setting from (first ++ later) ≡ Some to
+ran_on setting from mid to first later legal more =
+    ran-append setting from first later ∙ ap (option_and_then (λ (after : Stage). ran setting after later)) legal ∙ more
+
+-- a run, and then more of it
+pub runs_more : {setting : Setting} {from mid to : Stage} {old between new : Option (List Entry)} → Runs setting from old between mid → Runs setting mid between new to → Runs setting from old new to
+runs_more {setting} {from} {mid} {to} {old} {between} {new} first later = record {
+  added = first.added ++ later.added;
+  told = grows_more old between new first.added later.added first.told later.told;
+  legal = ran_on setting from mid to first.added later.added first.legal later.legal;
+}
+
+upto_more : {setting : Setting} {from mid : Stage} {old between new : Option (List Entry)} {last : Entry} → Runs setting from old between mid → RunsUpTo setting mid between new last → RunsUpTo setting from old new last
+upto_more {setting} {from} {mid} {old} {between} {new} {last} first later = record {
+  to = later.to;
+  before = first.added ++ later.before;
+  told = rw (append_assoc first.added later.before (last ∷ []))
+      (grows_more old between new first.added (later.before ++ last ∷ []) first.told later.told);
+  legal = rw (append_assoc first.added later.before (last ∷ []))
+      (ran_on setting from mid later.to first.added (later.before ++ last ∷ []) first.legal later.legal);
+}
+
+-- a run, and then its end
+pub serves_more : (result : ServeEnd) (setting : Setting) (from mid : Stage) (old between new : Option (List Entry)) → Runs setting from old between mid → Serves result setting mid between new → Serves result setting from old new
+serves_more ends.Over setting from mid old between new first later =
+    record { wait = later.wait; items = later.items; calls = upto_more first later.calls }
+serves_more ends.Idle setting from mid old between new first later = record {
+  turning = later.turning;
+  calls = runs_more first later.calls;
+  asked = later.asked;
+  deserted = later.deserted;
+  idle = later.idle;
+}
+serves_more ends.BindFault setting from mid old between new first later =
+    record { door = later.door; path = later.path; calls = upto_more first later.calls }
+serves_more ends.PollFault setting from mid old between new first later =
+    record { wait = later.wait; items = later.items; calls = upto_more first later.calls }
+serves_more ends.Memory setting from mid old between new first later =
+    record { to = later.to; calls = runs_more first later.calls }
+
+-- ---- calls without a poll
+
+or_false : (here there : Bool) → (here || there) ≡ false → (here ≡ false) × (there ≡ false)
+or_false true there none = cc
+or_false false there none = (refl, none)
+
+quiet_step : (setting : Setting) (from to : Turning) (next : Entry) (later : List Entry) (found : Option Turning) → is_poll next ≡ false → taken from next ≡ found → option_and_then (λ after. turned after later) found ≡ Some to → ((after : Turning) → turned after later ≡ Some to → ran setting (Running after) later ≡ Some (Running to)) → option_and_then (λ after. ran setting after later) (gone_on setting (Running from) next) ≡ Some (Running to)
+quiet_step setting from to next later None quiet is legal rest = cc
+quiet_step setting from to next later (Some after) quiet is legal rest =
+    ap (λ (b : Bool). option_and_then (λ (s : Stage). ran setting s later) (running_if (not (b && (setting.until_idle && is_deserted from))) from next)) quiet
+    ∙ ap (λ (t : Option Turning). option_and_then (λ (s : Stage). ran setting s later) (option_map Running t)) is
+    ∙ rest after legal
+
+-- what the loop turns through is a run
+quiet_runs : (setting : Setting) (from to : Turning) (entries : List Entry) → list_any is_poll entries ≡ false → turned from entries ≡ Some to → ran setting (Running from) entries ≡ Some (Running to)
+quiet_runs setting from to [] quiet legal = ap (option_map Running) legal
+quiet_runs setting from to (next ∷ later) quiet legal =
+    let parts = or_false (is_poll next) (list_any is_poll later) quiet in
+    quiet_step setting from to next later (taken from next) parts.0 refl legal (λ after rest. quiet_runs setting after to later parts.1 rest)
+
+-- ---- a look and a poll
+
+and_true : (b : Bool) → (b && true) ≡ b
+and_true true = refl
+and_true false = refl
+
+poll_step : (setting : Setting) (mid to : Turning) (poll : Entry) (found : Option Turning) (may : Bool) → may ≡ true → taken mid poll ≡ found → option_and_then (λ after. turned after []) found ≡ Some to → option_and_then (λ after. ran setting after []) (running_if may mid poll) ≡ Some (Running to)
+poll_step setting mid to poll found may may_is is legal =
+    ap (λ (b : Bool). option_and_then (λ (s : Stage). ran setting s []) (running_if b mid poll)) may_is
+    ∙ ap (λ (t : Option Turning). option_and_then (λ (s : Stage). ran setting s []) (option_map Running t)) is
+    ∙ (elim found as (λ t. option_and_then (λ (after : Turning). turned after []) t ≡ Some to → option_and_then (λ (s : Stage). ran setting s []) (option_map Running t) ≡ Some (Running to)) [
+      None ↦ λ none. cc
+    | Some after ↦ λ some. ap (option_map Running) some
+    ]) legal
+
+with_line : Line → Reading → Turning
+with_line line reading = record { reading = reading; line = line }
+
+looked : State → Line → Moment → Bool → Option Turning
+looked state line moment idle = option_map (with_line line) (only_if idle (after_look {E = AllocError} state (set_of line.queue) (Ok moment)))
+
+look_step : (setting : Setting) (state : State) (line : Line) (moment : Moment) (wait : Option ℕ) (items : List Ready) (answer : Result Polled WorldFault) (to : Turning) (idle : Bool) → (setting.until_idle && (is_deserted (in_state state line Free) && idle)) ≡ false → option_and_then (λ after. turned after (entry.Poll wait items answer ∷ [])) (looked state line moment idle) ≡ Some to → option_and_then (λ after. ran setting after (entry.Poll wait items answer ∷ [])) (option_map Running (looked state line moment idle)) ≡ Some (Running to)
+unfolding looked with_line
+look_step setting state line moment wait items answer to false done legal = cc
+look_step setting state line moment wait items answer to true done legal =
+    let mid : Turning = with_line line (after_look {E = AllocError} state (set_of line.queue) (Ok moment)) in
+    let poll = entry.Poll wait items answer in
+    let may : may_come setting.until_idle mid poll ≡ true =
+        ap (λ (b : Bool). not (setting.until_idle && b)) (sym (and_true (is_deserted (in_state state line Free)))) ∙ ap not done in
+    poll_step setting mid to poll (taken mid poll) (may_come setting.until_idle mid poll) may refl legal
+
+-- what a look and a poll add is a run, where the loop isn't to end there
+pub looks_run : (setting : Setting) (state : State) (line : Line) (moment : Moment) (wait : Option ℕ) (items : List Ready) (answer : Result Polled WorldFault) (to : Turning) → (setting.until_idle && (is_deserted (in_state state line Free) && is_idle state (set_of line.queue))) ≡ false → turned (in_state state line Free) (entry.Now (Ok moment) ∷ entry.Poll wait items answer ∷ []) ≡ Some to → ran setting (Running (in_state state line Free)) (entry.Now (Ok moment) ∷ entry.Poll wait items answer ∷ []) ≡ Some (Running to)
+unfolding looked with_line
+looks_run setting state line moment wait items answer to done legal =
+    look_step setting state line moment wait items answer to (is_idle state (set_of line.queue)) done legal
+
+-- ---- turns
+
+-- the loop isn't to end here
+abbrev pub IsOn : Setting → State → Line → Type 0
+IsOn setting state line =
+    (setting.until_idle && (is_deserted (in_state state line Free) && is_idle state (set_of line.queue))) ≡ false
+
+pub served_runs : {old new : Option (List Entry)} (setting : Setting) (from to : Turning) → Advances from old new to → Runs setting (Running from) old new (Running to)
+served_runs setting from to turn = record {
+  added = turn.calls.added;
+  told = turn.calls.told;
+  legal = quiet_runs setting from to turn.calls.added turn.calls.quiet turn.calls.legal;
+}
+
+pub polled_runs : {old new : Option (List Entry)} (setting : Setting) (state next : State) (line after : Line) → IsOn setting state line → Looks (Ok turns.Polled) (in_state state line Free) old new next after → Runs setting (Running (in_state state line Free)) old new (Running (in_state next after Free))
+polled_runs setting state next line after on looks = record {
+  added = entry.Now (Ok looks.moment) ∷ entry.Poll looks.polls.wait looks.polls.items (Ok polled.Some) ∷ [];
+  told = looks.polls.told;
+  legal = looks_run setting state line looks.moment looks.polls.wait looks.polls.items (Ok polled.Some) (in_state next after Free) on looks.polls.legal;
+}
+
+pub over_ends : {old new : Option (List Entry)} (setting : Setting) (state next : State) (line after : Line) → IsOn setting state line → Looks (Ok turns.Over) (in_state state line Free) old new next after → Serves ends.Over setting (Running (in_state state line Free)) old new
+over_ends setting state next line after on looks = let waits = looks.polls.waits in record {
+  wait = waits.wait;
+  items = waits.items;
+  calls = record {
+    to = Running looks.polls.to;
+    before = entry.Now (Ok looks.moment) ∷ [];
+    told = waits.told;
+    legal = looks_run setting state line looks.moment waits.wait waits.items (Ok polled.Over) looks.polls.to on waits.legal;
+  };
+}
+
+pub fault_ends : {old new : Option (List Entry)} (setting : Setting) (state next : State) (line after : Line) → IsOn setting state line → Looks (Err faults.Poll) (in_state state line Free) old new next after → Serves ends.PollFault setting (Running (in_state state line Free)) old new
+fault_ends setting state next line after on looks = let waits = looks.polls.waits in record {
+  wait = waits.wait;
+  items = waits.items;
+  calls = record {
+    to = Running looks.polls.to;
+    before = entry.Now (Ok looks.moment) ∷ [];
+    told = waits.told;
+    legal = looks_run setting state line looks.moment waits.wait waits.items (Err Failed) looks.polls.to on waits.legal;
+  };
+}
+
+pub memory_ends : {old new : Option (List Entry)} (setting : Setting) (state next : State) (line after : Line) → IsOn setting state line → (Stops (in_state state line Free) old new ⊎ Looks (Err faults.Memory) (in_state state line Free) old new next after) → Serves ends.Memory setting (Running (in_state state line Free)) old new
+memory_ends setting state next line after on (inl stops) = record {
+  to = Running stops.to;
+  calls = record {
+    added = stops.calls.added;
+    told = stops.calls.told;
+    legal = quiet_runs setting (in_state state line Free) stops.to stops.calls.added stops.calls.quiet stops.calls.legal;
+  };
+}
+memory_ends setting state next line after on (inr looks) =
+    let waits = looks.polls.last.waits in
+    let answer = looks.polls.answer in
+    record {
+      to = Running looks.polls.last.to;
+      calls = record {
+        added = entry.Now (Ok looks.moment) ∷ entry.Poll waits.wait waits.items answer ∷ [];
+        told = waits.told;
+        legal = looks_run setting state line looks.moment waits.wait waits.items answer looks.polls.last.to on waits.legal;
+      };
+    }
+
+-- what a turn did, by how it ended
+pub turn_at : {result answer : Result Turn HubFault} (from : Turning) (old new : Option (List Entry)) (state : State) (line : Line) → result ≡ answer → Turns result from old new state line → Turns answer from old new state line
+turn_at from old new state line is turn = subst (λ (r : Result Turn HubFault). Turns r from old new state line) is turn
+
+pub and_both : (here there : Bool) → (here && there) ≡ true → (here ≡ true) × (there ≡ true)
+and_both true there both = (refl, both)
+and_both false there both = cc
+
+-- ---- the listeners
+
+bytes_same : (bytes : List ℕ) → bytes_eq bytes bytes ≡ true
+bytes_same bytes = (bytes_decides bytes bytes).1 refl
+
+first_bind : (setting : Setting) (stage : Stage) → stage_if (bytes_eq setting.path setting.path) stage ≡ Some stage
+first_bind setting stage = ap (λ (b : Bool). stage_if b stage) (bytes_same setting.path)
+
+later_bind : (setting : Setting) (at : List ℕ) (stage : Stage) → at ≡ children_path setting.path → stage_if (bytes_eq at (children_path setting.path)) stage ≡ Some stage
+later_bind setting at stage is =
+    ap (λ (xs : List ℕ). stage_if (bytes_eq xs (children_path setting.path)) stage) is
+    ∙ ap (λ (b : Bool). stage_if b stage) (bytes_same (children_path setting.path))
+
+ran_one : (setting : Setting) (from to : Stage) (next : Entry) → gone_on setting from next ≡ Some to → ran setting from (next ∷ []) ≡ Some to
+ran_one setting from to next is = ap (option_and_then (λ (after : Stage). ran setting after [])) is
+
+runs_one : (setting : Setting) (from to : Stage) (old new : Option (List Entry)) (next : Entry) → gone_on setting from next ≡ Some to → Grows old new (next ∷ []) → Runs setting from old new to
+runs_one setting from to old new next is told =
+    record { added = next ∷ []; told = told; legal = ran_one setting from to next is }
+
+-- the clients' listener couldn't be bound
+pub opens_not : (fault : WorldFault) (setting : Setting) (old new : Option (List Entry)) → Tells old new (is_short {T = Unit {0}} (Err fault)) (entry.Bind Clients setting.path (Err fault)) → Opens (Err fault) setting old new
+opens_not Failed setting old new told = record {
+  door = Clients;
+  path = setting.path;
+  calls = record {
+    to = Refused;
+    before = [];
+    told = told;
+    legal = ran_one setting Unbound Refused (entry.Bind Clients setting.path (Err Failed)) (first_bind setting Refused);
+  };
+}
+opens_not Memory setting old new (inl told) = record {
+  to = Refused;
+  calls = runs_one setting Unbound Refused old new (entry.Bind Clients setting.path (Err Memory)) (first_bind setting Refused) told;
+}
+opens_not Memory setting old new (inr told) = record {
+  to = Unbound;
+  calls = record { added = []; told = told; legal = refl };
+}
+
+-- the clients' listener was bound, and then the children's or not
+pub opens_by : (result : Result Unit WorldFault) (setting : Setting) (old between new : Option (List Entry)) (at : List ℕ) → at ≡ children_path setting.path → Grows old between (entry.Bind Clients setting.path (Ok tt) ∷ []) → Tells between new (is_short result) (entry.Bind Children at result) → Opens result setting old new
+opens_by (Ok unit) setting old between new at is first told =
+    runs_more (runs_one setting Unbound HalfBound old between (entry.Bind Clients setting.path (Ok tt)) (first_bind setting HalfBound) first)
+    (runs_one setting HalfBound (begun setting) between new (entry.Bind Children at (Ok unit)) (later_bind setting at (begun setting) is) told)
+opens_by (Err Failed) setting old between new at is first told = record {
+  door = Children;
+  path = at;
+  calls = upto_more (runs_one setting Unbound HalfBound old between (entry.Bind Clients setting.path (Ok tt)) (first_bind setting HalfBound) first)
+      (record {
+        to = Refused;
+        before = [];
+        told = told;
+        legal = ran_one setting HalfBound Refused (entry.Bind Children at (Err Failed)) (later_bind setting at Refused is);
+      });
+}
+opens_by (Err Memory) setting old between new at is first (inl told) = record {
+  to = Refused;
+  calls = runs_more (runs_one setting Unbound HalfBound old between (entry.Bind Clients setting.path (Ok tt)) (first_bind setting HalfBound) first)
+      (runs_one setting HalfBound Refused between new (entry.Bind Children at (Err Memory)) (later_bind setting at Refused is) told);
+}
+opens_by (Err Memory) setting old between new at is first (inr told) = record {
+  to = HalfBound;
+  calls = runs_more (runs_one setting Unbound HalfBound old between (entry.Bind Clients setting.path (Ok tt)) (first_bind setting HalfBound) first)
+      (record { added = []; told = told; legal = refl });
+}

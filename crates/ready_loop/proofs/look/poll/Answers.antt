@@ -1,0 +1,84 @@
+use Rattle.std.proofs.Common.{Ok, Err, Result, Some, List, ap, sym, ◌∙◌, true, inr}
+use Rattle.world_ports.specs.declared.answers.Polled.{Polled}
+use Rattle.world_ports.specs.declared.answers.Polled.TheVariants as polled
+use Rattle.world_ports.specs.declared.answers.Ready.{Ready}
+use Rattle.world_ports.specs.declared.answers.WorldFault.{WorldFault}
+use Rattle.world_ports.specs.declared.answers.WorldFault.TheVariants.{Failed, Memory}
+use Rattle.world_ports.specs.declared.entry.Entry.TheVariants as entry
+use Rattle.ready_hub.specs.Answered as hub
+use Rattle.ready_hub.specs.Answered.{Free, Polling}
+use Rattle.ready_hub.specs.Things.{set_of}
+use Rattle.ready_loop.specs.InTurn.{Line, in_state}
+use Rattle.ready_loop.specs.Queues.{queued_all}
+use Rattle.ready_loop.proofs.CallLemmas.{left, poll-any, poll-taken}
+use Rattle.ready_loop.proofs.TurningLemmas.{told_at, waits_once, waits_short}
+use Rattle.ready_loop.proofs.look.poll.Goals as goal
+
+pub returns-in_default-clause-legal : goal.returns-in_default-clause-legal
+returns-in_default-clause-legal g c =
+    let state = g.A.Core.state c.args.agent.now in
+    let line = c.args.queue.now in
+    let items = c.poll.new.out.items in
+    let answer : Result Polled WorldFault = Ok polled.Some in
+    let to = left state line (entry.Poll c.wait_of.result items answer) (hub.after_poll items state (set_of line.queue) answer) in
+    inr (record { answer = answer; last = record {
+      to = to;
+      waits = waits_once (in_state state line Polling) to (g.W.World.journal c.args.world.now) (g.W.World.journal c.poll.new.self) c.wait_of.result items answer
+          (poll-any state line c.wait_of.result items answer c.wait_of.ensures)
+          (told_at (λ r. entry.Poll c.wait_of.result c.poll.new.out.items r) (g.W.World.journal c.args.world.now) (g.W.World.journal c.poll.new.self)
+    (c.in-Ok-Some.is ∙ ap Ok c.in-Ok-Some.field-0-is) c.poll.ensures.told);
+    } })
+
+pub returns-in-Ok-clause-legal : goal.returns-in-Ok-clause-legal
+returns-in-Ok-clause-legal g c =
+    let state = g.A.Core.state c.args.agent.now in
+    let line = c.args.queue.now in
+    let items = c.poll.new.out.items in
+    let added = c.in-Ok.ensures ∙ ap (λ (is : List Ready). record line { queue = queued_all state is line.queue }) c.deref.ensures.value in
+    waits_once (in_state state line Polling) (in_state state c.add.new.self Free) (g.W.World.journal c.args.world.now) (g.W.World.journal c.poll.new.self) c.wait_of.result items (Ok polled.Some)
+    (poll-taken state line c.wait_of.result items c.wait_of.ensures
+    ∙ ap (λ (l : Line). Some (in_state state l Free)) (sym added))
+    (told_at (λ r. entry.Poll c.wait_of.result c.poll.new.out.items r) (g.W.World.journal c.args.world.now) (g.W.World.journal c.poll.new.self)
+    (c.in-Ok-Some.is ∙ ap Ok c.in-Ok-Some.field-0-is) c.poll.ensures.told)
+
+pub returns-in-Ok-Over-clause-legal : goal.returns-in-Ok-Over-clause-legal
+returns-in-Ok-Over-clause-legal g c =
+    let state = g.A.Core.state c.args.agent.now in
+    let line = c.args.queue.now in
+    let items = c.poll.new.out.items in
+    let answer : Result Polled WorldFault = Ok polled.Over in
+    let to = left state line (entry.Poll c.wait_of.result items answer) (hub.after_poll items state (set_of line.queue) answer) in
+    record {
+      to = to;
+      waits = waits_once (in_state state line Polling) to (g.W.World.journal c.args.world.now) (g.W.World.journal c.poll.new.self) c.wait_of.result items answer
+          (poll-any state line c.wait_of.result items answer c.wait_of.ensures)
+          (told_at (λ r. entry.Poll c.wait_of.result c.poll.new.out.items r) (g.W.World.journal c.args.world.now) (g.W.World.journal c.poll.new.self)
+    (c.in-Ok-Over.is ∙ ap Ok c.in-Ok-Over.field-0-is) c.poll.ensures.told);
+    }
+
+pub returns-in-Err-Failed-clause-legal : goal.returns-in-Err-Failed-clause-legal
+returns-in-Err-Failed-clause-legal g c =
+    let state = g.A.Core.state c.args.agent.now in
+    let line = c.args.queue.now in
+    let items = c.poll.new.out.items in
+    let answer : Result Polled WorldFault = Err Failed in
+    let to = left state line (entry.Poll c.wait_of.result items answer) (hub.after_poll items state (set_of line.queue) answer) in
+    record {
+      to = to;
+      waits = waits_once (in_state state line Polling) to (g.W.World.journal c.args.world.now) (g.W.World.journal c.poll.new.self) c.wait_of.result items answer
+          (poll-any state line c.wait_of.result items answer c.wait_of.ensures)
+          (told_at (λ r. entry.Poll c.wait_of.result c.poll.new.out.items r) (g.W.World.journal c.args.world.now) (g.W.World.journal c.poll.new.self)
+    (c.in-Err-Failed.is ∙ ap Err c.in-Err-Failed.field-0-is) c.poll.ensures.told);
+    }
+
+pub returns-in-Err-Memory-clause-legal : goal.returns-in-Err-Memory-clause-legal
+returns-in-Err-Memory-clause-legal g c =
+    let state = g.A.Core.state c.args.agent.now in
+    let line = c.args.queue.now in
+    let items = c.poll.new.out.items in
+    let answer : Result Polled WorldFault = Err Memory in
+    let to = left state line (entry.Poll c.wait_of.result items answer) (hub.after_poll items state (set_of line.queue) answer) in
+    waits_short (in_state state line Polling) to (g.W.World.journal c.args.world.now) (g.W.World.journal c.poll.new.self) c.wait_of.result items
+    (poll-any state line c.wait_of.result items answer c.wait_of.ensures)
+    (told_at (λ r. entry.Poll c.wait_of.result c.poll.new.out.items r) (g.W.World.journal c.args.world.now) (g.W.World.journal c.poll.new.self)
+    (c.in-Err-Memory.is ∙ ap Err c.in-Err-Memory.field-0-is) c.poll.ensures.told)

@@ -1,0 +1,78 @@
+use Rattle.std.proofs.Common.{◌≡◌, ◌∙◌, Ok, Err, true, ap, sym, arith, ◌&&◌}
+use Rattle.ready_hub.specs.Answered.{Free}
+use Rattle.ready_hub.specs.Servable.{is_idle}
+use Rattle.ready_hub.specs.Things.{set_of}
+use Rattle.ready_loop.specs.InTurn.{in_state}
+use Rattle.ready_loop.specs.Serving.{Running, Setting, is_deserted}
+use Rattle.ready_loop.specs.declared.outcome.ServeEnd.TheVariants as ends
+use Rattle.ready_loop.proofs.ServingLemmas.{and_both, fault_ends, memory_ends, over_ends, polled_runs, runs_more, served_runs, serves_more, turn_at}
+use Rattle.ready_loop.proofs.serving.run.Goals as goal
+
+pub returns-then-is_done-clause-serves : goal.returns-then-is_done-clause-serves
+returns-then-is_done-clause-serves g c = λ path state.
+    let here = in_state (g.A.Core.state c.turns.agent) c.turns.hub Free in
+    let idle = is_idle (g.A.Core.state c.turns.agent) (set_of c.turns.hub.queue) in
+    let first = and_both c.args.until_idle (is_deserted here && idle) (sym c.is_done.ensures ∙ c.if-is_done.true) in
+    let second = and_both (is_deserted here) idle first.1 in
+    record {
+      turning = here;
+      calls = c.turns.invariant.2 path state;
+      asked = first.0;
+      deserted = second.0;
+      idle = second.1;
+    }
+
+pub turns-preserved-in-Ok-Served : goal.turns-preserved-in-Ok-Served
+turns-preserved-in-Ok-Served g c =
+    (tt, tt, λ path state. runs_more (c.turns.invariant.2 path state)
+    (served_runs (record { path = path; until_idle = c.args.until_idle; state = state })
+    (in_state (g.A.Core.state c.turns.agent) c.turns.hub Free) (in_state (g.A.Core.state c.turn.new.agent) c.turn.new.self Free)
+    (turn_at (in_state (g.A.Core.state c.turns.agent) c.turns.hub Free) (g.W.World.journal c.turns.world) (g.W.World.journal c.turn.new.world)
+    (g.A.Core.state c.turn.new.agent) c.turn.new.self (c.in-Ok-Served.is ∙ ap Ok c.in-Ok-Served.field-0-is) c.turn.ensures.legal)),
+    c.in-Ok-Served.ensures.ports, omega (arith, c.turns.invariant.4, c.turn.ensures.later))
+
+pub turns-preserved : goal.turns-preserved
+turns-preserved g c =
+    (tt, tt, λ path state. runs_more (c.turns.invariant.2 path state)
+    (polled_runs (record { path = path; until_idle = c.args.until_idle; state = state })
+    (g.A.Core.state c.turns.agent) (g.A.Core.state c.turn.new.agent) c.turns.hub c.turn.new.self
+    (sym c.is_done.ensures ∙ c.if-is_done.false)
+    (turn_at (in_state (g.A.Core.state c.turns.agent) c.turns.hub Free) (g.W.World.journal c.turns.world) (g.W.World.journal c.turn.new.world)
+    (g.A.Core.state c.turn.new.agent) c.turn.new.self (c.in-Ok-Polled.is ∙ ap Ok c.in-Ok-Polled.field-0-is) c.turn.ensures.legal)),
+    c.in-Ok-Polled.ensures.ports, omega (arith, c.turns.invariant.4, c.turn.ensures.later))
+
+pub returns-in-Ok-Over-clause-serves : goal.returns-in-Ok-Over-clause-serves
+returns-in-Ok-Over-clause-serves g c = λ path state.
+    let setting : Setting = record { path = path; until_idle = c.args.until_idle; state = state } in
+    serves_more ends.Over setting (Running (in_state (g.A.Core.state c.args.agent.now) c.args.hub.now Free))
+    (Running (in_state (g.A.Core.state c.turns.agent) c.turns.hub Free))
+    (g.W.World.journal c.args.world.now) (g.W.World.journal c.turns.world) (g.W.World.journal c.turn.new.world)
+    (c.turns.invariant.2 path state)
+    (over_ends setting (g.A.Core.state c.turns.agent) (g.A.Core.state c.turn.new.agent) c.turns.hub c.turn.new.self
+    (sym c.is_done.ensures ∙ c.if-is_done.false)
+    (turn_at (in_state (g.A.Core.state c.turns.agent) c.turns.hub Free) (g.W.World.journal c.turns.world) (g.W.World.journal c.turn.new.world)
+    (g.A.Core.state c.turn.new.agent) c.turn.new.self (c.in-Ok-Over.is ∙ ap Ok c.in-Ok-Over.field-0-is) c.turn.ensures.legal))
+
+pub returns-in-Err-Poll-clause-serves : goal.returns-in-Err-Poll-clause-serves
+returns-in-Err-Poll-clause-serves g c = λ path state.
+    let setting : Setting = record { path = path; until_idle = c.args.until_idle; state = state } in
+    serves_more ends.PollFault setting (Running (in_state (g.A.Core.state c.args.agent.now) c.args.hub.now Free))
+    (Running (in_state (g.A.Core.state c.turns.agent) c.turns.hub Free))
+    (g.W.World.journal c.args.world.now) (g.W.World.journal c.turns.world) (g.W.World.journal c.turn.new.world)
+    (c.turns.invariant.2 path state)
+    (fault_ends setting (g.A.Core.state c.turns.agent) (g.A.Core.state c.turn.new.agent) c.turns.hub c.turn.new.self
+    (sym c.is_done.ensures ∙ c.if-is_done.false)
+    (turn_at (in_state (g.A.Core.state c.turns.agent) c.turns.hub Free) (g.W.World.journal c.turns.world) (g.W.World.journal c.turn.new.world)
+    (g.A.Core.state c.turn.new.agent) c.turn.new.self (c.in-Err-Poll.is ∙ ap Err c.in-Err-Poll.field-0-is) c.turn.ensures.legal))
+
+pub returns-in-Err-Memory-clause-serves : goal.returns-in-Err-Memory-clause-serves
+returns-in-Err-Memory-clause-serves g c = λ path state.
+    let setting : Setting = record { path = path; until_idle = c.args.until_idle; state = state } in
+    serves_more ends.Memory setting (Running (in_state (g.A.Core.state c.args.agent.now) c.args.hub.now Free))
+    (Running (in_state (g.A.Core.state c.turns.agent) c.turns.hub Free))
+    (g.W.World.journal c.args.world.now) (g.W.World.journal c.turns.world) (g.W.World.journal c.turn.new.world)
+    (c.turns.invariant.2 path state)
+    (memory_ends setting (g.A.Core.state c.turns.agent) (g.A.Core.state c.turn.new.agent) c.turns.hub c.turn.new.self
+    (sym c.is_done.ensures ∙ c.if-is_done.false)
+    (turn_at (in_state (g.A.Core.state c.turns.agent) c.turns.hub Free) (g.W.World.journal c.turns.world) (g.W.World.journal c.turn.new.world)
+    (g.A.Core.state c.turn.new.agent) c.turn.new.self (c.in-Err-Memory.is ∙ ap Err c.in-Err-Memory.field-0-is) c.turn.ensures.legal))

@@ -1,0 +1,48 @@
+use Rattle.std.proofs.Common.{refl, ◌≡◌, ◌∙◌, Ok, Some, List, ℕ, ◌+◌, ap, sym, subst, drop, get_or, arith}
+use Rattle.std.specs.Prelude.{is_err}
+use Rattle.world_ports.specs.declared.entry.Entry.TheVariants as entry
+use Rattle.ready_hub.specs.Answered as hub
+use Rattle.ready_hub.specs.Answered.{Closing, Due, due_of}
+use Rattle.ready_hub.specs.Things.{set_of}
+use Rattle.ready_loop.specs.InTurn.{Line, in_state}
+use Rattle.ready_loop.proofs.CallLemmas.{close-any, close-taken, due-drop, left}
+use Rattle.ready_loop.proofs.TurningLemmas.{goes_on, lands_at, one_call, stops_later, stops_short}
+use Rattle.ready_loop.proofs.turn.close_all.Goals as goal
+
+pub returns-in_default-clause-legal : goal.returns-in_default-clause-legal
+returns-in_default-clause-legal g c =
+    let state = g.A.Core.state c.args.agent.now in
+    let line = c.ports.queue in
+    let items = c.closes-port-items.result.now in
+    let port = get_or items c.ports.port-index 0 in
+    let later = drop (c.ports.port-index + 1) items in
+    let next = entry.Close port c.close.result in
+    let due = due-drop items c.ports.port-index c.ports-test.true in
+    let before = lands_at (in_state state line (due_of (drop c.ports.port-index items))) (in_state state line (Closing port later))
+        (ap (λ (d : Due). in_state state line d) due) c.ports.invariant.calls in
+    record {
+      by = stops_later before
+          (stops_short (in_state state line (Closing port later)) (left state line next (hub.after_close port later state (set_of line.queue) c.close.result))
+          (g.W.World.journal c.ports.world) (g.W.World.journal c.close.new.self) (is_err c.close.result) next refl
+          (close-any state line port later c.close.result) c.close.ensures.told);
+    }
+
+pub ports-preserved : goal.ports-preserved
+ports-preserved g c =
+    let state = g.A.Core.state c.args.agent.now in
+    let line = c.ports.queue in
+    let items = c.closes-port-items.result.now in
+    let port = get_or items c.ports.port-index 0 in
+    let later = drop (c.ports.port-index + 1) items in
+    let next = entry.Close port (Ok tt) in
+    let due = due-drop items c.ports.port-index c.ports-test.true in
+    let before = lands_at (in_state state line (due_of (drop c.ports.port-index items))) (in_state state line (Closing port later))
+        (ap (λ (d : Due). in_state state line d) due) c.ports.invariant.calls in
+    record {
+      calls = goes_on before (one_call (in_state state line (Closing port later)) (in_state state c.close-in-ports.new.self (due_of later))
+          (g.W.World.journal c.ports.world) (g.W.World.journal c.close.new.self) next refl
+          (close-taken state line port later ∙ ap (λ (l : Line). Some (in_state state l (due_of later))) (sym c.close-in-ports.ensures))
+          c.in-Ok.ensures.told);
+      ports = c.close.ensures.ports ∙ c.ports.invariant.ports;
+      later = omega (arith, c.close.ensures.cause, c.ports.invariant.later);
+    }

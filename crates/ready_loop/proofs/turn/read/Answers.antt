@@ -1,0 +1,106 @@
+use Rattle.std.proofs.Common.{Ok, Err, Result, List, ℕ, [], refl, take, drop, length, arith, rules, subst, ap, sym, ◌∙◌, true, Some}
+use Rattle.std.proofs.lemmas.List.{length-take}
+use Rattle.world_ports.specs.Journal.{got_of, is_short}
+use Rattle.world_ports.specs.Worlds.{GotWithin, KeepsRest}
+use Rattle.world_ports.specs.declared.answers.Accepted.{Accepted}
+use Rattle.world_ports.specs.declared.answers.Accepted.TheVariants as accepted
+use Rattle.world_ports.specs.declared.answers.Got.{Got}
+use Rattle.world_ports.specs.declared.answers.Got.TheVariants as got
+use Rattle.world_ports.specs.declared.answers.Wrote.{Wrote}
+use Rattle.world_ports.specs.declared.answers.Wrote.TheVariants as wrote
+use Rattle.world_ports.specs.declared.answers.WorldFault.{WorldFault}
+use Rattle.world_ports.specs.declared.answers.WorldFault.TheVariants.{Failed, Memory}
+use Rattle.world_ports.specs.declared.entry.Entry.TheVariants as entry
+use Rattle.agent_model.specs.Events.{Ended, Heard, Joined, Took, Started, StartFailed}
+use Rattle.ready_hub.specs.Answered as hub
+use Rattle.ready_hub.specs.Answered.{Free, NowFor}
+use Rattle.ready_hub.specs.Things.{set_of}
+use Rattle.ready_hub.specs.declared.thing.Thing.TheVariants.{Accept, Read, Write}
+use Rattle.ready_loop.specs.InTurn.{Line, in_state}
+use Rattle.ready_loop.proofs.CallLemmas as calls
+use Rattle.ready_loop.proofs.TurningLemmas.{advances_once, one_call, serves_then, stops_short, stops_there, told_at}
+use Rattle.ready_loop.proofs.RoomLemmas.{wiped_again}
+use Rattle.ready_loop.proofs.turn.read.Goals as goal
+
+pub hear-heard-requires-clause-fits : goal.hear-heard-requires-clause-fits
+hear-heard-requires-clause-fits g c =
+    let within = subst (λ r. GotWithin r (length c.args.room.now)) (c.in-Ok-Bytes.is ∙ ap Ok c.in-Ok-Bytes.field-0-is) c.read.ensures.within in
+    (calls.read-open (g.A.Core.state c.args.agent.now) c.args.queue.now c.args.port c.requires.next,
+    omega (arith, length-take c.in-Ok-Bytes.n c.read.new.room, within.0, within.1))
+
+pub end-requires-clause-fits : goal.end-requires-clause-fits
+end-requires-clause-fits g c = calls.read-open (g.A.Core.state c.args.agent.now) c.args.queue.now c.args.port c.requires.next
+
+pub end-requires-in-Err-Failed-clause-fits : goal.end-requires-in-Err-Failed-clause-fits
+end-requires-in-Err-Failed-clause-fits g c = calls.read-open (g.A.Core.state c.args.agent.now) c.args.queue.now c.args.port c.requires.next
+
+pub returns-in-Ok-Bytes-clause-legal : goal.returns-in-Ok-Bytes-clause-legal
+returns-in-Ok-Bytes-clause-legal g c =
+    let state = g.A.Core.state c.args.agent.now in
+    let line = c.args.queue.now in
+    let answer = Ok (got.Bytes c.in-Ok-Bytes.n) in
+    let bytes = take c.in-Ok-Bytes.n c.read.new.room in
+    serves_then (entry.Read c.args.port (length c.args.room.now) bytes answer) refl
+    (calls.read-any state line c.args.port (length c.args.room.now) bytes answer c.requires.next c.requires.room
+    ∙ calls.back-lands state line (Read c.args.port) (NowFor (Heard c.args.port bytes)) c.requires.next)
+    (told_at (λ r. entry.Read c.args.port (length c.args.room.now) (got_of r c.read.new.room) r) (g.W.World.journal c.args.world.now) (g.W.World.journal c.read.new.self)
+    (c.in-Ok-Bytes.is ∙ ap Ok c.in-Ok-Bytes.field-0-is) c.read.ensures.told)
+    c.hear-heard.ensures.legal
+
+pub returns-in-Ok-Bytes-clause-zero : goal.returns-in-Ok-Bytes-clause-zero
+returns-in-Ok-Bytes-clause-zero g c =
+    let rest = subst (λ r. KeepsRest r c.args.room.now c.read.new.room) (c.in-Ok-Bytes.is ∙ ap Ok c.in-Ok-Bytes.field-0-is) c.read.ensures.rest in
+    wiped_again c.fill.new.self c.read.new.room c.args.room.now c.in-Ok-Bytes.n (length (take c.in-Ok-Bytes.n c.read.new.room))
+    (c.fill.ensures.after (λ y is. search rules)) rest c.requires.zero
+
+pub returns-in-Ok-End-clause-legal : goal.returns-in-Ok-End-clause-legal
+returns-in-Ok-End-clause-legal g c =
+    let state = g.A.Core.state c.args.agent.now in
+    let line = c.args.queue.now in
+    let answer = Ok got.End in
+    serves_then (entry.Read c.args.port (length c.args.room.now) [] answer) refl
+    (calls.read-any state line c.args.port (length c.args.room.now) [] answer c.requires.next c.requires.room
+    ∙ calls.dropped-lands state line _ (Read c.args.port) (NowFor (Ended c.args.port)) refl)
+    (told_at (λ r. entry.Read c.args.port (length c.args.room.now) (got_of r c.read.new.room) r) (g.W.World.journal c.args.world.now) (g.W.World.journal c.read.new.self)
+    (c.in-Ok-End.is ∙ ap Ok c.in-Ok-End.field-0-is) c.read.ensures.told)
+    c.end.ensures.legal
+
+pub returns-in-Ok-NotNow-clause-legal : goal.returns-in-Ok-NotNow-clause-legal
+returns-in-Ok-NotNow-clause-legal g c =
+    let state = g.A.Core.state c.args.agent.now in
+    let line = c.args.queue.now in
+    let answer = Ok got.NotNow in
+    record {
+      by = advances_once (in_state state line Free) (in_state state c.remove.new.self Free)
+          (g.W.World.journal c.args.world.now) (g.W.World.journal c.read.new.self) (entry.Read c.args.port (length c.args.room.now) [] answer) refl
+          (calls.read-any state line c.args.port (length c.args.room.now) [] answer c.requires.next c.requires.room
+          ∙ calls.dropped-lands state line c.remove.new.self (Read c.args.port) Free c.remove.ensures)
+          (told_at (λ r. entry.Read c.args.port (length c.args.room.now) (got_of r c.read.new.room) r) (g.W.World.journal c.args.world.now) (g.W.World.journal c.read.new.self)
+    (c.in-Ok-NotNow.is ∙ ap Ok c.in-Ok-NotNow.field-0-is) c.read.ensures.told);
+    }
+
+pub returns-in-Err-Failed-clause-legal : goal.returns-in-Err-Failed-clause-legal
+returns-in-Err-Failed-clause-legal g c =
+    let state = g.A.Core.state c.args.agent.now in
+    let line = c.args.queue.now in
+    let answer : Result Got WorldFault = Err Failed in
+    serves_then (entry.Read c.args.port (length c.args.room.now) [] answer) refl
+    (calls.read-any state line c.args.port (length c.args.room.now) [] answer c.requires.next c.requires.room
+    ∙ calls.dropped-lands state line _ (Read c.args.port) (NowFor (Ended c.args.port)) refl)
+    (told_at (λ r. entry.Read c.args.port (length c.args.room.now) (got_of r c.read.new.room) r) (g.W.World.journal c.args.world.now) (g.W.World.journal c.read.new.self)
+    (c.in-Err-Failed.is ∙ ap Err c.in-Err-Failed.field-0-is) c.read.ensures.told)
+    c.end-in-Err-Failed.ensures.legal
+
+pub returns-in-Err-Memory-clause-legal : goal.returns-in-Err-Memory-clause-legal
+returns-in-Err-Memory-clause-legal g c =
+    let state = g.A.Core.state c.args.agent.now in
+    let line = c.args.queue.now in
+    let answer : Result Got WorldFault = Err Memory in
+    let next = entry.Read c.args.port (length c.args.room.now) [] answer in
+    record {
+      by = stops_short (in_state state line Free) (calls.left state line next (hub.after_read c.args.port [] state (set_of line.queue) answer))
+          (g.W.World.journal c.args.world.now) (g.W.World.journal c.read.new.self) true next refl
+          (calls.read-any state line c.args.port (length c.args.room.now) [] answer c.requires.next c.requires.room)
+          (told_at (λ r. entry.Read c.args.port (length c.args.room.now) (got_of r c.read.new.room) r) (g.W.World.journal c.args.world.now) (g.W.World.journal c.read.new.self)
+    (c.in-Err-Memory.is ∙ ap Err c.in-Err-Memory.field-0-is) c.read.ensures.told);
+    }

@@ -1,0 +1,52 @@
+use Rattle.std.proofs.Common.{refl, Ok, Err, Result, List, ℕ, ap, sym, ◌∙◌, true, Some}
+use Rattle.world_ports.specs.Journal.{got_of, is_short}
+use Rattle.world_ports.specs.declared.answers.Accepted.{Accepted}
+use Rattle.world_ports.specs.declared.answers.Accepted.TheVariants as accepted
+use Rattle.world_ports.specs.declared.answers.Got.{Got}
+use Rattle.world_ports.specs.declared.answers.Got.TheVariants as got
+use Rattle.world_ports.specs.declared.answers.Wrote.{Wrote}
+use Rattle.world_ports.specs.declared.answers.Wrote.TheVariants as wrote
+use Rattle.world_ports.specs.declared.answers.WorldFault.{WorldFault}
+use Rattle.world_ports.specs.declared.answers.WorldFault.TheVariants.{Failed, Memory}
+use Rattle.world_ports.specs.declared.entry.Entry.TheVariants as entry
+use Rattle.agent_model.specs.Events.{Ended, Heard, Joined, Took, Started, StartFailed}
+use Rattle.ready_hub.specs.Answered as hub
+use Rattle.ready_hub.specs.Answered.{Free, NowFor}
+use Rattle.ready_hub.specs.Things.{set_of}
+use Rattle.ready_hub.specs.declared.thing.Thing.TheVariants.{Accept, Read, Write}
+use Rattle.ready_loop.specs.InTurn.{Line, in_state}
+use Rattle.ready_loop.proofs.CallLemmas as calls
+use Rattle.ready_loop.proofs.TurningLemmas.{advances_once, one_call, serves_then, stops_short, stops_there, told_at}
+use Rattle.ready_loop.proofs.turn.start.Goals as goal
+
+pub returns-in-Ok-clause-legal : goal.returns-in-Ok-clause-legal
+returns-in-Ok-clause-legal g c =
+    let state = g.A.Core.state c.args.agent.now in
+    let answer : Result (List ℕ) WorldFault = Ok c.in-Ok.ticket in
+    serves_then (entry.Start c.args.job answer) refl
+    (calls.start-any state c.args.queue.now c.args.job answer c.requires.first)
+    c.in-Ok.ensures.told c.happen.ensures.legal
+
+pub returns-in-Err-Failed-clause-legal : goal.returns-in-Err-Failed-clause-legal
+returns-in-Err-Failed-clause-legal g c =
+    let state = g.A.Core.state c.args.agent.now in
+    let answer : Result (List ℕ) WorldFault = Err Failed in
+    serves_then (entry.Start c.args.job answer) refl
+    (calls.start-any state c.args.queue.now c.args.job answer c.requires.first)
+    (told_at (λ r. entry.Start c.args.job r) (g.W.World.journal c.args.world.now) (g.W.World.journal c.start.new.self)
+    (c.in-Err-Failed.is ∙ ap Err c.in-Err-Failed.field-0-is) c.start.ensures.told)
+    c.happen-in-Err-Failed.ensures.legal
+
+pub returns-in-Err-Memory-clause-legal : goal.returns-in-Err-Memory-clause-legal
+returns-in-Err-Memory-clause-legal g c =
+    let state = g.A.Core.state c.args.agent.now in
+    let line = c.args.queue.now in
+    let answer : Result (List ℕ) WorldFault = Err Memory in
+    let next = entry.Start c.args.job answer in
+    record {
+      by = stops_short (in_state state line Free) (calls.left state line next (hub.after_start c.args.job.number state (set_of line.queue) answer))
+          (g.W.World.journal c.args.world.now) (g.W.World.journal c.start.new.self) true next refl
+          (calls.start-any state line c.args.job answer c.requires.first)
+          (told_at (λ r. entry.Start c.args.job r) (g.W.World.journal c.args.world.now) (g.W.World.journal c.start.new.self)
+    (c.in-Err-Memory.is ∙ ap Err c.in-Err-Memory.field-0-is) c.start.ensures.told);
+    }

@@ -1,0 +1,78 @@
+use Rattle.std.proofs.Common.{Ok, Err, Result, ap, sym, ◌∙◌, true, Some, length, arith, refl}
+use Rattle.world_ports.specs.Journal.{got_of, is_short}
+use Rattle.world_ports.specs.declared.answers.Accepted.{Accepted}
+use Rattle.world_ports.specs.declared.answers.Accepted.TheVariants as accepted
+use Rattle.world_ports.specs.declared.answers.Got.{Got}
+use Rattle.world_ports.specs.declared.answers.Got.TheVariants as got
+use Rattle.world_ports.specs.declared.answers.Wrote.{Wrote}
+use Rattle.world_ports.specs.declared.answers.Wrote.TheVariants as wrote
+use Rattle.world_ports.specs.declared.answers.WorldFault.{WorldFault}
+use Rattle.world_ports.specs.declared.answers.WorldFault.TheVariants.{Failed, Memory}
+use Rattle.world_ports.specs.declared.entry.Entry.TheVariants as entry
+use Rattle.agent_model.specs.Events.{Ended, Heard, Joined, Took, Started, StartFailed}
+use Rattle.ready_hub.specs.Answered as hub
+use Rattle.ready_hub.specs.Answered.{Free, NowFor}
+use Rattle.ready_hub.specs.Things.{set_of}
+use Rattle.ready_hub.specs.declared.thing.Thing.TheVariants.{Accept, Read, Write}
+use Rattle.ready_loop.specs.InTurn.{Line, in_state}
+use Rattle.ready_loop.proofs.CallLemmas as calls
+use Rattle.ready_loop.proofs.TurningLemmas.{advances_once, one_call, serves_then, stops_short, stops_there, told_at}
+use Rattle.ready_loop.proofs.turn.write.Goals as goal
+
+pub write-requires : goal.write-requires
+write-requires g c = rw c.owed.ensures (calls.write-some (g.A.Core.state c.args.agent.now) c.args.queue.now c.args.port c.requires.next)
+
+pub end-requires-clause-fits : goal.end-requires-clause-fits
+end-requires-clause-fits g c = calls.write-open (g.A.Core.state c.args.agent.now) c.args.queue.now c.args.port c.requires.next
+
+pub returns-in-Ok-Took-clause-legal : goal.returns-in-Ok-Took-clause-legal
+returns-in-Ok-Took-clause-legal g c =
+    let state = g.A.Core.state c.args.agent.now in
+    let line = c.args.queue.now in
+    let answer = Ok (wrote.Took c.in-Ok-Took.n) in
+    serves_then (entry.Write c.args.port c.owed.result.now answer) refl
+    (calls.write-any state line c.args.port c.owed.result.now answer c.requires.next c.owed.ensures
+    ∙ calls.back-lands state line (Write c.args.port) (NowFor (Took c.args.port c.in-Ok-Took.n)) c.requires.next)
+    (told_at (λ r. entry.Write c.args.port c.owed.result.now r) (g.W.World.journal c.args.world.now) (g.W.World.journal c.write.new.self)
+    (c.in-Ok-Took.is ∙ ap Ok c.in-Ok-Took.field-0-is) c.write.ensures.told)
+    c.send.ensures.legal
+
+pub returns-in-Ok-NotNow-clause-legal : goal.returns-in-Ok-NotNow-clause-legal
+returns-in-Ok-NotNow-clause-legal g c =
+    let state = g.A.Core.state c.args.agent.now in
+    let line = c.args.queue.now in
+    let answer = Ok wrote.NotNow in
+    record {
+      by = advances_once (in_state state line Free) (in_state state c.remove.new.self Free)
+          (g.W.World.journal c.args.world.now) (g.W.World.journal c.write.new.self) (entry.Write c.args.port c.owed.result.now answer) refl
+          (calls.write-any state line c.args.port c.owed.result.now answer c.requires.next c.owed.ensures
+          ∙ calls.dropped-lands state line c.remove.new.self (Write c.args.port) Free c.remove.ensures)
+          (told_at (λ r. entry.Write c.args.port c.owed.result.now r) (g.W.World.journal c.args.world.now) (g.W.World.journal c.write.new.self)
+    (c.in-Ok-NotNow.is ∙ ap Ok c.in-Ok-NotNow.field-0-is) c.write.ensures.told);
+    }
+
+pub returns-in-Err-Failed-clause-legal : goal.returns-in-Err-Failed-clause-legal
+returns-in-Err-Failed-clause-legal g c =
+    let state = g.A.Core.state c.args.agent.now in
+    let line = c.args.queue.now in
+    let answer : Result Wrote WorldFault = Err Failed in
+    serves_then (entry.Write c.args.port c.owed.result.now answer) refl
+    (calls.write-any state line c.args.port c.owed.result.now answer c.requires.next c.owed.ensures
+    ∙ calls.dropped-lands state line _ (Write c.args.port) (NowFor (Ended c.args.port)) refl)
+    (told_at (λ r. entry.Write c.args.port c.owed.result.now r) (g.W.World.journal c.args.world.now) (g.W.World.journal c.write.new.self)
+    (c.in-Err-Failed.is ∙ ap Err c.in-Err-Failed.field-0-is) c.write.ensures.told)
+    c.end.ensures.legal
+
+pub returns-in-Err-Memory-clause-legal : goal.returns-in-Err-Memory-clause-legal
+returns-in-Err-Memory-clause-legal g c =
+    let state = g.A.Core.state c.args.agent.now in
+    let line = c.args.queue.now in
+    let answer : Result Wrote WorldFault = Err Memory in
+    let next = entry.Write c.args.port c.owed.result.now answer in
+    record {
+      by = stops_short (in_state state line Free) (calls.left state line next (hub.after_write c.args.port state (set_of line.queue) answer))
+          (g.W.World.journal c.args.world.now) (g.W.World.journal c.write.new.self) true next refl
+          (calls.write-any state line c.args.port c.owed.result.now answer c.requires.next c.owed.ensures)
+          (told_at (λ r. entry.Write c.args.port c.owed.result.now r) (g.W.World.journal c.args.world.now) (g.W.World.journal c.write.new.self)
+    (c.in-Err-Memory.is ∙ ap Err c.in-Err-Memory.field-0-is) c.write.ensures.told);
+    }

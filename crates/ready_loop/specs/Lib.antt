@@ -1,0 +1,6 @@
+pub mod Happenings
+pub mod Queues
+pub mod Rooms
+pub mod InTurn
+pub mod Moves
+pub mod Serving

@@ -1,0 +1,156 @@
+-- A whole run of the loop (ours): both listeners are bound, the clients' first, and then the calls come as InTurn.antt
+-- says. Read from the end.
+use Rattle.std.specs.Prelude.{◌≡◌, ℕ, Bool, true, false, List, [], ◌∷◌, ◌++◌, Option, Some, None, Result, Ok, Err, ◌==◌, ◌&&◌, not, codes, option_and_then, option_map}
+use Rattle.std.specs.Str.{bytes_eq}
+use Rattle.world_ports.specs.Journal.{Grows}
+use Rattle.world_ports.specs.declared.answers.Polled.{Polled}
+use Rattle.world_ports.specs.declared.answers.Polled.TheVariants as polled
+use Rattle.world_ports.specs.declared.answers.Ready.{Ready}
+use Rattle.world_ports.specs.declared.answers.WorldFault.{WorldFault}
+use Rattle.world_ports.specs.declared.answers.WorldFault.TheVariants as fault
+use Rattle.world_ports.specs.declared.entry.Entry.{Entry}
+use Rattle.world_ports.specs.declared.entry.Entry.TheVariants as entry
+use Rattle.world_ports.specs.declared.events.Door.{Door}
+use Rattle.world_ports.specs.declared.events.Door.TheVariants.{Clients, Children}
+use Rattle.agent_model.specs.State.{State, client_count}
+use Rattle.ready_hub.specs.Answered.{Free}
+use Rattle.ready_hub.specs.Servable.{is_idle}
+use Rattle.ready_hub.specs.Things.{same_door}
+use Rattle.ready_loop.specs.InTurn.{Line, Turning, in_state, taken}
+use Rattle.ready_loop.specs.Moves.{is_poll}
+use Rattle.ready_loop.specs.declared.outcome.ServeEnd.{ServeEnd}
+use Rattle.ready_loop.specs.declared.outcome.ServeEnd.TheVariants.{Over, Idle, BindFault, PollFault, Memory}
+
+-- what the loop is to do: where clients connect, whether it ends once a client has come and none is left, and the
+-- agent that it begins with
+pub record Setting : Type 0 where
+  pub path : List ℕ
+  pub until_idle : Bool
+  pub state : State
+
+-- how far a run is: no listener is bound, or that of the clients, or both; or one couldn't be bound
+pub data Stage : Type 0 where
+  Unbound : Stage
+  HalfBound : Stage
+  Running : (turning : Turning) → Stage
+  Refused : Stage
+
+-- nothing is ready, and no client has connected
+abbrev pub empty_line : Line
+empty_line = record { queue = []; joined = false }
+
+-- as the loop begins
+abbrev pub begun : Setting → Stage
+begun setting = Running (in_state setting.state empty_line Free)
+
+-- ---- listeners
+
+-- where child processes connect
+abbrev pub children_path : List ℕ → List ℕ
+children_path path = path ++ codes ".children"
+
+-- by whether the listener was bound
+abbrev pub after_bind : {E : Type 0} → Result Unit E → Stage → Stage
+after_bind (Ok unit) next = next
+after_bind (Err fault) next = Refused
+
+-- where the test holds
+abbrev pub stage_if : Bool → Stage → Option Stage
+stage_if true stage = Some stage
+stage_if false stage = None
+
+-- this listener is to be bound, at this path
+abbrev pub bound : Door → List ℕ → Stage → Entry → Option Stage
+bound door path next (entry.Bind other at answer) =
+    stage_if (same_door door other && bytes_eq at path) (after_bind answer next)
+bound door path next (entry.Poll wait items answer) = None
+bound door path next (entry.Accept other answer) = None
+bound door path next (entry.Read port room bytes answer) = None
+bound door path next (entry.Write port offered answer) = None
+bound door path next (entry.Close port answer) = None
+bound door path next (entry.Start job answer) = None
+bound door path next (entry.Now answer) = None
+
+-- ---- turns
+
+-- a client has connected, and none is open
+abbrev pub is_deserted : Turning → Bool
+is_deserted turning = turning.line.joined && (client_count turning.reading.state.ports == 0)
+
+-- a loop that is to end when it is idle doesn't poll there
+abbrev pub may_come : Bool → Turning → Entry → Bool
+may_come until_idle turning next = not (is_poll next && (until_idle && is_deserted turning))
+
+-- where the test holds, the entry may come in its turn
+abbrev pub running_if : Bool → Turning → Entry → Option Stage
+running_if true turning next = option_map Running (taken turning next)
+running_if false turning next = None
+
+-- ---- a run
+
+-- the entry may come, and this is how far the run is then
+abbrev pub gone_on : Setting → Stage → Entry → Option Stage
+gone_on setting Unbound next = bound Clients setting.path HalfBound next
+gone_on setting HalfBound next = bound Children (children_path setting.path) (begun setting) next
+gone_on setting (Running turning) next = running_if (may_come setting.until_idle turning next) turning next
+gone_on setting Refused next = None
+
+-- the entries may come one after another
+abbrev pub ran : Setting → Stage → List Entry → Option Stage
+ran setting stage [] = Some stage
+ran setting stage (next ∷ later) = option_and_then (λ after. ran setting after later) (gone_on setting stage next)
+
+-- ---- how it ends
+
+-- the calls that were added may come from one stage on, and lead to the other
+pub record Runs (setting : Setting) (from : Stage) (old new : Option (List Entry)) (to : Stage) : Type 0 where
+  pub added : List Entry
+  pub told : Grows old new added
+  pub legal : ran setting from added ≡ Some to
+
+-- the same, and the last of them is this one
+pub record RunsUpTo (setting : Setting) (from : Stage) (old new : Option (List Entry)) (last : Entry) : Type 0 where
+  pub to : Stage
+  pub before : List Entry
+  pub told : Grows old new (before ++ last ∷ [])
+  pub legal : ran setting from (before ++ last ∷ []) ≡ Some to
+
+-- a poll was the last call, with this answer
+pub record RunsUpToPoll (setting : Setting) (from : Stage) (old new : Option (List Entry)) (answer : Result Polled WorldFault) : Type 0 where
+  pub wait : Option ℕ
+  pub items : List Ready
+  pub calls : RunsUpTo setting from old new (entry.Poll wait items answer)
+
+-- a listener couldn't be bound
+pub record RunsUpToBind (setting : Setting) (from : Stage) (old new : Option (List Entry)) : Type 0 where
+  pub door : Door
+  pub path : List ℕ
+  pub calls : RunsUpTo setting from old new (entry.Bind door path (Err fault.Failed))
+
+-- it was to end so: a client has connected, none is open, and nothing can be served
+pub record RunsUntilIdle (setting : Setting) (from : Stage) (old new : Option (List Entry)) : Type 0 where
+  pub turning : Turning
+  pub calls : Runs setting from old new (Running turning)
+  pub asked : setting.until_idle ≡ true
+  pub deserted : is_deserted turning ≡ true
+  pub idle : is_idle turning.reading.state turning.reading.hot ≡ true
+
+-- memory ran out: the calls up to there may come
+pub record RunsOut (setting : Setting) (from : Stage) (old new : Option (List Entry)) : Type 0 where
+  pub to : Stage
+  pub calls : Runs setting from old new to
+
+-- what the end of the loop says of the calls that it made
+abbrev pub Serves : ServeEnd → Setting → Stage → Option (List Entry) → Option (List Entry) → Type 0
+-- the world told that nothing will become ready any more
+Serves Over setting from old new = RunsUpToPoll setting from old new (Ok polled.Over)
+Serves Idle setting from old new = RunsUntilIdle setting from old new
+Serves BindFault setting from old new = RunsUpToBind setting from old new
+Serves PollFault setting from old new = RunsUpToPoll setting from old new (Err fault.Failed)
+Serves Memory setting from old new = RunsOut setting from old new
+
+-- by whether both listeners were bound
+abbrev pub Opens : Result Unit WorldFault → Setting → Option (List Entry) → Option (List Entry) → Type 0
+Opens (Ok unit) setting old new = Runs setting Unbound old new (begun setting)
+Opens (Err fault.Failed) setting old new = RunsUpToBind setting Unbound old new
+Opens (Err fault.Memory) setting old new = RunsOut setting Unbound old new

@@ -1,0 +1,57 @@
+// The agent as the loop sees it.
+ghost use Rattle.std.specs.Prelude.{◌≡◌, OnOk};
+ghost use Rattle.agent_model.specs.State.{Fits, State, client_count, is_open, next_due, owed_of, starts, wants};
+ghost use Rattle.agent_model.specs.Step.{step};
+ghost use Rattle.ready_loop.specs.Happenings.{happening};
+
+use crate::{CoreMemory, Event};
+use world_ports::{Job, Moment};
+
+/// An agent that is told one event at a time, and tells what it owes to whom. The loop is proved over any such
+/// agent, by the steps of the abstract one alone.
+pub trait Core {
+    /// The state of the abstract agent.
+    ghost state: { Self → State };
+
+    /// Takes one event at a moment. Where memory runs out the agent can only be dropped.
+    fn step(&mut self, moment: Moment, event: &Event<'_>) -> Result<(), CoreMemory>
+        requires { Fits (happening event.now) (state self.old) }
+        ensures { OnOk result
+            (state self.new ≡ (step (state self.old) moment (happening event.now)).state) };
+
+    /// What the port is owed: nothing where it isn't open.
+    fn owed(&self, port: u64) -> &[u8]
+        ensures { result.now ≡ owed_of port (state self.now) };
+
+    /// Whether the port is to be read: not where it isn't open.
+    fn wants(&self, port: u64) -> bool
+        ensures { result ≡ wants port (state self.now) };
+
+    /// Whether the port is open.
+    fn is_port(&self, port: u64) -> bool
+        ensures { result ≡ is_open port (state self.now) };
+
+    /// The child processes that wait to be started.
+    fn starts(&self) -> &[Job]
+        ensures { result.now ≡ starts (state self.now) };
+
+    /// The ports that the last event closed, rising.
+    fn closes(&self) -> &[u64]
+        ensures { result.now ≡ (state self.now).closes };
+
+    /// The first second from which an identity is dead, or `None` where the clock comes to none.
+    fn next_due(&self) -> Option<u64>
+        ensures { result ≡ next_due (state self.now) };
+
+    /// The greatest second of the monotonic clock so far.
+    fn second(&self) -> u64
+        ensures { result ≡ (state self.now).moment.mono };
+
+    /// How many clients are connected.
+    fn clients(&self) -> usize
+        ensures { result ≡ client_count (state self.now).ports };
+
+    /// The number of the last port that joined, 0 where none did.
+    fn ports_so_far(&self) -> u64
+        ensures { result ≡ (state self.now).last_port };
+}

@@ -1,0 +1,101 @@
+// The hub: what is ready, and a turn of the loop.
+ghost use Rattle.std.specs.Prelude.{◌≡◌, ◌↔◌, ◌≤◌, Err, IsTrue, MatchResult, OnOk, [], false, length, true};
+ghost use Rattle.ready_hub.specs.Answered.{Free, Polling};
+ghost use Rattle.ready_hub.specs.LegalJournal.{read_room};
+ghost use Rattle.ready_hub.specs.Servable.{is_idle};
+ghost use Rattle.ready_hub.specs.Things.{set_of};
+ghost use Rattle.ready_loop.specs.InTurn.{in_state};
+ghost use Rattle.ready_loop.specs.Moves.{Turns, served_by};
+ghost use Rattle.world_ports.specs.Causes.{Rose};
+
+use crate::look::{is_idle, look};
+use crate::queue::Queue;
+use crate::room::Room;
+use crate::turn::{accept, read, start, write};
+use crate::{Core, CoreMemory, HubFault, Turn};
+use ready_hub::Thing;
+use std::alloc::{AllocError, Global};
+use std::marker::Model;
+use world_ports::{Ready, World};
+
+/// What is ready to be served: what a poll or an accept said, until a call found otherwise.
+///
+/// What is served goes to the back of the queue while it is ready, so that nothing waits for ever behind another.
+#[derive(Drop)]
+pub struct Hub {
+    queue: Queue,
+    room: Room,
+    ready: Vec<Ready>,
+}
+
+impl Model for Hub {
+    ghost use Rattle.ready_loop.specs.InTurn.{Line};
+
+    ghost Value = { Line };
+
+    ghost view = { λ h. h.queue };
+}
+
+// The turn served something, where memory sufficed.
+fn served(outcome: Result<(), CoreMemory>) -> Result<Turn, HubFault>
+    ensures { result ≡ served_by outcome }
+{
+    match outcome {
+        Ok(()) => Ok(Turn::Served),
+        Err(_) => Err(HubFault::Memory),
+    }
+}
+
+impl Hub {
+    /// Nothing is ready. Takes no memory.
+    pub fn new(alloc: Global) -> Hub
+        ensures { result ≡ record { queue = []; joined = false } }
+    {
+        Hub {
+            queue: Queue::new(alloc),
+            room: Room::new(alloc),
+            ready: Vec::new(alloc),
+        }
+    }
+
+    /// Whether nothing can be served, and no job waits.
+    pub fn idle<A: Core>(&self, agent: &A) -> bool
+        ensures { result ≡ is_idle (A.state agent.now) (set_of self.now.queue) }
+    {
+        is_idle(&self.queue, agent)
+    }
+
+    /// Whether a client has connected so far.
+    pub fn has_joined(&self) -> bool
+        ensures { result ≡ self.now.joined }
+    {
+        self.queue.has_joined()
+    }
+
+    /// Starts the first job that waits, or serves the first thing that can be served, or looks at the clock and polls.
+    pub fn turn<A: Core, W: World>(&mut self, agent: &mut A, world: &mut W) -> Result<Turn, HubFault>
+        requires { W.last_port world.old ≡ (A.state agent.old).last_port }
+        ensures legal { Turns result (in_state (A.state agent.old) self.old Free)
+            (W.journal world.old) (W.journal world.new) (A.state agent.new) self.new }
+        ensures ports { OnOk result (W.last_port world.new ≡ (A.state agent.new).last_port) }
+        ensures cause { result ≡ Err HubFault.Poll → Rose (W.faults world.old) (W.faults world.new) }
+        ensures later { W.faults world.old ≤ W.faults world.new }
+    {
+        if let Some(job) = agent.starts().first() {
+            let job = *job;
+            return served(start(&mut self.queue, agent, world, job));
+        }
+        match self.queue.first(agent) {
+            Some(Thing::Accept(door)) => served(accept(&mut self.queue, agent, world, door)),
+            Some(Thing::Read(port)) => {
+                let Ok(()) = self.room.take() else {
+                    return Err(HubFault::Memory);
+                };
+                let room = &mut self.room.bytes;
+                served(read(&mut self.queue, agent, world, port, room))
+            }
+            Some(Thing::Write(port)) => served(write(&mut self.queue, agent, world, port)),
+            None => look(&mut self.queue, agent, world, &mut self.ready),
+        }
+    }
+}

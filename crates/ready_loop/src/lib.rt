@@ -1,0 +1,21 @@
+//! The readiness loop: which call on the world comes next, and what the agent is told of its answer.
+//! Stands on ready_hub (which journals are legal), agent_model (the steps of the agent) and world_ports.
+#![tactic(auto)]
+
+mod core;
+mod event;
+mod hub;
+mod listeners;
+mod look;
+mod outcome;
+mod queue;
+mod room;
+mod serving;
+mod things;
+mod turn;
+
+pub use core::Core;
+pub use event::{CoreMemory, Event};
+pub use hub::Hub;
+pub use outcome::{HubFault, ServeEnd, Turn};
+pub use serving::serve;

@@ -1,0 +1,89 @@
+// A look at the clock, and a poll.
+ghost use Rattle.std.specs.Prelude.{◌≡◌, ◌≤◌, ◌-◌, Err, OnOk, Option, option_map, true};
+ghost use Rattle.ready_hub.specs.Answered.{Free, Polling, wait_of};
+ghost use Rattle.ready_hub.specs.Servable.{is_idle};
+ghost use Rattle.ready_hub.specs.Things.{set_of};
+ghost use Rattle.ready_loop.specs.InTurn.{in_state};
+ghost use Rattle.ready_loop.specs.Moves.{PollsOr, Turns};
+ghost use Rattle.world_ports.specs.Causes.{Rose};
+
+use crate::queue::Queue;
+use crate::turn::close_all;
+use crate::{Core, Event, HubFault, Turn};
+use world_ports::{Polled, Ready, World, WorldFault};
+
+// Whether nothing can be served, and no job waits.
+pub fn is_idle<A: Core>(queue: &Queue, agent: &A) -> bool
+    ensures { result ≡ is_idle (A.state agent.now) (set_of queue.now.queue) }
+{
+    agent.starts().is_empty() && queue.first(agent).is_none()
+}
+
+// How long a poll waits: until the next identity dies.
+fn wait_of<A: Core>(agent: &A) -> Option<u64>
+    ensures { result ≡ wait_of (A.state agent.now) }
+{
+    match agent.next_due() {
+        Some(due) => Some(due.saturating_sub(agent.second())),
+        None => None,
+    }
+}
+
+// Polls, where a look found nothing to do.
+fn poll<A: Core, W: World>(
+    queue: &mut Queue,
+    agent: &A,
+    world: &mut W,
+    ready: &mut Vec<Ready>,
+) -> Result<Turn, HubFault>
+    ensures legal { PollsOr result (in_state (A.state agent.now) queue.old Polling)
+        (W.journal world.old) (W.journal world.new) (A.state agent.now) queue.new }
+    ensures ports { OnOk result (W.last_port world.new ≡ W.last_port world.old) }
+    ensures cause { result ≡ Err HubFault.Poll → Rose (W.faults world.old) (W.faults world.new) }
+    ensures later { W.faults world.old ≤ W.faults world.new }
+{
+    match world.poll(wait_of(agent), ready) {
+        Ok(Polled::Some) => {
+            let Ok(()) = queue.add(agent, ready) else {
+                return Err(HubFault::Memory);
+            };
+            Ok(Turn::Polled)
+        }
+        Ok(Polled::Over) => Ok(Turn::Over),
+        Err(WorldFault::Failed) => Err(HubFault::Poll),
+        Err(WorldFault::Memory) => Err(HubFault::Memory),
+    }
+}
+
+// Looks at the clock, and polls where that brought nothing to do.
+pub fn look<A: Core, W: World>(
+    queue: &mut Queue,
+    agent: &mut A,
+    world: &mut W,
+    ready: &mut Vec<Ready>,
+) -> Result<Turn, HubFault>
+    requires idle { is_idle (A.state agent.old) (set_of queue.old.queue) ≡ true }
+    requires ports { W.last_port world.old ≡ (A.state agent.old).last_port }
+    ensures legal { Turns result (in_state (A.state agent.old) queue.old Free)
+        (W.journal world.old) (W.journal world.new) (A.state agent.new) queue.new }
+    ensures ports { OnOk result (W.last_port world.new ≡ (A.state agent.new).last_port) }
+    ensures cause { result ≡ Err HubFault.Poll → Rose (W.faults world.old) (W.faults world.new) }
+    ensures later { W.faults world.old ≤ W.faults world.new }
+{
+    let Ok(moment) = world.now() else {
+        return Err(HubFault::Memory);
+    };
+    let Ok(()) = agent.step(moment, &Event::Tick) else {
+        return Err(HubFault::Memory);
+    };
+    if !agent.closes().is_empty() {
+        let Ok(()) = close_all(queue, agent, world) else {
+            return Err(HubFault::Memory);
+        };
+        return Ok(Turn::Served);
+    }
+    if !is_idle(queue, agent) {
+        return Ok(Turn::Served);
+    }
+    poll(queue, agent, world, ready)
+}

@@ -1,0 +1,246 @@
+// The parts of a turn.
+ghost use Rattle.std.specs.Prelude.{◌≡◌, ◌≤◌, OnOk, Some, length, true};
+ghost use Rattle.agent_model.specs.Events.{Ended, Heard, Took};
+ghost use Rattle.agent_model.specs.State.{Fits, starts};
+ghost use Rattle.ready_hub.specs.Answered.{Free, NowFor, due_of};
+ghost use Rattle.ready_hub.specs.LegalJournal.{is_first_job, read_room};
+ghost use Rattle.ready_hub.specs.declared.thing.Thing.TheVariants.{Accept, Read, Write};
+ghost use Rattle.ready_loop.specs.Happenings.{happening, number_after};
+ghost use Rattle.ready_loop.specs.InTurn.{in_state};
+ghost use Rattle.ready_loop.specs.Moves.{Goes, Serves};
+ghost use Rattle.ready_loop.specs.Queues.{dropped, first_servable, put_back};
+ghost use Rattle.ready_loop.specs.Rooms.{IsWiped};
+
+use crate::queue::Queue;
+use crate::{Core, CoreMemory, Event};
+use ready_hub::Thing;
+use world_ports::{Accepted, Door, Got, Job, World, WorldFault, Wrote};
+
+// Closes the ports that the last event closed.
+pub fn close_all<A: Core, W: World>(
+    queue: &mut Queue,
+    agent: &A,
+    world: &mut W,
+) -> Result<(), CoreMemory>
+    ensures legal { Goes result
+        (in_state (A.state agent.now) queue.old (due_of (A.state agent.now).closes))
+        (W.journal world.old) (W.journal world.new)
+        (in_state (A.state agent.now) queue.new Free) }
+    ensures ports { W.last_port world.new ≡ W.last_port world.old }
+    ensures later { W.faults world.old ≤ W.faults world.new }
+{
+    'ports: for port in agent.closes() {
+        let Ok(()) = world.close(*port) else {
+            return Err(CoreMemory);
+        };
+        queue.close(*port);
+    }
+    Ok(())
+}
+
+// Tells the agent of an event, at the moment that it is now, and closes the ports that this closes.
+fn happen<A: Core, W: World>(
+    queue: &mut Queue,
+    agent: &mut A,
+    world: &mut W,
+    event: &Event<'_>,
+) -> Result<(), CoreMemory>
+    requires fits { Fits (happening event.now) (A.state agent.old) }
+    requires ports { W.last_port world.old
+        ≡ number_after (happening event.now) (A.state agent.old).last_port }
+    ensures legal { Goes result
+        (in_state (A.state agent.old) queue.old (NowFor (happening event.now)))
+        (W.journal world.old) (W.journal world.new)
+        (in_state (A.state agent.new) queue.new Free) }
+    ensures ports { OnOk result (W.last_port world.new ≡ (A.state agent.new).last_port) }
+    ensures later { W.faults world.old ≤ W.faults world.new }
+{
+    let Ok(moment) = world.now() else {
+        return Err(CoreMemory);
+    };
+    let Ok(()) = agent.step(moment, event) else {
+        return Err(CoreMemory);
+    };
+    close_all(queue, agent, world)
+}
+
+// Accepts a connection.
+pub fn accept<A: Core, W: World>(
+    queue: &mut Queue,
+    agent: &mut A,
+    world: &mut W,
+    door: Door,
+) -> Result<(), CoreMemory>
+    requires next { first_servable (A.state agent.old) queue.old.queue ≡ Some (Accept door) }
+    requires ports { W.last_port world.old ≡ (A.state agent.old).last_port }
+    ensures legal { Serves result (in_state (A.state agent.old) queue.old Free)
+        (W.journal world.old) (W.journal world.new) (in_state (A.state agent.new) queue.new Free) }
+    ensures ports { OnOk result (W.last_port world.new ≡ (A.state agent.new).last_port) }
+    ensures later { W.faults world.old ≤ W.faults world.new }
+{
+    match world.accept(door) {
+        Ok(Accepted::Port(number)) => {
+            let Ok(()) = queue.accept(door, number) else {
+                return Err(CoreMemory);
+            };
+            happen(queue, agent, world, &Event::Joined(door))
+        }
+        Ok(Accepted::NotNow) => {
+            queue.remove(Thing::Accept(door));
+            Ok(())
+        }
+        Err(WorldFault::Failed) => {
+            queue.remove(Thing::Accept(door));
+            Ok(())
+        }
+        Err(WorldFault::Memory) => Err(CoreMemory),
+    }
+}
+
+// The agent hears what a port sent, which may send more.
+fn hear<A: Core, W: World>(
+    queue: &mut Queue,
+    agent: &mut A,
+    world: &mut W,
+    port: u64,
+    piece: &[u8],
+) -> Result<(), CoreMemory>
+    requires fits { Fits (Heard port piece.now) (A.state agent.old) }
+    requires ports { W.last_port world.old ≡ (A.state agent.old).last_port }
+    ensures legal { Goes result
+        (in_state (A.state agent.old) (record queue.old { queue = put_back (Read port) queue.old.queue })
+        (NowFor (Heard port piece.now)))
+        (W.journal world.old) (W.journal world.new) (in_state (A.state agent.new) queue.new Free) }
+    ensures ports { OnOk result (W.last_port world.new ≡ (A.state agent.new).last_port) }
+    ensures later { W.faults world.old ≤ W.faults world.new }
+{
+    let Ok(()) = queue.put_back(Thing::Read(port)) else {
+        return Err(CoreMemory);
+    };
+    happen(queue, agent, world, &Event::Heard { port, piece })
+}
+
+// A port has ended, as a read or a write found.
+fn end<A: Core, W: World>(
+    queue: &mut Queue,
+    agent: &mut A,
+    world: &mut W,
+    port: u64,
+    found: Thing,
+) -> Result<(), CoreMemory>
+    requires fits { Fits (Ended port) (A.state agent.old) }
+    requires ports { W.last_port world.old ≡ (A.state agent.old).last_port }
+    ensures legal { Goes result
+        (in_state (A.state agent.old) (record queue.old { queue = dropped found queue.old.queue })
+        (NowFor (Ended port)))
+        (W.journal world.old) (W.journal world.new) (in_state (A.state agent.new) queue.new Free) }
+    ensures ports { OnOk result (W.last_port world.new ≡ (A.state agent.new).last_port) }
+    ensures later { W.faults world.old ≤ W.faults world.new }
+{
+    queue.remove(found);
+    happen(queue, agent, world, &Event::Ended { port })
+}
+
+// Reads from a connection into this room, which is zero again afterwards.
+pub fn read<A: Core, W: World>(
+    queue: &mut Queue,
+    agent: &mut A,
+    world: &mut W,
+    port: u64,
+    room: &mut [u8],
+) -> Result<(), CoreMemory>
+    requires next { first_servable (A.state agent.old) queue.old.queue ≡ Some (Read port) }
+    requires ports { W.last_port world.old ≡ (A.state agent.old).last_port }
+    requires room { length room.old ≡ read_room }
+    requires zero { IsWiped room.old }
+    ensures legal { Serves result (in_state (A.state agent.old) queue.old Free)
+        (W.journal world.old) (W.journal world.new) (in_state (A.state agent.new) queue.new Free) }
+    ensures ports { OnOk result (W.last_port world.new ≡ (A.state agent.new).last_port) }
+    ensures later { W.faults world.old ≤ W.faults world.new }
+    ensures zero { IsWiped room.new }
+{
+    match world.read(port, room) {
+        Ok(Got::Bytes(n)) => {
+            let heard = hear(queue, agent, world, port, &room[..n as usize]);
+            room[..n as usize].fill(0);
+            heard
+        }
+        Ok(Got::End) => end(queue, agent, world, port, Thing::Read(port)),
+        Ok(Got::NotNow) => {
+            queue.remove(Thing::Read(port));
+            Ok(())
+        }
+        Err(WorldFault::Failed) => end(queue, agent, world, port, Thing::Read(port)),
+        Err(WorldFault::Memory) => Err(CoreMemory),
+    }
+}
+
+// The agent is told what a port took of the bytes that it is owed.
+fn send<A: Core, W: World>(
+    queue: &mut Queue,
+    agent: &mut A,
+    world: &mut W,
+    port: u64,
+    count: usize,
+) -> Result<(), CoreMemory>
+    requires fits { Fits (Took port count) (A.state agent.old) }
+    requires ports { W.last_port world.old ≡ (A.state agent.old).last_port }
+    ensures legal { Goes result
+        (in_state (A.state agent.old) (record queue.old { queue = put_back (Write port) queue.old.queue })
+        (NowFor (Took port count)))
+        (W.journal world.old) (W.journal world.new) (in_state (A.state agent.new) queue.new Free) }
+    ensures ports { OnOk result (W.last_port world.new ≡ (A.state agent.new).last_port) }
+    ensures later { W.faults world.old ≤ W.faults world.new }
+{
+    let Ok(()) = queue.put_back(Thing::Write(port)) else {
+        return Err(CoreMemory);
+    };
+    happen(queue, agent, world, &Event::Took { port, count })
+}
+
+// Writes to a connection what it is owed.
+pub fn write<A: Core, W: World>(
+    queue: &mut Queue,
+    agent: &mut A,
+    world: &mut W,
+    port: u64,
+) -> Result<(), CoreMemory>
+    requires next { first_servable (A.state agent.old) queue.old.queue ≡ Some (Write port) }
+    requires ports { W.last_port world.old ≡ (A.state agent.old).last_port }
+    ensures legal { Serves result (in_state (A.state agent.old) queue.old Free)
+        (W.journal world.old) (W.journal world.new) (in_state (A.state agent.new) queue.new Free) }
+    ensures ports { OnOk result (W.last_port world.new ≡ (A.state agent.new).last_port) }
+    ensures later { W.faults world.old ≤ W.faults world.new }
+{
+    match world.write(port, agent.owed(port)) {
+        Ok(Wrote::Took(n)) => send(queue, agent, world, port, n as usize),
+        Ok(Wrote::NotNow) => {
+            queue.remove(Thing::Write(port));
+            Ok(())
+        }
+        Err(WorldFault::Failed) => end(queue, agent, world, port, Thing::Write(port)),
+        Err(WorldFault::Memory) => Err(CoreMemory),
+    }
+}
+
+// Starts a child process.
+pub fn start<A: Core, W: World>(
+    queue: &mut Queue,
+    agent: &mut A,
+    world: &mut W,
+    job: Job,
+) -> Result<(), CoreMemory>
+    requires first { is_first_job job (starts (A.state agent.old)) ≡ true }
+    requires ports { W.last_port world.old ≡ (A.state agent.old).last_port }
+    ensures legal { Serves result (in_state (A.state agent.old) queue.old Free)
+        (W.journal world.old) (W.journal world.new) (in_state (A.state agent.new) queue.new Free) }
+    ensures ports { OnOk result (W.last_port world.new ≡ (A.state agent.new).last_port) }
+    ensures later { W.faults world.old ≤ W.faults world.new }
+{
+    let number = job.number;
+    match world.start(job) {
+        Ok(ticket) => happen(queue, agent, world, &Event::Started { job: number, ticket }),
+        Err(WorldFault::Failed) => happen(queue, agent, world, &Event::StartFailed { job: number }),
+        Err(WorldFault::Memory) => Err(CoreMemory),
+    }
+}
