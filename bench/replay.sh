@@ -5,7 +5,7 @@
 set -eu
 cd "$(dirname "$0")/.."
 agent=$PWD/bin/agent_prog
-shapes=${*:-cut long many keys aged}
+shapes=${*:-cut long many keys aged signs}
 [ -x "$agent" ] || { echo "bench: run make first" >&2; exit 1; }
 work=$(mktemp -d)
 trap 'rm -rf "$work"' EXIT
@@ -93,6 +93,26 @@ with open(f"{folder}/keys", "w") as out:
 # the same with a moment before each draw, and lifetimes of up to 50,000 seconds
 with open(f"{folder}/aged", "w") as out:
     keys(out, True)
+
+# 16 clients that sign without pause over one helper: each asks again as soon as it has its answer, and the helper
+# answers the oldest request
+sign, key, helper = b"\x0d", kind + tag(0), 17
+with open(f"{folder}/signs", "w") as out:
+    def sends(port, *fields):
+        out.write(f"hear {port} {string(b''.join(fields)).hex()}\n")
+    def asks(client):
+        sends(client, sign, string(key), string(bytes(200)), bytes(4))
+    for _ in range(16):
+        out.write("join client\n")
+    sends(1, add, addition(0, 0))
+    for client in range(1, 17):
+        asks(client)
+    ticket = bytes(16)
+    out.write(f"started 1 {ticket.hex()}\njoin child\n")
+    sends(helper, struct.pack(">BQ", 1, 1), string(ticket))
+    for ask in range(1, 50_001):
+        sends(helper, struct.pack(">BQ", 101, ask), string(bytes(83)))
+        asks((ask - 1) % 16 + 1)
 PYTHON
 
 # The least of three times of a command that reads the file, in seconds.

@@ -55,10 +55,10 @@ fn room_for_a_write_is_reported_once_there_is_some(rt: HostRuntime) -> Result<()
     let mut client = UnixStream::connect(&rt, "room.socket")?;
     assert_eq!(rt; world.accept(Door::Clients)?, Accepted::Port(1));
     let bytes = vec![in alloc; 5; 65536]?;
-    let mut sent = 0;
+    let mut sent = 0_u64;
     for _ in 0..4096 {
         match world.write(1, &bytes)? {
-            Wrote::Took(count) => sent += u64::from(count),
+            Wrote::Took(count) => sent = sent.saturating_add(u64::from(count)),
             Wrote::NotNow => break,
         }
     }
@@ -67,12 +67,12 @@ fn room_for_a_write_is_reported_once_there_is_some(rt: HostRuntime) -> Result<()
     world.poll(Some(0), &mut ready)?;
     assert_eq!(rt; ready.len(), 0);
     let mut room = vec![in alloc; 0; 65536]?;
-    let mut came = 0;
+    let mut came = 0_u64;
     for _ in 0..65536 {
         if came >= sent {
             break;
         }
-        came += client.read(&mut room)? as u64;
+        came = came.saturating_add(client.read(&mut room)? as u64);
     }
     world.poll(Some(5), &mut ready)?;
     assert!(rt;
