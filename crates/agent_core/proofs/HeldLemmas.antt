@@ -6,7 +6,9 @@ use Rattle.agent_model.specs.Limits.{longest_body}
 use Rattle.agent_model.proofs.BoundLemmas.{private-within, text-within}
 use Rattle.agent_model.specs.Verdicts.{verdict_text}
 use Rattle.agent_core.specs.Served.{IsShortRequest, asker_of, keys_of, served_by}
-use Rattle.std.proofs.lemmas.List.{drop_more}
+use Rattle.std.proofs.lemmas.List.{drop_more, length-append}
+use Rattle.wire_text.specs.Wire.{string, uint32}
+use Rattle.wire_text.proofs.WireLemmas.{length-string}
 use Rattle.identity_table.specs.Identities.{HeldKey, TableState}
 use Rattle.identity_table.specs.Identities.{answer_len, entries_len, find_identity, remove_identity}
 use Rattle.identity_table.proofs.PlaceLemmas.{remove_identity-none}
@@ -61,10 +63,10 @@ pub seen_by_all : (asker : Asker) (held : KeyState) → seen_by asker held ≡ m
 seen_by_all asker held = ap (map shown) (seen-all asker held.table.identities)
 
 -- so does the answer of an agent that isn't locked
-pub listed-unlocked : (table : TableState) (lock : Option (List ℕ)) (port wall : ℕ) → is_some lock ≡ false → identities_answer (map shown table.identities) ≡ verdict_text (served_by port wall ListIdentities (keys_of table lock)).work.verdict
-listed-unlocked table None port wall unlocked =
+pub listed-unlocked : (table : TableState) (lock : Option (List ℕ)) (port wall : ℕ) (going : UnderWay) → is_some lock ≡ false → identities_answer (map shown table.identities) ≡ verdict_text (served_by port wall ListIdentities (keys_of table lock) going).work.verdict
+listed-unlocked table None port wall going unlocked =
     ap identities_answer (sym (seen_by_all (asker_of port wall (keys_of table None)) (keys_of table None)))
-listed-unlocked table (Some passphrase) port wall unlocked = absurd (cc)
+listed-unlocked table (Some passphrase) port wall going unlocked = absurd (cc)
 
 -- an agent that isn't locked has no passphrase
 pub none_of : (lock : Option (List ℕ)) → is_some lock ≡ false → lock ≡ None
@@ -86,7 +88,10 @@ both_ok (Err e) f p q = p
 -- what comes in a body that isn't long isn't long
 pub short_request : (body : List ℕ) (request : ClientRequest) → IsRequest body request → length body ≤ longest_body → IsShortRequest request
 short_request body ListIdentities is within = tt
-short_request body (Sign signing) is within = tt
+short_request body (Sign signing) is within =
+    let parts = length-append (string signing.blob) (string signing.message ++ uint32 signing.flags) in
+    let more = length-append (string signing.message) (uint32 signing.flags) in
+    omega (arith, ap length is.printed, parts, more, length-string signing.blob, length-string signing.message, within)
 short_request body (Add addition) is within = private-within body addition is within
 short_request body (Remove blob) is within = tt
 short_request body RemoveAll is within = tt

@@ -4,16 +4,23 @@
 #![tactic(auto)]
 
 mod agent;
+mod children;
+mod counting;
 mod event;
+mod events;
+mod helper;
 mod keys;
+mod listed;
 mod owed;
 mod places;
 mod ports;
 mod requests;
 mod rising;
+mod role;
 mod slot;
 #[cfg(test)]
 mod tests;
+mod waits;
 
 pub use agent::Agent;
 pub use event::{CoreMemory, Event, Settings};
