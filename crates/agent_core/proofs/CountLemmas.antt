@@ -1,5 +1,5 @@
 -- How many ports there are of a kind.
-use Rattle.std.proofs.Common.{◌≡◌, ◌≤◌, ℕ, suc, List, [], ◌∷◌, length, filter, refl, ap, sym, ◌∙◌, Bool, true, false, not, ◌&&◌, if◌then◌else◌}
+use Rattle.std.proofs.Common.{arith, ◌≡◌, ◌≤◌, ℕ, suc, List, [], ◌∷◌, length, filter, refl, ap, sym, ◌∙◌, Bool, true, false, not, ◌&&◌, if◌then◌else◌}
 use Rattle.world_ports.specs.declared.Door.{Door}
 use Rattle.world_ports.specs.declared.Door.TheVariants.{Clients, Children}
 use Rattle.helper_link.specs.declared.state.LinkState.{LinkState}
@@ -33,3 +33,12 @@ unnamed_counted [] link going linked alone = refl
 unnamed_counted (slot ∷ slots) link going linked alone =
     ap (λ test. if test then suc (unnamed_count going (ports_of slots)) else unnamed_count going (ports_of slots)) (unnamed_is slot.door slot.number link going linked alone)
     ∙ count_on (not (is_client slot.door) && not (is_linked_to slot.number link)) slot (filter (λ (s : Slot). not (is_client s.door) && not (is_linked_to s.number link)) slots) (unnamed_count going (ports_of slots)) (unnamed_counted slots link going linked alone)
+
+-- no more pass a test than there are
+pub few_filtered : {A : Type 0} (p : A → Bool) (xs : List A) → length (filter p xs) ≤ length xs
+few_filtered p [] = omega arith
+few_filtered p (x ∷ xs) = by_test (p x) (few_filtered p xs)
+  where
+    by_test : (test : Bool) → length (filter p xs) ≤ length xs → length (if test then x ∷ filter p xs else filter p xs) ≤ suc (length xs)
+    by_test true few = omega (arith, few)
+    by_test false few = omega (arith, few)

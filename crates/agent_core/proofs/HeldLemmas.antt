@@ -1,5 +1,5 @@
 -- Lemmas on what is held.
-use Rattle.std.proofs.Common.{◌≡◌, ℕ, ◌+◌, ◌<◌, ◌≤◌, List, [], ◌∷◌, ◌++◌, length, map, drop, get_or, refl, ap, sym, arith, ◌∙◌, Option, Some, None, Result, Ok, Err, filter, is_some, false}
+use Rattle.std.proofs.Common.{◌≡◌, ℕ, ◌+◌, ◌<◌, ◌≤◌, List, [], ◌∷◌, ◌++◌, length, map, drop, get_or, refl, ap, sym, arith, ◌∙◌, Option, Some, None, Result, Ok, Err, filter, is_some, Bool, true, false, if◌then◌else◌}
 use Rattle.std.specs.Prelude.{OnOk}
 use Rattle.agent_msg.specs.Requests.{ClientRequest, IsRequest, ListIdentities, Sign, Add, Remove, RemoveAll, Lock, Unlock, Bind, OtherExtension, Unsupported}
 use Rattle.agent_model.specs.Limits.{longest_body}
@@ -10,7 +10,9 @@ use Rattle.std.proofs.lemmas.List.{drop_more, length-append}
 use Rattle.wire_text.specs.Wire.{string, uint32}
 use Rattle.wire_text.proofs.WireLemmas.{length-string}
 use Rattle.identity_table.specs.Identities.{HeldKey, TableState}
-use Rattle.identity_table.specs.Identities.{answer_len, entries_len, find_identity, remove_identity}
+use Rattle.std.specs.Str.{bytes_eq}
+use Rattle.identity_table.specs.Identities.{AreShort, answer_len, entries_len, find_identity, longest_private, remove_identity}
+use Rattle.identity_table.proofs.FindLemmas.{found_has}
 use Rattle.identity_table.proofs.PlaceLemmas.{remove_identity-none}
 use Rattle.agent_model.specs.Dispatch.{Asker, remove_by, seen_by, sees, with_identities}
 use Rattle.agent_model.specs.State.{UnderWay}
@@ -83,6 +85,11 @@ pub both_ok : {A B : Type 0} {P Q X : Type 0} (r : Result A B) → (P → Q → 
 both_ok (Ok a) f p q = f p q
 both_ok (Err e) f p q = p
 
+-- and of three
+pub all_ok : {A B : Type 0} {P Q R X : Type 0} (r : Result A B) → (P → Q → R → X) → OnOk r P → OnOk r Q → OnOk r R → OnOk r X
+all_ok (Ok a) f p q s = f p q s
+all_ok (Err e) f p q s = p
+
 -- ---- requests
 
 -- what comes in a body that isn't long isn't long
@@ -100,3 +107,23 @@ short_request body (Unlock passphrase) is within = tt
 short_request body (Bind bind) is within = tt
 short_request body (OtherExtension name) is within = tt
 short_request body (Unsupported number) is within = tt
+
+-- ---- what is put to the helper
+
+-- a key that is found is short
+found_short : (blob : List ℕ) (keys : List HeldKey) (key : HeldKey) → find_identity blob keys ≡ Some key → AreShort keys → length key.private ≤ longest_private
+unfolding find_identity AreShort
+found_short blob [] key found short = absurd (cc)
+found_short blob (other ∷ keys) key found short =
+    by_test (λ later. found_short blob keys key later short.1) (bytes_eq other.blob blob) found
+  where
+    by_test : (find_identity blob keys ≡ Some key → length key.private ≤ longest_private) → (test : Bool) → (if test then Some other else find_identity blob keys) ≡ Some key → length key.private ≤ longest_private
+    by_test rest true is =
+        let same : other ≡ key = cc in
+        rw (← same) short.0
+    by_test rest false is = rest is
+
+-- so that what is asked fits a message to the helper
+pub asked_short : (keys : List HeldKey) (key : HeldKey) (blob message : List ℕ) → find_identity blob keys ≡ Some key → AreShort keys → length blob + length message ≤ longest_body → 25 + length key.private + length key.blob + length message ≤ 1048576
+asked_short keys key blob message found short within =
+    omega (arith, found_short blob keys key found short, ap length (found_has blob keys key found), within)

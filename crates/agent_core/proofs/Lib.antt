@@ -8,3 +8,6 @@ pub mod KeptLemmas
 pub mod RoleLemmas
 pub mod HelperLemmas
 pub mod AgentLemmas
+pub mod ChildLemmas
+pub mod NextLemmas
+pub mod ShortLemmas

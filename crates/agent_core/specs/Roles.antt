@@ -1,5 +1,5 @@
 -- Who is at a port, as the code tells it (ours).
-use Rattle.std.specs.Prelude.{ℕ, List, Option, Some, None, if◌then◌else◌}
+use Rattle.std.specs.Prelude.{ℕ, Bool, List, Option, Some, None, min, nat_lt, if◌then◌else◌}
 use Rattle.world_ports.specs.declared.Door.{Door}
 use Rattle.world_ports.specs.declared.Door.TheVariants.{Clients, Children}
 use Rattle.helper_link.specs.declared.state.LinkState.{LinkState}
@@ -25,10 +25,14 @@ door_by None = None
 door_by (Some port) = Some port.door
 
 -- the helper's port of this number, where it is a child process's and bytes are to be sent to it
+abbrev pub helper_owed_if : Door → Bool → ℕ → Option ℕ
+helper_owed_if Clients some number = None
+helper_owed_if Children some number = if some then Some number else None
+
+-- the same where the port is open
 abbrev pub helper_owed : Option Door → ℕ → List ℕ → Option ℕ
 helper_owed None number owed = None
-helper_owed (Some Clients) number owed = None
-helper_owed (Some Children) number owed = if is_some_bytes owed then Some number else None
+helper_owed (Some door) number owed = helper_owed_if door (is_some_bytes owed) number
 
 -- the helper's port, where it is open and owed bytes
 abbrev pub owed_helper_by : LinkState → List ℕ → List Port → Option ℕ
@@ -39,3 +43,9 @@ owed_helper_by (states.Linked port) owed ports = helper_owed (door_by (find_port
 -- the same of what is under way
 abbrev pub owed_helper : UnderWay → List Port → Option ℕ
 owed_helper under_way ports = owed_helper_by under_way.link.state under_way.link.owed ports
+
+-- the client, or the helper where that is above this number and comes first
+abbrev pub next_of : ℕ → Option ℕ → Option ℕ → Option ℕ
+next_of after client None = client
+next_of after None (Some helper) = if nat_lt after helper then Some helper else None
+next_of after (Some client) (Some helper) = if nat_lt after helper then Some (min client helper) else Some client

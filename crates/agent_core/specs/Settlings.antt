@@ -8,6 +8,7 @@ use Rattle.helper_link.specs.declared.answer.Answer.TheVariants as answer
 use Rattle.helper_link.specs.declared.answer.Settled.{Settled}
 use Rattle.agent_model.specs.Consents.{find_started}
 use Rattle.agent_model.specs.State.{Port, StartedJob, UnderWay, change_port}
+use Rattle.under_way.specs.Parts.{IsHelpers}
 use Rattle.agent_model.specs.Verdicts.{HelperRefused, Refuses, Replies, Signature, SignatureWrong, Success, Verdict, tell}
 
 -- what an asker is told
@@ -35,6 +36,12 @@ AreShortAnswers [] = Unit {0}
 AreShortAnswers (one ∷ later) = IsShortAnswer one.answer × AreShortAnswers later
 
 -- ---- how a child process names itself
+
+-- a started job of this number is the helper's, which is being started
+pub record IsNamed (job : ℕ) (going : UnderWay) : Type 0 where
+  pub one : StartedJob
+  pub found : find_started job going.started ≡ Some one
+  pub helpers : IsHelpers job one going.link.state
 
 -- the job whose ticket it is
 abbrev pub ticket_of : Option StartedJob → ℕ → List ℕ → Option ℕ

@@ -1,5 +1,5 @@
 -- The storage of the open ports as the abstract agent sees it.
-use Rattle.std.specs.Prelude.{◌≡◌, ℕ, ◌+◌, ◌^◌, ◌<◌, ◌≤◌, List, [], ◌∷◌, length, map, Bool, false, ◌&&◌, if◌then◌else◌}
+use Rattle.std.specs.Prelude.{◌≡◌, ℕ, ◌+◌, ◌^◌, ◌<◌, ◌≤◌, List, [], ◌∷◌, length, map, Option, Some, None, Bool, false, ◌&&◌, if◌then◌else◌}
 use Rattle.agent_core.specs.declared.slot.Slot.{Slot}
 use Rattle.agent_core.specs.declared.waits.Waits.{Waits as CoreWaits}
 use Rattle.agent_core.specs.declared.waits.Waits.TheVariants as waits
@@ -28,6 +28,15 @@ port_of slot = record {
 -- the ports, in the order in which they are kept
 abbrev pub ports_of : List Slot → List Port
 ports_of slots = map port_of slots
+
+-- what was heard at a port and not taken, and what is owed there: nothing where it isn't open
+abbrev pub heard_in : Option Port → List ℕ
+heard_in None = []
+heard_in (Some port) = port.heard
+
+abbrev pub owed_in : Option Port → List ℕ
+owed_in None = []
+owed_in (Some port) = port.owed
 
 -- a client that is owed bytes
 unfoldable pub is_owing : Port → Bool

@@ -6,17 +6,15 @@ ghost use Rattle.agent_model.specs.Sound.{IsSteady};
 ghost use Rattle.agent_model.specs.State.{Fits, client_count, find_port, first_state, next_due, next_owed, owed_of, starts, wants};
 ghost use Rattle.agent_model.specs.Step.{step};
 ghost use Rattle.agent_core.specs.Happenings.{happening};
-ghost use Rattle.agent_core.specs.Roles.{owed_helper};
 
 use crate::keys::Keys;
+use crate::parts::Parts;
 use crate::ports::Ports;
-use crate::role::{Role, role_at};
 use crate::{CoreMemory, Event, Settings};
-use helper_link::LinkState;
 use std::alloc::Global;
 use std::marker::Model;
 use under_way::UnderWay;
-use world_ports::{Door, Job, Moment};
+use world_ports::{Job, Moment};
 
 /// An SSH agent without its outside: it is told what happens, and tells what is owed to whom.
 ///
@@ -25,21 +23,18 @@ use world_ports::{Door, Job, Moment};
 #[derive(Drop)]
 pub struct Agent {
     alloc: Global,
-    pub(crate) wall: u64,
-    pub(crate) keys: Keys,
-    pub(crate) under_way: UnderWay,
-    pub(crate) ports: Ports,
+    parts: Parts,
 }
 
 impl Model for Agent {
+    ghost use Rattle.std.specs.Prelude.{◌≡◌, []};
     ghost use Rattle.agent_model.specs.State.{State};
-    ghost use Rattle.agent_core.specs.Parts.{state_of};
 
     ghost Value = { State };
 
-    ghost view = { λ a. state_of a.wall a.keys a.under_way a.ports a.ports.closed };
+    ghost view = { λ a. a.parts };
 
-    ghost invariant = { λ a. a.under_way.link.failed ≡ [] };
+    ghost invariant = { λ a. a.parts.under_way.link.failed ≡ [] };
 }
 
 impl Agent {
@@ -49,10 +44,12 @@ impl Agent {
     {
         Agent {
             alloc,
-            wall: 0,
-            keys: Keys::new(alloc, settings.default_life),
-            under_way: UnderWay::new(alloc),
-            ports: Ports::new(alloc),
+            parts: Parts {
+                wall: 0,
+                keys: Keys::new(alloc, settings.default_life),
+                under_way: UnderWay::new(alloc),
+                ports: Ports::new(alloc),
+            },
         }
     }
 
@@ -62,11 +59,14 @@ impl Agent {
         ensures { IsTrue result ↔ Fits (happening event.now) self.now }
     {
         match *event {
-            Event::Joined(_) => self.ports.last() < u64::MAX,
-            Event::Heard { port, piece } => self.ports.is_open(port) && !piece.is_empty(),
-            Event::Ended { port } => self.ports.is_open(port),
-            Event::Took { port, count } => count > 0 && count <= self.owed(port).len(),
-            Event::Started { job, .. } | Event::StartFailed { job } => self.under_way.is_to_start(job),
+            Event::Joined(_) => self.parts.ports.last() < u64::MAX,
+            Event::Heard { port, piece } => self.parts.ports.is_open(port) && !piece.is_empty(),
+            Event::Ended { port } => self.parts.ports.is_open(port),
+            Event::Took { port, count } => count > 0 && count <= self.parts.owed(port).len(),
+            Event::Started { job, .. } | Event::StartFailed { job } => self
+                .parts
+                .under_way
+                .is_to_start(job),
             Event::Tick => true,
         }
     }
@@ -82,8 +82,8 @@ impl Agent {
             (self.new ≡ (step self.old moment (happening event.now)).state) }
         ensures wiped { OnErr result (self.new ≡ first_state self.old.held.table.life) }
     {
-        let default_life = self.keys.default_life();
-        let stepped = self.take(moment, event);
+        let default_life = self.parts.keys.default_life();
+        let stepped = self.parts.take(moment, event);
         if stepped.is_err() {
             *self = Agent::new(self.alloc, Settings { default_life });
         }
@@ -94,12 +94,7 @@ impl Agent {
     pub fn owed(&self, port: u64) -> &[u8]
         ensures { result.now ≡ owed_of port self.now }
     {
-        match role_at(&self.ports, &self.under_way, port) {
-            Some(Role::Client) => self.ports.owed(port),
-            Some(Role::Helper) => self.under_way.owed(),
-            // A child process that hasn't named itself is owed nothing.
-            Some(Role::Unnamed) | None => &[],
-        }
+        self.parts.owed(port)
     }
 
     /// The open port of the least number above `after` that is owed bytes.
@@ -107,46 +102,42 @@ impl Agent {
         ensures next { result ≡ next_owed after self.now }
         ensures steady { IsSteady self.now }
     {
-        let client = self.ports.next_owed(after);
-        match self.owed_helper() {
-            Some(helper) if helper > after => Some(client.map_or(helper, |client| client.min(helper))),
-            _ => client,
-        }
+        self.parts.next_owed(after)
     }
 
     /// Whether the port is to be read: not where it isn't open, and not while a request of it waits to be taken.
     pub fn wants(&self, port: u64) -> bool
         ensures { result ≡ wants port self.now }
     {
-        self.ports.wants(port)
+        self.parts.ports.wants(port)
     }
 
     /// Whether the port is open.
     pub fn is_port(&self, port: u64) -> bool
         ensures { IsTrue result ↔ IsSome (find_port port self.now.ports) }
     {
-        self.ports.is_open(port)
+        self.parts.ports.is_open(port)
     }
 
     /// The child processes that wait to be started.
     pub fn starts(&self) -> &[Job]
         ensures { result.now ≡ starts self.now }
     {
-        self.under_way.starts()
+        self.parts.under_way.starts()
     }
 
     /// The ports that the last step closed, rising.
     pub fn closes(&self) -> &[u64]
         ensures { result.now ≡ self.now.closes }
     {
-        self.ports.closed()
+        self.parts.ports.closed()
     }
 
     /// The first second from which an identity is dead, or `None` where the clock comes to none.
     pub fn next_due(&self) -> Option<u64>
         ensures { result ≡ next_due self.now }
     {
-        self.keys.next_death()
+        self.parts.keys.next_death()
     }
 
     /// How many identities are held. Each has its own blob and its own number, one message lists them all, and no
@@ -155,43 +146,27 @@ impl Agent {
         ensures value { result ≡ length self.now.held.table.identities }
         ensures sound { IsSound self.now.held.table.identities self.now.held.table.last }
     {
-        self.keys.len()
+        self.parts.keys.len()
     }
 
     /// How many clients are connected.
     pub fn clients(&self) -> usize
         ensures { result ≡ client_count self.now.ports }
     {
-        self.ports.clients()
+        self.parts.ports.clients()
     }
 
     /// How often the helper was lost: it stays at 2^64 - 1.
     pub fn link_faults(&self) -> u64
         ensures { result ≡ self.now.under_way.link.faults }
     {
-        self.under_way.link_faults()
+        self.parts.under_way.link_faults()
     }
 
     /// The number of the last port that joined, 0 where none did.
     pub fn ports_so_far(&self) -> u64
         ensures { result ≡ self.now.last_port }
     {
-        self.ports.last()
-    }
-}
-
-impl Agent {
-    // The helper's port, where it is open and owed bytes.
-    fn owed_helper(&self) -> Option<u64>
-        ensures { result ≡ owed_helper self.now.under_way self.now.ports }
-    {
-        let LinkState::Linked { port } = self.under_way.link_state() else {
-            return None;
-        };
-        if self.ports.door(port)? == Door::Children && !self.under_way.owed().is_empty() {
-            Some(port)
-        } else {
-            None
-        }
+        self.parts.ports.last()
     }
 }

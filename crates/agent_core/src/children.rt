@@ -1,14 +1,16 @@
 //! Child processes that haven't named themselves.
 
-ghost use Rattle.std.specs.Prelude.{◌≡◌, ◌≤◌, ◌+◌, ℕ, List, [], Some, IsSome, OnOk, length};
+ghost use Rattle.std.specs.Prelude.{◌≡◌, ◌≤◌, ◌+◌, ℕ, List, [], Some, IfSome, IsSome, OnOk, length};
 ghost use Rattle.child_msg.specs.Reading.{from_child_of};
+ghost use Rattle.frame_core.specs.Looks.{front_of};
 ghost use Rattle.wire_text.specs.Frames.{Whole, after_front, front, front_body};
 ghost use Rattle.agent_model.specs.Children.{first_message, unnamed_heard};
 ghost use Rattle.agent_model.specs.KeyStates.{KeyState};
 ghost use Rattle.agent_model.specs.State.{Port, find_port};
 ghost use Rattle.agent_model.specs.Step.{gone};
 ghost use Rattle.agent_core.specs.Parts.{state_of};
-ghost use Rattle.agent_core.specs.Settlings.{named_job};
+ghost use Rattle.agent_core.specs.Settlings.{IsNamed, named_job};
+ghost use Rattle.agent_core.specs.Slots.{heard_in};
 
 use crate::CoreMemory;
 use crate::helper::hear_helper;
@@ -37,7 +39,7 @@ pub fn hear_unnamed(
     ensures failed { OnOk result (under_way.new.link.failed ≡ []) }
 {
     ports.push(number, piece)?;
-    match look(ports.heard(number), LONGEST_BODY) {
+    match first_frame(ports, number) {
         Look::Whole { body } => take_first(ports, under_way, number, body),
         Look::Bad { .. } => {
             ports.close(number);
@@ -45,6 +47,13 @@ pub fn hear_unnamed(
         }
         Look::More => Ok(()),
     }
+}
+
+// What stands at the front of its bytes.
+fn first_frame(ports: &Ports, number: u64) -> Look
+    ensures { front_of result ≡ front 262144 (heard_in (find_port number ports.now.ports)) }
+{
+    look(ports.heard(number), LONGEST_BODY)
 }
 
 // Takes the first frame, and what follows it where it names the child process.
@@ -79,7 +88,8 @@ fn take_first(
 
 // The started job that this body names by its ticket.
 fn job_named(under_way: &UnderWay, body: &[u8]) -> Option<u64>
-    ensures { result ≡ named_job (from_child_of body.now) under_way.now }
+    ensures job { result ≡ named_job (from_child_of body.now) under_way.now }
+    ensures named { IfSome result (λ job. IsNamed job under_way.now) }
 {
     let Ok(FromChild::Hello { job, ticket }) = read_from_child(body) else {
         return None;

@@ -5,6 +5,7 @@ ghost use Rattle.agent_model.specs.State.{UnderWay, client_count, is_client, is_
 ghost use Rattle.agent_core.specs.Slots.{ports_of};
 ghost use Rattle.agent_core.specs.declared.slot.Slot.{Slot as ASlot};
 
+use crate::role::is_linked;
 use crate::slot::Slot;
 use helper_link::LinkState;
 use world_ports::Door;
@@ -20,7 +21,10 @@ pub fn clients(slots: &[Slot]) -> usize
 fn count_clients(slots: &[Slot]) -> usize
     ensures { result ≡ length (filter (λ (slot : ASlot). is_client slot.door) slots.now) }
 {
-    slots.iter().filter(|slot| slot.door == Door::Clients).count()
+    slots
+        .iter()
+        .filter(|slot| slot.door == Door::Clients)
+        .count()
 }
 
 /// How many are child processes that haven't named themselves.
@@ -43,8 +47,5 @@ fn count_unnamed(slots: &[Slot], link: LinkState) -> usize
 fn is_unnamed(slot: &Slot, link: LinkState) -> bool
     ensures { result ≡ (not (is_client slot.now.door) && not (is_linked_to slot.now.number link)) }
 {
-    match link {
-        LinkState::Linked { port } => slot.door == Door::Children && port != slot.number,
-        LinkState::None | LinkState::Starting { .. } => slot.door == Door::Children,
-    }
+    slot.door == Door::Children && !is_linked(link, slot.number)
 }

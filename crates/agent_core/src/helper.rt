@@ -4,9 +4,11 @@ ghost use Rattle.std.specs.Prelude.{◌≡◌, ◌≢◌, ℕ, List, [], IsSome,
 ghost use Rattle.helper_link.specs.HelperLink.{IsStarting, askers};
 ghost use Rattle.agent_model.specs.Answers.{helper_heard, link_lost, lose, tell_each};
 ghost use Rattle.agent_model.specs.KeyStates.{KeyState};
+ghost use Rattle.agent_model.specs.Sound.{IsRising};
 ghost use Rattle.agent_model.specs.State.{find_port};
 ghost use Rattle.agent_model.specs.Step.{gone};
 ghost use Rattle.agent_model.specs.Verdicts.{HelperLost, Refuses};
+ghost use Rattle.under_way.specs.Parts.{IsAlone};
 ghost use Rattle.agent_core.specs.Parts.{state_of};
 ghost use Rattle.agent_core.specs.Settlings.{AreShortAnswers, answered};
 
@@ -34,7 +36,7 @@ pub fn hear_helper(
     ensures failed { OnOk result (under_way.new.link.failed ≡ []) }
 {
     let told = under_way.helper_told(piece)?;
-    answer_all(ports, told.settled.into_vec())?;
+    answer_all(ports, told.settled.as_slice())?;
     match told.fault {
         Some(_) => lose_helper(ports, under_way, helper),
         None => Ok(()),
@@ -42,7 +44,11 @@ pub fn hear_helper(
 }
 
 /// The helper is gone: its port is closed, and each client that waits for an answer of it is told.
-pub fn lose_helper(ports: &mut Ports, under_way: &mut UnderWay, helper: u64) -> Result<(), CoreMemory>
+pub fn lose_helper(
+    ports: &mut Ports,
+    under_way: &mut UnderWay,
+    helper: u64,
+) -> Result<(), CoreMemory>
     requires linked { under_way.old.link.state ≡ LinkState.Linked helper }
     requires is_open { IsSome (find_port helper ports.old.ports) }
     requires failed { under_way.old.link.failed ≡ [] }
@@ -50,6 +56,7 @@ pub fn lose_helper(ports: &mut Ports, under_way: &mut UnderWay, helper: u64) -> 
     ensures state { (wall : ℕ) (keys : KeyState) (c : List ℕ) → OnOk result
         (state_of wall keys under_way.new ports.new c
         ≡ (lose (state_of wall keys under_way.old ports.old c)).state) }
+    ensures rising { IsRising 0 ports.old.last ports.old.ports }
     ensures closes { ports.old.closed ≡ [] → OnOk result
         (ports.new.closed ≡ gone ports.old.last ports.old.ports ports.new.last ports.new.ports) }
     ensures failed { OnOk result (under_way.new.link.failed ≡ []) }
@@ -70,6 +77,7 @@ pub fn lose_link(ports: &mut Ports, under_way: &mut UnderWay) -> Result<(), Core
     }) }
     ensures under_way { OnOk result
         (under_way.new ≡ record under_way.old { link = link_lost under_way.old.link }) }
+    ensures alone { IsAlone under_way.old }
 {
     under_way.lose();
     'askers: while let Some(asker) = under_way.next_failed() {
@@ -79,11 +87,11 @@ pub fn lose_link(ports: &mut Ports, under_way: &mut UnderWay) -> Result<(), Core
 }
 
 // Tells each asker its answer, in the order of the answers.
-fn answer_all(ports: &mut Ports, settled: Vec<Settled>) -> Result<(), CoreMemory>
-    requires { AreShortAnswers settled.items }
+fn answer_all(ports: &mut Ports, settled: &[Settled]) -> Result<(), CoreMemory>
+    requires { AreShortAnswers settled.now }
 
     ensures { OnOk result (ports.new ≡ record ports.old {
-      ports = answered settled.items ports.old.ports;
+      ports = answered settled.now ports.old.ports;
     }) }
 {
     for one in settled {

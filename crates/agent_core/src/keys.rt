@@ -99,6 +99,7 @@ impl Keys {
             (self.new ≡ (served_body port wall body.now self.old under_way.old).held) }
         ensures under_way { (wall : ℕ) → OnOk result
             (under_way.new ≡ (served_body port wall body.now self.old under_way.old).work.under_way) }
+        ensures failed { OnOk result (under_way.new.link.failed ≡ []) }
         ensures reply { (wall : ℕ) → OnOk result
             (owed.new ≡ verdict_text (served_body port wall body.now self.old under_way.old).work.verdict) }
         ensures waits { (wall : ℕ) → IfOk result (λ waits.

@@ -7,11 +7,13 @@ mod agent;
 mod children;
 mod counting;
 mod event;
-mod events;
 mod helper;
+#[cfg(test)]
+mod helper_tests;
 mod keys;
 mod listed;
 mod owed;
+mod parts;
 mod places;
 mod ports;
 mod requests;

@@ -69,6 +69,7 @@ pub fn serve_at(
     ensures under_way { (wall : ℕ) → OnOk result (under_way.new
         ≡ (served_body slot.old.number wall (front_body body_len slot.old.heard.live) keys.old
         under_way.old).work.under_way) }
+    ensures failed { OnOk result (under_way.new.link.failed ≡ []) }
     ensures number { slot.new.number ≡ slot.old.number }
     ensures door { slot.new.door ≡ slot.old.door }
     ensures items { owing.new.items ≡ noted (is_owing (port_of slot.new)) slot.old.number owing.old.items }

@@ -14,7 +14,7 @@ ghost use Rattle.agent_core.specs.Rising.{first_above, inserted};
 ghost use Rattle.agent_core.specs.Roles.{door_by};
 ghost use Rattle.agent_core.specs.Served.{served_body};
 ghost use Rattle.agent_core.specs.Settlings.{IsShortAnswer, verdict_of};
-ghost use Rattle.agent_core.specs.Slots.{owing_of, port_of};
+ghost use Rattle.agent_core.specs.Slots.{heard_in, owed_in, owing_of, port_of};
 
 use crate::keys::Keys;
 use crate::listed::{drop_sent_at, serve_at, tell_at};
@@ -86,7 +86,10 @@ impl Ports {
     pub fn door(&self, number: u64) -> Option<Door>
         ensures { result ≡ door_by (find_port number self.now.ports) }
     {
-        Some(self.find(number)?.door)
+        match self.find(number) {
+            Some(slot) => Some(slot.door),
+            None => None,
+        }
     }
 
     pub fn last(&self) -> u64
@@ -109,7 +112,7 @@ impl Ports {
 
     /// What a client is owed.
     pub fn owed(&self, number: u64) -> &[u8]
-        ensures { MatchOption (find_port number self.now.ports) (result.now ≡ []) (λ port. result.now ≡ port.owed) }
+        ensures { result.now ≡ owed_in (find_port number self.now.ports) }
     {
         match self.find(number) {
             Some(slot) => slot.owed.bytes(),
@@ -119,7 +122,7 @@ impl Ports {
 
     /// What was heard at a port and not taken.
     pub fn heard(&self, number: u64) -> &[u8]
-        ensures { MatchOption (find_port number self.now.ports) (result.now ≡ []) (λ port. result.now ≡ port.heard) }
+        ensures { result.now ≡ heard_in (find_port number self.now.ports) }
     {
         match self.find(number) {
             Some(slot) => slot.heard.live(),
@@ -252,6 +255,7 @@ impl Ports {
         ensures under_way { (wall : ℕ) (port : Port) → find_port number self.old.ports ≡ Some port
             → OnOk result (under_way.new
             ≡ (served_body number wall (front_body body_len port.heard) keys.old under_way.old).work.under_way) }
+        ensures failed { OnOk result (under_way.new.link.failed ≡ []) }
         ensures plain { ArePlain self.old.ports }
     {
         let Some(place) = place_of(&self.slots, number) else {
@@ -289,6 +293,7 @@ impl Ports {
           closed = inserted number self.old.closed;
         } }
         ensures gone { gone self.old.last self.old.ports self.new.last self.new.ports ≡ number ∷ [] }
+        ensures rising { IsRising 0 self.old.last self.old.ports }
         ensures plain { ArePlain self.old.ports }
     {
         let Some(place) = place_of(&self.slots, number) else {
@@ -358,4 +363,3 @@ impl Ports {
         Ok(())
     }
 }
-

@@ -40,6 +40,7 @@ pub fn answer(
         ≡ (served_body port wall body.now (keys_of table.old lock.old) under_way.old).held) }
     ensures under_way { (wall : ℕ) → OnOk result (under_way.new
         ≡ (served_body port wall body.now (keys_of table.old lock.old) under_way.old).work.under_way) }
+    ensures failed { OnOk result (under_way.new.link.failed ≡ []) }
     ensures reply { (wall : ℕ) → OnOk result (owed.new ≡ verdict_text
         (served_body port wall body.now (keys_of table.old lock.old) under_way.old).work.verdict) }
     ensures waits { (wall : ℕ) → IfOk result (λ waits. waits_of waits ≡ verdict_waits
@@ -50,11 +51,13 @@ pub fn answer(
             list(table, lock, owed)?;
             Ok(Waits::Nothing)
         }
-        Ok(Request::Sign {
-            blob,
-            message,
-            flags,
-        }) => {
+        Ok(
+            Request::Sign {
+                blob,
+                message,
+                flags,
+            },
+        ) => {
             let asked = sign(table, lock, under_way, port, blob, message, flags)?;
             Ok(wait(asked, owed))
         }
@@ -107,6 +110,7 @@ fn sign(
     ensures told { (wall : ℕ) → IfOk result (TellsOf (served_by port wall
         (Sign record { blob = blob.now; message = message.now; flags = flags })
         (keys_of table.now lock.now) under_way.old).work.verdict) }
+    ensures failed { OnOk result (under_way.new.link.failed ≡ []) }
 {
     if lock.is_locked() {
         return Ok(None);

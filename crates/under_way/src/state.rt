@@ -125,6 +125,7 @@ impl UnderWay {
             record { blob = key.now.blob; message = message.now; flags = flags }) asker self.old).under_way) }
         ensures told { IfOk result (TellsOf (put_ask (Signs key.now
             record { blob = key.now.blob; message = message.now; flags = flags }) asker self.old).verdict) }
+        ensures failed { OnOk result (self.new.link.failed ≡ []) }
     {
         if self.link.state() == LinkState::None {
             if self.link.spent() || self.last_job == u64::MAX {
@@ -146,10 +147,11 @@ impl UnderWay {
     pub fn job_started(&mut self, job: u64, ticket: [u8; 16])
         requires { IsSome (find_to_start job self.old.to_start) }
 
-        ensures { self.new ≡ record self.old {
+        ensures started { self.new ≡ record self.old {
           to_start = remove_to_start job self.old.to_start;
           started = self.old.started ++ started_if (find_to_start job self.old.to_start) ticket [];
         } }
+        ensures alone { IsAlone self.old }
     {
         let Some(place) = place_of(&self.to_start, job) else {
             unreachable!()
@@ -172,6 +174,7 @@ impl UnderWay {
         ensures left { self.new ≡ record self.old { to_start = remove_to_start job self.old.to_start } }
         ensures none { (self.new.to_start ≡ []) × (self.new.started ≡ []) }
         ensures starting { IsStarting self.new.link.state }
+        ensures alone { IsAlone self.old }
     {
         let Some(place) = place_of(&self.to_start, job) else {
             unreachable!()
@@ -223,6 +226,7 @@ impl UnderWay {
             (self.new ≡ record self.old { link = (telling piece.now self.old.link).link }) }
         ensures settled { IfOk result (λ told. told.settled ≡ (telling piece.now self.old.link).settled) }
         ensures fault { IfOk result (λ told. told.fault ≡ (telling piece.now self.old.link).fault) }
+        ensures alone { IsAlone self.old }
     {
         Ok(self.link.told(piece)?)
     }
@@ -231,7 +235,8 @@ impl UnderWay {
     pub fn lose(&mut self)
         requires some { self.old.link.state ≢ LinkState.None }
         requires jobs { IsStarting self.old.link.state → (self.old.to_start ≡ []) × (self.old.started ≡ []) }
-        ensures { self.new ≡ record self.old { link = lost self.old.link } }
+        ensures link { self.new ≡ record self.old { link = lost self.old.link } }
+        ensures alone { IsAlone self.old }
     {
         self.link.lose();
     }
