@@ -32,7 +32,7 @@ ReplaysExactly life status.Done old new = EndsDone life old new
 ReplaysExactly life (status.ScheduleRefused line fault) old new = EndsRefused life line fault old new
 -- the words were those of `replay`
 ReplaysExactly life status.Usage old new = ⊥
--- no socket is bound
+-- no socket is bound: the words weren't those of `serve`
 ReplaysExactly life status.BindFault old new = ⊥
 -- nothing is waited for
 ReplaysExactly life status.PollFault old new = ⊥

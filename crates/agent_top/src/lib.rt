@@ -1,9 +1,10 @@
 //! The program over any input and output: `agent_main`, whose clauses are the main theorem.
-//! Stands on replay_run, which runs a schedule, and world_ports (sources and sinks); the format of
+//! Stands on replay_run, which runs a schedule, ready_loop, which serves over a world, and world_ports; the format of
 //! schedules is this repository's own: docs/PROTOCOL.md, "Schedules".
 #![tactic(auto)]
 
 mod agent;
+mod serving;
 mod status;
 #[cfg(test)]
 mod tests;

@@ -13,9 +13,9 @@ pub enum Status {
     ScheduleRefused { line: u64, fault: LineFault },
     /// The words are none that the program takes.
     Usage,
-    /// A socket could not be bound. Never answered yet.
+    /// A socket could not be bound.
     BindFault,
-    /// Waiting for the sockets failed. Never answered yet.
+    /// Waiting for the sockets failed.
     PollFault,
     /// Memory ran out. Says nothing of the input.
     Memory,

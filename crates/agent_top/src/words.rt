@@ -1,6 +1,7 @@
 // The words of the command line.
 ghost use Rattle.std.specs.Prelude.{◌≡◌, option_map};
-ghost use Rattle.agent_top.specs.Words.{replay_life, some_life, texts_of};
+ghost use Rattle.agent_top.specs.Words.{replay_life, texts_of};
+ghost use Rattle.serve_words.specs.Serve.{some_life};
 
 use world_ports::read_life;
 

@@ -1,9 +1,8 @@
 //! The readiness loop: which call on the world comes next, and what the agent is told of its answer.
-//! Stands on ready_hub (which journals are legal), agent_model (the steps of the agent) and world_ports.
+//! Stands on ready_hub (which journals are legal), agent_core (the agent), agent_model (its steps) and world_ports.
 #![tactic(auto)]
 
 mod core;
-mod event;
 mod hub;
 mod listeners;
 mod look;
@@ -15,7 +14,7 @@ mod things;
 mod turn;
 
 pub use core::Core;
-pub use event::{CoreMemory, Event};
 pub use hub::Hub;
+pub use listeners::children_path;
 pub use outcome::{HubFault, ServeEnd, Turn};
 pub use serving::serve;

@@ -8,8 +8,8 @@ ghost use Rattle.world_ports.specs.declared.answers.WorldFault.TheVariants.{Fail
 use std::alloc::{AllocError, Global};
 use world_ports::{Door, World, WorldFault};
 
-// Where child processes connect: beside the clients.
-fn children_path(alloc: Global, path: &str) -> Result<String, AllocError>
+/// Where child processes connect: beside the clients' path.
+pub fn children_path(alloc: Global, path: &str) -> Result<String, AllocError>
     ensures { IfOk result (λ made. string_bytes made ≡ children_path path.now) }
 {
     let mut made = String::from_str(alloc, path)?;

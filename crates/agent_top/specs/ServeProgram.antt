@@ -1,0 +1,44 @@
+-- What the end of `serve` says of the calls that it made on the world (ours): `ServesExactly`, a line a status. From here
+-- on down, each file read from its end:
+--   ready_loop, specs/Serving.antt: a whole run of the loop, and how it may end
+--   ready_loop, specs/InTurn.antt: each thing is served in its turn
+--   ready_hub, specs/LegalJournal.antt: which calls may come, by what the abstract agent owes and wants
+--   agent_model, specs/Step.antt: one step of the abstract agent
+--   agent_model, specs/Dispatch.antt: the table of requests
+use Rattle.std.specs.Prelude.{List, Option, ◌⊎◌, Ok, Err}
+use Rattle.world_ports.specs.declared.entry.Entry.{Entry}
+use Rattle.world_ports.specs.declared.answers.Polled.TheVariants as polled
+use Rattle.world_ports.specs.declared.answers.WorldFault.TheVariants as fault
+use Rattle.agent_top.specs.declared.status.Status.{Status}
+use Rattle.agent_top.specs.declared.status.Status.TheVariants as status
+use Rattle.ready_loop.specs.Serving.{Setting, Unbound, RunsOut, RunsUntilIdle, RunsUpToBind, RunsUpToPoll}
+use Rattle.ready_loop.specs.declared.outcome.ServeEnd.{ServeEnd}
+use Rattle.ready_loop.specs.declared.outcome.ServeEnd.TheVariants as ends
+
+-- the status of a loop that ended so
+abbrev pub status_of_serving : ServeEnd → Status
+status_of_serving ends.Over = status.Done
+status_of_serving ends.Idle = status.Done
+status_of_serving ends.BindFault = status.BindFault
+status_of_serving ends.PollFault = status.PollFault
+status_of_serving ends.Memory = status.Memory
+
+-- the calls are those that the abstract agent's loop may make, up to the end that the status names
+abbrev pub ServesExactly : Setting → Status → Option (List Entry) → Option (List Entry) → Type 0
+-- the world told that nothing will become ready any more, or the loop was to end as soon as it is idle, and is
+ServesExactly setting status.Done old new =
+    RunsUpToPoll setting Unbound old new (Ok polled.Over) ⊎ RunsUntilIdle setting Unbound old new
+-- there is no schedule
+ServesExactly setting (status.ScheduleRefused line fault) old new = ⊥
+-- the words were those of `serve`
+ServesExactly setting status.Usage old new = ⊥
+-- the last call was a binding that failed
+ServesExactly setting status.BindFault old new = RunsUpToBind setting Unbound old new
+-- the last call was a poll that failed
+ServesExactly setting status.PollFault old new = RunsUpToPoll setting Unbound old new (Err fault.Failed)
+-- memory ran out after these calls
+ServesExactly setting status.Memory old new = RunsOut setting Unbound old new
+-- nothing is read
+ServesExactly setting status.ReadFault old new = ⊥
+-- nothing is written
+ServesExactly setting status.WriteFault old new = ⊥

@@ -1,0 +1,71 @@
+// The command `serve`.
+ghost use Rattle.std.specs.Prelude.{◌≡◌, ◌≤◌, ◌⊎◌, IfOk, true, false};
+ghost use Rattle.ready_loop.specs.Serving.{Serves, Setting, Unbound};
+ghost use Rattle.agent_top.specs.ServeProgram.{ServesExactly, status_of_serving};
+ghost use Rattle.agent_top.specs.Words.{BeginsServe, IsServe, texts_of};
+ghost use Rattle.serve_words.specs.Serve.{begins, is_usage};
+ghost use Rattle.world_ports.specs.Causes.{Rose};
+
+use crate::status::Status;
+use agent_core::{Agent, Settings};
+use ready_loop::{ServeEnd, serve};
+use serve_words::{ServeFault, read_serve};
+use std::alloc::Global;
+use std::sync::Wait;
+use world_ports::World;
+
+// The status of a loop that ended so.
+fn status_of_serving(end: ServeEnd) -> Status
+    ensures { result ≡ status_of_serving end }
+{
+    match end {
+        ServeEnd::Over => Status::Done,
+        ServeEnd::Idle => Status::Done,
+        ServeEnd::BindFault => Status::BindFault,
+        ServeEnd::PollFault => Status::PollFault,
+        ServeEnd::Memory => Status::Memory,
+    }
+}
+
+// Whether the first word is that of the command.
+fn begins_serve(words: &[String]) -> bool
+    ensures { result ≡ begins (texts_of words.now) }
+{
+    match words.first() {
+        Some(word) => word.as_str() == "serve",
+        None => false,
+    }
+}
+
+// Serves clients over the world, where the words are those of the command.
+pub fn serve_by<R: Wait, W: World>(
+    rt: &R,
+    alloc: Global,
+    words: &[String],
+    world: &mut W,
+) -> Status
+    requires { W.last_port world.old ≡ 0 }
+    ensures serves { (setting : Setting) → IsServe words.now setting
+        → ServesExactly setting result (W.journal world.old) (W.journal world.new) }
+    ensures usage { result ≡ Status.Usage → is_usage (texts_of words.now) ≡ true }
+    ensures refused { is_usage (texts_of words.now) ≡ true
+        → ((result ≡ Status.Usage) ⊎ ((result ≡ Status.Memory) × BeginsServe words.now)) × (world.new ≡ world.old) }
+    ensures bind { result ≡ Status.BindFault → Rose (W.faults world.old) (W.faults world.new) }
+    ensures poll { result ≡ Status.PollFault → Rose (W.faults world.old) (W.faults world.new) }
+    ensures later { W.faults world.old ≤ W.faults world.new }
+{
+    if !begins_serve(words) {
+        return Status::Usage;
+    }
+    let served = match read_serve(alloc, words) {
+        Ok(served) => served,
+        Err(ServeFault::Usage) => return Status::Usage,
+        Err(ServeFault::Memory) => return Status::Memory,
+    };
+    let settings = Settings {
+        default_life: served.life,
+    };
+    let mut agent = Agent::new(alloc, settings);
+    let path = served.path.as_str();
+    status_of_serving(serve(rt, alloc, &mut agent, world, path, served.until_idle))
+}
