@@ -16,4 +16,4 @@ returns-in-Some-Children-2-clause-value c =
     let number = c.args.number in
     let ports = c.args.ports.now.ports in
     let linked = ap (is_linked_to number) (sym c.link_state.ensures.value) ∙ sym c.is_linked-is_helper.ensures ∙ c.if-is_helper.false in
-    sym (role-child (find_port number ports) number c.args.under_way.now _ (λ port there. found_number number ports port there) c.link_state.ensures.alone.confirmations (sym c.door.ensures ∙ c.in-Some-Children-2.is ∙ ap (λ d. Some d) c.in-Some-Children-2.field-0-is) linked)
+    sym (role-child (find_port number ports) number c.args.under_way.now _ (λ port there. found_number number ports port there) c.link_state.ensures.alone.confirmations (sym c.door.ensures ∙ c.in-Some-Children.is ∙ ap (λ d. Some d) c.in-Some-Children.field-0-is) linked)

@@ -1,7 +1,8 @@
 use Rattle.std.proofs.Common.{◌≡◌, ◌∙◌, ◌≤◌, ℕ, List, [], Some, length, refl, ap, sym}
 use Rattle.std.specs.Option.{option_map}
-use Rattle.agent_model.specs.State.{Client, Helper, Port, find_port}
+use Rattle.agent_model.specs.State.{Client, Helper, Port, State, find_port}
 use Rattle.agent_model.specs.Step.{took_some}
+use Rattle.agent_model.proofs.ClosesLemmas.{gone-none}
 use Rattle.agent_model.proofs.PortsLemmas.{numbers-change_port}
 use Rattle.agent_core.specs.Roles.{role_word}
 use Rattle.agent_core.specs.Slots.{owed_in}
@@ -49,3 +50,8 @@ returns-in-Some-Helper-clause-state c =
     let is = sym c.role_at.ensures.value ∙ ap (option_map role_word) c.in-Some-Helper.is ∙ ap (λ r. Some (role_word r)) c.in-Some-Helper.field-0-is in
     rw (← c.self.view_is) (λ (closes : List ℕ).
     agent_pays c.self.inside.wall c.self.inside.keys c.self.inside.under_way c.helper_took.new.self c.self.inside.ports closes c.args.port c.args.count is c.helper_took.ensures)
+
+pub returns-in-Some-Helper-clause-closes : goal.returns-in-Some-Helper-clause-closes
+returns-in-Some-Helper-clause-closes c =
+    let none = ap (λ (s : State). s.closes) c.self.view_is ∙ c.requires.closes in
+    rw (← c.self.view_is) (none ∙ sym (gone-none c.self.inside.ports.last c.self.inside.ports.ports c.self.inside.ports.ports refl))
