@@ -1,11 +1,10 @@
 -- Who is at a port, and what an event brings there.
-use Rattle.std.proofs.Common.{◌≡◌, ℕ, ◌+◌, ◌<◌, List, [], refl, ap, sym, ◌∙◌, Option, Some, None, IsSome, Bool, true, false, arith, ◌==◌, if◌then◌else◌}
+use Rattle.std.proofs.Common.{◌≡◌, ℕ, List, [], refl, ap, sym, ◌∙◌, Option, Some, None, IsSome, Bool, true, false, arith, ◌==◌, if◌then◌else◌}
 use Rattle.std.proofs.lemmas.Bool.Decides.{nat_tests}
 use Rattle.world_ports.specs.declared.Door.{Door}
 use Rattle.world_ports.specs.declared.Door.TheVariants.{Clients, Children}
 use Rattle.helper_link.specs.declared.state.LinkState.{LinkState}
 use Rattle.helper_link.specs.declared.state.LinkState.TheVariants as states
-use Rattle.agent_model.specs.Actions.{Outcome}
 use Rattle.agent_model.specs.Events.{Ended, Heard, Took}
 use Rattle.agent_model.specs.State.{Client, Helper, Port, Role, State, UnderWay, Unnamed, owed_as, owed_by, find_port, is_linked_to, role_by_helper, role_of}
 use Rattle.agent_model.specs.Step.{ended_at, ended_by_role, handle, heard_at, heard_by_role, took_at, took_by_role}

@@ -1,10 +1,9 @@
 -- A signature that the helper sent fits a reply, since it came in a frame.
-use Rattle.std.proofs.Common.{◌≡◌, ℕ, ◌+◌, ◌≤◌, ◌<◌, List, [], ◌∷◌, ◌++◌, length, take, drop, nat_lt, refl, subst, ap, sym, ◌∙◌, Option, Some, None, Result, Ok, Err, Bool, true, false, arith, All, if◌then◌else◌, ◌==◌}
+use Rattle.std.proofs.Common.{◌≡◌, ℕ, ◌+◌, ◌≤◌, List, [], ◌∷◌, ◌++◌, length, refl, subst, ap, Option, Some, None, Result, Ok, Err, Bool, true, false, arith, All, if◌then◌else◌, ◌==◌}
 use Rattle.std.proofs.lemmas.Bool.Decides.{nat_tests}
 use Rattle.std.proofs.lemmas.List.{length-take, length-drop}
 use Rattle.std.proofs.lemmas.List.Elements.{All-head, All-tail}
 use Rattle.std.specs.Result.{result_map_both}
-use Rattle.wire_text.specs.Wire.{announced_len}
 use Rattle.wire_text.specs.Frames.{Front, Whole, Bad, More, IsBody, front, split}
 use Rattle.wire_text.proofs.SplitLemmas.{All-IsBody-split}
 use Rattle.wire_core.specs.Fields.{string_at, string_len, uint64_at}

@@ -1,4 +1,4 @@
-use Rattle.std.proofs.Common.{◌≡◌, ◌∙◌, ℕ, List, [], Some, ap, refl, sym}
+use Rattle.std.proofs.Common.{◌≡◌, ◌∙◌, ℕ, List, [], Some, ap, refl}
 use Rattle.wire_text.specs.Frames.{Bad, More, Whole}
 use Rattle.agent_model.specs.Children.{heard_more}
 use Rattle.agent_model.specs.KeyStates.{KeyState}

@@ -1,4 +1,4 @@
-use Rattle.std.proofs.Common.{◌≡◌, ◌∙◌, Some, ap, sym}
+use Rattle.std.proofs.Common.{◌∙◌, Some, ap, sym}
 use Rattle.agent_model.specs.State.{find_port, is_linked_to}
 use Rattle.agent_model.proofs.PortsLemmas.{found_number}
 use Rattle.agent_core.proofs.RoleLemmas.{role-child}

@@ -1,8 +1,7 @@
-use Rattle.std.proofs.Common.{◌≡◌, ◌∙◌, ℕ, List, [], ap, inl, inr, sym, Some}
+use Rattle.std.proofs.Common.{◌∙◌, ℕ, List, ap, inl, inr, sym, Some}
 use Rattle.std.specs.Option.{option_map}
-use Rattle.agent_model.specs.State.{State}
 use Rattle.agent_core.specs.Roles.{role_word}
-use Rattle.agent_core.proofs.AgentLemmas.{agent_ends, agent_linked, agent_loses, closes_one}
+use Rattle.agent_core.proofs.AgentLemmas.{agent_ends, agent_linked, agent_loses}
 use Rattle.agent_core.proofs.HeldLemmas.{after_ok}
 use Rattle.agent_core.proofs.parts.Parts.end.Goals as goal
 

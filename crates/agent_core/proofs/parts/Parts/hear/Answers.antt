@@ -1,4 +1,4 @@
-use Rattle.std.proofs.Common.{◌≡◌, ◌∙◌, ℕ, List, [], refl, ap, sym, subst, Some}
+use Rattle.std.proofs.Common.{◌≡◌, ◌∙◌, ℕ, List, ap, sym, subst, Some}
 use Rattle.std.specs.Option.{option_map}
 use Rattle.agent_model.specs.State.{Client, Helper, State, Unnamed, find_port}
 use Rattle.agent_core.specs.Parts.{state_of, with_closes}

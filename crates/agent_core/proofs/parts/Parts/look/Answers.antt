@@ -2,7 +2,7 @@ use Rattle.std.proofs.Common.{◌≡◌, ◌∙◌, ℕ, List, [], ap, refl, sym
 use Rattle.agent_model.specs.State.{State, find_port}
 use Rattle.agent_model.proofs.ClosesLemmas.{gone-none}
 use Rattle.agent_model.proofs.PortsLemmas.{numbers-change_port}
-use Rattle.agent_core.proofs.AgentLemmas.{agent_closed, agent_served, agent_waits, bad_port, whole_port}
+use Rattle.agent_core.proofs.AgentLemmas.{agent_closed, agent_served, bad_port, whole_port}
 use Rattle.agent_core.proofs.HeldLemmas.{after_ok, all_ok}
 use Rattle.agent_core.proofs.HelperLemmas.{closes_same}
 use Rattle.agent_core.proofs.parts.Parts.look.Goals as goal

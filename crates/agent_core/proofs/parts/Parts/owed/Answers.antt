@@ -2,7 +2,7 @@ use Rattle.std.proofs.Common.{◌∙◌, Some, ap, sym}
 use Rattle.std.specs.Option.{option_map}
 use Rattle.agent_model.specs.State.{find_port}
 use Rattle.agent_core.specs.Roles.{role_word}
-use Rattle.agent_core.proofs.RoleLemmas.{owed-client, owed-helper, owed-none, owed-unnamed}
+use Rattle.agent_core.proofs.RoleLemmas.{owed-client, owed-helper}
 use Rattle.agent_core.proofs.parts.Parts.owed.Goals as goal
 
 pub returns-in-Some-Client : goal.returns-in-Some-Client

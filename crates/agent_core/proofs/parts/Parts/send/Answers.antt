@@ -1,6 +1,6 @@
-use Rattle.std.proofs.Common.{◌≡◌, ◌∙◌, ◌≤◌, ℕ, List, [], Some, length, refl, ap, sym}
+use Rattle.std.proofs.Common.{◌≡◌, ◌∙◌, ℕ, List, Some, refl, ap, sym}
 use Rattle.std.specs.Option.{option_map}
-use Rattle.agent_model.specs.State.{Client, Helper, Port, State, find_port}
+use Rattle.agent_model.specs.State.{Client, Port, State, find_port}
 use Rattle.agent_model.specs.Step.{took_some}
 use Rattle.agent_model.proofs.ClosesLemmas.{gone-none}
 use Rattle.agent_model.proofs.PortsLemmas.{numbers-change_port}

@@ -1,4 +1,4 @@
-use Rattle.std.proofs.Common.{◌≡◌, ◌∙◌, ap, Some, sym}
+use Rattle.std.proofs.Common.{◌≡◌, ◌∙◌, ap, Some}
 use Rattle.agent_model.specs.Children.{unheard}
 use Rattle.agent_model.specs.State.{Port, find_port}
 use Rattle.agent_core.specs.Slots.{OpenPorts, port_of, ports_of}
