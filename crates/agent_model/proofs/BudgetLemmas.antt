@@ -5,7 +5,7 @@ use Rattle.std.proofs.lemmas.Bool.Decides.{nat_tests}
 use Rattle.world_ports.specs.declared.Door.{Door}
 use Rattle.world_ports.specs.declared.Door.TheVariants.{Clients, Children}
 use Rattle.world_ports.specs.declared.events.Moment.{Moment}
-use Rattle.wire_text.specs.Frames.{Front, front, front_body, Whole, Bad, More}
+use Rattle.wire_text.specs.Frames.{Front, front_body, Whole, Bad, More}
 use Rattle.wire_text.proofs.FrontLemmas.{front_says}
 use Rattle.agent_model.specs.Actions.{Outcome}
 use Rattle.agent_model.specs.Budget.{asking_bytes, budget, port_budget, ports_budget}
@@ -20,12 +20,13 @@ use Rattle.agent_model.specs.Verdicts.{tell}
 use Rattle.agent_msg.specs.Reading.{request_of}
 use Rattle.agent_model.proofs.ClientLemmas.{handle-took, looked-bad, looked-stays, looked-whole, served_at}
 use Rattle.agent_model.proofs.GrowLemmas.{AsksMore, asks_more}
+use Rattle.agent_model.proofs.NumberLemmas.{step-grows}
+use Rattle.agent_model.proofs.ServeLemmas.{serve-ends}
 use Rattle.agent_model.proofs.PortsLemmas.{rising-change_port}
 use Rattle.agent_model.specs.Sound.{IsRising, IsSteady}
-use Rattle.agent_model.specs.State.{Client, Confirmer, Helper, Role, Unnamed, is_linked_to, role_by_helper, role_by_link}
-use Rattle.agent_model.specs.Step.{look_front, look_owed, look_port, look_waits}
+use Rattle.agent_model.specs.State.{Helper, Role, is_linked_to, role_by_helper, role_by_link}
 use Rattle.helper_link.specs.HelperLink.{sendable, sent}
-use Rattle.confirm_desk.specs.Confirmations.{Confirmation, find_linked, took}
+use Rattle.confirm_desk.specs.Confirmations.{Confirmation, find_linked}
 use Rattle.helper_link.specs.declared.state.LinkState.{LinkState}
 use Rattle.helper_link.specs.declared.state.LinkState.TheVariants as states
 use Rattle.std.proofs.lemmas.Bool.{cases_eq}
@@ -175,7 +176,7 @@ look_lowers : (number : ℕ) (port : Port) (state : State) (at : Front) → IsRi
 look_lowers number port state (Whole body_len) rising door found is =
     let served : Served = served_at body_len port state in
     let f : Port → Port = λ p. tell served.work.verdict (take_frame body_len (attempts state.held.lock (front_body body_len port.heard)) p) in
-    let more = asks_more (request_of (front_body body_len port.heard)) (asker_at state.moment port) state.held state.under_way in
+    let more = asks_more (serve-ends (asker_at state.moment port) state.held state.under_way (request_of (front_body body_len port.heard))) in
     let after : budget (looked number state).state ≡ ports_budget served.work.under_way (change_port number f state.ports) = ap budget (looked-whole number body_len port state found is) in
     let changed_rising = rising-change_port number 0 state.last_port f state.ports (λ p. refl) rising in
     let added = adds_helpers (change_port number f state.ports) state.under_way served.work.under_way more in
@@ -318,38 +319,6 @@ by_door Children number port moment state steady door found some =
 pub taking_lowers : (number : ℕ) (port : Port) (moment : Moment) (state : State) → IsSteady state → find_port number state.ports ≡ Some port → is_some_bytes (owed_by_port port state.under_way) ≡ true → budget (step state moment (Took number (length (owed_of number state)))).state < budget state
 taking_lowers number port moment state steady found some = by_door port.door number port moment state steady refl found some
 
--- ---- no confirmation is waited for
-
-alone_front : (answer : Front) (port : Port) (state : State) → state.under_way.confirmations ≡ [] → (look_front answer port state).state.under_way.confirmations ≡ []
-alone_front (Whole body_len) port state alone =
-    (asks_more (request_of (front_body body_len port.heard)) (asker_at state.moment port) state.held state.under_way).alone alone
-alone_front (Bad announced) port state alone = alone
-alone_front More port state alone = alone
-
-alone_owed : (owed : List ℕ) (port : Port) (state : State) → state.under_way.confirmations ≡ [] → (look_owed owed port state).state.under_way.confirmations ≡ []
-alone_owed [] port state alone = alone_front (front longest_body port.heard) port state alone
-alone_owed (byte ∷ bytes) port state alone = alone
-
-alone_waits : (waits : Waits) (port : Port) (state : State) → state.under_way.confirmations ≡ [] → (look_waits waits port state).state.under_way.confirmations ≡ []
-alone_waits Nothing port state alone = alone_owed port.owed port state alone
-alone_waits (OnAsk ask) port state alone = alone
-alone_waits (OnConfirmation job) port state alone = alone
-
-alone_look : (found : Option Port) (state : State) → state.under_way.confirmations ≡ [] → (look_port found state).state.under_way.confirmations ≡ []
-alone_look None state alone = alone
-alone_look (Some port) state alone = alone_waits port.waits port state alone
-
-alone_role : (role : Role) (number count : ℕ) (state : State) → state.under_way.confirmations ≡ [] → (took_by_role role number count state).state.under_way.confirmations ≡ []
-alone_role Client number count state alone =
-    alone_look (find_port number (changed number (took_some count) state).ports) (changed number (took_some count) state) alone
-alone_role Unnamed number count state alone = alone
-alone_role Helper number count state alone = alone
-alone_role (Confirmer confirmation) number count state alone = ap (took confirmation.job count) alone
-
-alone_found : (found : Option Port) (count : ℕ) (state : State) → state.under_way.confirmations ≡ [] → (took_at found count state).state.under_way.confirmations ≡ []
-alone_found None count state alone = alone
-alone_found (Some port) count state alone = alone_role (role_of port.door port.number state.under_way) port.number count state alone
-
 -- a taking begins no confirmation
 pub taking_stays_alone : (number count : ℕ) (moment : Moment) (state : State) → state.under_way.confirmations ≡ [] → (step state moment (Took number count)).state.under_way.confirmations ≡ []
-taking_stays_alone number count moment state alone = alone_found (find_port number state.ports) count (at_moment moment state) alone
+taking_stays_alone number count moment state = (step-grows state moment (Took number count)).alone

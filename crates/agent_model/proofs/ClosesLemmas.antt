@@ -8,6 +8,7 @@ use Rattle.world_ports.specs.declared.Door.{Door}
 use Rattle.agent_model.specs.Sound.{IsRising}
 use Rattle.agent_model.specs.State.{Port, find_port, remove_port, numbers, new_port}
 use Rattle.agent_model.specs.NumberLists.{has, without}
+use Rattle.agent_model.proofs.PortsLemmas.{rising_bound}
 
 -- a number that isn't above the bound isn't there
 pub has-below : (number low high : ℕ) (ports : List Port) → number ≤ low → IsRising low high ports → has number (numbers ports) ≡ false
@@ -17,19 +18,12 @@ has-below number low high (port ∷ ports) below rising =
     let above : low < port.number = rising.0 in
     grind (arith, nat_tests)
 
--- the bound is no more than the last
-pub rising_below : (low high : ℕ) (ports : List Port) → IsRising low high ports → low ≤ high
-rising_below low high [] rising = rising
-rising_below low high (port ∷ ports) rising =
-    let rest : port.number ≤ high = rising_below port.number high ports rising.1 in
-    omega (arith, rising.0)
-
 -- a number above the last isn't there
 pub has-above : (number low high : ℕ) (ports : List Port) → high < number → IsRising low high ports → has number (numbers ports) ≡ false
 has-above number low high [] above rising = refl
 has-above number low high (port ∷ ports) above rising =
     let rest : has number (numbers ports) ≡ false = has-above number port.number high ports above rising.1 in
-    let below : port.number ≤ high = rising_below port.number high ports rising.1 in
+    let below : port.number ≤ high = rising_bound port.number high ports rising.1 in
     grind (arith, nat_tests)
 
 -- numbers that all stay aren't gone

@@ -1,8 +1,9 @@
 pub mod PortsLemmas
 pub mod ClosesLemmas
 pub mod HeldLemmas
+pub mod ServeLemmas
+pub mod MakeLemmas
 pub mod SecondLemmas
-pub mod IdleLemmas
 pub mod BoundLemmas
 pub mod ClientLemmas
 pub mod LeadLemmas
@@ -14,4 +15,10 @@ pub mod VerdictLemmas
 pub mod ToldLemmas
 pub mod PiecesLemmas
 pub mod PartsLemmas
+pub mod CutLemmas
+pub mod TieLemmas
+pub mod FateLemmas
+pub mod FatedLemmas
+pub mod OnceLemmas
+pub mod SignLemmas
 pub mod AnswerLemmas

@@ -1,7 +1,5 @@
 -- A piece of a client's bytes whose first part holds a whole request, or a bad length.
-use Rattle.std.proofs.Common.{◌≡◌, ℕ, ◌+◌, ◌-◌, ◌≤◌, List, [], ◌∷◌, ◌++◌, length, take, drop, refl, ap, arith, sym, ◌∙◌, Option, Some, None, inl, inr}
-use Rattle.std.proofs.lemmas.Bool.{cases_eq}
-use Rattle.std.proofs.lemmas.Bool.Decides.{nat_tests}
+use Rattle.std.proofs.Common.{◌≡◌, ℕ, ◌+◌, ◌-◌, ◌≤◌, List, [], ◌∷◌, ◌++◌, length, take, drop, refl, ap, arith, sym, ◌∙◌, Option, Some, None}
 use Rattle.std.proofs.lemmas.List.{append-nil, append_assoc, drop-append-le, length-drop, take-append-le}
 use Rattle.std.specs.Option.{IfSome, option_map}
 use Rattle.wire_text.specs.Frames.{Front, front, front_body, after_front, Whole, Bad, More}
@@ -21,9 +19,10 @@ use Rattle.agent_model.specs.State.{Nothing, OnAsk, OnConfirmation, Port, State,
 use Rattle.agent_model.specs.Step.{step, asker_at, at_moment, attempts, handle, heard_at, take_frame, taken}
 use Rattle.agent_model.specs.Verdicts.{tell, verdict_text}
 use Rattle.agent_model.proofs.ClientLemmas.{handle-heard, looked-found}
-use Rattle.agent_model.proofs.PortsLemmas.{change_port-by, change_port-twice, find_port-below, find_port-change_port, found_number, remove_port-change_port}
+use Rattle.agent_model.proofs.PortsLemmas.{change_port-by, change_port-twice, find_port-change_port, find_port-remove_port, found_number, remove_port-change_port}
 use Rattle.agent_model.proofs.RunLemmas.{at_moment-twice}
-use Rattle.agent_model.proofs.ToldLemmas.{told-serve, told_more}
+use Rattle.agent_model.proofs.ServeLemmas.{serve-ends}
+use Rattle.agent_model.proofs.ToldLemmas.{told_more}
 use Rattle.agent_model.proofs.PiecesLemmas.{Agree, after_nothing, found_more}
 
 -- ---- the first part holds a whole request
@@ -85,7 +84,7 @@ after_request moment state closes number a b port body_len found door waits owed
     find_port-change_port number gave state.ports (λ p. refl) ∙ ap (option_map gave) found in
     let still : due (heard_more b (gave port)) ≡ More =
     ap (λ (bytes : List ℕ). due_at (gave port).waits (bytes ++ verdict_text served.work.verdict) ((gave port).heard ++ b)) owed
-    ∙ told_more served.work.verdict ((gave port).heard ++ b) (told-serve (request_of body) (asker_at state.moment port) state.held state.under_way) in
+    ∙ told_more (serve-ends (asker_at state.moment port) state.held state.under_way (request_of body)) ((gave port).heard ++ b) in
     let second : handle (Heard number b) next ≡ stay (changed number (heard_more b) next) =
     handle-heard number b (gave port) next there door
     ∙ looked-found number (heard_more b (gave port)) (changed number (heard_more b) next) More (found_more number b next.ports (gave port) there) still in
@@ -123,18 +122,6 @@ after_request moment state closes number a b port body_len found door waits owed
     }
 
 -- ---- the first part holds a bad length
-
--- a port that was removed isn't there any more
-find_port-remove_port : (number low high : ℕ) (ports : List Port) → IsRising low high ports → find_port number (remove_port number ports) ≡ None
-find_port-remove_port number low high [] rising = refl
-find_port-remove_port number low high (port ∷ ports) rising = elim (cases_eq number port.number) [
-  | inl here ↦
-      (let gone : find_port number ports ≡ None = find_port-below number port.number high ports (omega (arith, here)) rising.1 in
-      grind (arith, nat_tests))
-  | inr apart ↦
-      (let rest : find_port number (remove_port number ports) ≡ None = find_port-remove_port number port.number high ports rising.1 in
-      grind (arith, nat_tests))
-]
 
 after_bad : (moment : Moment) (state : State) (closes : List ℕ) (number last : ℕ) (a b : List ℕ) (port : Port) (announced : ℕ) → IsRising 0 last state.ports → find_port number state.ports ≡ Some port → port.door ≡ Clients → port.waits ≡ Nothing → port.owed ≡ [] → front longest_body (port.heard ++ a) ≡ Bad announced →
     Agree moment (handle (Heard number (a ++ b)) state) (handle (Heard number a) state)

@@ -1,5 +1,5 @@
 -- Lemmas on lists of ports whose numbers rise.
-use Rattle.std.proofs.Common.{◌≡◌, ℕ, ◌<◌, ◌≤◌, List, [], ◌∷◌, ◌++◌, refl, ap, arith, sym, ◌∙◌, Some, None, subst, inl, inr}
+use Rattle.std.proofs.Common.{◌≡◌, ◌≢◌, ℕ, ◌<◌, ◌≤◌, List, [], ◌∷◌, ◌++◌, refl, ap, arith, sym, ◌∙◌, Some, None, subst, inl, inr}
 use Rattle.std.proofs.lemmas.Bool.{cases_eq}
 use Rattle.std.proofs.lemmas.Bool.Decides.{nat_tests}
 use Rattle.std.specs.Option.{option_map}
@@ -15,6 +15,11 @@ rising_lower low lower high (port ∷ ports) below rising = (omega (arith, risin
 pub rising_higher : (low high higher : ℕ) (ports : List Port) → high ≤ higher → IsRising low high ports → IsRising low higher ports
 rising_higher low high higher [] above rising = omega arith
 rising_higher low high higher (port ∷ ports) above rising = (rising.0, rising_higher port.number high higher ports above rising.1)
+
+-- the bound is no more than the last
+pub rising_bound : (low high : ℕ) (ports : List Port) → IsRising low high ports → low ≤ high
+rising_bound low high [] rising = rising
+rising_bound low high (port ∷ ports) rising = omega (arith, rising.0, rising_bound port.number high ports rising.1)
 
 -- a port with a lower number isn't there
 pub find_port-below : (number low high : ℕ) (ports : List Port) → number ≤ low → IsRising low high ports → find_port number ports ≡ None
@@ -115,6 +120,14 @@ found_above number low high (other ∷ ports) port rising found = elim (cases_eq
       omega (arith, rising.0))
 ]
 
+-- and none above the last
+pub found_within : (number low high : ℕ) (ports : List Port) (port : Port) → IsRising low high ports → find_port number ports ≡ Some port → number ≤ high
+found_within number low high [] port rising found = absurd (cc)
+found_within number low high (other ∷ ports) port rising found = elim (cases_eq number other.number) [
+  | inl here ↦ omega (arith, here, rising_bound other.number high ports rising.1)
+  | inr apart ↦ found_within number other.number high ports port rising.1 (grind (arith, nat_tests))
+]
+
 -- a port that is removed may be changed before
 pub remove_port-change_port : (number : ℕ) (f : Port → Port) (ports : List Port) → ((port : Port) → (f port).number ≡ port.number) → remove_port number (change_port number f ports) ≡ remove_port number ports
 remove_port-change_port number f [] keeps = refl
@@ -141,4 +154,28 @@ find_port-remove_port number low high (port ∷ ports) rising = elim (cases_eq n
   | inr apart ↦
       (let rest : find_port number (remove_port number ports) ≡ None = find_port-remove_port number port.number high ports rising.1 in
       grind (arith, nat_tests))
+]
+
+-- a change of another port leaves this one
+pub find_port-apart : (number other : ℕ) (f : Port → Port) (ports : List Port) → ((p : Port) → (f p).number ≡ p.number) → number ≢ other → find_port number (change_port other f ports) ≡ find_port number ports
+find_port-apart number other f [] keeps apart = refl
+find_port-apart number other f (port ∷ ports) keeps apart =
+    let rest : find_port number (change_port other f ports) ≡ find_port number ports = find_port-apart number other f ports keeps apart in
+    let same : (f port).number ≡ port.number = keeps port in
+    grind (arith, nat_tests)
+
+-- and so does its removal
+pub find_port-removed_apart : (number other : ℕ) (ports : List Port) → number ≢ other → find_port number (remove_port other ports) ≡ find_port number ports
+find_port-removed_apart number other [] apart = refl
+find_port-removed_apart number other (port ∷ ports) apart =
+    let rest : find_port number (remove_port other ports) ≡ find_port number ports = find_port-removed_apart number other ports apart in
+    grind (arith, nat_tests)
+
+-- a port that is found after a removal was there
+pub find_port-left : (number other low high : ℕ) (ports : List Port) (port : Port) → IsRising low high ports → find_port number (remove_port other ports) ≡ Some port → find_port number ports ≡ Some port
+find_port-left number other low high ports port rising found = elim (cases_eq number other) [
+  | inl same ↦
+      (let gone : None ≡ Some port = sym (find_port-remove_port other low high ports rising) ∙ ap (λ n. find_port n (remove_port other ports)) (sym same) ∙ found in
+      absurd (cc))
+  | inr apart ↦ sym (find_port-removed_apart number other ports apart) ∙ found
 ]

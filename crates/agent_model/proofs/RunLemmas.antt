@@ -1,5 +1,5 @@
 -- Lemmas on events one after another.
-use Rattle.std.proofs.Common.{◌≡◌, ℕ, suc, ◌^◌, ◌<◌, ◌≤◌, List, [], ◌∷◌, ◌++◌, refl, ap, arith, ◌∙◌, max, Option, None, Bool, true, false}
+use Rattle.std.proofs.Common.{◌≡◌, ℕ, suc, ◌^◌, ◌<◌, ◌≤◌, List, [], ◌∷◌, ◌++◌, refl, ap, arith, ◌∙◌, max, Option, Some, None, Bool, true, false}
 use Rattle.std.proofs.Math.Nat.{max-eq_left, le-max_right}
 use Rattle.std.proofs.lemmas.Bool.Decides.{nat_tests}
 use Rattle.world_ports.specs.declared.Moment.{Moment}
@@ -10,14 +10,16 @@ use Rattle.agent_model.specs.KeyStates.{expired}
 use Rattle.agent_model.specs.Runs.{AllFit, run}
 use Rattle.agent_model.specs.Sound.{IsRising, IsSound}
 use Rattle.agent_model.specs.State.{Fits, Port, State, UnderWay, change_port, client_count, find_port, first_state, is_client, new_port, remove_port}
-use Rattle.agent_model.specs.Step.{admitted, at_moment, has_room, step}
+use Rattle.agent_model.specs.Step.{admitted, at_moment, handle, has_room, joined, step}
 use Rattle.agent_model.specs.Answers.{close_helper, lose}
 use Rattle.agent_model.specs.Verdicts.{HelperLost, Refuses}
 use Rattle.helper_link.specs.HelperLink.{askers}
 use Rattle.helper_link.specs.declared.state.LinkState.TheVariants as states
 use Rattle.agent_model.proofs.HeldLemmas.{expired-twice}
-use Rattle.agent_model.proofs.LeadLemmas.{Follows, Leads, changes, follows-handle, follows-same, leads-tell_each, removes, stays}
-use Rattle.agent_model.proofs.PortsLemmas.{find_port-remove_port, rising-append, rising-change_port, rising-remove_port, rising_higher}
+use Rattle.agent_model.proofs.LeadLemmas.{Follows, Leads, changes, follows-makes, leads-tell_each, removes, same}
+use Rattle.agent_model.proofs.TieLemmas.{IsOf, apart, found_after, here}
+use Rattle.agent_model.proofs.MakeLemmas.{by_event, makes-handle}
+use Rattle.agent_model.proofs.PortsLemmas.{find_port-left, find_port-remove_port, rising-append, rising-change_port, rising-remove_port, rising_higher}
 
 -- a moment that was taken in is not taken in again
 pub at_moment-twice : (state : State) (moment : Moment) → at_moment moment (at_moment moment state) ≡ at_moment moment state
@@ -31,7 +33,7 @@ at_moment-twice state moment =
 
 -- the numbers rise
 pub leads-rising : (low high : ℕ) (old : List Port) {new : List Port} → Leads old new → IsRising low high old → IsRising low high new
-leads-rising low high old stays rising = rising
+leads-rising low high old same rising = rising
 leads-rising low high old (changes number f ports keeps door leads) rising =
     rising-change_port number low high f ports keeps (leads-rising low high old leads rising)
 leads-rising low high old (removes number ports leads) rising =
@@ -52,7 +54,7 @@ count-remove_port number (port ∷ ports) =
 
 -- no more clients are open
 pub leads-few : (old : List Port) {new : List Port} → Leads old new → client_count new ≤ client_count old
-leads-few old stays = omega arith
+leads-few old same = omega arith
 leads-few old (changes number f ports keeps door leads) = omega (arith, count-change_port number f ports door, leads-few old leads)
 leads-few old (removes number ports leads) = omega (arith, count-remove_port number ports, leads-few old leads)
 
@@ -67,25 +69,46 @@ find_port-changed : (number other : ℕ) (f : Port → Port) (ports : List Port)
 find_port-changed number other f [] keeps absent = refl
 find_port-changed number other f (port ∷ ports) keeps absent =
     let later : find_port number ports ≡ None = grind (arith, nat_tests) in
-    let same : (f port).number ≡ port.number = keeps port in
+    let keep : (f port).number ≡ port.number = keeps port in
     let rest : find_port number (change_port other f ports) ≡ None = find_port-changed number other f ports keeps later in
     grind (arith, nat_tests)
 
 -- a port that isn't there stays away
 pub leads-absent : (number : ℕ) (old : List Port) {new : List Port} → Leads old new → find_port number old ≡ None → find_port number new ≡ None
-leads-absent number old stays absent = absent
+leads-absent number old same absent = absent
 leads-absent number old (changes other f ports keeps door leads) absent =
     find_port-changed number other f ports keeps (leads-absent number old leads absent)
 leads-absent number old (removes other ports leads) absent =
     find_port-removed number other ports (leads-absent number old leads absent)
+
+-- a port that is open afterwards was open before, and has its door
+pub leads-found : (number low high : ℕ) (old : List Port) {new : List Port} (port : Port) → Leads old new → IsRising low high old → find_port number new ≡ Some port → (was : Port) × (find_port number old ≡ Some was) × (port.door ≡ was.door)
+leads-found number low high old port same rising found = (port, found, refl)
+leads-found number low high old port (changes other f ports keeps doors leads) rising found =
+    by_port (λ before. leads-found number low high old before leads rising) (found_after number other f ports port keeps found)
+  where
+    by_port : ((before : Port) → find_port number ports ≡ Some before → (was : Port) × (find_port number old ≡ Some was) × (before.door ≡ was.door)) → IsOf number other f ports port → (was : Port) × (find_port number old ≡ Some was) × (port.door ≡ was.door)
+    by_port earlier (here before at was is) =
+        let first = earlier before was in
+        (first.0, first.1, ap (λ (p : Port). p.door) is ∙ doors before ∙ first.2)
+    by_port earlier (apart at was) = earlier port was
+leads-found number low high old port (removes other ports leads) rising found =
+    leads-found number low high old port leads rising (find_port-left number other low high ports port (leads-rising low high old leads rising) found)
 
 -- ---- a step
 
 -- what every event but a joining leaves of the ports
 step-follows : (state : State) (moment : Moment) (event : Happening) → ((door : Door) → event ≡ Joined door → ⊥) → Follows (at_moment moment state) (step state moment event).state
 step-follows state moment event other =
-    let follows = follows-handle (at_moment moment state) (at_moment moment state) event other (follows-same (at_moment moment state)) in
+    let opened : State = at_moment moment state in
+    let follows = follows-makes event opened (makes-handle event opened other) record { last = refl; ports = same } in
     record { last = follows.last; ports = follows.ports }
+
+-- the same with a joining, for what holds of the ports
+by_ports : (P : State → Type 0) (event : Happening) (state : State) → ((door : Door) → P state → P (joined door state)) → ((new : State) → Follows state new → P state → P new) → P state → P (handle event state).state
+by_ports P event state joins keeps =
+    by_event (λ outcome. P state → P outcome.state) event state joins
+    (λ outcome makes. keeps outcome.state (follows-makes event state makes record { last = refl; ports = same }))
 
 -- the number of the last port after an event: one more where a port joined
 abbrev pub last_after : Happening → ℕ → ℕ
@@ -119,8 +142,7 @@ last_after-le Tick last = omega arith
 
 -- and where the event may come it fits 64 bits
 pub last_after-fits : (event : Happening) (state : State) → Fits event state → state.last_port < 2 ^ 64 → last_after event state.last_port < 2 ^ 64
-last_after-fits (Joined Clients) state fits below = omega (arith, fits)
-last_after-fits (Joined Children) state fits below = absurd fits
+last_after-fits (Joined door) state fits below = omega (arith, fits)
 last_after-fits (Heard port piece) state fits below = below
 last_after-fits (Ended port) state fits below = below
 last_after-fits (Took port count) state fits below = below
@@ -136,25 +158,11 @@ admitted-rising : (room : Bool) (last : ℕ) (door : Door) (ports : List Port) �
 admitted-rising true last door ports rising = rising-append 0 last (suc last) door ports (omega arith) rising
 admitted-rising false last door ports rising = rising_higher 0 last (suc last) ports (omega arith) rising
 
-by_follows : (state after : State) → Follows state after → IsNumbered state → IsNumbered after
-by_follows state after follows rising = rw follows.last (leads-rising 0 state.last_port state.ports follows.ports rising)
-
 -- every event keeps the numbers rising
 pub step_keeps-rising : (state : State) (moment : Moment) (event : Happening) → IsNumbered state → IsNumbered (step state moment event).state
-step_keeps-rising state moment (Joined door) rising =
-    admitted-rising (has_room door state.ports state.under_way) state.last_port door state.ports rising
-step_keeps-rising state moment (Heard port piece) rising =
-    by_follows (at_moment moment state) (step state moment (Heard port piece)).state (step-follows state moment (Heard port piece) (λ door is. cc)) rising
-step_keeps-rising state moment (Ended port) rising =
-    by_follows (at_moment moment state) (step state moment (Ended port)).state (step-follows state moment (Ended port) (λ door is. cc)) rising
-step_keeps-rising state moment (Took port count) rising =
-    by_follows (at_moment moment state) (step state moment (Took port count)).state (step-follows state moment (Took port count) (λ door is. cc)) rising
-step_keeps-rising state moment (Started job ticket) rising =
-    by_follows (at_moment moment state) (step state moment (Started job ticket)).state (step-follows state moment (Started job ticket) (λ door is. cc)) rising
-step_keeps-rising state moment (StartFailed job) rising =
-    by_follows (at_moment moment state) (step state moment (StartFailed job)).state (step-follows state moment (StartFailed job) (λ door is. cc)) rising
-step_keeps-rising state moment Tick rising =
-    by_follows (at_moment moment state) (step state moment Tick).state (step-follows state moment Tick (λ door is. cc)) rising
+step_keeps-rising state moment event =
+    by_ports IsNumbered event (at_moment moment state) (λ door. admitted-rising (has_room door state.ports state.under_way) state.last_port door state.ports)
+    (λ new follows rising. rw follows.last (leads-rising 0 state.last_port state.ports follows.ports rising))
 
 count-append : (number : ℕ) (door : Door) (ports : List Port) → client_count (ports ++ new_port number door ∷ []) ≤ suc (client_count ports)
 count-append number door [] = grind (arith, nat_tests)
@@ -175,19 +183,12 @@ admitted-few Clients true last ports under_way is few =
     omega (arith, count-append (suc last) Clients ports)
 admitted-few Children true last ports under_way is few = rw (count-append_child (suc last) ports) few
 
-by_few : (state after : State) → Follows state after → client_count state.ports ≤ 128 → client_count after.ports ≤ 128
-by_few state after follows few = omega (arith, leads-few state.ports follows.ports, few)
-
 -- every event keeps the clients few
 pub step_keeps-few : (state : State) (moment : Moment) (event : Happening) → client_count state.ports ≤ 128 → client_count (step state moment event).state.ports ≤ 128
-step_keeps-few state moment (Joined door) few =
-    admitted-few door (has_room door state.ports state.under_way) state.last_port state.ports state.under_way refl few
-step_keeps-few state moment (Heard port piece) few = by_few (at_moment moment state) _ (step-follows state moment (Heard port piece) (λ door is. cc)) few
-step_keeps-few state moment (Ended port) few = by_few (at_moment moment state) _ (step-follows state moment (Ended port) (λ door is. cc)) few
-step_keeps-few state moment (Took port count) few = by_few (at_moment moment state) _ (step-follows state moment (Took port count) (λ door is. cc)) few
-step_keeps-few state moment (Started job ticket) few = by_few (at_moment moment state) _ (step-follows state moment (Started job ticket) (λ door is. cc)) few
-step_keeps-few state moment (StartFailed job) few = by_few (at_moment moment state) _ (step-follows state moment (StartFailed job) (λ door is. cc)) few
-step_keeps-few state moment Tick few = by_few (at_moment moment state) _ (step-follows state moment Tick (λ door is. cc)) few
+step_keeps-few state moment event =
+    by_ports (λ s. client_count s.ports ≤ 128) event (at_moment moment state)
+    (λ door. admitted-few door (has_room door state.ports state.under_way) state.last_port state.ports state.under_way refl)
+    (λ new follows few. omega (arith, leads-few state.ports follows.ports, few))
 
 -- every event leaves a sound state
 pub step_keeps-sound : (state : State) (moment : Moment) (event : Happening) → IsSound state → IsSound (step state moment event).state
@@ -207,19 +208,12 @@ find_port-admitted : (room : Bool) (number other : ℕ) (door : Door) (ports : L
 find_port-admitted true number other door ports below absent = find_port-joined number other door ports below absent
 find_port-admitted false number other door ports below absent = absent
 
-by_absent : (number : ℕ) (state after : State) → Follows state after → find_port number state.ports ≡ None → find_port number after.ports ≡ None
-by_absent number state after follows absent = leads-absent number state.ports follows.ports absent
-
 -- a number that was given out and isn't open stays unused
 pub step-unused : (state : State) (moment : Moment) (event : Happening) (number : ℕ) → number ≤ state.last_port → find_port number state.ports ≡ None → find_port number (step state moment event).state.ports ≡ None
-step-unused state moment (Joined door) number below absent =
-    find_port-admitted (has_room door state.ports state.under_way) number (suc state.last_port) door state.ports (omega arith) absent
-step-unused state moment (Heard port piece) number below absent = by_absent number (at_moment moment state) _ (step-follows state moment (Heard port piece) (λ door is. cc)) absent
-step-unused state moment (Ended port) number below absent = by_absent number (at_moment moment state) _ (step-follows state moment (Ended port) (λ door is. cc)) absent
-step-unused state moment (Took port count) number below absent = by_absent number (at_moment moment state) _ (step-follows state moment (Took port count) (λ door is. cc)) absent
-step-unused state moment (Started job ticket) number below absent = by_absent number (at_moment moment state) _ (step-follows state moment (Started job ticket) (λ door is. cc)) absent
-step-unused state moment (StartFailed job) number below absent = by_absent number (at_moment moment state) _ (step-follows state moment (StartFailed job) (λ door is. cc)) absent
-step-unused state moment Tick number below absent = by_absent number (at_moment moment state) _ (step-follows state moment Tick (λ door is. cc)) absent
+step-unused state moment event number below =
+    by_ports (λ s. find_port number s.ports ≡ None) event (at_moment moment state)
+    (λ door. find_port-admitted (has_room door state.ports state.under_way) number (suc state.last_port) door state.ports (omega arith))
+    (λ new follows. leads-absent number state.ports follows.ports)
 
 -- ---- runs
 
@@ -268,4 +262,4 @@ lost-closed state port rising linked =
     let gone : find_port port (close_helper state.under_way.link.state state.ports) ≡ None =
     ap (find_port port) closes ∙ find_port-remove_port port 0 state.last_port state.ports rising in
     let ports : List Port = close_helper state.under_way.link.state state.ports in
-    leads-absent port ports (leads-tell_each ports (Refuses HelperLost) (askers state.under_way.link.asks) ports stays) gone
+    leads-absent port ports (leads-tell_each ports (Refuses HelperLost) (askers state.under_way.link.asks) ports same) gone

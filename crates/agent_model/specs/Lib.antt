@@ -15,4 +15,7 @@ pub mod Runs
 pub mod Looks
 pub mod Budget
 pub mod Rows
+pub mod ChildRows
 pub mod Sound
+pub mod Fates
+pub mod Askable

@@ -1,8 +1,14 @@
 -- What holds of every state that events lead to: the ports' numbers rise, and not too many are open.
-use Rattle.std.specs.Prelude.{◌≡◌, ℕ, ◌<◌, ◌≤◌, List, [], ◌∷◌}
+use Rattle.std.specs.Prelude.{◌≡◌, ℕ, ◌<◌, ◌≤◌, List, [], ◌∷◌, Some}
 use Rattle.std.specs.Option.{IfSome}
-use Rattle.world_ports.specs.declared.Door.TheVariants.{Clients}
-use Rattle.agent_model.specs.State.{Port, State, client_count, find_port}
+use Rattle.world_ports.specs.declared.Door.TheVariants.{Clients, Children}
+use Rattle.helper_link.specs.HelperLink.{ask_of}
+use Rattle.helper_link.specs.Settling.{find_ask}
+use Rattle.helper_link.specs.Sound.{RiseTo}
+use Rattle.helper_link.specs.declared.ask.Ask.{Ask}
+use Rattle.helper_link.specs.declared.ask.AskKind.{AskKind}
+use Rattle.helper_link.specs.declared.state.LinkState.TheVariants as states
+use Rattle.agent_model.specs.State.{OnAsk, Port, State, client_count, find_port}
 
 -- the numbers rise, each above `low` and none above `high`; so they are distinct, and the last one bounds them
 abbrev pub IsRising : ℕ → ℕ → List Port → Type 0
@@ -21,4 +27,31 @@ pub record IsSound (state : State) : Type 0 where
 -- the numbers of the open ports rise up to the last one, and no confirmation is waited for
 pub record IsSteady (state : State) : Type 0 where
   pub rising : IsRising 0 state.last_port state.ports
+  pub alone : state.under_way.confirmations ≡ []
+
+-- ---- who waits for the helper
+
+-- the client of this port put this ask, which is unanswered, and is owed nothing
+pub record IsWaiting (number ask : ℕ) (port : Port) (asks : List Ask) : Type 0 where
+  pub kind : AskKind
+  pub unanswered : find_ask ask asks ≡ Some (ask_of ask number kind)
+  pub owed : port.owed ≡ []
+  pub door : port.door ≡ Clients
+
+-- whoever waits for an ask put it, and it is unanswered; and whoever an unanswered ask is for waits for it, where its
+-- port is open
+pub record AreTied (ports : List Port) (pending : List Ask) : Type 0 where
+  pub waits : (number ask : ℕ) (port : Port) → find_port number ports ≡ Some port → port.waits ≡ OnAsk ask → IsWaiting number ask port pending
+  pub asks : (ask : ℕ) (one : Ask) (port : Port) → find_ask ask pending ≡ Some one → find_port one.asker ports ≡ Some port → port.waits ≡ OnAsk ask
+
+-- the numbers of the open ports and of the unanswered asks rise up to the last ones, and who waits is tied to the asks;
+-- no ask is for a port that hasn't joined, the helper joined through the door of child processes, and no confirmation
+-- is waited for
+pub record IsTied (state : State) : Type 0 where
+  pub rising : IsRising 0 state.last_port state.ports
+  pub order : RiseTo 0 state.under_way.link.asks state.under_way.link.last
+  pub tied : AreTied state.ports state.under_way.link.asks
+  pub askers : (ask : ℕ) (one : Ask) → find_ask ask state.under_way.link.asks ≡ Some one → one.asker ≤ state.last_port
+  pub helper : (number : ℕ) (port : Port) → state.under_way.link.state ≡ states.Linked number → find_port number state.ports ≡ Some port → port.door ≡ Children
+  pub known : (number : ℕ) → state.under_way.link.state ≡ states.Linked number → number ≤ state.last_port
   pub alone : state.under_way.confirmations ≡ []

@@ -273,8 +273,7 @@ find_to_start number (job ∷ jobs) = if job.number == number then Some job else
 
 -- the event may come where the last port that joined has this number, these ports are open and this is under way
 abbrev pub FitsAt : Happening → ℕ → List Port → UnderWay → Type 0
-FitsAt (Joined Clients) last ports under_way = last < 2 ^ 64 - 1
-FitsAt (Joined Children) last ports under_way = ⊥
+FitsAt (Joined door) last ports under_way = last < 2 ^ 64 - 1
 FitsAt (Heard port piece) last ports under_way = IsSome (find_port port ports) × (0 < length piece)
 FitsAt (Ended port) last ports under_way = IsSome (find_port port ports)
 FitsAt (Took port count) last ports under_way =

@@ -3,15 +3,25 @@
 //! Source: draft-miller-ssh-agent and OpenSSH's PROTOCOL.agent; what is ours is said where it stands.
 #![tactic(auto)]
 
+mod asks;
+mod child_rows;
 mod laws;
 mod rows;
 
+pub use asks::{
+    a_client_gets_its_own_answer, a_piece_of_the_helper_in_two_parts,
+    a_signature_is_asked_for_exactly_where_it_may_be, an_ask_is_answered_at_most_once,
+};
+pub use child_rows::{
+    a_lost_helper_fails_its_asks, a_signature_goes_through_the_helper, a_ticket_names_a_job_once,
+    an_answer_goes_to_its_ask, jobs_and_child_processes_are_bounded,
+};
 pub use laws::{
     a_closed_port_brings_nothing, a_failure_has_a_cause, a_lost_helper_answers_nothing,
     a_moment_is_taken_in_once, a_piece_in_two_parts, answers_go_to_who_asked,
     no_number_is_given_twice, no_number_is_used_again, ports_rise_and_are_few,
 };
 pub use rows::{
-    a_locked_agent_does_nothing, a_request_waits_for_the_reply_before, additions_are_listed,
-    limits_are_these_numbers, moments_are_taken_in, refusals_are_failures,
+    a_locked_agent_does_nothing, a_request_waits_for_the_reply_before, a_signature_is_waited_for,
+    additions_are_listed, limits_are_these_numbers, moments_are_taken_in, refusals_are_failures,
 };

@@ -3,7 +3,8 @@
 
 ghost use Rattle.std.specs.Prelude.{◌≡◌, ℕ, List, [], ◌∷◌, ◌++◌, codes, true, false};
 ghost use Rattle.agent_model.specs.Events.{Tick};
-ghost use Rattle.agent_model.specs.State.{client_count, owed_of, wants};
+ghost use Rattle.agent_model.specs.State.{client_count, owed_of, starts, wants};
+ghost use Rattle.world_ports.specs.declared.JobKind.TheVariants as kinds;
 ghost use Rattle.agent_model.specs.Rows.{add, add_asking, add_for_ten, add_unknown, at, done, extension, failed, heard, heard_and_took, joined_often, list, listed, lock, lock_empty, none_listed, now, remove, remove_all, replies, sign, state_after, ticked, unlock, with_event};
 
 /// An identity is listed once it was added, until it is removed.
@@ -25,7 +26,6 @@ pub fn additions_are_listed()
 pub fn refusals_are_failures()
     ensures not_held { replies (now (add 17) ∷ now (sign 18) ∷ now (remove 18) ∷ [])
         ≡ done ∷ failed ∷ failed ∷ [] }
-    ensures no_ask { replies (now (add 17) ∷ now (sign 17) ∷ []) ≡ done ∷ failed ∷ [] }
     ensures no_confirmation { replies (now (add_asking 17) ∷ now (sign 17) ∷ []) ≡ done ∷ failed ∷ [] }
     ensures constraint { replies (now (add_unknown 17) ∷ now list ∷ []) ≡ failed ∷ none_listed ∷ [] }
     ensures extension { replies (now extension ∷ []) ≡ failed ∷ [] }
@@ -57,6 +57,13 @@ pub fn limits_are_these_numbers()
     ensures longest_body { (heard (0 ∷ 4 ∷ 0 ∷ 0 ∷ [])).closes ≡ [] }
     ensures too_long { (heard (0 ∷ 4 ∷ 0 ∷ 1 ∷ [])).closes ≡ 1 ∷ [] }
     ensures empty { (heard (0 ∷ 0 ∷ 0 ∷ 0 ∷ [])).closes ≡ 1 ∷ [] }
+{}
+
+/// A signature with a key that is held waits for the helper, which is started for it.
+pub fn a_signature_is_waited_for()
+    ensures owed { replies (now (add 17) ∷ now (sign 17) ∷ []) ≡ done ∷ [] ∷ [] }
+    ensures starts { starts (state_after (now (add 17) ∷ now (sign 17) ∷ []))
+        ≡ record { number = 1; kind = kinds.Helper } ∷ [] }
 {}
 
 /// One request at a time is taken of a client, and it is read until the next one is whole.

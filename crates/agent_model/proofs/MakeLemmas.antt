@@ -1,0 +1,277 @@
+-- What events are made of: a few small changes of the state, one after another.
+use Rattle.std.proofs.Common.{◌≡◌, ℕ, List, [], ◌∷◌, ◌++◌, arith, drop, refl, ap, sym, ◌∙◌, Bool, true, false, Option, Some, None, Result, Ok, Err}
+use Rattle.std.proofs.lemmas.List.{drop_all}
+use Rattle.std.specs.Option.{option_map}
+use Rattle.std.specs.Str.{bytes_eq}
+use Rattle.world_ports.specs.declared.Door.{Door}
+use Rattle.world_ports.specs.declared.Door.TheVariants.{Clients, Children}
+use Rattle.world_ports.specs.declared.Job.{Job}
+use Rattle.world_ports.specs.declared.JobKind.{JobKind}
+use Rattle.world_ports.specs.declared.JobKind.TheVariants as kinds
+use Rattle.wire_text.specs.Frames.{Front, Whole, Bad, More, after_front, front, front_body}
+use Rattle.child_msg.specs.Messages.{Denied, False, FromChildMessage, Granted, Hello, Refused, Signed, True}
+use Rattle.child_msg.specs.Reading.{from_child_of}
+use Rattle.child_msg.specs.declared.fault.ChildFault.{ChildFault}
+use Rattle.confirm_desk.specs.Confirmations.{Confirmation, Consent, No, NotYet, Yes, change_job, consent, find_asker, find_job, find_linked}
+use Rattle.helper_link.specs.Telling.{telling}
+use Rattle.agent_model.specs.Actions.{Outcome, stay}
+use Rattle.agent_model.specs.Answers.{helper_tells, lose}
+use Rattle.agent_model.specs.Children.{changed, closed, confirmer_goes_on, confirmer_named, failed_by, failed_if, first_frame, first_message, heard_more, hello_by, helper_named, job_left, job_started, named_by, ticket_by, unheard}
+use Rattle.agent_model.specs.Consents.{consent_by, find_started, grant_concluded, grant_to, grant_work, over, over_if, with_heard}
+use Rattle.agent_model.specs.Events.{Happening, Joined, Heard, Ended, Took, Started, StartFailed, Tick}
+use Rattle.agent_model.specs.Limits.{longest_body}
+use Rattle.agent_model.specs.State.{Client, Confirmer, Helper, Nothing, OnAsk, OnConfirmation, Port, Role, StartedJob, State, UnderWay, Unnamed, Waits, change_port, find_port, find_to_start, is_linked_to, role_by_helper, role_by_link, role_of}
+use Rattle.agent_model.specs.Step.{confirmer_took, ended_at, ended_by_role, handle, heard_at, heard_by_role, helper_took, joined, look_front, look_owed, look_port, look_waits, taken, took_at, took_by_role, took_some}
+use Rattle.agent_model.proofs.PortsLemmas.{find_port-change_port, found_number}
+
+-- ---- small changes
+
+-- a change of a port that leaves who is there, what it waits for, and that nothing is owed to it
+pub record IsMild (f : Port → Port) : Type 0 where
+  pub number : (p : Port) → (f p).number ≡ p.number
+  pub door : (p : Port) → (f p).door ≡ p.door
+  pub waits : (p : Port) → (f p).waits ≡ p.waits
+  pub owed : (p : Port) → p.owed ≡ [] → (f p).owed ≡ []
+
+-- the same is unanswered, and no number was given
+pub record SameAsks (old new : UnderWay) : Type 0 where
+  pub state : new.link.state ≡ old.link.state
+  pub asks : new.link.asks ≡ old.link.asks
+  pub last : new.link.last ≡ old.link.last
+  pub jobs : new.last_job ≡ old.last_job
+  pub alone : old.confirmations ≡ [] → new.confirmations ≡ []
+
+-- why an event closes a port: it's a client that waits for nothing, or a child process, or it ended
+pub data MayClose (event : Happening) (number : ℕ) (ports : List Port) : Type 0 where
+  idle : (port : Port) → find_port number ports ≡ Some port → port.waits ≡ Nothing → MayClose event number ports
+  child : (port : Port) → find_port number ports ≡ Some port → port.door ≡ Children → MayClose event number ports
+  ended : event ≡ Ended number → MayClose event number ports
+
+-- a change that tells nobody anything: a port is changed or closed, jobs come and go, or the helper names itself
+pub data Quiet (event : Happening) (old : State) : State → Type 0 where
+  alters : (number : ℕ) (f : Port → Port) → IsMild f → Quiet event old (changed number f old)
+  closes : (number : ℕ) → MayClose event number old.ports → Quiet event old (closed number old)
+  goes_on : (new : UnderWay) → SameAsks old.under_way new → Quiet event old (record old { under_way = new })
+  names : (job number : ℕ) (port : Port) → find_port number old.ports ≡ Some port → port.door ≡ Children → Quiet event old (helper_named job number old)
+
+-- some confirmation is waited for
+abbrev pub IsAwaited : State → Type 0
+IsAwaited state = state.under_way.confirmations ≡ [] → ⊥
+
+-- what an event does in a state: quiet changes, and then at most one thing that is told
+pub data Makes (event : Happening) : State → Outcome → Type 0 where
+  stays : (state : State) → Makes event state (stay state)
+  first : {old mid : State} {outcome : Outcome} → Quiet event old mid → Makes event mid outcome → Makes event old outcome
+  serves : (body_len : ℕ) (port : Port) (state : State) → find_port port.number state.ports ≡ Some port → port.door ≡ Clients → port.waits ≡ Nothing → port.owed ≡ [] → Makes event state (taken body_len (front_body body_len port.heard) port state)
+  tells : (piece : List ℕ) (state : State) → Makes event state (helper_tells (telling piece state.under_way.link) state)
+  loses : (state : State) → Makes event state (lose state)
+  overs : (confirmation : Confirmation) (state : State) → IsAwaited state → Makes event state (over confirmation state)
+  grants : (confirmation : Confirmation) (port : Port) (state : State) → IsAwaited state → Makes event state (grant_concluded (grant_work port.chain confirmation state) confirmation state)
+
+mild-heard : (piece : List ℕ) → IsMild (heard_more piece)
+mild-heard piece = record { number = λ p. refl; door = λ p. refl; waits = λ p. refl; owed = λ p none. none }
+
+pub mild-unheard : IsMild unheard
+mild-unheard = record { number = λ p. refl; door = λ p. refl; waits = λ p. refl; owed = λ p none. none }
+
+mild-took : (count : ℕ) → IsMild (took_some count)
+mild-took count = record { number = λ p. refl; door = λ p. refl; waits = λ p. refl; owed = λ p none. ap (drop count) none ∙ drop_all count [] (omega arith) }
+
+-- a confirmation that is changed isn't a new one
+no_job : (job : ℕ) (f : Confirmation → Confirmation) (confirmations : List Confirmation) → confirmations ≡ [] → change_job job f confirmations ≡ []
+no_job job f confirmations none = rw none refl
+
+-- ---- who is at a port
+
+-- a client isn't a child process
+role-door : (door : Door) (number : ℕ) (under_way : UnderWay) (role : Role) → role_of door number under_way ≡ role → (role ≡ Client → ⊥) → door ≡ Children
+role-door Clients number under_way role is other = absurd (other (sym is))
+role-door Children number under_way role is other = refl
+
+-- and a client is one
+role-client : (door : Door) (number : ℕ) (under_way : UnderWay) → role_of door number under_way ≡ Client → door ≡ Clients
+role-client Clients number under_way is = refl
+role-client Children number under_way is = by_test (is_linked_to number under_way.link.state) is
+  where
+    by_link : (found : Option Confirmation) → role_by_link found ≡ Client → Children ≡ Clients
+    by_link None unnamed = absurd (cc)
+    by_link (Some confirmation) confirmer = absurd (cc)
+
+    by_test : (linked : Bool) → role_by_helper linked number under_way.confirmations ≡ Client → Children ≡ Clients
+    by_test true helper = absurd (cc)
+    by_test false other = by_link (find_linked number under_way.confirmations) other
+
+-- it stays one where its port is changed
+client_after : (number : ℕ) (f : Port → Port) (port : Port) (ports : List Port) → IsMild f → find_port number ports ≡ Some port → port.door ≡ Clients → (after : Port) → find_port number (change_port number f ports) ≡ Some after → after.door ≡ Clients
+client_after number f port ports mild found door after is =
+    let there : Some (f port) ≡ Some after = sym (find_port-change_port number f ports mild.number ∙ ap (option_map f) found) ∙ is in
+    let same : f port ≡ after = cc in
+    ap (λ (p : Port). p.door) (sym same) ∙ mild.door port ∙ door
+
+-- where no confirmation is waited for no child process is a confirmer
+role-alone : (door : Door) (number : ℕ) (under_way : UnderWay) (confirmation : Confirmation) → role_of door number under_way ≡ Confirmer confirmation → under_way.confirmations ≡ [] → ⊥
+role-alone Clients number under_way confirmation is none = absurd (cc)
+role-alone Children number under_way confirmation is none =
+    by_test (is_linked_to number under_way.link.state) (ap (λ cs. role_by_helper (is_linked_to number under_way.link.state) number cs) (sym none) ∙ is)
+  where
+    by_test : (linked : Bool) → role_by_helper linked number [] ≡ Confirmer confirmation → ⊥
+    by_test true one = absurd (cc)
+    by_test false one = absurd (cc)
+
+-- a port is found by its own number
+own_number : (number : ℕ) (port : Port) (ports : List Port) → find_port number ports ≡ Some port → find_port port.number ports ≡ Some port
+own_number number port ports found = ap (λ n. find_port n ports) (found_number number ports port found) ∙ found
+
+-- ---- what each event makes
+
+module _ (event : Happening) where
+  makes-front : (answer : Front) (port : Port) (state : State) → find_port port.number state.ports ≡ Some port → port.door ≡ Clients → port.waits ≡ Nothing → port.owed ≡ [] → Makes event state (look_front answer port state)
+  makes-front (Whole body_len) port state found door waits owed = serves body_len port state found door waits owed
+  makes-front (Bad announced) port state found door waits owed = first (closes port.number (idle port found waits)) (stays (closed port.number state))
+  makes-front More port state found door waits owed = stays state
+
+  makes-owed : (owed : List ℕ) (port : Port) (state : State) → find_port port.number state.ports ≡ Some port → port.door ≡ Clients → port.waits ≡ Nothing → port.owed ≡ owed → Makes event state (look_owed owed port state)
+  makes-owed [] port state found door waits is = makes-front (front longest_body port.heard) port state found door waits is
+  makes-owed (byte ∷ bytes) port state found door waits is = stays state
+
+  makes-waits : (waits : Waits) (port : Port) (state : State) → find_port port.number state.ports ≡ Some port → port.door ≡ Clients → port.waits ≡ waits → Makes event state (look_waits waits port state)
+  makes-waits Nothing port state found door is = makes-owed port.owed port state found door is refl
+  makes-waits (OnAsk ask) port state found door is = stays state
+  makes-waits (OnConfirmation job) port state found door is = stays state
+
+  makes-look : (number : ℕ) (found : Option Port) (state : State) → find_port number state.ports ≡ found → ((port : Port) → found ≡ Some port → port.door ≡ Clients) → Makes event state (look_port found state)
+  makes-look number None state is client = stays state
+  makes-look number (Some port) state is client = makes-waits port.waits port state (own_number number port state.ports is) (client port refl) refl
+
+  makes-over_if : (found : Option Confirmation) (state : State) → (state.under_way.confirmations ≡ [] → found ≡ None) → Makes event state (over_if found state)
+  makes-over_if None state none = stays state
+  makes-over_if (Some confirmation) state none =
+      overs confirmation state (λ alone. let no : Some confirmation ≡ None = none alone in absurd (cc))
+
+  makes-grant : (found : Option Port) (confirmation : Confirmation) (state : State) → IsAwaited state → Makes event state (grant_to found confirmation state)
+  makes-grant None confirmation state some = stays state
+  makes-grant (Some port) confirmation state some = grants confirmation port state some
+
+  makes-consent : (said : Consent) (confirmation : Confirmation) (piece : List ℕ) (state : State) → IsAwaited state → Makes event state (consent_by said confirmation piece state)
+  makes-consent NotYet confirmation piece state some =
+      first (goes_on (with_heard confirmation.job piece state).under_way record { state = refl; asks = refl; last = refl; jobs = refl; alone = λ none. absurd (some none) })
+      (stays (with_heard confirmation.job piece state))
+  makes-consent Yes confirmation piece state some = makes-grant (find_port confirmation.asker state.ports) confirmation state some
+  makes-consent No confirmation piece state some = overs confirmation state some
+
+  makes-goes_on : (found : Option Confirmation) (rest : List ℕ) (state : State) → (state.under_way.confirmations ≡ [] → found ≡ None) → Makes event state (confirmer_goes_on found rest state)
+  makes-goes_on None rest state none = stays state
+  makes-goes_on (Some confirmation) rest state none =
+      makes-consent (consent confirmation.job (confirmation.heard ++ rest)) confirmation rest state
+      (λ alone. let no : Some confirmation ≡ None = none alone in absurd (cc))
+
+  -- a child process that hasn't named itself
+  module _ (number : ℕ) (port : Port) (state : State) (found : find_port number state.ports ≡ Some port) (door : port.door ≡ Children) where
+    shut : Makes event state (stay (closed number state))
+    shut = first (closes number (child port found door)) (stays (closed number state))
+
+    makes-named : (kind : JobKind) (job : ℕ) (rest : List ℕ) → Makes event state (named_by kind job number rest state)
+    makes-named kinds.Helper job rest = first (names job number port found door) (tells rest (helper_named job number state))
+    makes-named kinds.Confirm job rest =
+        let mid : State = confirmer_named job number state in
+        first (alters number unheard mild-unheard)
+        (first (goes_on mid.under_way record { state = refl; asks = refl; last = refl; jobs = refl; alone = no_job job _ state.under_way.confirmations })
+        (makes-goes_on (find_job job mid.under_way.confirmations) rest mid (λ none. ap (find_job job) none)))
+
+    makes-ticket : (same : Bool) (job : Job) (rest : List ℕ) → Makes event state (ticket_by same job number rest state)
+    makes-ticket true job rest = makes-named job.kind job.number rest
+    makes-ticket false job rest = shut
+
+    makes-hello : (started : Option StartedJob) (ticket rest : List ℕ) → Makes event state (hello_by started ticket number rest state)
+    makes-hello None ticket rest = shut
+    makes-hello (Some one) ticket rest = makes-ticket (bytes_eq one.ticket ticket) one.job rest
+
+    makes-message : (read : Result FromChildMessage ChildFault) (rest : List ℕ) → Makes event state (first_message read number rest state)
+    makes-message (Ok (Hello job ticket)) rest = makes-hello (find_started job state.under_way.started) ticket rest
+    makes-message (Ok (Signed ask signature)) rest = shut
+    makes-message (Ok (Refused ask)) rest = shut
+    makes-message (Ok (True ask)) rest = shut
+    makes-message (Ok (False ask)) rest = shut
+    makes-message (Ok (Granted job)) rest = shut
+    makes-message (Ok (Denied job)) rest = shut
+    makes-message (Err fault) rest = shut
+
+    makes-frame : (answer : Front) (heard : List ℕ) → Makes event state (first_frame answer number heard state)
+    makes-frame (Whole body_len) heard = makes-message (from_child_of (front_body body_len heard)) (after_front body_len heard)
+    makes-frame (Bad announced) heard = shut
+    makes-frame More heard = stays state
+
+  makes-heard_role : (role : Role) (port : Port) (piece : List ℕ) (state : State) → find_port port.number state.ports ≡ Some port → role_of port.door port.number state.under_way ≡ role → Makes event state (heard_by_role role port piece state)
+  makes-heard_role Client port piece state found is =
+      first (alters port.number (heard_more piece) (mild-heard piece))
+      (makes-look port.number _ (changed port.number (heard_more piece) state) refl (client_after port.number (heard_more piece) port state.ports (mild-heard piece) found (role-client port.door port.number state.under_way is)))
+  makes-heard_role Unnamed port piece state found is =
+      first (alters port.number (heard_more piece) (mild-heard piece))
+      (makes-frame port.number (heard_more piece port) (changed port.number (heard_more piece) state)
+      (find_port-change_port port.number (heard_more piece) state.ports (λ p. refl) ∙ ap (option_map (heard_more piece)) found)
+      (role-door port.door port.number state.under_way Unnamed is (λ no. absurd (cc)))
+      (front 262144 (port.heard ++ piece)) (port.heard ++ piece))
+  makes-heard_role Helper port piece state found is = tells piece state
+  makes-heard_role (Confirmer confirmation) port piece state found is =
+      makes-consent (consent confirmation.job (confirmation.heard ++ piece)) confirmation piece state (role-alone port.door port.number state.under_way confirmation is)
+
+  makes-heard : (number : ℕ) (found : Option Port) (piece : List ℕ) (state : State) → find_port number state.ports ≡ found → Makes event state (heard_at found piece state)
+  makes-heard number None piece state is = stays state
+  makes-heard number (Some port) piece state is = makes-heard_role _ port piece state (own_number number port state.ports is) refl
+
+  makes-took_role : (role : Role) (port : Port) (count : ℕ) (state : State) → find_port port.number state.ports ≡ Some port → role_of port.door port.number state.under_way ≡ role → Makes event state (took_by_role role port.number count state)
+  makes-took_role Client port count state found is =
+      first (alters port.number (took_some count) (mild-took count))
+      (makes-look port.number _ (changed port.number (took_some count) state) refl (client_after port.number (took_some count) port state.ports (mild-took count) found (role-client port.door port.number state.under_way is)))
+  makes-took_role Unnamed port count state found is = stays state
+  makes-took_role Helper port count state found is =
+      first (goes_on (helper_took count state).under_way record { state = refl; asks = refl; last = refl; jobs = refl; alone = λ none. none }) (stays (helper_took count state))
+  makes-took_role (Confirmer confirmation) port count state found is =
+      first (goes_on (confirmer_took confirmation.job count state).under_way record { state = refl; asks = refl; last = refl; jobs = refl; alone = no_job confirmation.job _ state.under_way.confirmations })
+      (stays (confirmer_took confirmation.job count state))
+
+  makes-took : (number : ℕ) (found : Option Port) (count : ℕ) (state : State) → find_port number state.ports ≡ found → Makes event state (took_at found count state)
+  makes-took number None count state is = stays state
+  makes-took number (Some port) count state is = makes-took_role _ port count state (own_number number port state.ports is) refl
+
+  makes-ended_role : (role : Role) (port : Port) (state : State) → event ≡ Ended port.number → role_of port.door port.number state.under_way ≡ role → Makes event state (ended_by_role role port.number state)
+  makes-ended_role Client port state end is =
+      first (closes port.number (ended end)) (makes-over_if (find_asker port.number state.under_way.confirmations) (closed port.number state) (λ none. ap (find_asker port.number) none))
+  makes-ended_role Unnamed port state end is = first (closes port.number (ended end)) (stays (closed port.number state))
+  makes-ended_role Helper port state end is = first (closes port.number (ended end)) (loses (closed port.number state))
+  makes-ended_role (Confirmer confirmation) port state end is =
+      first (closes port.number (ended end)) (overs confirmation (closed port.number state) (role-alone port.door port.number state.under_way confirmation is))
+
+  makes-ended : (number : ℕ) (found : Option Port) (state : State) → event ≡ Ended number → find_port number state.ports ≡ found → Makes event state (ended_at found state)
+  makes-ended number None state end is = stays state
+  makes-ended number (Some port) state end is = makes-ended_role _ port state (end ∙ ap Ended (sym (found_number number state.ports port is))) refl
+
+  makes-failed_by : (kind : JobKind) (number : ℕ) (state : State) → Makes event state (failed_by kind number state)
+  makes-failed_by kinds.Helper number state = loses state
+  makes-failed_by kinds.Confirm number state = makes-over_if (find_job number state.under_way.confirmations) state (λ none. ap (find_job number) none)
+
+  makes-failed : (found : Option Job) (state : State) → Makes event state (failed_if found state)
+  makes-failed None state = stays state
+  makes-failed (Some job) state =
+      first (goes_on (job_left job.number state).under_way record { state = refl; asks = refl; last = refl; jobs = refl; alone = λ none. none }) (makes-failed_by job.kind job.number (job_left job.number state))
+
+-- every event but a joining
+pub makes-handle : (event : Happening) (state : State) → ((door : Door) → event ≡ Joined door → ⊥) → Makes event state (handle event state)
+makes-handle (Joined door) state other = absurd (other door refl)
+makes-handle (Heard port piece) state other = makes-heard (Heard port piece) port _ piece state refl
+makes-handle (Took port count) state other = makes-took (Took port count) port _ count state refl
+makes-handle (Ended port) state other = makes-ended (Ended port) port _ state refl refl
+makes-handle (Started job ticket) state other =
+    first (goes_on (job_started job ticket state).under_way record { state = refl; asks = refl; last = refl; jobs = refl; alone = λ none. none }) (stays (job_started job ticket state))
+makes-handle (StartFailed job) state other = makes-failed (StartFailed job) (find_to_start job state.under_way.to_start) state
+makes-handle Tick state other = stays state
+
+-- what holds of a joining and of what the other events make holds of every event
+pub by_event : (R : Outcome → Type 0) (event : Happening) (state : State) → ((door : Door) → R (stay (joined door state))) → ((outcome : Outcome) → Makes event state outcome → R outcome) → R (handle event state)
+by_event R (Joined door) state joins makes = joins door
+by_event R (Heard port piece) state joins makes = makes _ (makes-handle (Heard port piece) state (λ door is. absurd (cc)))
+by_event R (Took port count) state joins makes = makes _ (makes-handle (Took port count) state (λ door is. absurd (cc)))
+by_event R (Ended port) state joins makes = makes _ (makes-handle (Ended port) state (λ door is. absurd (cc)))
+by_event R (Started job ticket) state joins makes = makes _ (makes-handle (Started job ticket) state (λ door is. absurd (cc)))
+by_event R (StartFailed job) state joins makes = makes _ (makes-handle (StartFailed job) state (λ door is. absurd (cc)))
+by_event R Tick state joins makes = makes _ (makes-handle Tick state (λ door is. absurd (cc)))
