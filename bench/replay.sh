@@ -94,25 +94,22 @@ with open(f"{folder}/keys", "w") as out:
 with open(f"{folder}/aged", "w") as out:
     keys(out, True)
 
-# 16 clients that sign without pause over one helper: each asks again as soon as it has its answer, and the helper
-# answers the oldest request
-sign, key, helper = b"\x0d", kind + tag(0), 17
+# 16 clients that sign without pause over one helper, which answers once each of them has asked
 with open(f"{folder}/signs", "w") as out:
-    def sends(port, *fields):
-        out.write(f"hear {port} {string(b''.join(fields)).hex()}\n")
-    def asks(client):
-        sends(client, sign, string(key), string(bytes(200)), bytes(4))
+    helper, token = 17, bytes(16)
     for _ in range(16):
         out.write("join client\n")
-    sends(1, add, addition(0, 0))
-    for client in range(1, 17):
-        asks(client)
-    ticket = bytes(16)
-    out.write(f"started 1 {ticket.hex()}\njoin child\n")
-    sends(helper, struct.pack(">BQ", 1, 1), string(ticket))
-    for ask in range(1, 50_001):
-        sends(helper, struct.pack(">BQ", 101, ask), string(bytes(83)))
-        asks((ask - 1) % 16 + 1)
+    out.write(f"hear 1 {string(add + addition(1, 0)).hex()}\n")
+    request = string(b"\x0d" + string(kind + tag(1)) + string(bytes(32)) + bytes(4)).hex()
+    for turn in range(5_000):
+        for client in range(1, 17):
+            out.write(f"hear {client} {request}\n")
+        if turn == 0:
+            hello = string(struct.pack(">BQ", 1, 1) + string(token)).hex()
+            out.write(f"started 1 {token.hex()}\njoin child\nhear {helper} {hello}\n")
+        for client in range(1, 17):
+            signed = struct.pack(">BQ", 101, 16 * turn + client) + string(bytes(64))
+            out.write(f"hear {helper} {string(signed).hex()}\n")
 PYTHON
 
 # The least of three times of a command that reads the file, in seconds.

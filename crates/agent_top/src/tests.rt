@@ -2,6 +2,7 @@
 // protocol: 11 asks for identities, 12 with a count of 0 answers, 5 is failure.
 ghost use Rattle.std.specs.Prelude.{◌<◌};
 
+mod children;
 mod ends;
 mod keys;
 mod limits;

@@ -1,7 +1,6 @@
 -- A line keeps what the numbers of a run say.
 use Rattle.std.proofs.Common.{◌≡◌, ℕ, suc, ◌+◌, ◌<◌, ◌≤◌, List, [], length, refl, ap, sym, ◌∙◌, arith, Option, Some, None, Bool, true, false, nat_lt, if◌then◌else◌, Result, Ok, Err}
 use Rattle.std.proofs.lemmas.Bool.Decides.{nat_tests}
-use Rattle.world_ports.specs.declared.Door.TheVariants.{Clients, Children}
 use Rattle.world_ports.specs.declared.Job.{Job}
 use Rattle.agent_model.specs.Events.{Happening, Joined, Heard, Ended, Took, Started, StartFailed, Tick}
 use Rattle.agent_model.specs.State.{State, Port, find_port, find_to_start, owed_of, starts}
@@ -95,9 +94,8 @@ step_turned-next Skip size run some within counted accepted = record {
 }
 step_turned-next (At moment) size run some within counted accepted =
     happened-next Tick size run (record run { moment = moment }) some within counted refl refl refl counted.accepted
-step_turned-next (Join Clients) size run some within counted accepted =
-    happened-next (Joined Clients) size run run some within counted refl refl refl counted.accepted
-step_turned-next (Join Children) size run some within counted accepted = absurd (cc)
+step_turned-next (Join door) size run some within counted accepted =
+    happened-next (Joined door) size run run some within counted refl refl refl counted.accepted
 step_turned-next (Hear port bytes) size run some within counted accepted =
     at_port-next (find_port port run.agent.ports) (happened (Heard port bytes) size run) size run
     (happened-next (Heard port bytes) size run run some within counted refl refl refl counted.accepted) accepted

@@ -4,7 +4,6 @@
 -- after it is in specs/Settling.antt.
 use Rattle.std.specs.Prelude.{ℕ, suc, ◌+◌, ◌==◌, ◌||◌, nat_lt, Bool, true, false, if◌then◌else◌, List, [], ◌∷◌, ◌++◌, length, Option, None, Some, Result, Ok, Err}
 use Rattle.std.specs.List.{slice_split}
-use Rattle.world_ports.specs.declared.Door.TheVariants.{Clients, Children}
 use Rattle.world_ports.specs.declared.Job.{Job}
 use Rattle.world_ports.specs.declared.Moment.{Moment}
 use Rattle.agent_model.specs.Events.{Happening, Joined, Heard, Ended, StartFailed, Started as JobStarted, Tick}
@@ -103,8 +102,7 @@ took port count size run =
 abbrev pub step_turned : Step → ℕ → Run → Turned
 step_turned Skip size run = skipped size run
 step_turned (At moment) size run = happened Tick size (record run { moment = moment })
-step_turned (Join Clients) size run = happened (Joined Clients) size run
-step_turned (Join Children) size run = refuse Order run
+step_turned (Join door) size run = happened (Joined door) size run
 step_turned (Hear port bytes) size run =
     at_port (find_port port run.agent.ports) (happened (Heard port bytes) size run) run
 step_turned (End port) size run =

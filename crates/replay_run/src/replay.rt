@@ -16,7 +16,7 @@ use agent_core::{Agent, CoreMemory, Event, Settings};
 use schedule_text::{Deed, LineFault, Step, put_deed, read_line};
 use std::alloc::Global;
 use std::marker::Model;
-use world_ports::{Door, Moment};
+use world_ports::Moment;
 
 /// The agent, the moment of its events, the held ports, and how far the schedule was run.
 #[derive(Drop)]
@@ -124,7 +124,7 @@ impl Replay {
                 Ok(())
             }
             Step::At(moment) => self.set_moment(*moment, size, out),
-            Step::Join(Door::Clients) => self.happen(&Event::Joined(Door::Clients), size, out),
+            Step::Join(door) => self.happen(&Event::Joined(*door), size, out),
             Step::Hear { port, bytes } => {
                 let piece = bytes.as_slice();
                 self.happen_at(*port, &Event::Heard { port: *port, piece }, size, out)
@@ -141,8 +141,6 @@ impl Replay {
                 self.happen_to(*job, &event, size, out)
             }
             Step::Failed(job) => self.happen_to(*job, &Event::StartFailed { job: *job }, size, out),
-            // No child process is let in yet.
-            Step::Join(Door::Children) => self.refuse(LineFault::Order, out),
         }
     }
 
