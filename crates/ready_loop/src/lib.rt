@@ -5,6 +5,7 @@
 mod core;
 mod event;
 mod hub;
+mod laws;
 mod listeners;
 mod look;
 mod outcome;
@@ -17,5 +18,6 @@ mod turn;
 pub use core::Core;
 pub use event::{CoreMemory, Event};
 pub use hub::Hub;
+pub use laws::{all_wait_their_turn, what_comes_in_turn_is_legal};
 pub use outcome::{HubFault, ServeEnd, Turn};
 pub use serving::serve;
