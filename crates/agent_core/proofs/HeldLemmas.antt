@@ -1,14 +1,18 @@
 -- Lemmas on what is held.
-use Rattle.std.proofs.Common.{◌≡◌, ℕ, ◌+◌, ◌<◌, ◌≤◌, List, [], ◌∷◌, ◌++◌, length, map, drop, get_or, refl, ap, sym, arith, ◌∙◌, Option, Some, None, Result, Ok, Err, filter, is_some, false}
+use Rattle.std.proofs.Common.{◌≡◌, ℕ, ◌+◌, ◌<◌, ◌≤◌, List, [], ◌∷◌, ◌++◌, length, map, drop, get_or, refl, ap, sym, arith, ◌∙◌, Option, Some, None, Result, Ok, Err, filter, is_some, Bool, true, false, if◌then◌else◌}
 use Rattle.std.specs.Prelude.{OnOk}
 use Rattle.agent_msg.specs.Requests.{ClientRequest, IsRequest, ListIdentities, Sign, Add, Remove, RemoveAll, Lock, Unlock, Bind, OtherExtension, Unsupported}
 use Rattle.agent_model.specs.Limits.{longest_body}
 use Rattle.agent_model.proofs.BoundLemmas.{private-within, text-within}
 use Rattle.agent_model.specs.Verdicts.{verdict_text}
 use Rattle.agent_core.specs.Served.{IsShortRequest, asker_of, keys_of, served_by}
-use Rattle.std.proofs.lemmas.List.{drop_more}
+use Rattle.std.proofs.lemmas.List.{drop_more, length-append}
+use Rattle.wire_text.specs.Wire.{string, uint32}
+use Rattle.wire_text.proofs.WireLemmas.{length-string}
 use Rattle.identity_table.specs.Identities.{HeldKey, TableState}
-use Rattle.identity_table.specs.Identities.{answer_len, entries_len, find_identity, remove_identity}
+use Rattle.std.specs.Str.{bytes_eq}
+use Rattle.identity_table.specs.Identities.{AreShort, answer_len, entries_len, find_identity, longest_private, remove_identity}
+use Rattle.identity_table.proofs.FindLemmas.{found_has}
 use Rattle.identity_table.proofs.PlaceLemmas.{remove_identity-none}
 use Rattle.agent_model.specs.Dispatch.{Asker, remove_by, seen_by, sees, with_identities}
 use Rattle.agent_model.specs.State.{UnderWay}
@@ -61,10 +65,10 @@ pub seen_by_all : (asker : Asker) (held : KeyState) → seen_by asker held ≡ m
 seen_by_all asker held = ap (map shown) (seen-all asker held.table.identities)
 
 -- so does the answer of an agent that isn't locked
-pub listed-unlocked : (table : TableState) (lock : Option (List ℕ)) (port wall : ℕ) → is_some lock ≡ false → identities_answer (map shown table.identities) ≡ verdict_text (served_by port wall ListIdentities (keys_of table lock)).work.verdict
-listed-unlocked table None port wall unlocked =
+pub listed-unlocked : (table : TableState) (lock : Option (List ℕ)) (port wall : ℕ) (going : UnderWay) → is_some lock ≡ false → identities_answer (map shown table.identities) ≡ verdict_text (served_by port wall ListIdentities (keys_of table lock) going).work.verdict
+listed-unlocked table None port wall going unlocked =
     ap identities_answer (sym (seen_by_all (asker_of port wall (keys_of table None)) (keys_of table None)))
-listed-unlocked table (Some passphrase) port wall unlocked = absurd (cc)
+listed-unlocked table (Some passphrase) port wall going unlocked = absurd (cc)
 
 -- an agent that isn't locked has no passphrase
 pub none_of : (lock : Option (List ℕ)) → is_some lock ≡ false → lock ≡ None
@@ -81,12 +85,20 @@ pub both_ok : {A B : Type 0} {P Q X : Type 0} (r : Result A B) → (P → Q → 
 both_ok (Ok a) f p q = f p q
 both_ok (Err e) f p q = p
 
+-- and of three
+pub all_ok : {A B : Type 0} {P Q R X : Type 0} (r : Result A B) → (P → Q → R → X) → OnOk r P → OnOk r Q → OnOk r R → OnOk r X
+all_ok (Ok a) f p q s = f p q s
+all_ok (Err e) f p q s = p
+
 -- ---- requests
 
 -- what comes in a body that isn't long isn't long
 pub short_request : (body : List ℕ) (request : ClientRequest) → IsRequest body request → length body ≤ longest_body → IsShortRequest request
 short_request body ListIdentities is within = tt
-short_request body (Sign signing) is within = tt
+short_request body (Sign signing) is within =
+    let parts = length-append (string signing.blob) (string signing.message ++ uint32 signing.flags) in
+    let more = length-append (string signing.message) (uint32 signing.flags) in
+    omega (arith, ap length is.printed, parts, more, length-string signing.blob, length-string signing.message, within)
 short_request body (Add addition) is within = private-within body addition is within
 short_request body (Remove blob) is within = tt
 short_request body RemoveAll is within = tt
@@ -95,3 +107,23 @@ short_request body (Unlock passphrase) is within = tt
 short_request body (Bind bind) is within = tt
 short_request body (OtherExtension name) is within = tt
 short_request body (Unsupported number) is within = tt
+
+-- ---- what is put to the helper
+
+-- a key that is found is short
+found_short : (blob : List ℕ) (keys : List HeldKey) (key : HeldKey) → find_identity blob keys ≡ Some key → AreShort keys → length key.private ≤ longest_private
+unfolding find_identity AreShort
+found_short blob [] key found short = absurd (cc)
+found_short blob (other ∷ keys) key found short =
+    by_test (λ later. found_short blob keys key later short.1) (bytes_eq other.blob blob) found
+  where
+    by_test : (find_identity blob keys ≡ Some key → length key.private ≤ longest_private) → (test : Bool) → (if test then Some other else find_identity blob keys) ≡ Some key → length key.private ≤ longest_private
+    by_test rest true is =
+        let same : other ≡ key = cc in
+        rw (← same) short.0
+    by_test rest false is = rest is
+
+-- so that what is asked fits a message to the helper
+pub asked_short : (keys : List HeldKey) (key : HeldKey) (blob message : List ℕ) → find_identity blob keys ≡ Some key → AreShort keys → length blob + length message ≤ longest_body → 25 + length key.private + length key.blob + length message ≤ 1048576
+asked_short keys key blob message found short within =
+    omega (arith, found_short blob keys key found short, ap length (found_has blob keys key found), within)

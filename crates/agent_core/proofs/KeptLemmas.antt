@@ -1,18 +1,21 @@
 -- Lemmas on the storage of the open ports.
-use Rattle.std.proofs.Common.{◌≡◌, ℕ, zero, suc, ◌+◌, ◌^◌, ◌<◌, ◌≤◌, List, [], ◌∷◌, ◌++◌, length, get_or, set, refl, ap, arith, sym, ◌∙◌, Some, subst, slice_get, false, true, Bool, if◌then◌else◌, ◌==◌}
+use Rattle.std.proofs.Common.{◌≡◌, ℕ, zero, suc, ◌+◌, ◌^◌, ◌<◌, ◌≤◌, List, [], ◌∷◌, ◌++◌, length, get_or, set, refl, ap, arith, sym, ◌∙◌, Some, subst, slice_get, false, true, Bool, if◌then◌else◌, ◌==◌, ◌&&◌}
 use Rattle.std.proofs.lemmas.Bool.Decides.{nat_tests}
 use Rattle.std.proofs.lemmas.List.{map-set, map-append, drop-map, take-map, length-append}
 use Rattle.std.proofs.lemmas.Option.{slice_get-map}
 use Rattle.secret_buf.specs.Buffers.{Buffer, no_bytes}
 use Rattle.std.specs.List.{remove}
 use Rattle.std.specs.Option.{option_map}
+use Rattle.world_ports.specs.declared.Door.{Door}
 use Rattle.world_ports.specs.declared.Door.TheVariants.{Clients}
+use Rattle.agent_core.specs.declared.waits.Waits.TheVariants as waits
+use Rattle.agent_model.specs.Dispatch.{Served}
 use Rattle.agent_core.specs.declared.slot.Slot.{Slot}
 use Rattle.agent_core.specs.Places.{IsPlace}
 use Rattle.agent_core.specs.Plain.{ArePlain, IsPlain}
 use Rattle.agent_core.specs.Rising.{IsRisingNumbers, inserted, noted, removed}
-use Rattle.agent_core.specs.Slots.{IsKept, owing_of, port_of, ports_of}
-use Rattle.agent_core.proofs.OwingLemmas.{length-inserted, length-owing_of, listed-changed, owing_of-append, owing_of-kept, owing_of-remove_port, rising-inserted, rising_numbers}
+use Rattle.agent_core.specs.Slots.{IsKept, is_owing, owing_of, port_of, ports_of, waits_of}
+use Rattle.agent_core.proofs.OwingLemmas.{length-inserted, length-owing_of, listed-changed, owing_of-owed, owing_of-append, owing_of-kept, owing_of-remove_port, rising-inserted, rising_numbers}
 use Rattle.agent_core.proofs.PlaceLemmas.{length-ports_of, no_slot}
 use Rattle.agent_model.specs.KeyStates.{KeyState}
 use Rattle.agent_model.specs.Sound.{IsRising}
@@ -20,7 +23,7 @@ use Rattle.agent_model.specs.Step.{take_frame}
 use Rattle.agent_model.specs.Verdicts.{tell}
 use Rattle.agent_core.specs.Served.{served_body}
 use Rattle.wire_text.specs.Frames.{front_body}
-use Rattle.agent_model.specs.State.{Port, change_port, client_count, find_port, is_some_bytes, new_port, remove_port}
+use Rattle.agent_model.specs.State.{Port, UnderWay, change_port, find_port, is_client, is_some_bytes, new_port, remove_port}
 use Rattle.agent_model.proofs.PortsLemmas.{found_above, found_number, rising-append, rising-change_port, rising-remove_port, rising_higher}
 
 -- edits of the slots are edits of the ports
@@ -29,11 +32,6 @@ ports_of-remove slots place = simp (map-append, drop-map, take-map)
 
 pub ports_of-push : (slots : List Slot) (slot : Slot) → ports_of (slots ++ slot ∷ []) ≡ ports_of slots ++ port_of slot ∷ []
 ports_of-push slots slot = map-append port_of slots (slot ∷ [])
-
--- each is a client
-pub client_count-ports_of : (slots : List Slot) → client_count (ports_of slots) ≡ length slots
-client_count-ports_of [] = refl
-client_count-ports_of (slot ∷ slots) = grind (arith, client_count-ports_of slots)
 
 -- the numbers fit the clock of ports
 pub kept_rising : (slots : List Slot) (owing closed : List ℕ) (room more last : ℕ) → IsKept slots owing closed room more last → IsRising 0 (2 ^ 64) (ports_of slots)
@@ -75,7 +73,7 @@ are_plain (slot ∷ slots) = λ number port found. by_test number port (number =
     by_test : (number : ℕ) (port : Port) (same : Bool) → (find_port number (ports_of slots) ≡ Some port → IsPlain port) → (if same then Some (port_of slot) else find_port number (ports_of slots)) ≡ Some port → IsPlain port
     by_test number port true later found =
         let is : port_of slot ≡ port = cc in
-        subst IsPlain is (record { door = refl; chain = refl; attempted = refl; waits = refl })
+        subst IsPlain is (record { chain = refl; attempted = refl })
     by_test number port false later found = later found
 
 -- ---- one port is changed
@@ -85,14 +83,19 @@ pub set_changed : (slots : List Slot) (number place : ℕ) (slot : Slot) (port :
 set_changed slots number place slot port f is found same =
     map-set port_of slots place slot ∙ ap (set (ports_of slots) place) same ∙ sym (is.changed f port found)
 
--- under its number, with these bytes
+-- under its number and its door, with these bytes
 abbrev pub with_bytes : Slot → Port → Port
-with_bytes slot port = record port { heard = slot.heard.live; owed = slot.owed }
+with_bytes slot port = record port { heard = slot.heard.live; owed = slot.owed; waits = waits_of slot.waits }
 
-set_bytes : (slots : List Slot) (number place : ℕ) (slot old : Slot) → IsPlace number (ports_of slots) place → find_port number (ports_of slots) ≡ Some (port_of old) → slot.number ≡ old.number → ports_of (set slots place slot) ≡ change_port number (with_bytes slot) (ports_of slots)
-set_bytes slots number place slot old is found same =
-    set_changed slots number place slot (port_of old) (with_bytes slot) is found
-    (ap (λ n. port_of (record { number = n; heard = slot.heard; owed = slot.owed })) same)
+-- a slot that was changed under its number and its door
+same_port : (slot old : Slot) → slot.number ≡ old.number → slot.door ≡ old.door → port_of slot ≡ with_bytes slot (port_of old)
+same_port slot old number door =
+    ap (λ n. let p : Port = record (port_of slot) { number = n } in p) number
+    ∙ ap (λ d. let p : Port = record (port_of slot) { number = old.number; door = d } in p) door
+
+set_bytes : (slots : List Slot) (number place : ℕ) (slot old : Slot) → IsPlace number (ports_of slots) place → find_port number (ports_of slots) ≡ Some (port_of old) → slot.number ≡ old.number → slot.door ≡ old.door → ports_of (set slots place slot) ≡ change_port number (with_bytes slot) (ports_of slots)
+set_bytes slots number place slot old is found same door =
+    set_changed slots number place slot (port_of old) (with_bytes slot) is found (same_port slot old same door)
 
 length-set_slots : (slots : List Slot) (number place : ℕ) (slot : Slot) (ports : List Port) → ports_of (set slots place slot) ≡ ports → length (set slots place slot) ≡ length ports
 length-set_slots slots number place slot ports same =
@@ -103,15 +106,15 @@ length-change_port number f [] = refl
 length-change_port number f (port ∷ ports) = grind (arith, nat_tests, length-change_port number f ports)
 
 -- one port is changed, and listed or not
-pub kept-changed : (slots : List Slot) (owing closed : List ℕ) (room croom last number place more : ℕ) (slot old : Slot) → IsKept slots owing closed room croom last → IsPlace number (ports_of slots) place → find_port number (ports_of slots) ≡ Some (port_of old) → slot.number ≡ old.number → room ≤ more → IsKept (set slots place slot) (noted (is_some_bytes slot.owed) number owing) closed more croom last
-kept-changed slots owing closed room croom last number place more slot old kept is found same roomy =
-    let changed = set_bytes slots number place slot old is found same in
+pub kept-changed : (slots : List Slot) (owing closed : List ℕ) (room croom last number place more : ℕ) (slot old : Slot) → IsKept slots owing closed room croom last → IsPlace number (ports_of slots) place → find_port number (ports_of slots) ≡ Some (port_of old) → slot.number ≡ old.number → slot.door ≡ old.door → room ≤ more → IsKept (set slots place slot) (noted (is_owing (port_of slot)) number owing) closed more croom last
+kept-changed slots owing closed room croom last number place more slot old kept is found same door roomy =
+    let changed = set_bytes slots number place slot old is found same door in
     let P : List Port → Type 0 = λ ports. IsRising 0 last ports in
     let count : length (set slots place slot) ≡ length slots =
     length-set_slots slots number place slot (change_port number (with_bytes slot) (ports_of slots)) changed ∙ length-change_port number (with_bytes slot) (ports_of slots) ∙ length-ports_of slots in
     record {
       rising = subst P (sym changed) (rising-change_port number 0 last (with_bytes slot) (ports_of slots) (λ p. refl) kept.rising);
-      listed = ap (noted (is_some_bytes slot.owed) number) kept.listed ∙ sym (ap owing_of changed ∙ listed-changed (ports_of slots) number last (with_bytes slot) (port_of old) (λ p. refl) kept.rising found);
+      listed = ap (noted (is_owing (port_of slot)) number) kept.listed ∙ ap (λ p. noted (is_owing p) number (owing_of (ports_of slots))) (same_port slot old same door) ∙ sym (ap owing_of changed ∙ listed-changed (ports_of slots) number last (with_bytes slot) (port_of old) (λ p. refl) kept.rising found);
       room = omega (arith, kept.room);
       closed_rising = kept.closed_rising;
       closed_fits = rw count kept.closed_fits;
@@ -119,28 +122,38 @@ kept-changed slots owing closed room croom last number place more slot old kept 
       fits = kept.fits;
     }
 
+-- one that is owed the same is listed where it was
+same_owing : (slot old : Slot) → slot.owed ≡ old.owed → is_owing (with_bytes slot (port_of old)) ≡ is_owing (port_of old)
+unfolding is_owing
+same_owing slot old owed = ap (λ bytes. is_client old.door && is_some_bytes bytes) owed
+
 -- one port is changed, and is owed what it was owed before
-pub kept-heard : (slots : List Slot) (owing closed : List ℕ) (room croom last number place : ℕ) (slot old : Slot) → IsKept slots owing closed room croom last → IsPlace number (ports_of slots) place → find_port number (ports_of slots) ≡ Some (port_of old) → slot.number ≡ old.number → slot.owed ≡ old.owed → IsKept (set slots place slot) owing closed room croom last
-kept-heard slots owing closed room croom last number place slot old kept is found same owed =
-    let changed = set_bytes slots number place slot old is found same in
+pub kept-heard : (slots : List Slot) (owing closed : List ℕ) (room croom last number place : ℕ) (slot old : Slot) → IsKept slots owing closed room croom last → IsPlace number (ports_of slots) place → find_port number (ports_of slots) ≡ Some (port_of old) → slot.number ≡ old.number → slot.door ≡ old.door → slot.owed ≡ old.owed → IsKept (set slots place slot) owing closed room croom last
+kept-heard slots owing closed room croom last number place slot old kept is found same door owed =
+    let changed = set_bytes slots number place slot old is found same door in
     let P : List Port → Type 0 = λ ports. IsRising 0 last ports in
     let count : length (set slots place slot) ≡ length slots =
     length-set_slots slots number place slot (change_port number (with_bytes slot) (ports_of slots)) changed ∙ length-change_port number (with_bytes slot) (ports_of slots) ∙ length-ports_of slots in
     record {
       rising = subst P (sym changed) (rising-change_port number 0 last (with_bytes slot) (ports_of slots) (λ p. refl) kept.rising);
-      listed = kept.listed ∙ sym (ap owing_of changed ∙ owing_of-kept number (with_bytes slot) (ports_of slots) (port_of old) found refl owed);
+      listed = kept.listed ∙ sym (ap owing_of changed ∙ owing_of-kept number (with_bytes slot) (ports_of slots) (port_of old) found refl (same_owing slot old owed));
       room = omega (arith, kept.room);
       closed_rising = kept.closed_rising;
       closed_fits = rw count kept.closed_fits;
       spare = rw count kept.spare;
       fits = kept.fits;
     }
+
+-- a client that is owed a byte is listed
+owing_client : (port : Port) → is_owing (record port { door = Clients; owed = 0 ∷ [] }) ≡ true
+unfolding is_owing
+owing_client port = refl
 
 -- there is room to list a port that is open
 pub kept_room : (slots : List Slot) (owing closed : List ℕ) (room croom last number : ℕ) (port : Port) → IsKept slots owing closed room croom last → find_port number (ports_of slots) ≡ Some port → length (inserted number owing) ≤ room
 kept_room slots owing closed room croom last number port kept found =
-    let owed : Port → Port = λ p. record p { heard = []; owed = 0 ∷ [] } in
-    let after : owing_of (change_port number owed (ports_of slots)) ≡ inserted number (owing_of (ports_of slots)) = listed-changed (ports_of slots) number last owed port (λ p. refl) kept.rising found in
+    let owed : Port → Port = λ p. record p { door = Clients; owed = 0 ∷ [] } in
+    let after : owing_of (change_port number owed (ports_of slots)) ≡ inserted number (owing_of (ports_of slots)) = owing_of-owed number 0 last owed (ports_of slots) port (λ p. refl) kept.rising found (owing_client port) in
     let same : inserted number owing ≡ owing_of (change_port number owed (ports_of slots)) = ap (inserted number) kept.listed ∙ sym after in
     let few : length (owing_of (change_port number owed (ports_of slots))) ≤ length (change_port number owed (ports_of slots)) = length-owing_of (change_port number owed (ports_of slots)) in
     let count : length (change_port number owed (ports_of slots)) ≡ length (ports_of slots) = length-change_port number owed (ports_of slots) in
@@ -184,14 +197,14 @@ closed_room slots owing closed room croom last number place kept is =
     omega (arith, longer, kept.closed_fits)
 
 -- one port more
-pub kept-joined : (slots : List Slot) (owing closed : List ℕ) (room croom last more cmore : ℕ) (slot : Slot) → IsKept slots owing closed room croom last → port_of slot ≡ new_port (suc last) Clients → length slots + 1 ≤ more → length slots + length closed + 2 ≤ cmore → suc last < 2 ^ 64 → IsKept (slots ++ slot ∷ []) owing closed more cmore (suc last)
-kept-joined slots owing closed room croom last more cmore slot kept new roomy croomy below =
-    let same : ports_of (slots ++ slot ∷ []) ≡ ports_of slots ++ new_port (suc last) Clients ∷ [] = ports_of-push slots slot ∙ ap (λ port. ports_of slots ++ port ∷ []) new in
+pub kept-joined : (slots : List Slot) (owing closed : List ℕ) (room croom last more cmore : ℕ) (door : Door) (slot : Slot) → IsKept slots owing closed room croom last → port_of slot ≡ new_port (suc last) door → length slots + 1 ≤ more → length slots + length closed + 2 ≤ cmore → suc last < 2 ^ 64 → IsKept (slots ++ slot ∷ []) owing closed more cmore (suc last)
+kept-joined slots owing closed room croom last more cmore door slot kept new roomy croomy below =
+    let same : ports_of (slots ++ slot ∷ []) ≡ ports_of slots ++ new_port (suc last) door ∷ [] = ports_of-push slots slot ∙ ap (λ port. ports_of slots ++ port ∷ []) new in
     let P : List Port → Type 0 = λ ports. IsRising 0 (suc last) ports in
     let count : length (slots ++ slot ∷ []) ≡ length slots + 1 = length-append slots (slot ∷ []) in
     record {
-      rising = subst P (sym same) (rising-append 0 last (suc last) Clients (ports_of slots) (omega arith) kept.rising);
-      listed = kept.listed ∙ sym (ap owing_of same ∙ owing_of-append (suc last) Clients (ports_of slots));
+      rising = subst P (sym same) (rising-append 0 last (suc last) door (ports_of slots) (omega arith) kept.rising);
+      listed = kept.listed ∙ sym (ap owing_of same ∙ owing_of-append (suc last) door (ports_of slots));
       room = omega (arith, count);
       closed_rising = kept.closed_rising;
       closed_fits = omega (arith, count);
@@ -214,28 +227,25 @@ kept-refused slots owing closed room croom last cmore kept none croomy some belo
       fits = below;
     }
 
--- a slot with an empty buffer, which is owed nothing, is a new client
-pub joined_port : (last number : ℕ) (heard : Buffer) (owed : List ℕ) → number ≡ suc last → heard ≡ no_bytes → owed ≡ [] → port_of (record { number = number; heard = heard; owed = owed }) ≡ new_port (suc last) Clients
-joined_port last number heard owed next silent paid =
-    ap (λ n. port_of (record { number = n; heard = heard; owed = owed })) next
-    ∙ ap (λ b. port_of (record { number = suc last; heard = b; owed = owed })) silent
-    ∙ ap (λ bytes. port_of (record { number = suc last; heard = no_bytes; owed = bytes })) paid
+-- a slot with an empty buffer, which is owed nothing, is a new port
+pub joined_port : (last number : ℕ) (door : Door) (heard : Buffer) (owed : List ℕ) → number ≡ suc last → heard ≡ no_bytes → owed ≡ [] → port_of (record { number = number; door = door; heard = heard; owed = owed; waits = waits.Nothing }) ≡ new_port (suc last) door
+joined_port last number door heard owed next silent paid =
+    ap (λ n. port_of (record { number = n; door = door; heard = heard; owed = owed; waits = waits.Nothing })) next
+    ∙ ap (λ b. port_of (record { number = suc last; door = door; heard = b; owed = owed; waits = waits.Nothing })) silent
+    ∙ ap (λ bytes. port_of (record { number = suc last; door = door; heard = no_bytes; owed = bytes; waits = waits.Nothing })) paid
 
 -- ---- a request is taken
 
--- the client is told what comes of it
-pub serve_changed : (slots : List Slot) (number place : ℕ) (slot old : Slot) (wall body_len : ℕ) (keys : KeyState) (port : Port) → IsPlace number (ports_of slots) place → find_port number (ports_of slots) ≡ Some (port_of old) → find_port number (ports_of slots) ≡ Some port → port_of slot ≡ tell (served_body old.number wall (front_body body_len old.heard.live) keys).work.verdict (take_frame body_len false (port_of old)) → ports_of (set slots place slot) ≡ change_port number (λ p. tell (served_body number wall (front_body body_len port.heard) keys).work.verdict (take_frame body_len false p)) (ports_of slots)
-serve_changed slots number place slot old wall body_len keys port is found there told =
+-- what comes of it is by the port's own number and bytes
+pub same_served : (slots : List Slot) (number : ℕ) (old : Slot) (wall body_len : ℕ) (keys : KeyState) (going : UnderWay) (port : Port) → find_port number (ports_of slots) ≡ Some (port_of old) → find_port number (ports_of slots) ≡ Some port → served_body old.number wall (front_body body_len old.heard.live) keys going ≡ served_body number wall (front_body body_len port.heard) keys going
+same_served slots number old wall body_len keys going port found there =
     let same_number : old.number ≡ number = found_number number (ports_of slots) (port_of old) found in
     let is_port : port_of old ≡ port = cc in
-    let told_at : ℕ → List ℕ → Port = λ n heard. tell (served_body n wall (front_body body_len heard) keys).work.verdict (take_frame body_len false (port_of old)) in
-    set_changed slots number place slot (port_of old) (λ p. tell (served_body number wall (front_body body_len port.heard) keys).work.verdict (take_frame body_len false p)) is found
-    (told ∙ ap (λ n. told_at n old.heard.live) same_number ∙ ap (λ (q : Port). told_at number q.heard) is_port)
+    ap (λ n. served_body n wall (front_body body_len old.heard.live) keys going) same_number
+    ∙ ap (λ (q : Port). served_body number wall (front_body body_len q.heard) keys going) is_port
 
--- and what is held is what the request leaves
-pub serve_kept : (slots : List Slot) (number : ℕ) (old : Slot) (wall body_len : ℕ) (keys : KeyState) (port : Port) → find_port number (ports_of slots) ≡ Some (port_of old) → find_port number (ports_of slots) ≡ Some port → (served_body old.number wall (front_body body_len old.heard.live) keys).held ≡ (served_body number wall (front_body body_len port.heard) keys).held
-serve_kept slots number old wall body_len keys port found there =
-    let same_number : old.number ≡ number = found_number number (ports_of slots) (port_of old) found in
-    let is_port : port_of old ≡ port = cc in
-    ap (λ n. (served_body n wall (front_body body_len old.heard.live) keys).held) same_number
-    ∙ ap (λ (q : Port). (served_body number wall (front_body body_len q.heard) keys).held) is_port
+-- the client is told it
+pub serve_changed : (slots : List Slot) (number place : ℕ) (slot old : Slot) (wall body_len : ℕ) (keys : KeyState) (going : UnderWay) (port : Port) → IsPlace number (ports_of slots) place → find_port number (ports_of slots) ≡ Some (port_of old) → find_port number (ports_of slots) ≡ Some port → port_of slot ≡ tell (served_body old.number wall (front_body body_len old.heard.live) keys going).work.verdict (take_frame body_len false (port_of old)) → ports_of (set slots place slot) ≡ change_port number (λ p. tell (served_body number wall (front_body body_len port.heard) keys going).work.verdict (take_frame body_len false p)) (ports_of slots)
+serve_changed slots number place slot old wall body_len keys going port is found there told =
+    set_changed slots number place slot (port_of old) (λ p. tell (served_body number wall (front_body body_len port.heard) keys going).work.verdict (take_frame body_len false p)) is found
+    (told ∙ ap (λ (served : Served). tell served.work.verdict (take_frame body_len false (port_of old))) (same_served slots number old wall body_len keys going port found there))

@@ -3,5 +3,11 @@ pub mod PlaceLemmas
 pub mod HeldLemmas
 pub mod LookLemmas
 pub mod OwingLemmas
+pub mod CountLemmas
 pub mod KeptLemmas
+pub mod RoleLemmas
+pub mod HelperLemmas
 pub mod AgentLemmas
+pub mod ChildLemmas
+pub mod NextLemmas
+pub mod ShortLemmas

@@ -9,7 +9,9 @@ use Rattle.secret_buf.specs.Buffers.{no_bytes}
 use Rattle.std.specs.List.Sorted.{IsBinarySearchResult, IsSearchInRange, IsNonDecreasingBy}
 use Rattle.std.specs.Ordering.{nat_cmp, ordering_index}
 use Rattle.std.specs.Result.{result_ok}
+use Rattle.world_ports.specs.declared.Door.TheVariants.{Clients}
 use Rattle.agent_core.specs.declared.slot.Slot.{Slot}
+use Rattle.agent_core.specs.declared.waits.Waits.TheVariants as waits
 use Rattle.agent_core.specs.Slots.{ports_of}
 use Rattle.agent_model.specs.Sound.{IsRising}
 use Rattle.agent_model.specs.State.{Port, find_port, change_port, remove_port, numbers}
@@ -88,7 +90,7 @@ numbers-ordered low high (port ∷ ports) (suc i) (suc j) rising order within =
 
 -- a slot of no port
 pub no_slot : Slot
-no_slot = record { number = 0; heard = no_bytes; owed = [] }
+no_slot = record { number = 0; door = Clients; heard = no_bytes; owed = []; waits = waits.Nothing }
 
 -- the comparisons with a number rise along the slots, as a binary search asks
 comparisons_rise : (slots : List Slot) (number high : ℕ) → IsRising 0 high (ports_of slots) → IsNonDecreasingBy (λ slot. ordering_index (nat_cmp slot.number number)) slots

@@ -2,6 +2,8 @@ pub mod Happenings
 pub mod Rising
 pub mod Slots
 pub mod Places
+pub mod Roles
 pub mod Served
+pub mod Settlings
 pub mod Plain
 pub mod Parts

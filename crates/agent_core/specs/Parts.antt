@@ -1,15 +1,15 @@
 -- The parts of the agent's storage as a state of the abstract agent.
 use Rattle.std.specs.Prelude.{ℕ, List}
 use Rattle.agent_model.specs.KeyStates.{KeyState}
-use Rattle.agent_model.specs.State.{State, nothing_under_way}
+use Rattle.agent_model.specs.State.{State, UnderWay}
 use Rattle.agent_core.specs.Slots.{OpenPorts}
 
--- what is held and the open ports, at a second of the wall clock, with the ports that the last event closed; nothing
--- is under way, and the greatest monotonic second is the one that the table knows
-abbrev pub state_of : ℕ → KeyState → OpenPorts → List ℕ → State
-state_of wall held ports closes = record {
+-- what is held, what is under way and the open ports, at a second of the wall clock, with the ports that the last
+-- event closed; the greatest monotonic second is the one that the table knows
+abbrev pub state_of : ℕ → KeyState → UnderWay → OpenPorts → List ℕ → State
+state_of wall held under_way ports closes = record {
   held = held;
-  under_way = nothing_under_way;
+  under_way = under_way;
   ports = ports.ports;
   last_port = ports.last;
   moment = record { mono = held.table.greatest; wall = wall };

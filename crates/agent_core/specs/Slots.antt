@@ -1,31 +1,51 @@
 -- The storage of the open ports as the abstract agent sees it.
-use Rattle.std.specs.Prelude.{◌≡◌, ℕ, ◌+◌, ◌^◌, ◌<◌, ◌≤◌, List, [], ◌∷◌, length, map, false, if◌then◌else◌}
-use Rattle.world_ports.specs.declared.Door.TheVariants.{Clients}
+use Rattle.std.specs.Prelude.{◌≡◌, ℕ, ◌+◌, ◌^◌, ◌<◌, ◌≤◌, List, [], ◌∷◌, length, map, Option, Some, None, Bool, false, ◌&&◌, if◌then◌else◌}
 use Rattle.agent_core.specs.declared.slot.Slot.{Slot}
+use Rattle.agent_core.specs.declared.waits.Waits.{Waits as CoreWaits}
+use Rattle.agent_core.specs.declared.waits.Waits.TheVariants as waits
 use Rattle.agent_core.specs.Rising.{IsRisingNumbers}
 use Rattle.agent_model.specs.Sound.{IsRising}
-use Rattle.agent_model.specs.State.{Nothing, Port, is_some_bytes}
+use Rattle.agent_model.specs.State.{Nothing, OnAsk, OnConfirmation, Port, Waits, is_client, is_some_bytes}
 
--- a port without its storage: a client whose connection is bound to no host, and that waits for nothing
+-- what a client waits for
+abbrev pub waits_of : CoreWaits → Waits
+waits_of waits.Nothing = Nothing
+waits_of (waits.OnAsk ask) = OnAsk ask
+waits_of (waits.OnConfirmation job) = OnConfirmation job
+
+-- a port without its storage: its connection is bound to no host
 abbrev pub port_of : Slot → Port
 port_of slot = record {
   number = slot.number;
-  door = Clients;
+  door = slot.door;
   heard = slot.heard.live;
   owed = slot.owed;
   chain = [];
   attempted = false;
-  waits = Nothing;
+  waits = waits_of slot.waits;
 }
 
 -- the ports, in the order in which they are kept
 abbrev pub ports_of : List Slot → List Port
 ports_of slots = map port_of slots
 
--- the numbers of the ports that are owed bytes
+-- what was heard at a port and not taken, and what is owed there: nothing where it isn't open
+abbrev pub heard_in : Option Port → List ℕ
+heard_in None = []
+heard_in (Some port) = port.heard
+
+abbrev pub owed_in : Option Port → List ℕ
+owed_in None = []
+owed_in (Some port) = port.owed
+
+-- a client that is owed bytes
+unfoldable pub is_owing : Port → Bool
+is_owing port = is_client port.door && is_some_bytes port.owed
+
+-- the numbers of the clients that are owed bytes
 abbrev pub owing_of : List Port → List ℕ
 owing_of [] = []
-owing_of (port ∷ ports) = if is_some_bytes port.owed then port.number ∷ owing_of ports else owing_of ports
+owing_of (port ∷ ports) = if is_owing port then port.number ∷ owing_of ports else owing_of ports
 
 -- the open ports, the number of the last one that joined, and those that were closed since the event began, rising
 pub record OpenPorts : Type 0 where
@@ -33,7 +53,7 @@ pub record OpenPorts : Type 0 where
   pub last : ℕ
   pub closed : List ℕ
 
--- the numbers rise up to the last one; those that are owed bytes are listed, in a list with room for all; and
+-- the numbers rise up to the last one; the clients that are owed bytes are listed, in a list with room for all; and
 -- those that were closed, in a list with room for all that are open and for one that isn't let in
 pub record IsKept (slots : List Slot) (owing closed : List ℕ) (owing_room closed_room last : ℕ) : Type 0 where
   pub rising : IsRising 0 last (ports_of slots)

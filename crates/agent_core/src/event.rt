@@ -1,6 +1,7 @@
 ghost use Rattle.std.specs.Prelude.{◌≡◌};
 
 use std::alloc::{AllocError, AllocFailed};
+use under_way::JobMemory;
 use world_ports::Door;
 
 /// What an agent is started with.
@@ -46,6 +47,14 @@ impl<T: Drop> From<AllocFailed<T>> for CoreMemory {
     ghost from_gives = { λ _ _. Unit {0} };
 
     fn from(_: AllocFailed<T>) -> CoreMemory {
+        CoreMemory
+    }
+}
+
+impl From<JobMemory> for CoreMemory {
+    ghost from_gives = { λ _ _. Unit {0} };
+
+    fn from(_: JobMemory) -> CoreMemory {
         CoreMemory
     }
 }

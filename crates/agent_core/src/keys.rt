@@ -1,18 +1,21 @@
 //! What the agent holds.
 
-ghost use Rattle.std.specs.Prelude.{◌≡◌, ◌≤◌, ℕ, [], OnOk, length};
+ghost use Rattle.std.specs.Prelude.{◌≡◌, ◌≤◌, ℕ, [], IfOk, OnOk, length};
 ghost use Rattle.identity_table.specs.Identities.{IsSound, next_death};
 ghost use Rattle.agent_model.specs.KeyStates.{expired, no_keys};
 ghost use Rattle.agent_model.specs.Limits.{longest_body};
-ghost use Rattle.agent_model.specs.Verdicts.{verdict_text};
+ghost use Rattle.agent_model.specs.Verdicts.{verdict_text, verdict_waits};
 ghost use Rattle.agent_core.specs.Served.{served_body};
+ghost use Rattle.agent_core.specs.Slots.{waits_of};
 
 use crate::CoreMemory;
 use crate::owed::Owed;
 use crate::requests::answer;
+use crate::waits::Waits;
 use identity_table::{Lock, Table};
 use std::alloc::Global;
 use std::marker::Model;
+use under_way::UnderWay;
 
 /// The identities and the lock.
 #[derive(Drop)]
@@ -79,20 +82,34 @@ impl Keys {
         self.table.expire(now);
     }
 
-    /// Does what the request of this body asks, for the client of this port, and owes the reply.
-    pub fn serve(&mut self, port: u64, body: &[u8], owed: &mut Owed) -> Result<(), CoreMemory>
+    /// Does what the request of this body asks, for the client of this port: owes the reply, or tells what it waits
+    /// for.
+    pub fn serve(
+        &mut self,
+        under_way: &mut UnderWay,
+        port: u64,
+        body: &[u8],
+        owed: &mut Owed,
+    ) -> Result<Waits, CoreMemory>
         requires nothing { owed.old ≡ [] }
         requires short { length body.now ≤ longest_body }
+        requires failed { under_way.old.link.failed ≡ [] }
 
         ensures keys { (wall : ℕ) → OnOk result
-            (self.new ≡ (served_body port wall body.now self.old).held) }
+            (self.new ≡ (served_body port wall body.now self.old under_way.old).held) }
+        ensures under_way { (wall : ℕ) → OnOk result
+            (under_way.new ≡ (served_body port wall body.now self.old under_way.old).work.under_way) }
+        ensures failed { OnOk result (under_way.new.link.failed ≡ []) }
         ensures reply { (wall : ℕ) → OnOk result
-            (owed.new ≡ verdict_text (served_body port wall body.now self.old).work.verdict) }
+            (owed.new ≡ verdict_text (served_body port wall body.now self.old under_way.old).work.verdict) }
+        ensures waits { (wall : ℕ) → IfOk result (λ waits.
+            waits_of waits ≡ verdict_waits (served_body port wall body.now self.old under_way.old).work.verdict) }
     {
         answer(
             self.alloc,
             &mut self.table,
             &mut self.lock,
+            under_way,
             port,
             body,
             owed,

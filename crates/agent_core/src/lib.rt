@@ -4,16 +4,25 @@
 #![tactic(auto)]
 
 mod agent;
+mod children;
+mod counting;
 mod event;
+mod helper;
+#[cfg(test)]
+mod helper_tests;
 mod keys;
+mod listed;
 mod owed;
+mod parts;
 mod places;
 mod ports;
 mod requests;
 mod rising;
+mod role;
 mod slot;
 #[cfg(test)]
 mod tests;
+mod waits;
 
 pub use agent::Agent;
 pub use event::{CoreMemory, Event, Settings};

@@ -1,12 +1,12 @@
 //! What a client is owed.
 
-ghost use Rattle.std.specs.Prelude.{◌≡◌, ◌≤◌, [], ◌++◌, drop, length, map, OnOk, IfOk};
+ghost use Rattle.std.specs.Prelude.{◌≡◌, ◌+◌, ◌≤◌, [], ◌++◌, drop, length, map, OnOk, IfOk};
 ghost use Rattle.secret_buf.specs.Buffers.{KeepsRoom};
-ghost use Rattle.agent_msg.specs.Replies.{entries, identities_answer, status};
+ghost use Rattle.agent_msg.specs.Replies.{entries, identities_answer, sign_response, status};
 ghost use Rattle.identity_table.specs.Identities.{answer_len, max_answer};
 ghost use Rattle.agent_model.specs.KeyStates.{shown};
 
-use agent_msg::{put_list_entry, put_list_head, put_status};
+use agent_msg::{put_list_entry, put_list_head, put_signature, put_status};
 use identity_table::{Identity, listed_len};
 use secret_buf::ScrubBuf;
 use std::alloc::{AllocError, Global};
@@ -52,6 +52,10 @@ impl Owed {
         })
     }
 
+    pub fn allocator(&self) -> Global {
+        self.alloc
+    }
+
     pub fn bytes(&self) -> &[u8]
         ensures { result.now ≡ self.now }
     {
@@ -76,6 +80,26 @@ impl Owed {
         ensures { self.new ≡ status success }
     {
         put_status(&mut self.bytes, success);
+    }
+
+    /// SUCCESS or FAILURE, behind what is owed. Takes no memory where nothing is.
+    pub fn append_status(&mut self, success: bool) -> Result<(), AllocError>
+        ensures { OnOk result (self.new ≡ self.old ++ status success) }
+    {
+        self.bytes.reserve(STATUS_LEN)?;
+        put_status(&mut self.bytes, success);
+        Ok(())
+    }
+
+    /// The signature, behind what is owed.
+    pub fn append_signature(&mut self, signature: &[u8]) -> Result<(), AllocError>
+        requires { 5 + length signature.now ≤ 262144 }
+        ensures { OnOk result (self.new ≡ self.old ++ sign_response signature.now) }
+    {
+        if signature.len() > LONG as usize {
+            self.is_long = true;
+        }
+        put_signature(&mut self.bytes, signature)
     }
 
     /// The list of these identities.

@@ -1,34 +1,40 @@
 //! The open ports.
 
-ghost use Rattle.std.specs.Prelude.{◌≡◌, ◌↔◌, ℕ, ◌-◌, ◌^◌, ◌<◌, ◌≤◌, [], ◌∷◌, true, if◌then◌else◌, suc, false, None, Some, IfOk, IsSome, IsTrue, MatchOption, OnOk, length, vec_capacity};
-ghost use Rattle.world_ports.specs.declared.Door.TheVariants.{Clients};
+ghost use Rattle.std.specs.Prelude.{◌≡◌, ◌↔◌, ℕ, ◌-◌, ◌^◌, ◌<◌, ◌≤◌, [], ◌∷◌, true, if◌then◌else◌, suc, false, None, Some, IfOk, IsSome, IsTrue, MatchOption, OnOk, length};
 ghost use Rattle.wire_text.specs.Frames.{Whole, front_body};
 ghost use Rattle.frame_core.specs.Looks.{front_of};
-ghost use Rattle.agent_model.specs.Children.{heard_more};
-ghost use Rattle.agent_model.specs.Looks.{due, due_by};
+ghost use Rattle.agent_model.specs.Children.{heard_more, unheard};
+ghost use Rattle.agent_model.specs.Looks.{due_by};
 ghost use Rattle.agent_model.specs.Sound.{IsRising};
-ghost use Rattle.agent_model.specs.State.{Port, UnderWay, change_port, client_count, find_port, is_some_bytes, next_owed_in, owed_by, remove_port, wants_by};
+ghost use Rattle.agent_model.specs.State.{Port, UnderWay as AnUnderWay, change_port, client_count, find_port, remove_port, unnamed_count, wants_by};
 ghost use Rattle.agent_model.specs.Step.{admitted, gone, take_frame, took_some};
 ghost use Rattle.agent_model.specs.Verdicts.{tell};
 ghost use Rattle.agent_core.specs.Plain.{ArePlain};
-ghost use Rattle.agent_core.specs.Rising.{IsRisingNumbers, inserted, noted};
+ghost use Rattle.agent_core.specs.Rising.{first_above, inserted};
+ghost use Rattle.agent_core.specs.Roles.{door_by};
 ghost use Rattle.agent_core.specs.Served.{served_body};
-ghost use Rattle.agent_core.specs.Slots.{port_of};
+ghost use Rattle.agent_core.specs.Settlings.{IsShortAnswer, verdict_of};
+ghost use Rattle.agent_core.specs.Slots.{heard_in, owed_in, owing_of, port_of};
 
 use crate::keys::Keys;
+use crate::listed::{drop_sent_at, serve_at, tell_at};
 use crate::owed::Owed;
 use crate::places::place_of;
 use crate::slot::{self, Slot};
-use crate::{CoreMemory, rising};
+use crate::waits::Waits;
+use crate::{CoreMemory, counting, rising};
 use frame_core::Look;
+use helper_link::{Answer, LinkState};
 use secret_buf::ScrubBuf;
 use std::alloc::{AllocFailed, Global};
 use std::marker::Model;
+use under_way::UnderWay;
+use world_ports::Door;
 
 /// The open ports in the order of their numbers.
 pub struct Ports {
     slots: Vec<Slot>,
-    // The numbers of those that are owed bytes, rising.
+    // The numbers of the clients that are owed bytes, rising.
     owing: Vec<u64>,
     // Those that were closed since the event began, rising.
     closed: Vec<u64>,
@@ -59,11 +65,31 @@ impl Ports {
         }
     }
 
-    pub fn len(&self) -> usize
-        ensures count { result ≡ client_count self.now.ports }
-        ensures ports { result ≡ length self.now.ports }
+    /// How many clients are open.
+    pub fn clients(&self) -> usize
+        ensures value { result ≡ client_count self.now.ports }
+        ensures few { result ≤ length self.now.ports }
     {
-        self.slots.len()
+        counting::clients(&self.slots)
+    }
+
+    /// How many child processes are open that haven't named themselves.
+    pub fn unnamed(&self, link: LinkState) -> usize
+        ensures value { (going : AnUnderWay) → going.link.state ≡ link → going.confirmations ≡ []
+            → result ≡ unnamed_count going self.now.ports }
+        ensures few { result ≤ length self.now.ports }
+    {
+        counting::unnamed(&self.slots, link)
+    }
+
+    /// The door through which an open port came.
+    pub fn door(&self, number: u64) -> Option<Door>
+        ensures { result ≡ door_by (find_port number self.now.ports) }
+    {
+        match self.find(number) {
+            Some(slot) => Some(slot.door),
+            None => None,
+        }
     }
 
     pub fn last(&self) -> u64
@@ -84,12 +110,22 @@ impl Ports {
         self.find(number).is_some()
     }
 
+    /// What a client is owed.
     pub fn owed(&self, number: u64) -> &[u8]
-        ensures { (under_way : UnderWay)
-            → result.now ≡ owed_by (find_port number self.now.ports) under_way }
+        ensures { result.now ≡ owed_in (find_port number self.now.ports) }
     {
         match self.find(number) {
             Some(slot) => slot.owed.bytes(),
+            None => &[],
+        }
+    }
+
+    /// What was heard at a port and not taken.
+    pub fn heard(&self, number: u64) -> &[u8]
+        ensures { result.now ≡ heard_in (find_port number self.now.ports) }
+    {
+        match self.find(number) {
+            Some(slot) => slot.heard.live(),
             None => &[],
         }
     }
@@ -98,14 +134,16 @@ impl Ports {
         ensures { result ≡ wants_by (find_port number self.now.ports) }
     {
         match self.find(number) {
-            Some(slot) => slot::is_unfinished(slot.heard.live()),
+            Some(slot) => slot::wants(slot),
             None => false,
         }
     }
 
+    /// The first client above `after` that is owed bytes.
     pub fn next_owed(&self, after: u64) -> Option<u64>
-        ensures next { (under_way : UnderWay) → result ≡ next_owed_in after self.now.ports under_way }
+        ensures next { result ≡ first_above after (owing_of self.now.ports) }
         ensures rising { IsRising 0 self.now.last self.now.ports }
+        ensures plain { ArePlain self.now.ports }
     {
         rising::next_above(&self.owing, after)
     }
@@ -117,14 +155,14 @@ impl Ports {
         self.closed.clear();
     }
 
-    /// Lets a client join, where there is room for it. Its number is the next in either case.
-    pub fn join(&mut self, has_room: bool) -> Result<(), CoreMemory>
+    /// Lets a port join, where there is room for it. Its number is the next in either case.
+    pub fn join(&mut self, door: Door, has_room: bool) -> Result<(), CoreMemory>
         requires last { self.old.last < 2 ^ 64 - 1 }
         requires some { has_room ≡ false → 0 < length self.old.ports }
         requires closed { self.old.closed ≡ [] }
 
         ensures ports { OnOk result (self.new ≡ record {
-          ports = admitted has_room (suc self.old.last) Clients self.old.ports;
+          ports = admitted has_room (suc self.old.last) door self.old.ports;
           last = suc self.old.last;
           closed = if has_room then [] else suc self.old.last ∷ [];
         }) }
@@ -132,7 +170,7 @@ impl Ports {
             ≡ gone self.old.last self.old.ports self.new.last self.new.ports) }
     {
         if has_room {
-            self.admit()?;
+            self.admit(door)?;
         } else {
             self.last += 1;
             rising::put_in(&mut self.closed, self.last);
@@ -165,11 +203,23 @@ impl Ports {
         slot::push(&mut self.slots[place], piece)
     }
 
+    /// Takes out what was heard of an open port.
+    pub fn take_heard(&mut self, number: u64) -> ScrubBuf
+        requires { IsSome (find_port number self.old.ports) }
+
+        ensures ports { self.new ≡ record self.old { ports = change_port number unheard self.old.ports } }
+        ensures heard { (port : Port) → find_port number self.old.ports ≡ Some port → result.live ≡ port.heard }
+    {
+        let Some(place) = place_of(&self.slots, number) else {
+            unreachable!()
+        };
+        slot::take_heard(&mut self.slots[place])
+    }
+
     /// Drops the first `count` bytes that an open port is owed.
     pub fn drop_sent(&mut self, number: u64, count: usize)
         requires is_open { IsSome (find_port number self.old.ports) }
-        requires count { (under_way : UnderWay)
-            → count ≤ length (owed_by (find_port number self.old.ports) under_way) }
+        requires count { (port : Port) → find_port number self.old.ports ≡ Some port → count ≤ length port.owed }
 
         ensures ports { self.new ≡ record self.old {
           ports = change_port number (took_some count) self.old.ports;
@@ -182,25 +232,56 @@ impl Ports {
         drop_sent_at(&mut self.slots[place], &mut self.owing, count);
     }
 
-    /// Takes the request with a body of this length, and owes its reply.
-    pub fn serve(&mut self, keys: &mut Keys, number: u64, body_len: u32) -> Result<(), CoreMemory>
-        requires { due_by (find_port number self.old.ports) ≡ Whole body_len }
+    /// Takes the request with a body of this length, and owes its reply or lets the client wait.
+    pub fn serve(
+        &mut self,
+        keys: &mut Keys,
+        under_way: &mut UnderWay,
+        number: u64,
+        body_len: u32,
+    ) -> Result<(), CoreMemory>
+        requires due { due_by (find_port number self.old.ports) ≡ Whole body_len }
+        requires failed { under_way.old.link.failed ≡ [] }
 
         ensures ports { (wall : ℕ) (port : Port) → find_port number self.old.ports ≡ Some port
             → OnOk result (self.new ≡ record self.old {
               ports = change_port number (λ p. tell
-                  (served_body number wall (front_body body_len port.heard) keys.old).work.verdict
+                  (served_body number wall (front_body body_len port.heard) keys.old under_way.old).work.verdict
                   (take_frame body_len false p)) self.old.ports;
             }) }
         ensures keys { (wall : ℕ) (port : Port) → find_port number self.old.ports ≡ Some port
             → OnOk result (keys.new
-            ≡ (served_body number wall (front_body body_len port.heard) keys.old).held) }
+            ≡ (served_body number wall (front_body body_len port.heard) keys.old under_way.old).held) }
+        ensures under_way { (wall : ℕ) (port : Port) → find_port number self.old.ports ≡ Some port
+            → OnOk result (under_way.new
+            ≡ (served_body number wall (front_body body_len port.heard) keys.old under_way.old).work.under_way) }
+        ensures failed { OnOk result (under_way.new.link.failed ≡ []) }
         ensures plain { ArePlain self.old.ports }
     {
         let Some(place) = place_of(&self.slots, number) else {
             unreachable!()
         };
-        serve_at(&mut self.slots[place], &mut self.owing, keys, body_len)
+        serve_at(
+            &mut self.slots[place],
+            &mut self.owing,
+            keys,
+            under_way,
+            body_len,
+        )
+    }
+
+    /// Tells an asker what the helper answered: nobody, where it has left.
+    pub fn tell(&mut self, number: u64, answer: &Answer) -> Result<(), CoreMemory>
+        requires { IsShortAnswer answer.now }
+
+        ensures { OnOk result (self.new ≡ record self.old {
+          ports = change_port number (tell (verdict_of answer.now)) self.old.ports;
+        }) }
+    {
+        match place_of(&self.slots, number) {
+            Some(place) => tell_at(&mut self.slots[place], &mut self.owing, answer),
+            None => Ok(()),
+        }
     }
 
     /// Closes a port. What it was owed and what was heard of it is wiped. Takes no memory.
@@ -212,6 +293,7 @@ impl Ports {
           closed = inserted number self.old.closed;
         } }
         ensures gone { gone self.old.last self.old.ports self.new.last self.new.ports ≡ number ∷ [] }
+        ensures rising { IsRising 0 self.old.last self.old.ports }
         ensures plain { ArePlain self.old.ports }
     {
         let Some(place) = place_of(&self.slots, number) else {
@@ -251,12 +333,12 @@ impl Ports {
         }
     }
 
-    // A client joins; room is taken to list it when it is owed bytes and when it is closed.
-    fn admit(&mut self) -> Result<(), CoreMemory>
+    // A port joins; room is taken to list it when it is owed bytes and when it is closed.
+    fn admit(&mut self, door: Door) -> Result<(), CoreMemory>
         requires { self.old.last < 2 ^ 64 - 1 }
 
         ensures ports { OnOk result (self.new ≡ record self.old {
-          ports = admitted true (suc self.old.last) Clients self.old.ports;
+          ports = admitted true (suc self.old.last) door self.old.ports;
           last = suc self.old.last;
         }) }
         ensures gone { OnOk result
@@ -268,8 +350,10 @@ impl Ports {
         self.closed.reserve(self.slots.len() + 2)?;
         let slot = Slot {
             number: self.last + 1,
+            door,
             heard: ScrubBuf::new(alloc),
             owed,
+            waits: Waits::Nothing,
         };
         if let Err(AllocFailed { value }) = self.slots.push(slot) {
             value.close();
@@ -278,58 +362,4 @@ impl Ports {
         self.last += 1;
         Ok(())
     }
-}
-
-// Lists the port among those that are owed bytes where it is one.
-fn note_owed(slot: &Slot, owing: &mut Vec<u64>)
-    requires rising { IsRisingNumbers 0 owing.old.items }
-    requires room { length (inserted slot.now.number owing.old.items) ≤ vec_capacity owing.old }
-    ensures items { owing.new.items ≡ noted (is_some_bytes slot.now.owed) slot.now.number owing.old.items }
-    ensures room { vec_capacity owing.old ≤ vec_capacity owing.new }
-{
-    if slot.owed.bytes().is_empty() {
-        rising::take_out(owing, slot.number);
-    } else {
-        rising::put_in(owing, slot.number);
-    }
-}
-
-// Drops the first `count` bytes that a port is owed, and lists it.
-fn drop_sent_at(slot: &mut Slot, owing: &mut Vec<u64>, count: usize)
-    requires count { count ≤ length slot.old.owed }
-    requires rising { IsRisingNumbers 0 owing.old.items }
-    requires room { length (inserted slot.old.number owing.old.items) ≤ vec_capacity owing.old }
-
-    ensures port { port_of slot.new ≡ took_some count (port_of slot.old) }
-    ensures number { slot.new.number ≡ slot.old.number }
-    ensures items { owing.new.items ≡ noted (is_some_bytes slot.new.owed) slot.old.number owing.old.items }
-    ensures room { vec_capacity owing.old ≤ vec_capacity owing.new }
-{
-    slot::drop_sent(slot, count);
-    note_owed(slot, owing);
-}
-
-// Takes a request of a port, owes its reply and lists it.
-fn serve_at(
-    slot: &mut Slot,
-    owing: &mut Vec<u64>,
-    keys: &mut Keys,
-    body_len: u32,
-) -> Result<(), CoreMemory>
-    requires due { due (port_of slot.old) ≡ Whole body_len }
-    requires rising { IsRisingNumbers 0 owing.old.items }
-    requires room { length (inserted slot.old.number owing.old.items) ≤ vec_capacity owing.old }
-
-    ensures port { (wall : ℕ) → OnOk result (port_of slot.new ≡ tell
-        (served_body slot.old.number wall (front_body body_len slot.old.heard.live) keys.old).work.verdict
-        (take_frame body_len false (port_of slot.old))) }
-    ensures keys { (wall : ℕ) → OnOk result (keys.new
-        ≡ (served_body slot.old.number wall (front_body body_len slot.old.heard.live) keys.old).held) }
-    ensures number { slot.new.number ≡ slot.old.number }
-    ensures items { owing.new.items ≡ noted (is_some_bytes slot.new.owed) slot.old.number owing.old.items }
-    ensures room { vec_capacity owing.old ≤ vec_capacity owing.new }
-{
-    let served = slot::serve(slot, keys, body_len);
-    note_owed(slot, owing);
-    served
 }

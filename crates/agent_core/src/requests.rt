@@ -1,54 +1,124 @@
 //! What requests do to the identities and the lock, and what they are answered.
 
-ghost use Rattle.std.specs.Prelude.{◌≡◌, ◌≢◌, ℕ, List, [], Option, IsSome, OnErr, OnOk, IfOk, ◌≤◌, length};
+ghost use Rattle.std.specs.Prelude.{◌≡◌, ◌+◌, ℕ, List, [], Option, IsSome, OnOk, IfOk, ◌≤◌, length};
 ghost use Rattle.agent_model.specs.Limits.{longest_body};
-ghost use Rattle.agent_msg.specs.Replies.{status};
-ghost use Rattle.agent_msg.specs.Requests.{ListIdentities, client_request};
+ghost use Rattle.agent_msg.specs.Requests.{ListIdentities, Sign, client_request};
 ghost use Rattle.identity_table.specs.Identities.{TableState, find_identity};
 ghost use Rattle.agent_model.specs.Dispatch.{add_under, remove_by};
-ghost use Rattle.agent_model.specs.State.{nothing_under_way};
-ghost use Rattle.agent_model.specs.Verdicts.{verdict_text};
-ghost use Rattle.agent_core.specs.Served.{IsShortRequest, asker_of, keys_of, served_body, served_by};
+ghost use Rattle.agent_model.specs.State.{UnderWay as AnUnderWay};
+ghost use Rattle.agent_model.specs.Verdicts.{Verdict, verdict_text, verdict_waits};
+ghost use Rattle.under_way.specs.Parts.{TellsOf};
+ghost use Rattle.agent_core.specs.Served.{IsPlainRequest, IsShortRequest, IsStatus, asker_of, keys_of, served_body, served_by};
+ghost use Rattle.agent_core.specs.Slots.{waits_of};
 
 use crate::CoreMemory;
 use crate::owed::Owed;
+use crate::waits::Waits;
 use agent_msg::{MsgFault, Request, read_request};
 use constraint_rec::Terms;
 use identity_table::{AddFault, Lock, Table};
 use key_blob::AddedKey;
 use secret_buf::SecretBytes;
 use std::alloc::Global;
+use under_way::UnderWay;
 
-/// Does what the request of this body asks, for the client of this port, and owes the reply.
+/// Does what the request of this body asks, for the client of this port: owes the reply, or tells what it waits for.
 pub fn answer(
     alloc: Global,
     table: &mut Table,
     lock: &mut Lock,
+    under_way: &mut UnderWay,
     port: u64,
     body: &[u8],
     owed: &mut Owed,
-) -> Result<(), CoreMemory>
+) -> Result<Waits, CoreMemory>
     requires nothing { owed.old ≡ [] }
     requires short { length body.now ≤ longest_body }
+    requires failed { under_way.old.link.failed ≡ [] }
 
     ensures keys { (wall : ℕ) → OnOk result (keys_of table.new lock.new
-        ≡ (served_body port wall body.now (keys_of table.old lock.old)).held) }
-    ensures reply { (wall : ℕ) → OnOk result (owed.new
-        ≡ verdict_text (served_body port wall body.now (keys_of table.old lock.old)).work.verdict) }
-    ensures unchanged { OnErr result (keys_of table.new lock.new ≡ keys_of table.old lock.old) }
+        ≡ (served_body port wall body.now (keys_of table.old lock.old) under_way.old).held) }
+    ensures under_way { (wall : ℕ) → OnOk result (under_way.new
+        ≡ (served_body port wall body.now (keys_of table.old lock.old) under_way.old).work.under_way) }
+    ensures failed { OnOk result (under_way.new.link.failed ≡ []) }
+    ensures reply { (wall : ℕ) → OnOk result (owed.new ≡ verdict_text
+        (served_body port wall body.now (keys_of table.old lock.old) under_way.old).work.verdict) }
+    ensures waits { (wall : ℕ) → IfOk result (λ waits. waits_of waits ≡ verdict_waits
+        (served_body port wall body.now (keys_of table.old lock.old) under_way.old).work.verdict) }
 {
     match read_request(alloc, body) {
-        Ok(Request::List) => list(table, lock, owed),
+        Ok(Request::List) => {
+            list(table, lock, owed)?;
+            Ok(Waits::Nothing)
+        }
+        Ok(
+            Request::Sign {
+                blob,
+                message,
+                flags,
+            },
+        ) => {
+            let asked = sign(table, lock, under_way, port, blob, message, flags)?;
+            Ok(wait(asked, owed))
+        }
         Ok(request) => {
             let done = take(alloc, table, lock, port, request)?;
             owed.put_status(done);
-            Ok(())
+            Ok(Waits::Nothing)
         }
         Err(MsgFault::Memory) => Err(CoreMemory),
         Err(_) => {
             owed.put_status(false);
-            Ok(())
+            Ok(Waits::Nothing)
         }
+    }
+}
+
+// The client waits for the ask of this number, or is refused where there is none.
+fn wait(asked: Option<u64>, owed: &mut Owed) -> Waits
+    requires { owed.old ≡ [] }
+    ensures { (verdict : Verdict) → TellsOf verdict asked
+        → (owed.new ≡ verdict_text verdict) × (waits_of result ≡ verdict_waits verdict) }
+{
+    match asked {
+        Some(ask) => Waits::OnAsk { ask },
+        None => {
+            owed.put_status(false);
+            Waits::Nothing
+        }
+    }
+}
+
+// Puts a signature to the helper, where the key is held and the user isn't to be asked, and gives the ask's number.
+fn sign(
+    table: &Table,
+    lock: &Lock,
+    under_way: &mut UnderWay,
+    port: u64,
+    blob: &[u8],
+    message: &[u8],
+    flags: u32,
+) -> Result<Option<u64>, CoreMemory>
+    requires short { length blob.now + length message.now ≤ longest_body }
+    requires failed { under_way.old.link.failed ≡ [] }
+
+    ensures keys { (wall : ℕ) → (served_by port wall (Sign record { blob = blob.now; message = message.now; flags = flags })
+        (keys_of table.now lock.now) under_way.old).held ≡ keys_of table.now lock.now }
+    ensures under_way { (wall : ℕ) → OnOk result (under_way.new ≡ (served_by port wall
+        (Sign record { blob = blob.now; message = message.now; flags = flags })
+        (keys_of table.now lock.now) under_way.old).work.under_way) }
+    ensures told { (wall : ℕ) → IfOk result (TellsOf (served_by port wall
+        (Sign record { blob = blob.now; message = message.now; flags = flags })
+        (keys_of table.now lock.now) under_way.old).work.verdict) }
+    ensures failed { OnOk result (under_way.new.link.failed ≡ []) }
+{
+    if lock.is_locked() {
+        return Ok(None);
+    }
+    match table.find(blob) {
+        // The user can't be asked yet.
+        Some(key) if !key.confirm() => Ok(under_way.put_sign(port, key, message, flags)?),
+        _ => Ok(None),
     }
 }
 
@@ -56,8 +126,8 @@ pub fn answer(
 #[tactic(auto, using(crate::proofs::HeldLemmas::seen_by_all), unfolding(identity_table::specs::Identities::entries_len))]
 fn list(table: &Table, lock: &Lock, owed: &mut Owed) -> Result<(), CoreMemory>
     requires { owed.old ≡ [] }
-    ensures { (port wall : ℕ) → OnOk result (owed.new ≡ verdict_text
-        (served_by port wall ListIdentities (keys_of table.now lock.now)).work.verdict) }
+    ensures { (port wall : ℕ) (under_way : AnUnderWay) → OnOk result (owed.new ≡ verdict_text
+        (served_by port wall ListIdentities (keys_of table.now lock.now) under_way).work.verdict) }
 {
     if lock.is_locked() {
         owed.put_list(&[])?;
@@ -75,14 +145,13 @@ fn take(
     port: u64,
     request: Request<'_>,
 ) -> Result<bool, CoreMemory>
-    requires other { client_request request ≢ ListIdentities }
+    requires other { IsPlainRequest (client_request request) }
     requires short { IsShortRequest (client_request request) }
 
-    ensures keys { (wall : ℕ) → OnOk result (keys_of table.new lock.new
-        ≡ (served_by port wall (client_request request.entry) (keys_of table.old lock.old)).held) }
-    ensures reply { (wall : ℕ) → IfOk result (λ done. status done ≡ verdict_text
-        (served_by port wall (client_request request.entry) (keys_of table.old lock.old)).work.verdict) }
-    ensures unchanged { OnErr result (keys_of table.new lock.new ≡ keys_of table.old lock.old) }
+    ensures keys { (wall : ℕ) (under_way : AnUnderWay) → OnOk result (keys_of table.new lock.new
+        ≡ (served_by port wall (client_request request.entry) (keys_of table.old lock.old) under_way).held) }
+    ensures work { (wall : ℕ) (under_way : AnUnderWay) → IfOk result (λ done. IsStatus done
+        (served_by port wall (client_request request.entry) (keys_of table.old lock.old) under_way).work under_way) }
 {
     if lock.is_locked() {
         return Ok(take_locked(lock, request));
@@ -102,26 +171,25 @@ fn take(
             let passphrase = SecretBytes::from_slice(alloc, passphrase)?;
             Ok(lock.lock(passphrase))
         }
-        // No signature is waited for, the agent isn't locked, and no extension is served.
-        Request::Sign { .. }
-        | Request::Bind { .. }
+        // The agent isn't locked, and no extension is served.
+        Request::Bind { .. }
         | Request::Unlock { .. }
         | Request::OtherExtension { .. }
         | Request::Unsupported { .. } => Ok(false),
-        // `answer` owes the list.
-        Request::List => unreachable!(),
+        // `answer` takes these.
+        Request::List | Request::Sign { .. } => unreachable!(),
     }
 }
 
 // The same of an agent that is locked: only its passphrase succeeds.
 fn take_locked(lock: &mut Lock, request: Request<'_>) -> bool
     requires locked { IsSome lock.old }
-    requires other { client_request request ≢ ListIdentities }
+    requires other { IsPlainRequest (client_request request) }
 
-    ensures keys { (port wall : ℕ) (table : TableState) → keys_of table lock.new
-        ≡ (served_by port wall (client_request request.entry) (keys_of table lock.old)).held }
-    ensures reply { (port wall : ℕ) (table : TableState) → status result ≡ verdict_text
-        (served_by port wall (client_request request.entry) (keys_of table lock.old)).work.verdict }
+    ensures keys { (port wall : ℕ) (table : TableState) (under_way : AnUnderWay) → keys_of table lock.new
+        ≡ (served_by port wall (client_request request.entry) (keys_of table lock.old) under_way).held }
+    ensures work { (port wall : ℕ) (table : TableState) (under_way : AnUnderWay) → IsStatus result
+        (served_by port wall (client_request request.entry) (keys_of table lock.old) under_way).work under_way }
 {
     match request {
         Request::Unlock { passphrase } => lock.unlock(passphrase),
@@ -131,12 +199,12 @@ fn take_locked(lock: &mut Lock, request: Request<'_>) -> bool
 
 // Removes the key of this blob, where it is held.
 fn remove(table: &mut Table, blob: &[u8]) -> bool
-    ensures keys { (port wall : ℕ) (lock : Option (List ℕ)) → keys_of table.new lock
+    ensures keys { (port wall : ℕ) (lock : Option (List ℕ)) (under_way : AnUnderWay) → keys_of table.new lock
         ≡ (remove_by (find_identity blob.now table.old.identities) (asker_of port wall (keys_of table.old lock))
-        blob.now (keys_of table.old lock) nothing_under_way).held }
-    ensures reply { (port wall : ℕ) (lock : Option (List ℕ)) → status result ≡ verdict_text
+        blob.now (keys_of table.old lock) under_way).held }
+    ensures work { (port wall : ℕ) (lock : Option (List ℕ)) (under_way : AnUnderWay) → IsStatus result
         (remove_by (find_identity blob.now table.old.identities) (asker_of port wall (keys_of table.old lock))
-        blob.now (keys_of table.old lock) nothing_under_way).work.verdict }
+        blob.now (keys_of table.old lock) under_way).work under_way }
 {
     table.remove(blob)
 }
@@ -145,14 +213,12 @@ fn remove(table: &mut Table, blob: &[u8]) -> bool
 fn add(table: &mut Table, key: AddedKey, comment: &[u8], terms: Terms) -> Result<bool, CoreMemory>
     requires { length key.private ≤ longest_body }
 
-    ensures keys { (port wall : ℕ) (lock : Option (List ℕ)) → OnOk result (keys_of table.new lock
-        ≡ (add_under terms.rules (asker_of port wall (keys_of table.old lock))
-        record { key = key; comment = comment.now; terms = terms } (keys_of table.old lock) nothing_under_way).held) }
-    ensures reply { (port wall : ℕ) (lock : Option (List ℕ)) → IfOk result (λ done. status done ≡ verdict_text
-        (add_under terms.rules (asker_of port wall (keys_of table.old lock))
-        record { key = key; comment = comment.now; terms = terms } (keys_of table.old lock)
-        nothing_under_way).work.verdict) }
-    ensures unchanged { OnErr result (table.new ≡ table.old) }
+    ensures keys { (port wall : ℕ) (lock : Option (List ℕ)) (under_way : AnUnderWay) → OnOk result
+        (keys_of table.new lock ≡ (add_under terms.rules (asker_of port wall (keys_of table.old lock))
+        record { key = key; comment = comment.now; terms = terms } (keys_of table.old lock) under_way).held) }
+    ensures work { (port wall : ℕ) (lock : Option (List ℕ)) (under_way : AnUnderWay) → IfOk result (λ done.
+        IsStatus done (add_under terms.rules (asker_of port wall (keys_of table.old lock))
+        record { key = key; comment = comment.now; terms = terms } (keys_of table.old lock) under_way).work under_way) }
 {
     if !terms.rules.is_empty() {
         return Ok(false);

@@ -1,22 +1,28 @@
 //! One open port.
 
-ghost use Rattle.std.specs.Prelude.{◌≡◌, ◌+◌, ◌≤◌, ℕ, false, IfOk, OnOk, length};
+ghost use Rattle.std.specs.Prelude.{◌≡◌, ◌+◌, ◌≤◌, ℕ, [], false, IfOk, OnOk, length};
 ghost use Rattle.wire_text.specs.Frames.{after_front, front, front_body, More, Whole};
 ghost use Rattle.frame_core.specs.Looks.{front_of};
-ghost use Rattle.agent_model.specs.Children.{heard_more};
+ghost use Rattle.agent_model.specs.Children.{heard_more, unheard};
 ghost use Rattle.agent_model.specs.Limits.{longest_body};
 ghost use Rattle.agent_model.specs.Looks.{due};
-ghost use Rattle.agent_model.specs.State.{is_more};
+ghost use Rattle.agent_model.specs.State.{wants_at};
 ghost use Rattle.agent_model.specs.Step.{take_frame, took_some};
 ghost use Rattle.agent_model.specs.Verdicts.{tell};
 ghost use Rattle.agent_core.specs.Served.{served_body};
+ghost use Rattle.agent_core.specs.Settlings.{IsShortAnswer, verdict_of};
 ghost use Rattle.agent_core.specs.Slots.{port_of};
 
 use crate::CoreMemory;
 use crate::keys::Keys;
 use crate::owed::Owed;
+use crate::waits::Waits;
 use frame_core::{Look, look};
+use helper_link::Answer;
 use secret_buf::ScrubBuf;
+use std::mem;
+use under_way::UnderWay;
+use world_ports::Door;
 
 /// The longest body of a client's message, in bytes.
 pub const LONGEST_BODY: u32 = 262_144;
@@ -24,11 +30,14 @@ pub const LONGEST_BODY: u32 = 262_144;
 /// The storage of a request with a longer body isn't kept for the next one, in bytes.
 const LONG: u32 = 4096;
 
-/// An open port of a client. It has no `Drop`, so each is to be closed.
+/// An open port. It has no `Drop`, so each is to be closed.
 pub struct Slot {
     pub number: u64,
+    pub door: Door,
     pub heard: ScrubBuf,
+    /// What a client is owed. A child process is owed nothing here.
     pub owed: Owed,
+    pub waits: Waits,
 }
 
 impl Slot {
@@ -36,8 +45,10 @@ impl Slot {
     pub fn close(self) {
         let Slot {
             number: _,
+            door: _,
             heard: _,
             owed: _,
+            waits: _,
         } = self;
     }
 }
@@ -46,6 +57,7 @@ impl Slot {
 pub fn push(slot: &mut Slot, piece: &[u8]) -> Result<(), CoreMemory>
     ensures port { OnOk result (port_of slot.new ≡ heard_more piece.now (port_of slot.old)) }
     ensures number { slot.new.number ≡ slot.old.number }
+    ensures door { slot.new.door ≡ slot.old.door }
     ensures owed { slot.new.owed ≡ slot.old.owed }
 {
     slot.heard.push_slice(piece)?;
@@ -57,48 +69,90 @@ pub fn drop_sent(slot: &mut Slot, count: usize)
     requires { count ≤ length slot.old.owed }
     ensures port { port_of slot.new ≡ took_some count (port_of slot.old) }
     ensures number { slot.new.number ≡ slot.old.number }
+    ensures door { slot.new.door ≡ slot.old.door }
 {
     slot.owed.consume(count);
 }
 
-/// What is to be taken: nothing while bytes are owed.
+/// What is to be taken of a client: nothing while it waits or bytes are owed.
 pub fn due(slot: &Slot) -> Look
     ensures { front_of result ≡ due (port_of slot.now) }
 {
-    if slot.owed.bytes().is_empty() {
-        look(slot.heard.live(), LONGEST_BODY)
-    } else {
-        Look::More
+    match slot.waits {
+        Waits::Nothing if slot.owed.bytes().is_empty() => look(slot.heard.live(), LONGEST_BODY),
+        _ => Look::More,
     }
 }
 
-/// Whether the bytes are the front of a request that isn't whole.
-pub fn is_unfinished(heard: &[u8]) -> bool
-    ensures { result ≡ is_more (front longest_body heard.now) }
+/// Whether it is to be read: a client until a request of it is whole, a child process always.
+pub fn wants(slot: &Slot) -> bool
+    ensures { result ≡ wants_at slot.now.door slot.now.heard.live }
 {
-    matches!(look(heard, LONGEST_BODY), Look::More)
+    match slot.door {
+        Door::Clients => matches!(look(slot.heard.live(), LONGEST_BODY), Look::More),
+        Door::Children => true,
+    }
 }
 
-/// Takes the request with a body of this length, and owes its reply.
-pub fn serve(slot: &mut Slot, keys: &mut Keys, body_len: u32) -> Result<(), CoreMemory>
-    requires { due (port_of slot.old) ≡ Whole body_len }
+/// Takes out what was heard.
+pub fn take_heard(slot: &mut Slot) -> ScrubBuf
+    ensures port { port_of slot.new ≡ unheard (port_of slot.old) }
+    ensures heard { result.live ≡ slot.old.heard.live }
+    ensures number { slot.new.number ≡ slot.old.number }
+    ensures door { slot.new.door ≡ slot.old.door }
+    ensures owed { slot.new.owed ≡ slot.old.owed }
+{
+    let nothing = ScrubBuf::new(slot.owed.allocator());
+    mem::replace(&mut slot.heard, nothing)
+}
+
+/// Takes the request with a body of this length, and owes its reply or lets the client wait.
+pub fn serve(
+    slot: &mut Slot,
+    keys: &mut Keys,
+    under_way: &mut UnderWay,
+    body_len: u32,
+) -> Result<(), CoreMemory>
+    requires due { due (port_of slot.old) ≡ Whole body_len }
+    requires failed { under_way.old.link.failed ≡ [] }
 
     ensures port { (wall : ℕ) → OnOk result (port_of slot.new ≡ tell
-        (served_body slot.old.number wall (front_body body_len slot.old.heard.live) keys.old).work.verdict
+        (served_body slot.old.number wall (front_body body_len slot.old.heard.live) keys.old under_way.old).work.verdict
         (take_frame body_len false (port_of slot.old))) }
     ensures keys { (wall : ℕ) → OnOk result (keys.new
-        ≡ (served_body slot.old.number wall (front_body body_len slot.old.heard.live) keys.old).held) }
+        ≡ (served_body slot.old.number wall (front_body body_len slot.old.heard.live) keys.old under_way.old).held) }
+    ensures under_way { (wall : ℕ) → OnOk result (under_way.new
+        ≡ (served_body slot.old.number wall (front_body body_len slot.old.heard.live) keys.old
+        under_way.old).work.under_way) }
+    ensures failed { OnOk result (under_way.new.link.failed ≡ []) }
     ensures number { slot.new.number ≡ slot.old.number }
+    ensures door { slot.new.door ≡ slot.old.door }
 {
     let body = first_body(slot.heard.live(), body_len);
-    keys.serve(slot.number, body, &mut slot.owed)?;
+    slot.waits = keys.serve(under_way, slot.number, body, &mut slot.owed)?;
     drop_frame(&mut slot.heard, body_len);
     Ok(())
 }
 
-// The body of the whole frame at the front.
+/// Owes what the helper answered behind what is owed, and waits no more.
+pub fn tell(slot: &mut Slot, answer: &Answer) -> Result<(), CoreMemory>
+    requires { IsShortAnswer answer.now }
+    ensures port { OnOk result (port_of slot.new ≡ tell (verdict_of answer.now) (port_of slot.old)) }
+    ensures number { slot.new.number ≡ slot.old.number }
+    ensures door { slot.new.door ≡ slot.old.door }
+{
+    match answer {
+        Answer::Signed(signature) => slot.owed.append_signature(signature.as_slice())?,
+        Answer::True => slot.owed.append_status(true)?,
+        Answer::Refused | Answer::False => slot.owed.append_status(false)?,
+    }
+    slot.waits = Waits::Nothing;
+    Ok(())
+}
+
+/// The body of the whole frame at the front.
 #[tactic(auto, using(crate::proofs::LookLemmas::whole_within, crate::proofs::LookLemmas::body_within))]
-fn first_body(heard: &[u8], body_len: u32) -> &[u8]
+pub fn first_body(heard: &[u8], body_len: u32) -> &[u8]
     requires { front longest_body heard.now ≡ Whole body_len }
     ensures body { result.now ≡ front_body body_len heard.now }
     ensures short { length result.now ≤ longest_body }

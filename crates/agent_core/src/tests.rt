@@ -12,9 +12,9 @@ const REMOVE_ALL: [u8; 5] = [0, 0, 0, 1, 19];
 /// SSH_AGENT_IDENTITIES_ANSWER, 12, with no identity.
 const NO_IDENTITIES: [u8; 9] = [0, 0, 0, 5, 12, 0, 0, 0, 0];
 /// SSH_AGENT_SUCCESS, 6.
-const SUCCESS: [u8; 5] = [0, 0, 0, 1, 6];
+pub const SUCCESS: [u8; 5] = [0, 0, 0, 1, 6];
 /// SSH_AGENT_FAILURE, 5.
-const FAILURE: [u8; 5] = [0, 0, 0, 1, 5];
+pub const FAILURE: [u8; 5] = [0, 0, 0, 1, 5];
 
 const NOW: Moment = Moment {
     mono: 7,
@@ -84,7 +84,7 @@ fn requests_have_the_replies_of_the_draft(rt: HostRuntime) -> Result<(), Fail> {
 
 // A key of the type keyed-sha256@example.com with tag 11.. and secret 21.., and the comment "one":
 // SSH_AGENTC_ADD_IDENTITY, 17, and SSH_AGENTC_ADD_ID_CONSTRAINED, 25, with a lifetime of 10 seconds.
-const ADD: &[u8] = b"\0\0\0\x6c\x11\
+pub const ADD: &[u8] = b"\0\0\0\x6c\x11\
     \0\0\0\x18keyed-sha256@example.com\
     \0\0\0\x20\x11\x11\x11\x11\x11\x11\x11\x11\x11\x11\x11\x11\x11\x11\x11\x11\
     \x11\x11\x11\x11\x11\x11\x11\x11\x11\x11\x11\x11\x11\x11\x11\x11\

@@ -1,5 +1,5 @@
 -- The answers of the helper go to who asked, and to nobody else.
-use Rattle.std.proofs.Common.{◌≡◌, ◌≢◌, ℕ, List, [], ◌∷◌, refl, ap, arith, ◌∙◌, ◌==◌, ◌||◌, Option, Some, None, false}
+use Rattle.std.proofs.Common.{◌≡◌, ◌≢◌, ℕ, List, [], ◌∷◌, refl, ap, arith, ◌∙◌, ◌==◌, ◌||◌, Some, false}
 use Rattle.std.specs.Option.{option_map}
 use Rattle.std.proofs.lemmas.Bool.Decides.{nat_tests}
 use Rattle.helper_link.specs.declared.answer.Settled.{Settled}

@@ -5,7 +5,7 @@ use Rattle.std.proofs.lemmas.Bool.Decides.{nat_tests}
 use Rattle.world_ports.specs.declared.Door.{Door}
 use Rattle.world_ports.specs.declared.Door.TheVariants.{Clients, Children}
 use Rattle.world_ports.specs.declared.events.Moment.{Moment}
-use Rattle.wire_text.specs.Frames.{Front, front, front_body, Whole, Bad, More}
+use Rattle.wire_text.specs.Frames.{Front, front_body, Whole, Bad, More}
 use Rattle.wire_text.proofs.FrontLemmas.{front_says}
 use Rattle.agent_model.specs.Actions.{Outcome}
 use Rattle.agent_model.specs.Budget.{asking_bytes, budget, port_budget, ports_budget}
@@ -24,10 +24,9 @@ use Rattle.agent_model.proofs.NumberLemmas.{step-grows}
 use Rattle.agent_model.proofs.ServeLemmas.{serve-ends}
 use Rattle.agent_model.proofs.PortsLemmas.{rising-change_port}
 use Rattle.agent_model.specs.Sound.{IsRising, IsSteady}
-use Rattle.agent_model.specs.State.{Client, Confirmer, Helper, Role, Unnamed, is_linked_to, role_by_helper, role_by_link}
-use Rattle.agent_model.specs.Step.{look_front, look_owed, look_port, look_waits}
+use Rattle.agent_model.specs.State.{Helper, Role, is_linked_to, role_by_helper, role_by_link}
 use Rattle.helper_link.specs.HelperLink.{sendable, sent}
-use Rattle.confirm_desk.specs.Confirmations.{Confirmation, find_linked, took}
+use Rattle.confirm_desk.specs.Confirmations.{Confirmation, find_linked}
 use Rattle.helper_link.specs.declared.state.LinkState.{LinkState}
 use Rattle.helper_link.specs.declared.state.LinkState.TheVariants as states
 use Rattle.std.proofs.lemmas.Bool.{cases_eq}

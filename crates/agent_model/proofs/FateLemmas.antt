@@ -3,7 +3,6 @@ use Rattle.std.proofs.Common.{◌≡◌, ◌≢◌, ℕ, List, [], ◌∷◌, �
 use Rattle.std.specs.Option.{option_map}
 use Rattle.std.proofs.lemmas.Bool.{cases_eq}
 use Rattle.std.proofs.lemmas.Bool.Decides.{nat_tests}
-use Rattle.world_ports.specs.declared.Door.TheVariants.{Clients}
 use Rattle.helper_link.specs.Answered.{LeadTo, kind_answered}
 use Rattle.helper_link.specs.HelperLink.{ask_of, askers}
 use Rattle.helper_link.specs.Settling.{find_ask, remove_ask}
@@ -15,9 +14,9 @@ use Rattle.helper_link.specs.declared.ask.Ask.{Ask}
 use Rattle.helper_link.proofs.OrderLemmas.{remove_rises}
 use Rattle.agent_model.specs.Actions.{Action, Answered}
 use Rattle.agent_model.specs.Answers.{Answering, answer_all, answer_asker, answer_by, answer_true, find_verification, prove, proved_at, tell_each}
-use Rattle.agent_model.specs.Fates.{Fate, Fails, Gets, IsTold, Unanswered, answer_verdict, fate_by, fate_of, fate_verdict, or_later, times_answered, times_asked}
+use Rattle.agent_model.specs.Fates.{Fate, Fails, Gets, IsTold, Unanswered, answer_verdict, fate_by, fate_of, fate_verdict, or_later, settled_fate, times_answered, times_asked}
 use Rattle.agent_model.specs.Sound.{AreTied}
-use Rattle.agent_model.specs.State.{Nothing, OnAsk, Port, Verification, change_port, find_port, remove_port}
+use Rattle.agent_model.specs.State.{Nothing, OnAsk, Port, Verification, change_port, find_port}
 use Rattle.agent_model.specs.Verdicts.{Awaits, HelperLost, HelperRefused, Refuses, Replies, Signature, SignatureWrong, Success, Verdict, tell, verdict_text, verdict_waits}
 use Rattle.agent_model.proofs.PortsLemmas.{find_port-apart, find_port-change_port}
 use Rattle.agent_model.proofs.TieLemmas.{not_asker, tied-told}
@@ -41,7 +40,7 @@ told-here number old new f ports keeps doors owes waits told = record {
 
 -- ---- what actions make of an ask
 
-or_later-assoc : (one two three : Fate) → or_later one (or_later two three) ≡ or_later (or_later one two) three
+pub or_later-assoc : (one two three : Fate) → or_later one (or_later two three) ≡ or_later (or_later one two) three
 or_later-assoc Unanswered two three = refl
 or_later-assoc (Gets answer) two three = refl
 or_later-assoc Fails two three = refl
@@ -121,6 +120,24 @@ answer-fate ask one before =
     ends Unanswered = refl
     ends (Gets answer) = refl
     ends Fails = refl
+
+-- the first answer of several counts
+pub settled-fates : (ask : ℕ) (settled : List Settled) (before : Answering) → fate_of ask (answer_all settled before).actions ≡ or_later (fate_of ask before.actions) (settled_fate ask settled)
+settled-fates ask [] before = ends (fate_of ask before.actions)
+  where
+    ends : (fate : Fate) → fate ≡ or_later fate Unanswered
+    ends Unanswered = refl
+    ends (Gets answer) = refl
+    ends Fails = refl
+settled-fates ask (one ∷ later) before =
+    settled-fates ask later (answer_by one.answer one before)
+    ∙ ap (λ fate. or_later fate (settled_fate ask later)) (answer-fate ask one before)
+    ∙ sym (or_later-assoc (fate_of ask before.actions) (if one.ask == ask then Gets one.answer else Unanswered) (settled_fate ask later))
+    ∙ ap (or_later (fate_of ask before.actions)) (by_test (one.ask == ask))
+  where
+    by_test : (equal : Bool) → or_later (if equal then Gets one.answer else Unanswered) (settled_fate ask later) ≡ (if equal then Gets one.answer else settled_fate ask later)
+    by_test true = refl
+    by_test false = refl
 
 -- ---- answers, one after another
 

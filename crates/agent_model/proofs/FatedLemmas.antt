@@ -8,7 +8,7 @@ use Rattle.world_ports.specs.declared.Moment.{Moment}
 use Rattle.wire_text.specs.Frames.{front_body}
 use Rattle.helper_link.specs.Answered.{LeadTo, is_answered}
 use Rattle.helper_link.specs.HelperLink.{HelperLink, ask_of, askers}
-use Rattle.helper_link.specs.Settling.{find_ask, settling}
+use Rattle.helper_link.specs.Settling.{find_ask}
 use Rattle.helper_link.specs.Sound.{RiseTo}
 use Rattle.helper_link.specs.Telling.{Telling, telling}
 use Rattle.helper_link.specs.declared.ask.Ask.{Ask}
@@ -20,9 +20,9 @@ use Rattle.helper_link.proofs.OrderLemmas.{find-push, push_rises}
 use Rattle.child_msg.specs.Messages.{ToChildMessage}
 use Rattle.agent_msg.specs.Reading.{request_of}
 use Rattle.agent_model.specs.Actions.{Action, Asked, Lost, Outcome, Requested, acted, and_then, stay}
-use Rattle.agent_model.specs.Answers.{Answering, answer_all, answers_in, close_helper, helper_tells, link_lost, lose, lose_if, tell_each, with_answers}
-use Rattle.agent_model.specs.Children.{changed, closed, helper_named, unheard}
-use Rattle.agent_model.specs.Dispatch.{Asker, Served, serve}
+use Rattle.agent_model.specs.Answers.{Answering, answer_all, close_helper, helper_tells, lose, lose_if, with_answers}
+use Rattle.agent_model.specs.Children.{changed, unheard}
+use Rattle.agent_model.specs.Dispatch.{Served}
 use Rattle.agent_model.specs.Errands.{Errand, begun_by, kind_of, message_of, purpose_of, with_ask}
 use Rattle.agent_model.specs.Events.{Happening, Timed, Ended, Tick}
 use Rattle.agent_model.specs.Fates.{Fate, Fails, Gets, IsTold, NoneEnds, Unanswered, actions_of, fate_of, fate_verdict, or_later}
@@ -30,13 +30,13 @@ use Rattle.agent_model.specs.KeyStates.{KeyState}
 use Rattle.agent_model.specs.Runs.{run}
 use Rattle.agent_model.specs.Sound.{AreTied, IsRising, IsTied, IsWaiting}
 use Rattle.agent_model.specs.State.{Nothing, OnAsk, OnConfirmation, Port, State, UnderWay, change_port, find_port, first_state, new_port, remove_port}
-use Rattle.agent_model.specs.Step.{admitted, asker_at, at_moment, attempts, concluded, has_room, joined, step, take_frame}
-use Rattle.agent_model.specs.Verdicts.{Awaits, HelperLost, Refuses, Replies, Verdict, tell, verdict_text, verdict_waits}
-use Rattle.agent_model.proofs.FateLemmas.{answer-waits, fate-answers, fate-append, tied-answers, tied-lost, told-answers, told-apart, told-here, told-lost, waits-lost}
+use Rattle.agent_model.specs.Step.{admitted, asker_at, at_moment, attempts, concluded, has_room, step, take_frame}
+use Rattle.agent_model.specs.Verdicts.{Awaits, Refuses, Replies, Verdict, tell, verdict_waits}
+use Rattle.agent_model.proofs.FateLemmas.{answer-waits, fate-answers, fate-append, tied-answers, tied-lost, told-apart, told-here, told-lost, waits-lost}
 use Rattle.agent_model.proofs.GrowLemmas.{asks_more}
 use Rattle.agent_model.proofs.LeadLemmas.{Follows, changes, follows-makes, follows-quiet, leads-answers, same}
-use Rattle.agent_model.proofs.MakeLemmas.{IsMild, Makes, MayClose, Quiet, SameAsks, alters, by_event, child, closes, ended, first, goes_on, grants, idle, loses, mild-unheard, names, overs, serves, stays, tells}
-use Rattle.agent_model.proofs.PortsLemmas.{change_port-twice, find_port-change_port, find_port-left, find_port-remove_port, find_port-removed_apart, found_number, found_within, rising-append, rising_higher}
+use Rattle.agent_model.proofs.MakeLemmas.{IsMild, Makes, MayClose, Quiet, alters, by_event, child, closes, ended, first, goes_on, grants, idle, loses, mild-unheard, names, overs, serves, stays, tells}
+use Rattle.agent_model.proofs.PortsLemmas.{change_port-twice, find_port-left, find_port-removed_apart, found_number, found_within, rising-append, rising_higher}
 use Rattle.agent_model.proofs.RunLemmas.{leads-found, leads-rising}
 use Rattle.agent_model.proofs.ServeLemmas.{IsServed, answered, asked, raised, refused, serve-ends}
 use Rattle.agent_model.proofs.TieLemmas.{IsOf, apart, found_after, found_joined, here, tied-asked, tied-silent}

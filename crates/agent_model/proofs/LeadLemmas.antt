@@ -1,6 +1,5 @@
 -- What events do to the ports: some are changed under their numbers, some are closed, and the last number stays.
 use Rattle.std.proofs.Common.{◌≡◌, ℕ, List, [], ◌∷◌, refl, sym, subst, Option, Some, None}
-use Rattle.confirm_desk.specs.Confirmations.{Confirmation}
 use Rattle.helper_link.specs.HelperLink.{askers}
 use Rattle.helper_link.specs.Telling.{telling}
 use Rattle.helper_link.specs.declared.answer.Settled.{Settled}

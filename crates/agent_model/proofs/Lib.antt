@@ -15,6 +15,7 @@ pub mod VerdictLemmas
 pub mod ToldLemmas
 pub mod PiecesLemmas
 pub mod PartsLemmas
+pub mod CutLemmas
 pub mod TieLemmas
 pub mod FateLemmas
 pub mod FatedLemmas

@@ -12,7 +12,7 @@ use Rattle.wire_text.specs.Frames.{Front, Whole, Bad, More, after_front, front, 
 use Rattle.child_msg.specs.Messages.{Denied, False, FromChildMessage, Granted, Hello, Refused, Signed, True}
 use Rattle.child_msg.specs.Reading.{from_child_of}
 use Rattle.child_msg.specs.declared.fault.ChildFault.{ChildFault}
-use Rattle.confirm_desk.specs.Confirmations.{Confirmation, Consent, No, NotYet, Yes, change_job, consent, find_asker, find_job, find_linked, took}
+use Rattle.confirm_desk.specs.Confirmations.{Confirmation, Consent, No, NotYet, Yes, change_job, consent, find_asker, find_job, find_linked}
 use Rattle.helper_link.specs.Telling.{telling}
 use Rattle.agent_model.specs.Actions.{Outcome, stay}
 use Rattle.agent_model.specs.Answers.{helper_tells, lose}
@@ -20,7 +20,7 @@ use Rattle.agent_model.specs.Children.{changed, closed, confirmer_goes_on, confi
 use Rattle.agent_model.specs.Consents.{consent_by, find_started, grant_concluded, grant_to, grant_work, over, over_if, with_heard}
 use Rattle.agent_model.specs.Events.{Happening, Joined, Heard, Ended, Took, Started, StartFailed, Tick}
 use Rattle.agent_model.specs.Limits.{longest_body}
-use Rattle.agent_model.specs.State.{Client, Confirmer, Helper, Nothing, OnAsk, OnConfirmation, Port, Role, StartedJob, State, UnderWay, Unnamed, Waits, change_port, find_port, find_to_start, is_linked_to, remove_port, role_by_helper, role_by_link, role_of}
+use Rattle.agent_model.specs.State.{Client, Confirmer, Helper, Nothing, OnAsk, OnConfirmation, Port, Role, StartedJob, State, UnderWay, Unnamed, Waits, change_port, find_port, find_to_start, is_linked_to, role_by_helper, role_by_link, role_of}
 use Rattle.agent_model.specs.Step.{confirmer_took, ended_at, ended_by_role, handle, heard_at, heard_by_role, helper_took, joined, look_front, look_owed, look_port, look_waits, taken, took_at, took_by_role, took_some}
 use Rattle.agent_model.proofs.PortsLemmas.{find_port-change_port, found_number}
 

@@ -1,5 +1,5 @@
 -- The numbers of jobs and of asks never fall, and where no confirmation is waited for none is begun.
-use Rattle.std.proofs.Common.{◌≡◌, ℕ, ◌≤◌, List, [], ◌∷◌, arith, refl, Option, Some, None}
+use Rattle.std.proofs.Common.{◌≡◌, ℕ, ◌≤◌, List, [], ◌∷◌, arith, Option, Some, None}
 use Rattle.world_ports.specs.declared.Moment.{Moment}
 use Rattle.wire_text.specs.Frames.{front_body}
 use Rattle.confirm_desk.specs.Confirmations.{Confirmation}

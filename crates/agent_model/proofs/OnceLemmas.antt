@@ -1,6 +1,5 @@
 -- No ask is answered twice, and no number of an ask is given twice.
-use Rattle.std.proofs.Common.{◌≡◌, ◌≢◌, ℕ, ◌+◌, ◌<◌, ◌≤◌, List, [], ◌∷◌, ◌++◌, refl, ap, arith, sym, ◌∙◌, ◌==◌, nat_lt, Option, Some, None, Bool, true, false, cond, inl, inr, if◌then◌else◌}
-use Rattle.std.proofs.lemmas.Bool.{cases_eq}
+use Rattle.std.proofs.Common.{◌≡◌, ◌≢◌, ℕ, ◌+◌, ◌<◌, ◌≤◌, List, [], ◌∷◌, ◌++◌, refl, ap, arith, sym, ◌∙◌, ◌==◌, nat_lt, Option, Some, None, Bool, true, false, cond, if◌then◌else◌}
 use Rattle.std.proofs.lemmas.Bool.Decides.{nat_tests}
 use Rattle.std.proofs.lemmas.List.{append-nil}
 use Rattle.std.proofs.lemmas.List.Sums.{sum_by-append, sum_by-cons}
@@ -10,12 +9,12 @@ use Rattle.helper_link.specs.Answered.{LeadTo, kind_answered}
 use Rattle.helper_link.specs.HelperLink.{HelperLink, ask_of}
 use Rattle.helper_link.specs.Settling.{find_ask, remove_ask}
 use Rattle.helper_link.specs.Sound.{RiseTo}
-use Rattle.helper_link.specs.Telling.{Telling, telling}
+use Rattle.helper_link.specs.Telling.{telling}
 use Rattle.helper_link.specs.declared.answer.Settled.{Settled}
 use Rattle.helper_link.specs.declared.ask.Ask.{Ask}
 use Rattle.helper_link.specs.declared.fault.LinkFault.{LinkFault}
 use Rattle.helper_link.proofs.AnswerLemmas.{settling_leads}
-use Rattle.helper_link.proofs.OrderLemmas.{differ, find-push, find-remove, remove_rises}
+use Rattle.helper_link.proofs.OrderLemmas.{find-push, find-remove, remove_rises}
 use Rattle.agent_msg.specs.Reading.{request_of}
 use Rattle.agent_model.specs.Actions.{Action, Answered, Lost, Outcome, Requested, acted, and_then}
 use Rattle.agent_model.specs.Answers.{Answering, answer_all, answer_by, lose_if, with_answers}

@@ -1,7 +1,5 @@
 -- A piece of a client's bytes whose first part holds a whole request, or a bad length.
-use Rattle.std.proofs.Common.{◌≡◌, ℕ, ◌+◌, ◌-◌, ◌≤◌, List, [], ◌∷◌, ◌++◌, length, take, drop, refl, ap, arith, sym, ◌∙◌, Option, Some, None, inl, inr}
-use Rattle.std.proofs.lemmas.Bool.{cases_eq}
-use Rattle.std.proofs.lemmas.Bool.Decides.{nat_tests}
+use Rattle.std.proofs.Common.{◌≡◌, ℕ, ◌+◌, ◌-◌, ◌≤◌, List, [], ◌∷◌, ◌++◌, length, take, drop, refl, ap, arith, sym, ◌∙◌, Option, Some, None}
 use Rattle.std.proofs.lemmas.List.{append-nil, append_assoc, drop-append-le, length-drop, take-append-le}
 use Rattle.std.specs.Option.{IfSome, option_map}
 use Rattle.wire_text.specs.Frames.{Front, front, front_body, after_front, Whole, Bad, More}

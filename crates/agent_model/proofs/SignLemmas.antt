@@ -1,5 +1,5 @@
 -- A signature is put to the helper exactly where it may be, and is refused exactly for its cause.
-use Rattle.std.proofs.Common.{◌≡◌, ◌≢◌, ℕ, ◌+◌, ◌-◌, ◌^◌, ◌<◌, ◌≤◌, List, [], length, not, nat_lt, refl, ap, arith, sym, subst, ◌∙◌, ◌==◌, if◌then◌else◌, Option, Some, None, IsSome, Bool, true, false, Ok, ◌↔◌}
+use Rattle.std.proofs.Common.{◌≡◌, ◌≢◌, ℕ, ◌+◌, ◌-◌, ◌^◌, ◌<◌, List, length, not, nat_lt, refl, ap, arith, sym, subst, ◌∙◌, ◌==◌, if◌then◌else◌, Option, Some, None, IsSome, Bool, true, false, Ok, ◌↔◌}
 use Rattle.std.proofs.lemmas.Bool.Decides.{nat_tests}
 use Rattle.helper_link.specs.declared.state.LinkState.{LinkState}
 use Rattle.helper_link.specs.declared.state.LinkState.TheVariants as states
@@ -8,11 +8,11 @@ use Rattle.agent_msg.specs.Requests.{Sign, Signing}
 use Rattle.agent_model.specs.Actions.{Work, settles}
 use Rattle.agent_model.specs.Askable.{HasRoom, IsRefusedFor, IsUsable}
 use Rattle.agent_model.specs.Dispatch.{Asker, serve, serve_by, sign_by, sign_with}
-use Rattle.agent_model.specs.Errands.{Signs, ask_fault, ask_fault_by, ask_user, helper_fault, put_ask, put_unless, raise_fault, raise_fault_by, raise_unless}
+use Rattle.agent_model.specs.Errands.{Signs, ask_fault, ask_fault_by, helper_fault, put_unless, raise_fault, raise_fault_by, raise_unless}
 use Rattle.agent_model.specs.KeyStates.{KeyState}
 use Rattle.agent_model.specs.Limits.{last_number, most_asks}
 use Rattle.agent_model.specs.State.{OnAsk, UnderWay}
-use Rattle.agent_model.specs.Verdicts.{AsksSpent, Awaits, Cause, JobsSpent, Locked, NotHeld, Refuses, TooManyAsks, TooManyConfirmations, Verdict}
+use Rattle.agent_model.specs.Verdicts.{AsksSpent, Awaits, Cause, JobsSpent, Locked, NotHeld, Refuses, TooManyAsks, TooManyConfirmations}
 
 -- what comes of a signature, and why
 pub data Comes (signing : Signing) (asker : Asker) (held : KeyState) (under_way : UnderWay) : Work → Type 0 where

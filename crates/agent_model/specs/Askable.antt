@@ -1,5 +1,5 @@
 -- Which requests for a signature are put to the helper, and why the others are refused (ours).
-use Rattle.std.specs.Prelude.{◌≡◌, ◌≢◌, ℕ, ◌-◌, ◌^◌, ◌<◌, ◌≤◌, length, None, Some, IsSome, Bool, true, false}
+use Rattle.std.specs.Prelude.{◌≡◌, ◌≢◌, ◌-◌, ◌^◌, ◌<◌, ◌≤◌, length, None, Some, IsSome, Bool, true, false}
 use Rattle.helper_link.specs.declared.state.LinkState.TheVariants as states
 use Rattle.identity_table.specs.Identities.{HeldKey, find_identity}
 use Rattle.agent_msg.specs.Requests.{Signing}

@@ -1,9 +1,11 @@
 -- What becomes of what a client waits for: the helper answers its ask, or is lost (ours).
-use Rattle.std.specs.Prelude.{◌≡◌, ℕ, List, [], ◌∷◌, ◌++◌, Some, ◌==◌, if◌then◌else◌}
+use Rattle.std.specs.Prelude.{◌≡◌, ℕ, List, [], ◌∷◌, ◌++◌, Option, Some, None, ◌==◌, if◌then◌else◌}
 use Rattle.std.specs.List.{sum_by}
 use Rattle.world_ports.specs.declared.Door.TheVariants.{Clients}
 use Rattle.helper_link.specs.declared.answer.Answer.{Answer}
 use Rattle.helper_link.specs.declared.answer.Answer.TheVariants as answer
+use Rattle.helper_link.specs.declared.answer.Settled.{Settled}
+use Rattle.helper_link.specs.declared.fault.LinkFault.{LinkFault}
 use Rattle.agent_model.specs.Actions.{Action, Answered, Asked, Granted, Lost, Over, Proved, Raised, Requested}
 use Rattle.agent_model.specs.Events.{Timed, Ended}
 use Rattle.agent_model.specs.State.{OnAsk, Port, State, find_port}
@@ -39,6 +41,15 @@ or_later Fails later = Fails
 abbrev pub fate_of : ℕ → List Action → Fate
 fate_of ask [] = Unanswered
 fate_of ask (action ∷ later) = or_later (fate_by ask action) (fate_of ask later)
+
+-- the same of what a piece of the helper's stream settles, in order, and of its fault
+abbrev pub settled_fate : ℕ → List Settled → Fate
+settled_fate ask [] = Unanswered
+settled_fate ask (one ∷ later) = if one.ask == ask then Gets one.answer else settled_fate ask later
+
+abbrev pub fault_fate : Option LinkFault → Fate
+fault_fate None = Unanswered
+fault_fate (Some fault) = Fails
 
 -- ---- what its client is told
 

@@ -1,24 +1,27 @@
 //! Laws of what the helper is asked: who is told what it answers, how often, and which signatures are put to it.
 
-ghost use Rattle.std.specs.Prelude.{◌≡◌, ◌≢◌, ◌↔◌, ◌+◌, ◌≤◌, ℕ, List, [], Option, None, Ok, Some, false};
+ghost use Rattle.std.specs.Prelude.{◌≡◌, ◌≢◌, ◌↔◌, ◌+◌, ◌++◌, ◌≤◌, ℕ, List, [], Option, None, Ok, Some, false};
 ghost use Rattle.helper_link.specs.Settling.{find_ask};
+ghost use Rattle.helper_link.specs.Telling.{telling};
+ghost use Rattle.helper_link.specs.declared.state.LinkState.TheVariants as states;
+ghost use Rattle.world_ports.specs.declared.Door.TheVariants.{Children};
 ghost use Rattle.agent_msg.specs.Requests.{Sign, Signing};
 ghost use Rattle.agent_model.specs.Askable.{HasRoom, IsRefusedFor, IsUsable};
 ghost use Rattle.agent_model.specs.Dispatch.{Asker, serve};
 ghost use Rattle.agent_model.specs.Errands.{Signs, put_unless};
-ghost use Rattle.agent_model.specs.Events.{Ended, Happening, Timed};
-ghost use Rattle.agent_model.specs.Fates.{Fails, IsTold, NoneEnds, Unanswered, actions_of, fate_of, fate_verdict, times_answered, times_asked};
+ghost use Rattle.agent_model.specs.Events.{Ended, Happening, Heard, Timed};
+ghost use Rattle.agent_model.specs.Fates.{Fails, IsTold, NoneEnds, Unanswered, actions_of, fate_of, fate_verdict, fault_fate, or_later, settled_fate, times_answered, times_asked};
 ghost use Rattle.agent_model.specs.KeyStates.{KeyState};
-ghost use Rattle.agent_model.specs.Runs.{run};
-ghost use Rattle.agent_model.specs.Sound.{IsTied};
+ghost use Rattle.agent_model.specs.Runs.{forget_closes, run};
+ghost use Rattle.agent_model.specs.Sound.{IsSound, IsTied};
 ghost use Rattle.agent_model.specs.State.{OnAsk, Port, State, UnderWay, find_port, first_state};
-ghost use Rattle.agent_model.specs.Step.{step};
+ghost use Rattle.agent_model.specs.Step.{at_moment, step};
 ghost use Rattle.agent_model.specs.Verdicts.{Awaits, Cause, Refuses};
 ghost use Rattle.world_ports.specs.declared.Moment.{Moment};
 
 /// Whatever happened before, and while its port stays: a client that waits for an ask is owed nothing, and goes on
 /// waiting until the first answer of the helper to that ask, of which it is told as the helper gave it, or until the
-/// helper is lost, of which it is told SSH_AGENT_FAILURE.
+/// helper is lost, of which it is told SSH_AGENT_FAILURE. The first answer is the first one in the helper's stream.
 pub fn a_client_gets_its_own_answer()
     ensures tied { (life : Option ℕ) (events : List Timed) → IsTied (run (first_state life) events) }
     ensures waits { (state : State) (number ask : ℕ) (port : Port) → IsTied state
@@ -33,6 +36,12 @@ pub fn a_client_gets_its_own_answer()
         → IsTold number (Awaits (OnAsk ask)) state.ports
         → IsTold number (fate_verdict (fate_of ask (step state moment event).actions) ask)
         (step state moment event).state.ports }
+    ensures stream { (ask number : ℕ) (piece : List ℕ) (port : Port) (state : State) (moment : Moment)
+        → find_port number state.ports ≡ Some port → port.door ≡ Children
+        → state.under_way.link.state ≡ states.Linked number
+        → fate_of ask (step state moment (Heard number piece)).actions
+        ≡ or_later (settled_fate ask (telling piece state.under_way.link).settled)
+        (fault_fate (telling piece state.under_way.link).fault) }
 {}
 
 /// However many events there are, an ask is answered at most once, and its number is given at most once; and once a
@@ -64,4 +73,28 @@ pub fn a_signature_is_asked_for_exactly_where_it_may_be()
     ensures refused { (cause : Cause) (signing : Signing) (asker : Asker) (held : KeyState) (under_way : UnderWay)
         → ((serve (Ok (Sign signing)) asker held under_way).work.verdict ≡ Refuses cause)
         ↔ IsRefusedFor cause signing held under_way }
+{}
+
+/// Where the helper's bytes are cut does not matter: a piece in two parts leads to the state of the whole piece, as the
+/// next event at the same moment begins and but for the ports that the last event closed, and the same is done and put
+/// to the helper.
+pub fn a_piece_of_the_helper_in_two_parts()
+    ensures state { (state : State) (moment : Moment) (number : ℕ) (a b : List ℕ) (port : Port) → IsSound state
+        → find_port number state.ports ≡ Some port → port.door ≡ Children
+        → state.under_way.link.state ≡ states.Linked number
+        → forget_closes (at_moment moment (step state moment (Heard number (a ++ b))).state)
+        ≡ forget_closes (at_moment moment
+        (step (step state moment (Heard number a)).state moment (Heard number b)).state) }
+    ensures actions { (state : State) (moment : Moment) (number : ℕ) (a b : List ℕ) (port : Port) → IsSound state
+        → find_port number state.ports ≡ Some port → port.door ≡ Children
+        → state.under_way.link.state ≡ states.Linked number
+        → (step state moment (Heard number (a ++ b))).actions
+        ≡ (step state moment (Heard number a)).actions
+        ++ (step (step state moment (Heard number a)).state moment (Heard number b)).actions }
+    ensures put { (state : State) (moment : Moment) (number : ℕ) (a b : List ℕ) (port : Port) → IsSound state
+        → find_port number state.ports ≡ Some port → port.door ≡ Children
+        → state.under_way.link.state ≡ states.Linked number
+        → (step state moment (Heard number (a ++ b))).put
+        ≡ (step state moment (Heard number a)).put
+        ++ (step (step state moment (Heard number a)).state moment (Heard number b)).put }
 {}

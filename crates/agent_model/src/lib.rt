@@ -9,8 +9,8 @@ mod laws;
 mod rows;
 
 pub use asks::{
-    a_client_gets_its_own_answer, a_signature_is_asked_for_exactly_where_it_may_be,
-    an_ask_is_answered_at_most_once,
+    a_client_gets_its_own_answer, a_piece_of_the_helper_in_two_parts,
+    a_signature_is_asked_for_exactly_where_it_may_be, an_ask_is_answered_at_most_once,
 };
 pub use child_rows::{
     a_lost_helper_fails_its_asks, a_signature_goes_through_the_helper, a_ticket_names_a_job_once,

@@ -1,15 +1,13 @@
 -- What is under way, from its parts in storage (ours).
-use Rattle.std.specs.Prelude.{◌≡◌, ℕ, ◌+◌, ◌≤◌, ◌==◌, nat_lt, not, List, [], length, Option, Some, None}
+use Rattle.std.specs.Prelude.{◌≡◌, ℕ, ◌+◌, ◌≤◌, List, [], ◌∷◌, length, Option, Some, None}
 use Rattle.world_ports.specs.declared.Job.{Job}
+use Rattle.world_ports.specs.declared.JobKind.TheVariants as kinds
 use Rattle.agent_msg.specs.Replies.{failure}
-use Rattle.agent_msg.specs.Requests.{Signing}
-use Rattle.helper_link.specs.HelperLink.{HelperLink}
-use Rattle.identity_table.specs.Identities.{HeldKey}
-use Rattle.agent_model.specs.Actions.{Work}
-use Rattle.agent_model.specs.Errands.{Signs, ask_fault_by, put_unless}
-use Rattle.agent_model.specs.Limits.{last_number}
-use Rattle.agent_model.specs.State.{Nothing, OnAsk, UnderWay}
-use Rattle.agent_model.specs.Verdicts.{Awaits, Cause, Verdict, verdict_text, verdict_waits}
+use Rattle.helper_link.specs.HelperLink.{HelperLink, IsStarting}
+use Rattle.helper_link.specs.declared.state.LinkState.{LinkState}
+use Rattle.helper_link.specs.declared.state.LinkState.TheVariants as states
+use Rattle.agent_model.specs.State.{Nothing, OnAsk, StartedJob, UnderWay}
+use Rattle.agent_model.specs.Verdicts.{Awaits, Verdict, verdict_text, verdict_waits}
 use Rattle.under_way.specs.Jobs.{all_started}
 use Rattle.under_way.specs.declared.jobs.Started.{Started}
 
@@ -24,18 +22,36 @@ under_way_of link to_start started last_job = record {
   last_job = last_job;
 }
 
--- each job that is to be started finds room among the started ones
-abbrev pub HasRoom : List Job → List Started → ℕ → Type 0
-HasRoom to_start started room = length to_start + length started ≤ room
+-- no job, or a helper's alone
+abbrev pub IsOneHelper : List Job → List Started → Type 0
+IsOneHelper [] [] = Unit {0}
+IsOneHelper [] (one ∷ []) = one.job.kind ≡ kinds.Helper
+IsOneHelper [] (one ∷ other ∷ others) = ⊥
+IsOneHelper (job ∷ []) [] = job.kind ≡ kinds.Helper
+IsOneHelper (job ∷ []) (one ∷ others) = ⊥
+IsOneHelper (job ∷ other ∷ others) started = ⊥
 
--- why nothing can be put to the helper, where at most 256 asks are unanswered at once
-abbrev pub sign_fault : UnderWay → Option Cause
-sign_fault under_way =
-    ask_fault_by (not (nat_lt (length under_way.link.asks) 256)) (under_way.link.last == last_number) under_way
+-- a job is to be started, or was, only while a helper is being started: that helper's
+abbrev pub AreJobs : LinkState → List Job → List Started → Type 0
+AreJobs states.None to_start started = (to_start ≡ []) × (started ≡ [])
+AreJobs (states.Starting job) to_start started = IsOneHelper to_start started
+AreJobs (states.Linked port) to_start started = (to_start ≡ []) × (started ≡ [])
 
--- a signature with a held key is put to the helper, unless it can't be
-abbrev pub sign_work : HeldKey → Signing → ℕ → UnderWay → Work
-sign_work key signing asker under_way = put_unless (sign_fault under_way) (Signs key signing) asker under_way
+-- so is it of what is under way, and each job that is to be started finds room among the started ones
+pub record IsKept (state : LinkState) (to_start : List Job) (started : List Started) (places : ℕ) : Type 0 where
+  pub jobs : AreJobs state to_start started
+  pub room : length to_start + length started ≤ places
+
+-- no verification and no confirmation is waited for
+pub record IsAlone (under_way : UnderWay) : Type 0 where
+  pub verifications : under_way.verifications ≡ []
+  pub confirmations : under_way.confirmations ≡ []
+
+-- this started job is the helper's, under its number, and the helper is being started
+pub record IsHelpers (job : ℕ) (one : StartedJob) (state : LinkState) : Type 0 where
+  pub kind : one.job.kind ≡ kinds.Helper
+  pub number : one.job.number ≡ job
+  pub starting : IsStarting state
 
 -- what is told of a verdict: the number of the ask that is waited for, or nothing where it is a refusal
 abbrev pub TellsOf : Verdict → Option ℕ → Type 0

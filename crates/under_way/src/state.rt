@@ -1,15 +1,15 @@
 //! What is under way.
 
-ghost use Rattle.std.specs.Prelude.{◌≡◌, ◌≢◌, ◌+◌, ◌-◌, ◌^◌, ◌<◌, ◌≤◌, [], ◌++◌, ◌∷◌, IfOk, IsSome, MatchOption, OnOk, length, slice_get, Some, None};
+ghost use Rattle.std.specs.Prelude.{◌≡◌, ◌≢◌, ◌↔◌, ◌+◌, ◌-◌, ◌^◌, ◌<◌, ◌≤◌, [], ◌++◌, ◌∷◌, IfOk, IsSome, IsTrue, MatchOption, OnOk, length, slice_get, Some, None};
 ghost use Rattle.helper_link.specs.HelperLink.{IsLinked, IsStarting, handed_out, linked_to, lost, sendable, sent};
 ghost use Rattle.helper_link.specs.Telling.{telling};
 ghost use Rattle.agent_model.specs.Children.{remove_to_start, started_if};
 ghost use Rattle.agent_model.specs.Consents.{find_started, remove_started};
-ghost use Rattle.agent_model.specs.Errands.{job_of, link_begun};
+ghost use Rattle.agent_model.specs.Errands.{Signs, job_of, link_begun, put_ask};
 ghost use Rattle.world_ports.specs.declared.Job.{Job as AJob};
 ghost use Rattle.under_way.specs.Jobs.{started_job};
-ghost use Rattle.agent_model.specs.State.{find_to_start, nothing_under_way};
-ghost use Rattle.under_way.specs.Parts.{TellsOf, sign_work};
+ghost use Rattle.agent_model.specs.State.{StartedJob as AStartedJob, find_to_start, nothing_under_way};
+ghost use Rattle.under_way.specs.Parts.{IsAlone, IsHelpers, TellsOf};
 
 use crate::jobs::{Started, place_of, place_of_started};
 use helper_link::{AskFault, Link, LinkState, Told};
@@ -50,13 +50,13 @@ pub struct UnderWay {
 impl Model for UnderWay {
     ghost use Rattle.std.specs.Prelude.{vec_capacity};
     ghost use Rattle.agent_model.specs.State.{UnderWay as State};
-    ghost use Rattle.under_way.specs.Parts.{HasRoom, under_way_of};
+    ghost use Rattle.under_way.specs.Parts.{IsKept, under_way_of};
 
     ghost Value = { State };
 
     ghost view = { λ u. under_way_of u.link u.to_start.items u.started.items u.last_job };
 
-    ghost invariant = { λ u. HasRoom u.to_start.items u.started.items (vec_capacity u.started) };
+    ghost invariant = { λ u. IsKept u.link.state u.to_start.items u.started.items (vec_capacity u.started) };
 }
 
 impl UnderWay {
@@ -74,7 +74,8 @@ impl UnderWay {
 
     /// How far the link has come.
     pub fn link_state(&self) -> LinkState
-        ensures { result ≡ self.now.link.state }
+        ensures value { result ≡ self.now.link.state }
+        ensures alone { IsAlone self.now }
     {
         self.link.state()
     }
@@ -100,6 +101,13 @@ impl UnderWay {
         self.link.owed()
     }
 
+    /// Whether the job of this number waits to be started.
+    pub fn is_to_start(&self, job: u64) -> bool
+        ensures { IsTrue result ↔ IsSome (find_to_start job self.now.to_start) }
+    {
+        place_of(&self.to_start, job).is_some()
+    }
+
     /// Puts a signature of `message` by a held key to the helper, for the client of port `asker`, and gives the
     /// number of the ask: `None` where it is refused. Where no helper is there or coming, the job that starts one
     /// is begun.
@@ -113,10 +121,11 @@ impl UnderWay {
         requires failed { self.old.link.failed ≡ [] }
         requires short { 25 + length key.now.private + length key.now.blob + length message.now ≤ 1048576 }
 
-        ensures work { OnOk result (self.new ≡ (sign_work key.now
-            record { blob = key.now.blob; message = message.now; flags = flags } asker self.old).under_way) }
-        ensures told { IfOk result (TellsOf (sign_work key.now
-            record { blob = key.now.blob; message = message.now; flags = flags } asker self.old).verdict) }
+        ensures work { OnOk result (self.new ≡ (put_ask (Signs key.now
+            record { blob = key.now.blob; message = message.now; flags = flags }) asker self.old).under_way) }
+        ensures told { IfOk result (TellsOf (put_ask (Signs key.now
+            record { blob = key.now.blob; message = message.now; flags = flags }) asker self.old).verdict) }
+        ensures failed { OnOk result (self.new.link.failed ≡ []) }
     {
         if self.link.state() == LinkState::None {
             if self.link.spent() || self.last_job == u64::MAX {
@@ -138,10 +147,11 @@ impl UnderWay {
     pub fn job_started(&mut self, job: u64, ticket: [u8; 16])
         requires { IsSome (find_to_start job self.old.to_start) }
 
-        ensures { self.new ≡ record self.old {
+        ensures started { self.new ≡ record self.old {
           to_start = remove_to_start job self.old.to_start;
           started = self.old.started ++ started_if (find_to_start job self.old.to_start) ticket [];
         } }
+        ensures alone { IsAlone self.old }
     {
         let Some(place) = place_of(&self.to_start, job) else {
             unreachable!()
@@ -155,23 +165,29 @@ impl UnderWay {
         }
     }
 
-    /// The start of the job of this number failed. Takes no memory.
-    pub fn job_failed(&mut self, job: u64) -> JobKind
+    /// The start of the job of this number failed, which is a helper's: it is to be lost. Takes no memory.
+    pub fn job_failed(&mut self, job: u64)
         requires { IsSome (find_to_start job self.old.to_start) }
 
-        ensures kind { (failed : AJob) → find_to_start job self.old.to_start ≡ Some failed → result ≡ failed.kind }
+        ensures helper { (failed : AJob) → find_to_start job self.old.to_start ≡ Some failed
+            → (failed.kind ≡ JobKind.Helper) × (failed.number ≡ job) }
         ensures left { self.new ≡ record self.old { to_start = remove_to_start job self.old.to_start } }
+        ensures none { (self.new.to_start ≡ []) × (self.new.started ≡ []) }
+        ensures starting { IsStarting self.new.link.state }
+        ensures alone { IsAlone self.old }
     {
         let Some(place) = place_of(&self.to_start, job) else {
             unreachable!()
         };
-        self.to_start.remove(place).kind
+        self.to_start.remove(place);
     }
 
     /// The started job of this number, which a child process names.
     pub fn find_started(&self, job: u64) -> Option<&Started>
-        ensures { MatchOption result (find_started job self.now.started ≡ None)
+        ensures found { MatchOption result (find_started job self.now.started ≡ None)
             (λ one. find_started job self.now.started ≡ Some (started_job one.now)) }
+        ensures helper { (one : AStartedJob) → find_started job self.now.started ≡ Some one
+            → IsHelpers job one self.now.link.state }
     {
         let place = place_of_started(&self.started, job)?;
         Some(&self.started[place])
@@ -210,14 +226,17 @@ impl UnderWay {
             (self.new ≡ record self.old { link = (telling piece.now self.old.link).link }) }
         ensures settled { IfOk result (λ told. told.settled ≡ (telling piece.now self.old.link).settled) }
         ensures fault { IfOk result (λ told. told.fault ≡ (telling piece.now self.old.link).fault) }
+        ensures alone { IsAlone self.old }
     {
         Ok(self.link.told(piece)?)
     }
 
     /// The helper is gone, or failed to start: `next_failed` gives the askers of what was unanswered. Takes no memory.
     pub fn lose(&mut self)
-        requires { self.old.link.state ≢ LinkState.None }
-        ensures { self.new ≡ record self.old { link = lost self.old.link } }
+        requires some { self.old.link.state ≢ LinkState.None }
+        requires jobs { IsStarting self.old.link.state → (self.old.to_start ≡ []) × (self.old.started ≡ []) }
+        ensures link { self.new ≡ record self.old { link = lost self.old.link } }
+        ensures alone { IsAlone self.old }
     {
         self.link.lose();
     }
@@ -234,7 +253,8 @@ impl UnderWay {
 impl UnderWay {
     // A helper is to be started; room is taken for its ticket.
     fn begin_helper(&mut self) -> Result<(), JobMemory>
-        requires { self.old.last_job < 2 ^ 64 - 1 }
+        requires none { self.old.link.state ≡ LinkState.None }
+        requires last { self.old.last_job < 2 ^ 64 - 1 }
 
         ensures { OnOk result (self.new ≡ record self.old {
           link = link_begun (self.old.last_job + 1) self.old.link;

@@ -1,4 +1,5 @@
 use Rattle.agent_model.specs.State.{first_state}
+use Rattle.agent_model.proofs.CutLemmas.{stream-fate}
 use Rattle.agent_model.proofs.FatedLemmas.{first-tied, run-tied, step-fated, waits-until}
 use Rattle.agent_model.proofs.asks.a_client_gets_its_own_answer.Goals as goal
 
@@ -15,3 +16,6 @@ returns-clause-until c = λ state events number ask. waits-until number ask stat
 
 pub returns-clause-told : goal.returns-clause-told
 returns-clause-told c = λ state moment event number ask tied. (step-fated state moment event tied).told number ask
+
+pub returns-clause-stream : goal.returns-clause-stream
+returns-clause-stream c = stream-fate

@@ -39,3 +39,6 @@ returns-clause-gone c =
 
 pub returns-clause-plain : goal.returns-clause-plain
 returns-clause-plain c = rw (← c.self.view_is) (are_plain c.self.inside.slots.items)
+
+pub returns-clause-rising : goal.returns-clause-rising
+returns-clause-rising c = rw (← c.self.view_is) c.self.invariant.rising

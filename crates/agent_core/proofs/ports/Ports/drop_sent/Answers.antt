@@ -1,5 +1,4 @@
 use Rattle.std.proofs.Common.{ap}
-use Rattle.agent_model.specs.State.{nothing_under_way}
 use Rattle.agent_model.specs.Step.{took_some}
 use Rattle.agent_model.proofs.PortsLemmas.{found_number}
 use Rattle.agent_core.specs.Slots.{OpenPorts, port_of, ports_of}
@@ -13,7 +12,7 @@ pub drop_sent_at-requires-clause-count : goal.drop_sent_at-requires-clause-count
 drop_sent_at-requires-clause-count c =
     let is = rw c.deref.ensures.value at c.in-Some.ensures in
     let found = found_slot _ _ _ _ is c.index_mut.ensures.value in
-    rw (← c.self.view_is, found) at (c.requires.count nothing_under_way)
+    c.requires.count (port_of c.index_mut.result.now) (rw (← c.self.view_is) found)
 
 pub drop_sent_at-requires-clause-rising : goal.drop_sent_at-requires-clause-rising
 drop_sent_at-requires-clause-rising c = kept_numbers _ _ _ _ _ _ c.self.invariant
@@ -30,7 +29,7 @@ invariant_of-self c =
     let is = rw c.deref.ensures.value at c.in-Some.ensures in
     let found = found_slot _ _ _ _ is c.index_mut.ensures.value in
     let same = found_number c.args.number (ports_of c.self.inside.slots.items) (port_of c.index_mut.result.now) found in
-    rw (c.drop_sent_at.ensures.items, same) (kept-changed _ _ _ _ _ _ c.args.number c.in-Some.place _ c.drop_sent_at.new.slot c.index_mut.result.now c.self.invariant is found c.drop_sent_at.ensures.number c.drop_sent_at.ensures.room)
+    rw (c.drop_sent_at.ensures.items, same) (kept-changed _ _ _ _ _ _ c.args.number c.in-Some.place _ c.drop_sent_at.new.slot c.index_mut.result.now c.self.invariant is found c.drop_sent_at.ensures.number c.drop_sent_at.ensures.door c.drop_sent_at.ensures.room)
 
 pub returns-clause-ports : goal.returns-clause-ports
 returns-clause-ports c =

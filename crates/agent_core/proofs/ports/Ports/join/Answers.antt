@@ -1,5 +1,4 @@
 use Rattle.std.proofs.Common.{◌≡◌, ◌∙◌, [], ◌<◌, ◌^◌, ◌+◌, suc, ap, add-one, arith, length, sym, false}
-use Rattle.world_ports.specs.declared.Door.TheVariants.{Clients}
 use Rattle.agent_model.proofs.ClosesLemmas.{gone-admitted}
 use Rattle.agent_core.specs.Rising.{inserted}
 use Rattle.agent_core.specs.Slots.{OpenPorts, ports_of}
@@ -24,4 +23,4 @@ pub returns-else-has_room-clause-closed : goal.returns-else-has_room-clause-clos
 returns-else-has_room-clause-closed c =
     let none : c.self.inside.closed.items ≡ [] = ap (λ (v : OpenPorts). v.closed) c.self.view_is ∙ c.requires.closed in
     rw (← c.self.view_is) (c.put_in.ensures.items ∙ ap (inserted (c.self.inside.last + 1)) none
-    ∙ (rw add-one (sym (gone-admitted false c.self.inside.last Clients (ports_of c.self.inside.slots.items) c.self.invariant.rising))))
+    ∙ (rw add-one (sym (gone-admitted false c.self.inside.last c.args.door (ports_of c.self.inside.slots.items) c.self.invariant.rising))))

@@ -12,7 +12,7 @@ pub invariant_of-self : goal.invariant_of-self
 invariant_of-self c =
     let is = rw c.deref.ensures.value at c.in-Some.ensures in
     let found = found_slot _ _ _ _ is c.index_mut.ensures.value in
-    kept-heard _ _ _ _ _ _ c.args.number c.in-Some.place c.push.new.slot c.index_mut.result.now c.self.invariant is found c.push.ensures.number c.push.ensures.owed
+    kept-heard _ _ _ _ _ _ c.args.number c.in-Some.place c.push.new.slot c.index_mut.result.now c.self.invariant is found c.push.ensures.number c.push.ensures.door c.push.ensures.owed
 
 pub returns-clause-ports : goal.returns-clause-ports
 returns-clause-ports c =

@@ -1,0 +1,214 @@
+-- What the helper's answers and its loss are to the agent's parts.
+use Rattle.std.proofs.Common.{◌≡◌, ℕ, ◌+◌, ◌<◌, arith, drop, get_or, length, slice_get, subst, List, [], ◌∷◌, ◌++◌, nat_lt, refl, ap, sym, ◌∙◌, Option, Some, None, IsSome, Bool, false, true, if◌then◌else◌, ◌==◌}
+use Rattle.std.proofs.lemmas.List.{drop_more}
+use Rattle.helper_link.specs.HelperLink.{HelperLink, IsStarting, askers}
+use Rattle.helper_link.specs.Telling.{Telling, telling}
+use Rattle.helper_link.specs.declared.answer.Answer.{Answer}
+use Rattle.helper_link.specs.declared.answer.Answer.TheVariants as answer
+use Rattle.helper_link.specs.declared.answer.Settled.{Settled}
+use Rattle.helper_link.specs.declared.fault.LinkFault.{LinkFault}
+use Rattle.helper_link.specs.declared.state.LinkState.{LinkState}
+use Rattle.helper_link.specs.declared.state.LinkState.TheVariants as states
+use Rattle.agent_model.specs.Answers.{Answering, answer_all, answer_by, answer_true, answers_in, close_helper, find_verification, helper_heard, link_lost, lose, lose_if, remove_verification, tell_each, with_answers}
+use Rattle.agent_model.specs.KeyStates.{KeyState}
+use Rattle.agent_model.specs.State.{Port, State, UnderWay, Verification, change_port, find_port, numbers, remove_port}
+use Rattle.agent_model.specs.Step.{gone}
+use Rattle.agent_model.specs.Verdicts.{HelperLost, HelperRefused, Refuses, Verdict, tell}
+use Rattle.agent_model.specs.Children.{closed}
+use Rattle.agent_model.specs.NumberLists.{without}
+use Rattle.agent_model.specs.Sound.{IsRising}
+use Rattle.agent_model.proofs.ClosesLemmas.{gone-none}
+use Rattle.agent_model.proofs.PortsLemmas.{find_port-remove_port, numbers-change_port}
+use Rattle.agent_core.specs.Parts.{state_of}
+use Rattle.agent_core.specs.Settlings.{AreShortAnswers, IsShortAnswer, answered, verdict_of}
+use Rattle.agent_core.specs.Slots.{OpenPorts}
+
+-- ---- answers
+
+-- where no verification is waited for, an answer tells its asker
+tells_asker : (a : Answer) (one : Settled) (before : Answering) → before.verifications ≡ [] → (answer_by a one before).ports ≡ change_port one.asker (tell (verdict_of a)) before.ports
+tells_asker (answer.Signed signature) one before none = refl
+tells_asker answer.Refused one before none = refl
+tells_asker answer.True one before none =
+    ap (λ (vs : List Verification). (answer_true (find_verification one.ask vs) one before).ports) none
+tells_asker answer.False one before none = refl
+
+-- and none is waited for after it
+verifies_nothing : (a : Answer) (one : Settled) (before : Answering) → before.verifications ≡ [] → (answer_by a one before).verifications ≡ []
+verifies_nothing (answer.Signed signature) one before none = ap (remove_verification one.ask) none
+verifies_nothing answer.Refused one before none = ap (remove_verification one.ask) none
+verifies_nothing answer.True one before none =
+    ap (λ (vs : List Verification). (answer_true (find_verification one.ask vs) one before).verifications) none
+    ∙ ap (remove_verification one.ask) none
+verifies_nothing answer.False one before none = ap (remove_verification one.ask) none
+
+-- so do all of them
+all_answered : (settled : List Settled) (before : Answering) → before.verifications ≡ [] → (answer_all settled before).ports ≡ answered settled before.ports
+all_answered [] before none = refl
+all_answered (one ∷ later) before none =
+    all_answered later (answer_by one.answer one before) (verifies_nothing one.answer one before none)
+    ∙ ap (answered later) (tells_asker one.answer one before none)
+
+none_left : (settled : List Settled) (before : Answering) → before.verifications ≡ [] → (answer_all settled before).verifications ≡ []
+none_left [] before none = none
+none_left (one ∷ later) before none =
+    none_left later (answer_by one.answer one before) (verifies_nothing one.answer one before none)
+
+-- what is under way with another link
+abbrev pub with_link : HelperLink → UnderWay → UnderWay
+with_link link going = record going { link = link }
+
+-- the state after answers
+pub with_answers-is : (wall : ℕ) (keys : KeyState) (going : UnderWay) (ports : OpenPorts) (closes : List ℕ) (told : Telling) → going.verifications ≡ [] → with_answers told.link (answers_in told.settled (state_of wall keys going ports closes)) (state_of wall keys going ports closes) ≡ state_of wall keys (with_link told.link going) (record ports { ports = answered told.settled ports.ports }) closes
+with_answers-is wall keys going ports closes told none =
+    let before : Answering = record { ports = ports.ports; verifications = going.verifications; actions = [] } in
+    let to : List Port → List Verification → State = λ ps vs. state_of wall keys (record going { link = told.link; verifications = vs }) (record ports { ports = ps }) closes in
+    ap (λ ps. to ps (answer_all told.settled before).verifications) (all_answered told.settled before none)
+    ∙ ap (λ vs. to (answered told.settled ports.ports) vs) (none_left told.settled before none ∙ sym none)
+
+-- ---- numbers
+
+pub numbers-answered : (settled : List Settled) (ports : List Port) → numbers (answered settled ports) ≡ numbers ports
+numbers-answered [] ports = refl
+numbers-answered (one ∷ later) ports =
+    numbers-answered later (change_port one.asker (tell (verdict_of one.answer)) ports)
+    ∙ numbers-change_port one.asker (tell (verdict_of one.answer)) ports (λ p. refl)
+
+pub numbers-tell_each : (verdict : Verdict) (askers : List ℕ) (ports : List Port) → numbers (tell_each verdict askers ports) ≡ numbers ports
+numbers-tell_each verdict [] ports = refl
+numbers-tell_each verdict (asker ∷ askers) ports =
+    numbers-tell_each verdict askers (change_port asker (tell verdict) ports)
+    ∙ numbers-change_port asker (tell verdict) ports (λ p. refl)
+
+-- nothing changes where the port isn't open
+pub change_port-absent : (number : ℕ) (f : Port → Port) (ports : List Port) → find_port number ports ≡ None → change_port number f ports ≡ ports
+change_port-absent number f [] absent = refl
+change_port-absent number f (port ∷ ports) absent = by_test (number == port.number) absent (change_port-absent number f ports)
+  where
+    by_test : (same : Bool) → (if same then Some port else find_port number ports) ≡ None → (find_port number ports ≡ None → change_port number f ports ≡ ports) → (if same then f port ∷ ports else port ∷ change_port number f ports) ≡ port ∷ ports
+    by_test true is rest = absurd (cc)
+    by_test false is rest = ap (λ (ps : List Port). port ∷ ps) (rest is)
+
+pub remove_port-absent : (number : ℕ) (ports : List Port) → find_port number ports ≡ None → remove_port number ports ≡ ports
+remove_port-absent number [] absent = refl
+remove_port-absent number (port ∷ ports) absent = by_test (number == port.number) absent (remove_port-absent number ports)
+  where
+    by_test : (same : Bool) → (if same then Some port else find_port number ports) ≡ None → (find_port number ports ≡ None → remove_port number ports ≡ ports) → (if same then ports else port ∷ remove_port number ports) ≡ port ∷ ports
+    by_test true is rest = absurd (cc)
+    by_test false is rest = ap (λ (ps : List Port). port ∷ ps) (rest is)
+
+-- ---- the helper sent more
+
+-- at a fault of what was told the helper is lost
+pub heard_state : (wall : ℕ) (keys : KeyState) (going mid : UnderWay) (ports after : OpenPorts) (closes piece : List ℕ) (settled : List Settled) (fault : Option LinkFault) → going.verifications ≡ [] → mid ≡ with_link (telling piece going.link).link going → settled ≡ (telling piece going.link).settled → fault ≡ (telling piece going.link).fault → after ≡ record ports { ports = answered settled ports.ports } → (lose_if fault (state_of wall keys mid after closes)).state ≡ (helper_heard piece (state_of wall keys going ports closes)).state
+heard_state wall keys going mid ports after closes piece settled fault none mid_is settled_is fault_is after_is =
+    let told : Telling = telling piece going.link in
+    let left : UnderWay = with_link told.link going in
+    ap (λ (f : Option LinkFault). (lose_if f (state_of wall keys mid after closes)).state) fault_is
+    ∙ ap (λ (u : UnderWay). (lose_if told.fault (state_of wall keys u after closes)).state) mid_is
+    ∙ ap (λ (v : OpenPorts). (lose_if told.fault (state_of wall keys left v closes)).state) after_is
+    ∙ ap (λ (s : List Settled). (lose_if told.fault (state_of wall keys left (record ports { ports = answered s ports.ports }) closes)).state) settled_is
+    ∙ ap (λ (s : State). (lose_if told.fault s).state) (sym (with_answers-is wall keys going ports closes told none))
+
+-- ---- the helper is lost
+
+-- its port is closed, and each that waits for it is told
+pub lost_state : (wall : ℕ) (keys : KeyState) (going left : UnderWay) (before ports after : OpenPorts) (closes : List ℕ) → going.verifications ≡ [] → close_helper going.link.state before.ports ≡ ports.ports → before.last ≡ ports.last → left ≡ with_link (link_lost going.link) going → after ≡ record ports { ports = tell_each (Refuses HelperLost) (askers going.link.asks) ports.ports } → state_of wall keys left after closes ≡ (lose (state_of wall keys going before closes)).state
+lost_state wall keys going left before ports after closes none closed last left_is after_is =
+    let to : List Port → ℕ → List Verification → State = λ ps n vs. state_of wall keys (record going { link = link_lost going.link; verifications = vs }) (record ports { ports = tell_each (Refuses HelperLost) (askers going.link.asks) ps; last = n }) closes in
+    ap (λ (u : UnderWay). state_of wall keys u after closes) left_is
+    ∙ ap (λ (v : OpenPorts). state_of wall keys (with_link (link_lost going.link) going) v closes) after_is
+    ∙ ap (λ vs. to ports.ports ports.last vs) none
+    ∙ ap (λ ps. to ps ports.last []) (sym closed)
+    ∙ ap (λ n. to (close_helper going.link.state before.ports) n []) (sym last)
+
+-- a helper that is being started has no port
+pub starting_closes : (state : LinkState) (ports : List Port) → IsStarting state → close_helper state ports ≡ ports
+starting_closes states.None ports is = absurd is
+starting_closes (states.Starting job) ports is = refl
+starting_closes (states.Linked port) ports is = absurd is
+
+-- a port is closed once
+pub remove_port-twice : (number last : ℕ) (ports : List Port) → IsRising 0 last ports → remove_port number (remove_port number ports) ≡ remove_port number ports
+remove_port-twice number last ports rising =
+    remove_port-absent number (remove_port number ports) (find_port-remove_port number 0 last ports rising)
+
+-- the helper's port may be closed before the helper is lost
+pub lose-closed : (number last : ℕ) (state : State) → state.under_way.link.state ≡ states.Linked number → IsRising 0 last state.ports → (lose state).state ≡ (lose (closed number state)).state
+lose-closed number last state linked rising =
+    let to : List Port → State = λ ps. record (lose state).state { ports = tell_each (Refuses HelperLost) (askers state.under_way.link.asks) ps } in
+    ap (λ l. to (close_helper l state.ports)) linked
+    ∙ ap to (sym (remove_port-twice number last state.ports rising))
+    ∙ ap (λ l. to (close_helper l (remove_port number state.ports))) (sym linked)
+
+-- a change of another port, or of its own under its number, leaves a port open
+pub open-change_port : (number other : ℕ) (f : Port → Port) (ports : List Port) → ((p : Port) → (f p).number ≡ p.number) → IsSome (find_port number ports) → IsSome (find_port number (change_port other f ports))
+open-change_port number other f [] keeps some = absurd (cc)
+open-change_port number other f (port ∷ ports) keeps some =
+    by_tests (open-change_port number other f ports keeps) (other == port.number) (number == port.number) refl some
+  where
+    by_tests : (IsSome (find_port number ports) → IsSome (find_port number (change_port other f ports))) → (changed same : Bool) → (number == port.number) ≡ same → IsSome (if same then Some port else find_port number ports) → IsSome (find_port number (if changed then f port ∷ ports else port ∷ change_port other f ports))
+    by_tests rest true true is some = rw (keeps port, is) refl
+    by_tests rest true false is some = rw (keeps port, is) some
+    by_tests rest false true is some = rw is refl
+    by_tests rest false false is some = rw is (rest some)
+
+pub open-answered : (number : ℕ) (settled : List Settled) (ports : List Port) → IsSome (find_port number ports) → IsSome (find_port number (answered settled ports))
+open-answered number [] ports some = some
+open-answered number (one ∷ later) ports some =
+    open-answered number later (change_port one.asker (tell (verdict_of one.answer)) ports)
+    (open-change_port number one.asker (tell (verdict_of one.answer)) ports (λ p. refl) some)
+
+-- ---- what was closed
+
+-- nothing, where the ports have the numbers that they had
+pub closes_same : (old new : OpenPorts) (ports : List Port) → old.closed ≡ [] → new ≡ record old { ports = ports } → numbers ports ≡ numbers old.ports → new.closed ≡ gone old.last old.ports new.last new.ports
+closes_same old new ports none new_is same =
+    ap (λ (v : OpenPorts). v.closed) new_is ∙ none
+    ∙ sym (ap (λ (v : OpenPorts). gone old.last old.ports v.last v.ports) new_is ∙ gone-none old.last old.ports ports same)
+
+-- what was closed since then
+pub closes_since : (old mid : OpenPorts) (last : ℕ) (between ports : List Port) (closed : List ℕ) → mid ≡ record old { ports = between } → numbers between ≡ numbers old.ports → closed ≡ gone mid.last mid.ports last ports → closed ≡ gone old.last old.ports last ports
+closes_since old mid last between ports closed mid_is same is =
+    is ∙ ap (λ (v : OpenPorts). gone v.last v.ports last ports) mid_is
+    ∙ ap (λ ns. without (ns ++ (if nat_lt old.last last then last ∷ [] else [])) (numbers ports)) same
+
+-- and what was closed before that
+pub closes_before : (old mid new : OpenPorts) (ports : List Port) → mid.closed ≡ gone old.last old.ports mid.last mid.ports → new ≡ record mid { ports = ports } → numbers ports ≡ numbers mid.ports → new.closed ≡ gone old.last old.ports new.last new.ports
+closes_before old mid new ports is new_is same =
+    ap (λ (v : OpenPorts). v.closed) new_is ∙ is
+    ∙ sym (ap (λ (v : OpenPorts). gone old.last old.ports v.last v.ports) new_is
+    ∙ ap (λ ns. without (numbers old.ports ++ (if nat_lt old.last mid.last then mid.last ∷ [] else [])) ns) same)
+
+-- ---- one after another
+
+-- what is told behind an answer is told behind those before it
+pub answered-more : (settled : List Settled) (i : ℕ) (one : Settled) (ports new : OpenPorts) → i < length settled → one ≡ get_or settled i one → new ≡ record ports { ports = change_port one.asker (tell (verdict_of one.answer)) ports.ports } → (let v : OpenPorts = record new { ports = answered (drop (i + 1) settled) new.ports } in v) ≡ record ports { ports = answered (drop i settled) ports.ports }
+answered-more settled i one ports new within is new_is =
+    ap (λ (v : OpenPorts). let w : OpenPorts = record v { ports = answered (drop (i + 1) settled) v.ports } in w) new_is
+    ∙ ap (λ (s : List Settled). let w : OpenPorts = record ports { ports = answered s ports.ports } in w)
+    (ap (λ (o : Settled). o ∷ drop (i + 1) settled) is ∙ sym (drop_more settled i one within))
+
+-- and so is what is told behind the first whose ask failed
+pub told-first : (failed : List ℕ) (asker : ℕ) (ports new : OpenPorts) → slice_get failed 0 ≡ Some asker → new ≡ record ports { ports = change_port asker (tell (Refuses HelperRefused)) ports.ports } → (let v : OpenPorts = record new { ports = tell_each (Refuses HelperLost) (drop 1 failed) new.ports } in v) ≡ record ports { ports = tell_each (Refuses HelperLost) failed ports.ports }
+told-first [] asker ports new first new_is = absurd (cc)
+told-first (other ∷ failed) asker ports new first new_is =
+    let same : other ≡ asker = cc in
+    ap (λ (v : OpenPorts). let w : OpenPorts = record v { ports = tell_each (Refuses HelperLost) failed v.ports } in w) new_is
+    ∙ ap (λ n. let w : OpenPorts = record ports { ports = tell_each (Refuses HelperLost) failed (change_port n (tell (Refuses HelperLost)) ports.ports) } in w) (sym same)
+
+-- none is left
+pub none_failed : (failed : List ℕ) → slice_get failed 0 ≡ None → failed ≡ []
+none_failed [] none = refl
+none_failed (asker ∷ failed) none = absurd (cc)
+
+-- one fewer is left
+pub fewer_failed : (failed : List ℕ) (asker : ℕ) → slice_get failed 0 ≡ Some asker → length (drop 1 failed) < length failed
+fewer_failed [] asker first = absurd (cc)
+fewer_failed (other ∷ failed) asker first = omega arith
+
+-- the next answer is short, and those behind it
+pub short-at : (settled : List Settled) (i : ℕ) (one : Settled) → i < length settled → one ≡ get_or settled i one → AreShortAnswers (drop i settled) → IsShortAnswer one.answer × AreShortAnswers (drop (i + 1) settled)
+short-at settled i one within is short =
+    let P : List Settled → Type 0 = λ s. AreShortAnswers s in
+    subst P (drop_more settled i one within ∙ ap (λ (o : Settled). o ∷ drop (i + 1) settled) (sym is)) short

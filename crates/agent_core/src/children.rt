@@ -1,0 +1,111 @@
+//! Child processes that haven't named themselves.
+
+ghost use Rattle.std.specs.Prelude.{◌≡◌, ◌≤◌, ◌+◌, ℕ, List, [], Some, IfSome, IsSome, OnOk, length};
+ghost use Rattle.child_msg.specs.Reading.{from_child_of};
+ghost use Rattle.frame_core.specs.Looks.{front_of};
+ghost use Rattle.wire_text.specs.Frames.{Whole, after_front, front, front_body};
+ghost use Rattle.agent_model.specs.Children.{first_message, unnamed_heard};
+ghost use Rattle.agent_model.specs.KeyStates.{KeyState};
+ghost use Rattle.agent_model.specs.State.{Port, find_port};
+ghost use Rattle.agent_model.specs.Step.{gone};
+ghost use Rattle.agent_core.specs.Parts.{state_of};
+ghost use Rattle.agent_core.specs.Settlings.{IsNamed, named_job};
+ghost use Rattle.agent_core.specs.Slots.{heard_in};
+
+use crate::CoreMemory;
+use crate::helper::hear_helper;
+use crate::ports::Ports;
+use crate::slot::{LONGEST_BODY, first_body};
+use child_msg::{FromChild, read_from_child};
+use frame_core::{Look, look};
+use under_way::UnderWay;
+
+/// A child process that hasn't named itself sent more: its first frame is to name it, or it is closed.
+pub fn hear_unnamed(
+    ports: &mut Ports,
+    under_way: &mut UnderWay,
+    number: u64,
+    piece: &[u8],
+) -> Result<(), CoreMemory>
+    requires is_open { IsSome (find_port number ports.old.ports) }
+    requires failed { under_way.old.link.failed ≡ [] }
+
+    ensures state { (wall : ℕ) (keys : KeyState) (port : Port) (c : List ℕ)
+        → find_port number ports.old.ports ≡ Some port → OnOk result
+        (state_of wall keys under_way.new ports.new c
+        ≡ (unnamed_heard port.heard piece.now number (state_of wall keys under_way.old ports.old c)).state) }
+    ensures closes { ports.old.closed ≡ [] → OnOk result
+        (ports.new.closed ≡ gone ports.old.last ports.old.ports ports.new.last ports.new.ports) }
+    ensures failed { OnOk result (under_way.new.link.failed ≡ []) }
+{
+    ports.push(number, piece)?;
+    match first_frame(ports, number) {
+        Look::Whole { body } => take_first(ports, under_way, number, body),
+        Look::Bad { .. } => {
+            ports.close(number);
+            Ok(())
+        }
+        Look::More => Ok(()),
+    }
+}
+
+// What stands at the front of its bytes.
+fn first_frame(ports: &Ports, number: u64) -> Look
+    ensures { front_of result ≡ front 262144 (heard_in (find_port number ports.now.ports)) }
+{
+    look(ports.heard(number), LONGEST_BODY)
+}
+
+// Takes the first frame, and what follows it where it names the child process.
+fn take_first(
+    ports: &mut Ports,
+    under_way: &mut UnderWay,
+    number: u64,
+    body_len: u32,
+) -> Result<(), CoreMemory>
+    requires is_open { IsSome (find_port number ports.old.ports) }
+    requires whole { (port : Port) → find_port number ports.old.ports ≡ Some port
+        → front 262144 port.heard ≡ Whole body_len }
+    requires failed { under_way.old.link.failed ≡ [] }
+
+    ensures state { (wall : ℕ) (keys : KeyState) (port : Port) (c : List ℕ)
+        → find_port number ports.old.ports ≡ Some port → OnOk result
+        (state_of wall keys under_way.new ports.new c
+        ≡ (first_message (from_child_of (front_body body_len port.heard)) number (after_front body_len port.heard)
+        (state_of wall keys under_way.old ports.old c)).state) }
+    ensures closes { ports.old.closed ≡ [] → OnOk result
+        (ports.new.closed ≡ gone ports.old.last ports.old.ports ports.new.last ports.new.ports) }
+    ensures failed { OnOk result (under_way.new.link.failed ≡ []) }
+{
+    let Some(job) = job_named(under_way, first_body(ports.heard(number), body_len)) else {
+        ports.close(number);
+        return Ok(());
+    };
+    let heard = ports.take_heard(number);
+    under_way.helper_named(job, number);
+    hear_helper(ports, under_way, number, behind(heard.live(), body_len))
+}
+
+// The started job that this body names by its ticket.
+fn job_named(under_way: &UnderWay, body: &[u8]) -> Option<u64>
+    ensures job { result ≡ named_job (from_child_of body.now) under_way.now }
+    ensures named { IfSome result (λ job. IsNamed job under_way.now) }
+{
+    let Ok(FromChild::Hello { job, ticket }) = read_from_child(body) else {
+        return None;
+    };
+    let started = under_way.find_started(job)?;
+    if started.ticket == ticket {
+        Some(job)
+    } else {
+        None
+    }
+}
+
+// The bytes behind the frame at the front.
+fn behind(heard: &[u8], body_len: u32) -> &[u8]
+    requires { 4 + body_len ≤ length heard.now }
+    ensures { result.now ≡ after_front body_len heard.now }
+{
+    &heard[4 + body_len as usize..]
+}

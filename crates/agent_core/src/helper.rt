@@ -1,0 +1,101 @@
+//! What comes of the helper: its answers, and its loss.
+
+ghost use Rattle.std.specs.Prelude.{◌≡◌, ◌≢◌, ℕ, List, [], IsSome, OnOk};
+ghost use Rattle.helper_link.specs.HelperLink.{IsStarting, askers};
+ghost use Rattle.agent_model.specs.Answers.{helper_heard, link_lost, lose, tell_each};
+ghost use Rattle.agent_model.specs.KeyStates.{KeyState};
+ghost use Rattle.agent_model.specs.Sound.{IsRising};
+ghost use Rattle.agent_model.specs.State.{find_port};
+ghost use Rattle.agent_model.specs.Step.{gone};
+ghost use Rattle.agent_model.specs.Verdicts.{HelperLost, Refuses};
+ghost use Rattle.under_way.specs.Parts.{IsAlone};
+ghost use Rattle.agent_core.specs.Parts.{state_of};
+ghost use Rattle.agent_core.specs.Settlings.{AreShortAnswers, answered};
+
+use crate::CoreMemory;
+use crate::ports::Ports;
+use helper_link::{Answer, LinkState, Settled};
+use under_way::UnderWay;
+
+/// The helper sent more: each asker is told its answer, and at a fault of the stream the helper is lost.
+pub fn hear_helper(
+    ports: &mut Ports,
+    under_way: &mut UnderWay,
+    helper: u64,
+    piece: &[u8],
+) -> Result<(), CoreMemory>
+    requires linked { under_way.old.link.state ≡ LinkState.Linked helper }
+    requires is_open { IsSome (find_port helper ports.old.ports) }
+    requires failed { under_way.old.link.failed ≡ [] }
+
+    ensures state { (wall : ℕ) (keys : KeyState) (c : List ℕ) → OnOk result
+        (state_of wall keys under_way.new ports.new c
+        ≡ (helper_heard piece.now (state_of wall keys under_way.old ports.old c)).state) }
+    ensures closes { ports.old.closed ≡ [] → OnOk result
+        (ports.new.closed ≡ gone ports.old.last ports.old.ports ports.new.last ports.new.ports) }
+    ensures failed { OnOk result (under_way.new.link.failed ≡ []) }
+{
+    let told = under_way.helper_told(piece)?;
+    answer_all(ports, told.settled.as_slice())?;
+    match told.fault {
+        Some(_) => lose_helper(ports, under_way, helper),
+        None => Ok(()),
+    }
+}
+
+/// The helper is gone: its port is closed, and each client that waits for an answer of it is told.
+pub fn lose_helper(
+    ports: &mut Ports,
+    under_way: &mut UnderWay,
+    helper: u64,
+) -> Result<(), CoreMemory>
+    requires linked { under_way.old.link.state ≡ LinkState.Linked helper }
+    requires is_open { IsSome (find_port helper ports.old.ports) }
+    requires failed { under_way.old.link.failed ≡ [] }
+
+    ensures state { (wall : ℕ) (keys : KeyState) (c : List ℕ) → OnOk result
+        (state_of wall keys under_way.new ports.new c
+        ≡ (lose (state_of wall keys under_way.old ports.old c)).state) }
+    ensures rising { IsRising 0 ports.old.last ports.old.ports }
+    ensures closes { ports.old.closed ≡ [] → OnOk result
+        (ports.new.closed ≡ gone ports.old.last ports.old.ports ports.new.last ports.new.ports) }
+    ensures failed { OnOk result (under_way.new.link.failed ≡ []) }
+{
+    ports.close(helper);
+    lose_link(ports, under_way)
+}
+
+/// No helper is there or coming any more: each client that waits for an answer of it is told.
+pub fn lose_link(ports: &mut Ports, under_way: &mut UnderWay) -> Result<(), CoreMemory>
+    requires some { under_way.old.link.state ≢ LinkState.None }
+    requires jobs { IsStarting under_way.old.link.state
+        → (under_way.old.to_start ≡ []) × (under_way.old.started ≡ []) }
+    requires failed { under_way.old.link.failed ≡ [] }
+
+    ensures ports { OnOk result (ports.new ≡ record ports.old {
+      ports = tell_each (Refuses HelperLost) (askers under_way.old.link.asks) ports.old.ports;
+    }) }
+    ensures under_way { OnOk result
+        (under_way.new ≡ record under_way.old { link = link_lost under_way.old.link }) }
+    ensures alone { IsAlone under_way.old }
+{
+    under_way.lose();
+    'askers: while let Some(asker) = under_way.next_failed() {
+        ports.tell(asker, &Answer::Refused)?;
+    }
+    Ok(())
+}
+
+// Tells each asker its answer, in the order of the answers.
+fn answer_all(ports: &mut Ports, settled: &[Settled]) -> Result<(), CoreMemory>
+    requires { AreShortAnswers settled.now }
+
+    ensures { OnOk result (ports.new ≡ record ports.old {
+      ports = answered settled.now ports.old.ports;
+    }) }
+{
+    for one in settled {
+        ports.tell(one.asker, &one.answer)?;
+    }
+    Ok(())
+}

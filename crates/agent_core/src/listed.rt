@@ -1,0 +1,98 @@
+//! One open port, and its place in the list of those that are owed bytes.
+
+ghost use Rattle.std.specs.Prelude.{◌≡◌, ◌≤◌, ℕ, [], false, OnOk, length, vec_capacity};
+ghost use Rattle.wire_text.specs.Frames.{Whole, front_body};
+ghost use Rattle.agent_model.specs.Looks.{due};
+ghost use Rattle.agent_model.specs.Step.{take_frame, took_some};
+ghost use Rattle.agent_model.specs.Verdicts.{tell};
+ghost use Rattle.agent_core.specs.Rising.{IsRisingNumbers, inserted, noted};
+ghost use Rattle.agent_core.specs.Served.{served_body};
+ghost use Rattle.agent_core.specs.Settlings.{IsShortAnswer, verdict_of};
+ghost use Rattle.agent_core.specs.Slots.{is_owing, port_of};
+
+use crate::keys::Keys;
+use crate::slot::{self, Slot};
+use crate::{CoreMemory, rising};
+use helper_link::Answer;
+use under_way::UnderWay;
+use world_ports::Door;
+
+// Lists the port among the clients that are owed bytes where it is one.
+#[tactic(auto, unfolding(crate::specs::Slots::is_owing))]
+fn note_owed(slot: &Slot, owing: &mut Vec<u64>)
+    requires rising { IsRisingNumbers 0 owing.old.items }
+    requires room { length (inserted slot.now.number owing.old.items) ≤ vec_capacity owing.old }
+    ensures items { owing.new.items ≡ noted (is_owing (port_of slot.now)) slot.now.number owing.old.items }
+    ensures room { vec_capacity owing.old ≤ vec_capacity owing.new }
+{
+    if slot.door == Door::Clients && !slot.owed.bytes().is_empty() {
+        rising::put_in(owing, slot.number);
+    } else {
+        rising::take_out(owing, slot.number);
+    }
+}
+
+/// Drops the first `count` bytes that a port is owed, and lists it.
+pub fn drop_sent_at(slot: &mut Slot, owing: &mut Vec<u64>, count: usize)
+    requires count { count ≤ length slot.old.owed }
+    requires rising { IsRisingNumbers 0 owing.old.items }
+    requires room { length (inserted slot.old.number owing.old.items) ≤ vec_capacity owing.old }
+
+    ensures port { port_of slot.new ≡ took_some count (port_of slot.old) }
+    ensures number { slot.new.number ≡ slot.old.number }
+    ensures door { slot.new.door ≡ slot.old.door }
+    ensures items { owing.new.items ≡ noted (is_owing (port_of slot.new)) slot.old.number owing.old.items }
+    ensures room { vec_capacity owing.old ≤ vec_capacity owing.new }
+{
+    slot::drop_sent(slot, count);
+    note_owed(slot, owing);
+}
+
+/// Takes a request of a port, owes its reply or lets it wait, and lists it.
+pub fn serve_at(
+    slot: &mut Slot,
+    owing: &mut Vec<u64>,
+    keys: &mut Keys,
+    under_way: &mut UnderWay,
+    body_len: u32,
+) -> Result<(), CoreMemory>
+    requires due { due (port_of slot.old) ≡ Whole body_len }
+    requires failed { under_way.old.link.failed ≡ [] }
+    requires rising { IsRisingNumbers 0 owing.old.items }
+    requires room { length (inserted slot.old.number owing.old.items) ≤ vec_capacity owing.old }
+
+    ensures port { (wall : ℕ) → OnOk result (port_of slot.new ≡ tell
+        (served_body slot.old.number wall (front_body body_len slot.old.heard.live) keys.old under_way.old).work.verdict
+        (take_frame body_len false (port_of slot.old))) }
+    ensures keys { (wall : ℕ) → OnOk result (keys.new
+        ≡ (served_body slot.old.number wall (front_body body_len slot.old.heard.live) keys.old under_way.old).held) }
+    ensures under_way { (wall : ℕ) → OnOk result (under_way.new
+        ≡ (served_body slot.old.number wall (front_body body_len slot.old.heard.live) keys.old
+        under_way.old).work.under_way) }
+    ensures failed { OnOk result (under_way.new.link.failed ≡ []) }
+    ensures number { slot.new.number ≡ slot.old.number }
+    ensures door { slot.new.door ≡ slot.old.door }
+    ensures items { owing.new.items ≡ noted (is_owing (port_of slot.new)) slot.old.number owing.old.items }
+    ensures room { vec_capacity owing.old ≤ vec_capacity owing.new }
+{
+    let served = slot::serve(slot, keys, under_way, body_len);
+    note_owed(slot, owing);
+    served
+}
+
+/// Tells an asker what the helper answered, and lists it.
+pub fn tell_at(slot: &mut Slot, owing: &mut Vec<u64>, answer: &Answer) -> Result<(), CoreMemory>
+    requires short { IsShortAnswer answer.now }
+    requires rising { IsRisingNumbers 0 owing.old.items }
+    requires room { length (inserted slot.old.number owing.old.items) ≤ vec_capacity owing.old }
+
+    ensures port { OnOk result (port_of slot.new ≡ tell (verdict_of answer.now) (port_of slot.old)) }
+    ensures number { slot.new.number ≡ slot.old.number }
+    ensures door { slot.new.door ≡ slot.old.door }
+    ensures items { owing.new.items ≡ noted (is_owing (port_of slot.new)) slot.old.number owing.old.items }
+    ensures room { vec_capacity owing.old ≤ vec_capacity owing.new }
+{
+    let told = slot::tell(slot, answer);
+    note_owed(slot, owing);
+    told
+}

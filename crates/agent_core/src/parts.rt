@@ -1,0 +1,259 @@
+//! The agent's state in storage, and what each event does to it.
+
+ghost use Rattle.std.specs.Prelude.{◌≡◌, ℕ, List, [], IsSome, OnOk};
+ghost use Rattle.agent_model.specs.Children.{changed, heard_more};
+ghost use Rattle.agent_model.specs.Events.{Ended, Heard, Joined, StartFailed, Started, Took};
+ghost use Rattle.agent_model.specs.Sound.{IsSteady};
+ghost use Rattle.agent_model.specs.State.{Fits, find_port, next_owed, owed_of};
+ghost use Rattle.agent_model.specs.Step.{closed_between, handle, looked, step};
+ghost use Rattle.agent_core.specs.Happenings.{happening};
+ghost use Rattle.agent_core.specs.Parts.{with_closes};
+
+use crate::children::hear_unnamed;
+use crate::helper::{hear_helper, lose_helper, lose_link};
+use crate::keys::Keys;
+use crate::ports::Ports;
+use crate::role::{Role, next_of, owed_helper, role_at};
+use crate::{CoreMemory, Event};
+use frame_core::Look;
+use std::marker::Model;
+use under_way::UnderWay;
+use world_ports::{Door, Moment};
+
+/// The most clients that may be open at once.
+const MOST_CLIENTS: usize = 128;
+
+/// The most child processes that may be open at once and haven't named themselves.
+const MOST_UNNAMED: usize = 32;
+
+/// What is held, what is under way and the open ports, at a second of the wall clock.
+#[derive(Drop)]
+pub struct Parts {
+    pub wall: u64,
+    pub keys: Keys,
+    pub under_way: UnderWay,
+    pub ports: Ports,
+}
+
+impl Model for Parts {
+    ghost use Rattle.agent_model.specs.State.{State};
+    ghost use Rattle.agent_core.specs.Parts.{state_of};
+
+    ghost Value = { State };
+
+    ghost view = { λ c. state_of c.wall c.keys c.under_way c.ports c.ports.closed };
+}
+
+impl Parts {
+    /// Takes one event at a moment.
+    pub fn take(&mut self, moment: Moment, event: &Event<'_>) -> Result<(), CoreMemory>
+        requires fits { Fits (happening event.now) self.old }
+        requires failed { self.old.under_way.link.failed ≡ [] }
+
+        ensures stepped { OnOk result (self.new ≡ (step self.old moment (happening event.now)).state) }
+        ensures failed { OnOk result (self.new.under_way.link.failed ≡ []) }
+    {
+        self.wall = moment.wall;
+        self.keys.expire(self.keys.second().max(moment.mono));
+        self.ports.begin();
+        self.handle(event)
+    }
+
+    /// What the port is owed: nothing where it isn't open.
+    pub fn owed(&self, port: u64) -> &[u8]
+        ensures { result.now ≡ owed_of port self.now }
+    {
+        match role_at(&self.ports, &self.under_way, port) {
+            Some(Role::Client) => self.ports.owed(port),
+            Some(Role::Helper) => self.under_way.owed(),
+            // A child process that hasn't named itself is owed nothing.
+            Some(Role::Unnamed) | None => &[],
+        }
+    }
+
+    /// The open port of the least number above `after` that is owed bytes.
+    pub fn next_owed(&self, after: u64) -> Option<u64>
+        ensures next { result ≡ next_owed after self.now }
+        ensures steady { IsSteady self.now }
+    {
+        let client = self.ports.next_owed(after);
+        let helper = owed_helper(&self.ports, &self.under_way);
+        next_of(after, client, helper)
+    }
+
+    // Takes one event after its moment.
+    fn handle(&mut self, event: &Event<'_>) -> Result<(), CoreMemory>
+        requires fits { Fits (happening event.now) self.old }
+        requires failed { self.old.under_way.link.failed ≡ [] }
+        requires closes { self.old.closes ≡ [] }
+
+        ensures state { (c : List ℕ) → OnOk result (with_closes c self.new
+            ≡ (handle (happening event.now) (with_closes c self.old)).state) }
+        ensures closes { OnOk result (self.new.closes ≡ closed_between self.old self.new) }
+        ensures failed { OnOk result (self.new.under_way.link.failed ≡ []) }
+    {
+        match *event {
+            Event::Joined(door) => self.join(door),
+            Event::Heard { port, piece } => self.hear(port, piece),
+            Event::Ended { port } => self.end(port),
+            Event::Took { port, count } => self.send(port, count),
+            Event::Started { job, ticket } => {
+                self.start(job, ticket);
+                Ok(())
+            }
+            Event::StartFailed { job } => self.fail(job),
+            Event::Tick => Ok(()),
+        }
+    }
+
+    // A client or a child process joins.
+    fn join(&mut self, door: Door) -> Result<(), CoreMemory>
+        requires fits { Fits (Joined door) self.old }
+        requires closes { self.old.closes ≡ [] }
+
+        ensures state { (c : List ℕ) → OnOk result (with_closes c self.new
+            ≡ (handle (Joined door) (with_closes c self.old)).state) }
+        ensures closes { OnOk result (self.new.closes ≡ closed_between self.old self.new) }
+        ensures under_way { self.new.under_way ≡ self.old.under_way }
+    {
+        let has_room = match door {
+            Door::Clients => self.ports.clients() < MOST_CLIENTS,
+            Door::Children => self.ports.unnamed(self.under_way.link_state()) < MOST_UNNAMED,
+        };
+        self.ports.join(door, has_room)
+    }
+
+    // A port sent more.
+    fn hear(&mut self, port: u64, piece: &[u8]) -> Result<(), CoreMemory>
+        requires is_open { IsSome (find_port port self.old.ports) }
+        requires failed { self.old.under_way.link.failed ≡ [] }
+        requires closes { self.old.closes ≡ [] }
+
+        ensures state { (c : List ℕ) → OnOk result (with_closes c self.new
+            ≡ (handle (Heard port piece.now) (with_closes c self.old)).state) }
+        ensures closes { OnOk result (self.new.closes ≡ closed_between self.old self.new) }
+        ensures failed { OnOk result (self.new.under_way.link.failed ≡ []) }
+    {
+        match role_at(&self.ports, &self.under_way, port) {
+            Some(Role::Client) => self.hear_client(port, piece),
+            Some(Role::Unnamed) => hear_unnamed(&mut self.ports, &mut self.under_way, port, piece),
+            Some(Role::Helper) => hear_helper(&mut self.ports, &mut self.under_way, port, piece),
+            None => unreachable!(),
+        }
+    }
+
+    // A client sent more.
+    fn hear_client(&mut self, port: u64, piece: &[u8]) -> Result<(), CoreMemory>
+        requires is_open { IsSome (find_port port self.old.ports) }
+        requires failed { self.old.under_way.link.failed ≡ [] }
+        requires closes { self.old.closes ≡ [] }
+
+        ensures state { (c : List ℕ) → OnOk result (with_closes c self.new
+            ≡ (looked port (changed port (heard_more piece.now) (with_closes c self.old))).state) }
+        ensures closes { OnOk result (self.new.closes ≡ closed_between self.old self.new) }
+        ensures failed { OnOk result (self.new.under_way.link.failed ≡ []) }
+    {
+        self.ports.push(port, piece)?;
+        self.look(port)
+    }
+
+    // A port took some of what it is owed.
+    fn send(&mut self, port: u64, count: usize) -> Result<(), CoreMemory>
+        requires fits { Fits (Took port count) self.old }
+        requires failed { self.old.under_way.link.failed ≡ [] }
+        requires closes { self.old.closes ≡ [] }
+
+        ensures state { (c : List ℕ) → OnOk result (with_closes c self.new
+            ≡ (handle (Took port count) (with_closes c self.old)).state) }
+        ensures closes { OnOk result (self.new.closes ≡ closed_between self.old self.new) }
+        ensures failed { OnOk result (self.new.under_way.link.failed ≡ []) }
+    {
+        match role_at(&self.ports, &self.under_way, port) {
+            Some(Role::Client) => {
+                self.ports.drop_sent(port, count);
+                self.look(port)
+            }
+            Some(Role::Helper) => {
+                self.under_way.helper_took(count);
+                Ok(())
+            }
+            // It is owed nothing.
+            Some(Role::Unnamed) | None => unreachable!(),
+        }
+    }
+
+    // A port has ended.
+    fn end(&mut self, port: u64) -> Result<(), CoreMemory>
+        requires is_open { IsSome (find_port port self.old.ports) }
+        requires failed { self.old.under_way.link.failed ≡ [] }
+        requires closes { self.old.closes ≡ [] }
+
+        ensures state { (c : List ℕ) → OnOk result (with_closes c self.new
+            ≡ (handle (Ended port) (with_closes c self.old)).state) }
+        ensures closes { OnOk result (self.new.closes ≡ closed_between self.old self.new) }
+        ensures failed { OnOk result (self.new.under_way.link.failed ≡ []) }
+    {
+        match role_at(&self.ports, &self.under_way, port) {
+            Some(Role::Client) => {
+                self.ports.close(port);
+                Ok(())
+            }
+            Some(Role::Unnamed) => {
+                self.ports.close(port);
+                Ok(())
+            }
+            Some(Role::Helper) => lose_helper(&mut self.ports, &mut self.under_way, port),
+            None => unreachable!(),
+        }
+    }
+
+    // A child process was started.
+    fn start(&mut self, job: u64, ticket: [u8; 16])
+        requires fits { Fits (Started job ticket) self.old }
+        requires closes { self.old.closes ≡ [] }
+
+        ensures state { (c : List ℕ) → with_closes c self.new
+            ≡ (handle (Started job ticket) (with_closes c self.old)).state }
+        ensures closes { self.new.closes ≡ closed_between self.old self.new }
+        ensures link { self.new.under_way.link ≡ self.old.under_way.link }
+    {
+        self.under_way.job_started(job, ticket);
+    }
+
+    // A child process could not be started.
+    fn fail(&mut self, job: u64) -> Result<(), CoreMemory>
+        requires fits { Fits (StartFailed job) self.old }
+        requires failed { self.old.under_way.link.failed ≡ [] }
+        requires closes { self.old.closes ≡ [] }
+
+        ensures state { (c : List ℕ) → OnOk result (with_closes c self.new
+            ≡ (handle (StartFailed job) (with_closes c self.old)).state) }
+        ensures closes { OnOk result (self.new.closes ≡ closed_between self.old self.new) }
+        ensures failed { OnOk result (self.new.under_way.link.failed ≡ []) }
+    {
+        self.under_way.job_failed(job);
+        lose_link(&mut self.ports, &mut self.under_way)
+    }
+
+    // Takes the first request of a client where it is whole, and closes its port where its length is bad.
+    fn look(&mut self, port: u64) -> Result<(), CoreMemory>
+        requires failed { self.old.under_way.link.failed ≡ [] }
+        requires closes { self.old.closes ≡ [] }
+
+        ensures state { (c : List ℕ) → OnOk result (with_closes c self.new
+            ≡ (looked port (with_closes c self.old)).state) }
+        ensures closes { OnOk result (self.new.closes ≡ closed_between self.old self.new) }
+        ensures failed { OnOk result (self.new.under_way.link.failed ≡ []) }
+    {
+        match self.ports.due(port) {
+            Look::Whole { body } => self
+                .ports
+                .serve(&mut self.keys, &mut self.under_way, port, body),
+            Look::Bad { .. } => {
+                self.ports.close(port);
+                Ok(())
+            }
+            Look::More => Ok(()),
+        }
+    }
+}

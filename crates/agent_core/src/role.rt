@@ -1,0 +1,70 @@
+//! Who is at a port: derived from its door and the link's state. And which port the helper is at, to be written.
+
+ghost use Rattle.std.specs.Prelude.{◌≡◌, ℕ};
+ghost use Rattle.std.specs.Option.{option_map};
+ghost use Rattle.agent_model.specs.State.{find_port, is_linked_to};
+ghost use Rattle.under_way.specs.Parts.{IsAlone};
+ghost use Rattle.agent_core.specs.Roles.{next_of, owed_helper, role_by, role_word};
+
+use crate::ports::Ports;
+use helper_link::LinkState;
+use under_way::UnderWay;
+use world_ports::Door;
+
+/// Who is at a port.
+#[derive(Clone, Copy, Debug, PartialEq, Eq)]
+pub enum Role {
+    Client,
+    /// A child process that hasn't named itself.
+    Unnamed,
+    Helper,
+}
+
+/// Who is at the port of this number, where it is open.
+pub fn role_at(ports: &Ports, under_way: &UnderWay, number: u64) -> Option<Role>
+    ensures value { option_map role_word result ≡ role_by (find_port number ports.now.ports) under_way.now }
+    ensures alone { IsAlone under_way.now }
+{
+    let is_helper = is_linked(under_way.link_state(), number);
+    match ports.door(number) {
+        Some(Door::Clients) => Some(Role::Client),
+        Some(Door::Children) if is_helper => Some(Role::Helper),
+        Some(Door::Children) => Some(Role::Unnamed),
+        None => None,
+    }
+}
+
+/// Whether the helper is at this port.
+pub fn is_linked(link: LinkState, number: u64) -> bool
+    ensures { result ≡ is_linked_to number link }
+{
+    match link {
+        LinkState::Linked { port } => port == number,
+        LinkState::None | LinkState::Starting { .. } => false,
+    }
+}
+
+/// The helper's port, where it is open and owed bytes.
+pub fn owed_helper(ports: &Ports, under_way: &UnderWay) -> Option<u64>
+    ensures value { result ≡ owed_helper under_way.now ports.now.ports }
+    ensures alone { IsAlone under_way.now }
+{
+    match under_way.link_state() {
+        LinkState::Linked { port } => match ports.door(port) {
+            Some(Door::Children) if !under_way.owed().is_empty() => Some(port),
+            _ => None,
+        },
+        LinkState::None | LinkState::Starting { .. } => None,
+    }
+}
+
+/// The client, or the helper where its number is above `after` and comes first.
+pub fn next_of(after: u64, client: Option<u64>, helper: Option<u64>) -> Option<u64>
+    ensures { result ≡ next_of after client helper }
+{
+    match (client, helper) {
+        (Some(client), Some(helper)) if helper > after => Some(client.min(helper)),
+        (None, Some(helper)) if helper > after => Some(helper),
+        (client, _) => client,
+    }
+}

@@ -1,0 +1,189 @@
+-- Where the helper's bytes are cut does not matter.
+use Rattle.std.proofs.Common.{◌≡◌, ◌==◌, ℕ, List, [], ◌∷◌, ◌++◌, arith, refl, ap, sym, ◌∙◌, Option, Some, None, true, inl, inr}
+use Rattle.std.specs.Option.{option_map}
+use Rattle.std.proofs.lemmas.Bool.{cases_eq}
+use Rattle.std.proofs.lemmas.Bool.Decides.{nat_tests}
+use Rattle.std.proofs.lemmas.List.{append-nil, append_assoc}
+use Rattle.world_ports.specs.declared.Door.TheVariants.{Children}
+use Rattle.world_ports.specs.declared.Moment.{Moment}
+use Rattle.helper_link.specs.Telling.{Telling, settled_before, telling, unless_faulty}
+use Rattle.helper_link.specs.declared.answer.Answer.{Answer}
+use Rattle.helper_link.specs.declared.answer.Answer.TheVariants as answer
+use Rattle.helper_link.specs.declared.answer.Settled.{Settled}
+use Rattle.helper_link.specs.declared.fault.LinkFault.{LinkFault}
+use Rattle.helper_link.specs.declared.state.LinkState.TheVariants as states
+use Rattle.helper_link.proofs.CutLemmas.{told_in_turn-joined}
+use Rattle.agent_model.specs.Actions.{Action, Outcome, acted, and_then, stay}
+use Rattle.agent_model.specs.Answers.{Answering, answer_all, answer_by, answer_true, answers_in, find_verification, helper_tells, lose, lose_if, with_answers}
+use Rattle.agent_model.specs.Events.{Heard}
+use Rattle.agent_model.specs.Fates.{answer_verdict, fate_of, fault_fate, or_later, settled_fate}
+use Rattle.agent_model.specs.Runs.{forget_closes}
+use Rattle.agent_model.specs.Sound.{IsRising, IsSound}
+use Rattle.agent_model.specs.State.{Port, State, Verification, change_port, find_port, is_linked_to, role_by_helper, role_of}
+use Rattle.agent_model.specs.Step.{at_moment, handle, heard_at, heard_by_role, step}
+use Rattle.agent_model.proofs.FateLemmas.{AnswersAs, answers_as, fate-append, settled-fates}
+use Rattle.agent_model.proofs.LeadLemmas.{leads-answers, same}
+use Rattle.agent_model.proofs.PiecesLemmas.{Agree}
+use Rattle.agent_model.proofs.PortsLemmas.{find_port-apart, find_port-change_port, found_number}
+use Rattle.agent_model.proofs.RunLemmas.{at_moment-twice, leads-rising, lost-closed}
+
+-- ---- answers
+
+-- the same, behind what was done before
+abbrev after_actions : List Action → Answering → Answering
+after_actions earlier answering = record answering { actions = earlier ++ answering.actions }
+
+asker-behind : (earlier actions : List Action) (one : List Action) (answering : Answering) → after_actions earlier (record answering { actions = actions ++ one }) ≡ record answering { actions = (earlier ++ actions) ++ one }
+asker-behind earlier actions one answering = ap (λ all. let a : Answering = record answering { actions = all } in a) (sym (append_assoc earlier actions one))
+
+true-behind : (found : Option Verification) (one : Settled) (earlier : List Action) (before : Answering) → answer_true found one (after_actions earlier before) ≡ after_actions earlier (answer_true found one before)
+true-behind None one earlier before = sym (asker-behind earlier before.actions _ (answer_true None one before))
+true-behind (Some verification) one earlier before = sym (asker-behind earlier before.actions _ (answer_true (Some verification) one before))
+
+answer-behind : (what : Answer) (one : Settled) (earlier : List Action) (before : Answering) → answer_by what one (after_actions earlier before) ≡ after_actions earlier (answer_by what one before)
+answer-behind (answer.Signed signature) one earlier before = sym (asker-behind earlier before.actions _ (answer_by (answer.Signed signature) one before))
+answer-behind answer.Refused one earlier before = sym (asker-behind earlier before.actions _ (answer_by answer.Refused one before))
+answer-behind answer.True one earlier before = true-behind (find_verification one.ask before.verifications) one earlier before
+answer-behind answer.False one earlier before = sym (asker-behind earlier before.actions _ (answer_by answer.False one before))
+
+all-behind : (settled : List Settled) (earlier : List Action) (before : Answering) → answer_all settled (after_actions earlier before) ≡ after_actions earlier (answer_all settled before)
+all-behind [] earlier before = refl
+all-behind (one ∷ later) earlier before =
+    ap (answer_all later) (answer-behind one.answer one earlier before) ∙ all-behind later earlier (answer_by one.answer one before)
+
+all-append : (some more : List Settled) (before : Answering) → answer_all (some ++ more) before ≡ answer_all more (answer_all some before)
+all-append [] more before = refl
+all-append (one ∷ some) more before = all-append some more (answer_by one.answer one before)
+
+-- what is answered at once is what is answered in turn
+abbrev fresh : State → Answering
+fresh state = record { ports = state.ports; verifications = state.under_way.verifications; actions = [] }
+
+in_turn : (some more : List Settled) (state : State) → answers_in (some ++ more) state ≡
+    (let first : Answering = answers_in some state in
+    after_actions first.actions (answer_all more (record first { actions = [] })))
+in_turn some more state =
+    let first : Answering = answers_in some state in
+    all-append some more (fresh state)
+    ∙ ap (λ actions. answer_all more (record first { actions = actions })) (sym (append-nil first.actions))
+    ∙ all-behind more first.actions (record first { actions = [] })
+
+-- an open port stays open, with its door
+stays_open : (number : ℕ) (settled : List Settled) (before : Answering) (port : Port) → find_port number before.ports ≡ Some port → (after : Port) × (find_port number (answer_all settled before).ports ≡ Some after) × (after.door ≡ port.door)
+stays_open number [] before port found = (port, found, refl)
+stays_open number (one ∷ later) before port found = elim (cases_eq number one.asker) [
+  | inl equal ↦
+      (let rest = stays_open number later (answer_by one.answer one before) (told.change port)
+      (ap (find_port number) told.ports ∙ ap (λ n. find_port number (change_port n told.change before.ports)) (sym equal)
+      ∙ find_port-change_port number told.change before.ports told.number ∙ ap (option_map told.change) found) in
+      (rest.0, rest.1, rest.2 ∙ told.door port))
+  | inr other ↦
+      stays_open number later (answer_by one.answer one before) port
+      (ap (find_port number) told.ports ∙ find_port-apart number one.asker told.change before.ports told.number other ∙ found)
+]
+  where
+    told : AnswersAs (answer_verdict one.answer) one before (answer_by one.answer one before)
+    told = answers_as one.answer one before
+
+-- ---- the helper's port
+
+-- bytes at the helper's port are the helper's
+pub handle-helper : (number : ℕ) (piece : List ℕ) (port : Port) (state : State) → find_port number state.ports ≡ Some port → port.door ≡ Children → state.under_way.link.state ≡ states.Linked number → handle (Heard number piece) state ≡ helper_tells (telling piece state.under_way.link) state
+handle-helper number piece port state found door linked =
+    let numbered : port.number ≡ number = found_number number state.ports port found in
+    let here_it_is : (number == number) ≡ true = grind (arith, nat_tests) in
+    ap (λ o. heard_at o piece state) found
+    ∙ ap (λ d. heard_by_role (role_of d port.number state.under_way) port piece state) door
+    ∙ ap (λ n. heard_by_role (role_by_helper (is_linked_to n state.under_way.link.state) n state.under_way.confirmations) port piece state) numbered
+    ∙ ap (λ l. heard_by_role (role_by_helper (is_linked_to number l) number state.under_way.confirmations) port piece state) linked
+    ∙ ap (λ b. heard_by_role (role_by_helper b number state.under_way.confirmations) port piece state) here_it_is
+
+-- the loss doesn't look at which ports the last event closed
+lose-closes : (fault : Option LinkFault) (state : State) (closes : List ℕ) → (forget_closes (lose_if fault (record state { closes = closes })).state ≡ forget_closes (lose_if fault state).state) × ((lose_if fault (record state { closes = closes })).actions ≡ (lose_if fault state).actions) × ((lose_if fault (record state { closes = closes })).put ≡ (lose_if fault state).put)
+lose-closes None state closes = (refl, refl, refl)
+lose-closes (Some fault) state closes = (refl, refl, refl)
+
+module _ (moment : Moment) (state : State) (closes : List ℕ) (number : ℕ) (a b : List ℕ) (port : Port) (taken_in : at_moment moment state ≡ state) (rising : IsRising 0 state.last_port state.ports) (found : find_port number state.ports ≡ Some port) (door : port.door ≡ Children) (linked : state.under_way.link.state ≡ states.Linked number) where
+  abbrev first_told : Telling
+  first_told = telling a state.under_way.link
+
+  abbrev first_answers : Answering
+  first_answers = answers_in first_told.settled state
+
+  abbrev mid : State
+  mid = with_answers first_told.link first_answers state
+
+  -- as the next event begins
+  abbrev next : State
+  next = record mid { closes = closes }
+
+  next_is : at_moment moment next ≡ next
+  next_is = ap (λ s. let t : State = record s { ports = mid.ports; under_way = mid.under_way; closes = closes } in t) taken_in
+
+  helper_parts : (fault : Option LinkFault) → first_told.fault ≡ fault →
+      Agree moment (helper_tells (unless_faulty fault first_told (telling b)) state) (and_then (acted first_answers.actions mid) (lose_if fault))
+      (handle (Heard number b) (at_moment moment (record (and_then (acted first_answers.actions mid) (lose_if fault)).state { closes = closes })))
+  helper_parts None is =
+      let open_yet = stays_open number first_told.settled (fresh state) port found in
+      let told : Telling = telling b first_told.link in
+      let later : Answering = answers_in told.settled next in
+      let second : handle (Heard number b) (at_moment moment next) ≡ helper_tells told next =
+      ap (handle (Heard number b)) next_is ∙ handle-helper number b open_yet.0 next open_yet.1 (open_yet.2 ∙ door) linked in
+      let whole : helper_tells (settled_before first_told.settled told) state ≡ and_then (acted (first_answers.actions ++ later.actions) (with_answers told.link later mid)) (lose_if told.fault) =
+      ap (λ (answering : Answering). and_then (acted answering.actions (with_answers told.link answering state)) (lose_if told.fault)) (in_turn first_told.settled told.settled state) in
+      let alike = lose-closes told.fault (with_answers told.link later mid) closes in
+      record {
+        state = ap (λ (o : Outcome). forget_closes (at_moment moment o.state)) whole ∙ ap (at_moment moment) (sym alike.0) ∙ ap (λ (o : Outcome). forget_closes (at_moment moment o.state)) (sym second);
+        actions = ap (λ (o : Outcome). o.actions) whole ∙ append_assoc first_answers.actions later.actions _
+            ∙ ap (λ some. first_answers.actions ++ (later.actions ++ some)) (sym alike.1)
+            ∙ ap (λ some. some ++ (helper_tells told next).actions) (sym (append-nil first_answers.actions))
+            ∙ ap (λ (o : Outcome). (first_answers.actions ++ []) ++ o.actions) (sym second);
+        put = ap (λ (o : Outcome). o.put) whole ∙ sym alike.2 ∙ ap (λ (o : Outcome). o.put) (sym second);
+      }
+  helper_parts (Some fault) is =
+      let gone : find_port number (lose mid).state.ports ≡ None =
+      lost-closed mid number (leads-rising 0 state.last_port state.ports (leads-answers state.ports first_told.settled (fresh state) same) rising) linked in
+      let left : State = (lose mid).state in
+      let then : State = at_moment moment (record left { closes = closes }) in
+      let second : handle (Heard number b) then ≡ stay then = ap (λ o. heard_at o b then) gone in
+      let whole : helper_tells first_told state ≡ and_then (acted first_answers.actions mid) lose = ap (λ f. and_then (acted first_answers.actions mid) (lose_if f)) is in
+      record {
+        state = ap (λ (o : Outcome). forget_closes (at_moment moment o.state)) whole ∙ ap forget_closes (sym (at_moment-twice left moment))
+            ∙ ap (λ (o : Outcome). forget_closes (at_moment moment o.state)) (sym second);
+        actions = ap (λ (o : Outcome). o.actions) whole ∙ sym (append-nil _) ∙ ap (λ (o : Outcome). (and_then (acted first_answers.actions mid) lose).actions ++ o.actions) (sym second);
+        put = ap (λ (o : Outcome). o.put) whole ∙ sym (append-nil _) ∙ ap (λ (o : Outcome). (and_then (acted first_answers.actions mid) lose).put ++ o.put) (sym second);
+      }
+
+-- two parts of the helper's piece are the piece
+pub helper_parts_agree : (state : State) (moment : Moment) (number : ℕ) (a b : List ℕ) (port : Port) → IsSound state → find_port number state.ports ≡ Some port → port.door ≡ Children → state.under_way.link.state ≡ states.Linked number →
+    Agree moment (step state moment (Heard number (a ++ b))) (step state moment (Heard number a))
+    (step (step state moment (Heard number a)).state moment (Heard number b))
+helper_parts_agree state moment number a b port sound found door linked =
+    let start : State = at_moment moment state in
+    let closes : List ℕ = (step state moment (Heard number a)).state.closes in
+    let link = state.under_way.link in
+    let first : handle (Heard number a) start ≡ helper_tells (telling a link) start = handle-helper number a port start found door linked in
+    let whole : handle (Heard number (a ++ b)) start ≡ helper_tells (unless_faulty (telling a link).fault (telling a link) (telling b)) start =
+    handle-helper number (a ++ b) port start found door linked ∙ ap (λ t. helper_tells t start) (sym (told_in_turn-joined a (b ∷ []) link)) in
+    let second : (o : Outcome) → Outcome = λ o. handle (Heard number b) (at_moment moment (record o.state { closes = closes })) in
+    let parts = helper_parts moment start closes number a b port (at_moment-twice state moment) sound.rising found door linked (telling a link).fault refl in
+    record {
+      state = ap (λ (o : Outcome). forget_closes (at_moment moment o.state)) whole ∙ parts.state ∙ ap (λ (o : Outcome). forget_closes (at_moment moment (second o).state)) (sym first);
+      actions = ap (λ (o : Outcome). o.actions) whole ∙ parts.actions ∙ ap (λ (o : Outcome). o.actions ++ (second o).actions) (sym first);
+      put = ap (λ (o : Outcome). o.put) whole ∙ parts.put ∙ ap (λ (o : Outcome). o.put ++ (second o).put) (sym first);
+    }
+
+-- what the helper's stream says is what becomes of an ask
+pub stream-fate : (ask number : ℕ) (piece : List ℕ) (port : Port) (state : State) (moment : Moment) → find_port number state.ports ≡ Some port → port.door ≡ Children → state.under_way.link.state ≡ states.Linked number → fate_of ask (step state moment (Heard number piece)).actions ≡ or_later (settled_fate ask (telling piece state.under_way.link).settled) (fault_fate (telling piece state.under_way.link).fault)
+stream-fate ask number piece port state moment found door linked =
+    let opened : State = at_moment moment state in
+    let told : Telling = telling piece state.under_way.link in
+    let answering : Answering = answers_in told.settled opened in
+    ap (λ (o : Outcome). fate_of ask o.actions) (handle-helper number piece port opened found door linked)
+    ∙ fate-append ask answering.actions (lose_if told.fault (with_answers told.link answering opened)).actions
+    ∙ ap (λ fate. or_later fate (fate_of ask (lose_if told.fault (with_answers told.link answering opened)).actions)) (settled-fates ask told.settled (fresh opened))
+    ∙ ap (or_later (settled_fate ask told.settled)) (by_fault told.fault (with_answers told.link answering opened))
+  where
+    by_fault : (fault : Option LinkFault) (left : State) → fate_of ask (lose_if fault left).actions ≡ fault_fate fault
+    by_fault None left = refl
+    by_fault (Some fault) left = refl
