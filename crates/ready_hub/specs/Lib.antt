@@ -3,3 +3,4 @@ pub mod Servable
 pub mod Answered
 pub mod LegalJournal
 pub mod Rows
+pub mod Fronts

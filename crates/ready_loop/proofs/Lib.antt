@@ -5,3 +5,4 @@ pub mod TurningLemmas
 pub mod CallLemmas
 pub mod RoomLemmas
 pub mod ServingLemmas
+pub mod FairnessLemmas

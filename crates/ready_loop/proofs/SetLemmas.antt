@@ -52,7 +52,7 @@ swapped true true rest = refl
 swapped true false rest = refl
 swapped false there rest = refl
 
-appended_at : (thing other : Thing) (queue : List Thing) → set_of (queue ++ thing ∷ []) other ≡ heated thing (set_of queue) other
+pub appended_at : (thing other : Thing) (queue : List Thing) → set_of (queue ++ thing ∷ []) other ≡ heated thing (set_of queue) other
 appended_at thing other [] = refl
 appended_at thing other (first ∷ queue) =
     ap (λ (b : Bool). same_thing first other || b) (appended_at thing other queue)

@@ -9,7 +9,6 @@ use Rattle.world_ports.specs.declared.answers.Polled.{Polled}
 use Rattle.world_ports.specs.declared.answers.Polled.TheVariants as polled
 use Rattle.world_ports.specs.declared.answers.Ready.{Ready}
 use Rattle.world_ports.specs.declared.answers.WorldFault.{WorldFault}
-use Rattle.world_ports.specs.declared.answers.WorldFault.TheVariants.{Failed, Memory}
 use Rattle.world_ports.specs.declared.answers.Wrote.{Wrote}
 use Rattle.world_ports.specs.declared.answers.Wrote.TheVariants as wrote
 use Rattle.world_ports.specs.declared.entry.Entry.{Entry}
@@ -44,11 +43,10 @@ abbrev pub after_accepted : Door → Accepted → List Thing → List Thing
 after_accepted door (accepted.Port number) queue = put_back (Accept door) (queued_port number queue)
 after_accepted door accepted.NotNow queue = dropped (Accept door) queue
 
--- the same, refused by the outside or for want of memory
+-- the same, or refused
 abbrev pub after_accept : Door → Result Accepted WorldFault → List Thing → List Thing
 after_accept door (Ok answer) queue = after_accepted door answer queue
-after_accept door (Err Failed) queue = dropped (Accept door) queue
-after_accept door (Err Memory) queue = queue
+after_accept door (Err fault) queue = dropped (Accept door) queue
 
 -- a connection that was read
 abbrev pub after_got : ℕ → Got → List Thing → List Thing
@@ -56,22 +54,20 @@ after_got port (got.Bytes n) queue = put_back (Read port) queue
 after_got port got.End queue = dropped (Read port) queue
 after_got port got.NotNow queue = dropped (Read port) queue
 
--- the same, refused
+-- the same, or refused
 abbrev pub after_read : ℕ → Result Got WorldFault → List Thing → List Thing
 after_read port (Ok answer) queue = after_got port answer queue
-after_read port (Err Failed) queue = dropped (Read port) queue
-after_read port (Err Memory) queue = queue
+after_read port (Err fault) queue = dropped (Read port) queue
 
 -- a connection that was written to
 abbrev pub after_wrote : ℕ → Wrote → List Thing → List Thing
 after_wrote port (wrote.Took n) queue = put_back (Write port) queue
 after_wrote port wrote.NotNow queue = dropped (Write port) queue
 
--- the same, refused
+-- the same, or refused
 abbrev pub after_write : ℕ → Result Wrote WorldFault → List Thing → List Thing
 after_write port (Ok answer) queue = after_wrote port answer queue
-after_write port (Err Failed) queue = dropped (Write port) queue
-after_write port (Err Memory) queue = queue
+after_write port (Err fault) queue = dropped (Write port) queue
 
 -- a connection that was closed
 abbrev pub after_close : {E : Type 0} → ℕ → Result Unit E → List Thing → List Thing

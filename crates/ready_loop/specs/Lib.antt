@@ -4,3 +4,4 @@ pub mod Rooms
 pub mod InTurn
 pub mod Moves
 pub mod Serving
+pub mod Fairness

@@ -4,6 +4,7 @@
 
 mod core;
 mod hub;
+mod laws;
 mod listeners;
 mod look;
 mod outcome;
@@ -15,6 +16,7 @@ mod turn;
 
 pub use core::Core;
 pub use hub::Hub;
+pub use laws::{all_wait_their_turn, what_comes_in_turn_is_legal};
 pub use listeners::children_path;
 pub use outcome::{HubFault, ServeEnd, Turn};
 pub use serving::serve;

@@ -1,0 +1,27 @@
+//! Laws of legal journals.
+
+ghost use Rattle.std.specs.Prelude.{◌≡◌, ◌++◌, ◌∷◌, ℕ, List, Option, Result, Some};
+ghost use Rattle.world_ports.specs.declared.answers.Polled.{Polled};
+ghost use Rattle.world_ports.specs.declared.answers.Ready.{Ready};
+ghost use Rattle.world_ports.specs.declared.answers.WorldFault.{WorldFault};
+ghost use Rattle.world_ports.specs.declared.entry.Entry.{Entry};
+ghost use Rattle.world_ports.specs.declared.entry.Entry.TheVariants as entry;
+ghost use Rattle.agent_model.specs.State.{State};
+ghost use Rattle.ready_hub.specs.Answered.{Free, Reading, at};
+ghost use Rattle.ready_hub.specs.Fronts.{HasFront, RestsAfter};
+ghost use Rattle.ready_hub.specs.LegalJournal.{read_on};
+ghost use Rattle.ready_hub.specs.Things.{Hot};
+
+/// Every front of a legal journal is legal, and the rest is legal from where it leads to.
+pub fn every_front_is_legal()
+    ensures { (from to : Reading) (first later : List Entry)
+        → read_on from (first ++ later) ≡ Some to → HasFront from to first later }
+{}
+
+/// No poll stands in a legal journal where something can be served, a job waits or a port is to be closed.
+pub fn nothing_waits_at_a_poll()
+    ensures { (state : State) (hot : Hot) (to : Reading) (first later : List Entry) (wait : Option ℕ)
+        (items : List Ready) (answer : Result Polled WorldFault)
+        → read_on (at state hot Free) (first ++ entry.Poll wait items answer ∷ later) ≡ Some to
+        → RestsAfter (at state hot Free) first }
+{}

@@ -1,0 +1,35 @@
+-- Who waits while others are served (ours).
+use Rattle.std.specs.Prelude.{Bool, true, false, List, [], ◌∷◌, Option, Some, None, ◌&&◌}
+use Rattle.world_ports.specs.declared.entry.Entry.{Entry}
+use Rattle.world_ports.specs.declared.entry.Entry.TheVariants as entry
+use Rattle.ready_hub.specs.Servable.{is_servable}
+use Rattle.ready_hub.specs.Things.{same_thing, set_of}
+use Rattle.ready_hub.specs.declared.thing.Thing.{Thing}
+use Rattle.ready_hub.specs.declared.thing.Thing.TheVariants.{Accept, Read, Write}
+use Rattle.ready_loop.specs.InTurn.{Turning, taken}
+
+-- the call serves this thing
+abbrev pub is_service : Thing → Entry → Bool
+is_service thing (entry.Bind door path answer) = false
+is_service thing (entry.Poll wait items answer) = false
+is_service thing (entry.Accept door answer) = same_thing (Accept door) thing
+is_service thing (entry.Read port room bytes answer) = same_thing (Read port) thing
+is_service thing (entry.Write port offered answer) = same_thing (Write port) thing
+is_service thing (entry.Close port answer) = false
+is_service thing (entry.Start job answer) = false
+is_service thing (entry.Now answer) = false
+
+-- the thing is ready, and can be served
+abbrev pub is_waiting : Thing → Turning → Bool
+is_waiting thing turning = set_of turning.line.queue thing && is_servable turning.reading.state thing
+
+-- it holds of the value, where there is one
+abbrev pub if_any : (Turning → Bool) → Option Turning → Bool
+if_any test None = true
+if_any test (Some turning) = test turning
+
+-- the thing is so there, and after each of the entries
+abbrev pub waits_on : Thing → Turning → List Entry → Bool
+waits_on thing turning [] = is_waiting thing turning
+waits_on thing turning (next ∷ later) =
+    is_waiting thing turning && if_any (λ after. waits_on thing after later) (taken turning next)
