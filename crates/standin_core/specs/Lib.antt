@@ -1,0 +1,5 @@
+pub mod Answers
+pub mod Claims
+pub mod Hosts
+pub mod Keys
+pub mod Transcript
