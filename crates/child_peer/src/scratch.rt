@@ -1,5 +1,6 @@
 // Memory for bytes that no one may find later.
-ghost use Rattle.std.specs.Prelude.{◌≡◌, length, IfOk};
+ghost use Rattle.std.specs.Prelude.{◌≡◌, length, IfOk, MatchResult, true, false};
+ghost use Rattle.hex.specs.Hex.{decode_sized};
 ghost use Rattle.secret_buf.specs.Buffers.{IsWiped};
 
 use std::alloc::{AllocError, Global};
@@ -22,11 +23,29 @@ impl Model for Scratch {
 }
 
 impl Scratch {
+    /// So many zeros.
+    pub fn zeros(alloc: Global, len: usize) -> Result<Scratch, AllocError>
+        ensures { IfOk result (λ scratch. length scratch ≡ len) }
+    {
+        let bytes = zeros(alloc, len)?;
+        Ok(Scratch { bytes })
+    }
+
     /// The bytes of `bytes`, which the caller did not grow in place of a secret.
     pub fn from_vec(bytes: Vec<u8>) -> Scratch
         ensures { result ≡ bytes.items }
     {
         Scratch { bytes }
+    }
+
+    /// Writes over all of them the bytes that hexadecimal digits write, where these are as many, and
+    /// says whether they are.
+    pub fn decode(&mut self, digits: &[u8]) -> bool
+        ensures value { MatchResult (decode_sized digits.now (length self.old))
+            (λ bytes. (result ≡ true) × (self.new ≡ bytes)) (λ _. result ≡ false) }
+        ensures len { length self.new ≡ length self.old }
+    {
+        hex::decode_to_slice(digits, self.bytes.as_mut_slice()).is_ok()
     }
 
     pub fn as_slice(&self) -> &[u8]

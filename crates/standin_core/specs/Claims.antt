@@ -1,5 +1,5 @@
 -- How a stand-in helper may end, a record an end (ours). The file is read from its end, `Answers`.
-use Rattle.std.specs.Prelude.{◌≡◌, ◌⊎◌, ℕ, List, [], ◌∷◌, ◌++◌, Option, IfSome}
+use Rattle.std.specs.Prelude.{◌≡◌, ◌⊎◌, ℕ, List, [], ◌∷◌, ◌++◌, Option, Some, IfSome}
 use Rattle.std.specs.Io.KnownBytes.{Appends}
 use Rattle.child_peer.specs.Talk.{HasRead, HoldsOfInput, IsFront}
 use Rattle.child_peer.specs.Words.{ChildWords, words_of}
@@ -74,8 +74,10 @@ pub record EndsByFiles (status : HelperStatus) (words : List (List ℕ)) (old ne
 
 -- the data file could not be read, and nothing else was done
 pub record FailsAtFile (words : List (List ℕ)) (old new : Seen) : Type 0 where
+  pub read : ChildWords
+  pub of_words : words_of words ≡ Some read
   pub path : List ℕ
-  pub named : IfSome (words_of words) (λ read. IfSome read.last (λ last. last ≡ path))
+  pub named : read.last ≡ Some path
   pub failed : Grows old.files.failed new.files.failed (path ∷ [])
   pub cause : Rose old.files.faults new.files.faults
   pub peer : new.peer ≡ old.peer

@@ -1,0 +1,4 @@
+pub mod AnswerLemmas
+pub mod DataLemmas
+pub mod HostLemmas
+pub mod KeyLemmas
