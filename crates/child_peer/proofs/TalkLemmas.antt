@@ -1,5 +1,5 @@
 -- Lemmas on specs/Talk.antt.
-use Rattle.std.proofs.Common.{ℕ, List, [], ◌++◌, Option, Some, None, IfSome, sym, subst}
+use Rattle.std.proofs.Common.{◌≡◌, ℕ, List, [], ◌++◌, Option, Some, None, IfSome, sym, subst}
 use Rattle.std.proofs.lemmas.List.{append-nil}
 use Rattle.std.proofs.KnownBytes.{Appends-nil, Appends-trans, Appends-kept, Consumes-nil, Consumes-trans, Consumes-kept}
 use Rattle.std.specs.Io.KnownBytes.{Appends, Consumes, Keeps, IsAtEnd}
@@ -44,3 +44,15 @@ HasRead-kept old mid new bytes read taken left = record {
   taken = Appends-kept old.taken mid.taken new.taken bytes read.taken taken;
   left = Consumes-kept old.left mid.left new.left bytes read.left left;
 }
+
+-- no read between
+pub HasRead-same : (old mid new : StreamView) (bytes : List ℕ) → HasRead old mid bytes → new.taken ≡ mid.taken → new.left ≡ mid.left
+    → HasRead old new bytes
+HasRead-same old mid new bytes read taken left = record {
+  taken = subst (λ (t : Option (List ℕ)). Appends old.taken t bytes) (sym taken) read.taken;
+  left = subst (λ (l : Option (List ℕ)). Consumes old.left l bytes) (sym left) read.left;
+}
+
+-- no write between
+pub Appends-same : (old mid new : Option (List ℕ)) (bytes : List ℕ) → Appends old mid bytes → new ≡ mid → Appends old new bytes
+Appends-same old mid new bytes wrote same = subst (λ (w : Option (List ℕ)). Appends old w bytes) (sym same) wrote

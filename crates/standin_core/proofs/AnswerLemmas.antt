@@ -2,7 +2,7 @@
 use Rattle.std.proofs.Common.{◌≡◌, ℕ, Bool, true, false, List, ◌++◌, Option, Some, None, Result, Ok, Err, refl, ap, sym, ◌∙◌, subst}
 use Rattle.std.specs.Result.{result_ok}
 use Rattle.child_msg.specs.ChildFrames.{from_child_body}
-use Rattle.child_msg.specs.Messages.{FromChildMessage, ToChildMessage, Sign, Verify, Confirm, Signing, Verification}
+use Rattle.child_msg.specs.Messages.{FromChildMessage, ToChildMessage, Sign, Verify, Signing, Verification}
 use Rattle.child_msg.specs.Reading.{to_child_of}
 use Rattle.child_msg.specs.declared.fault.ChildFault.{ChildFault}
 use Rattle.standin_core.specs.Answers.{IsAnswered, answer_of, answer_to, host_secret, is_signed_with, signed_with, verifying_answer}
@@ -52,3 +52,23 @@ answered-verify hosts body before now request is_signed is signed frame =
     appended (verifying_answer hosts request) (answer_of hosts body) before now (answer_of-message hosts body (Verify request) is)
     (frame ∙ ap (λ (b : Bool). before ++ string (from_child_body (verdict_of request.ask b)))
     (signed ∙ verified_as (host_secret hosts (tag_of request.host_key)) request))
+
+-- ---- what an appended answer tells
+
+pub no_answer : (good : Bool) (given : Option FromChildMessage) (before now : List ℕ) → IsAnswered good given before now → good ≡ false → given ≡ None
+no_answer true (Some answer) before now is wrong = cc wrong
+no_answer true None before now is wrong = absurd is
+no_answer false (Some answer) before now is wrong = absurd is
+no_answer false None before now is wrong = refl
+
+-- an answer and its frame
+pub record HasAnswer (given : Option FromChildMessage) (before now : List ℕ) : Type 0 where
+  pub answer : FromChildMessage
+  pub is : given ≡ Some answer
+  pub frame : now ≡ before ++ string (from_child_body answer)
+
+pub some_answer : (good : Bool) (given : Option FromChildMessage) (before now : List ℕ) → IsAnswered good given before now → good ≡ true → HasAnswer given before now
+some_answer true (Some answer) before now is right = record { answer = answer; is = refl; frame = is }
+some_answer true None before now is right = absurd is
+some_answer false (Some answer) before now is right = absurd is
+some_answer false None before now is right = cc right

@@ -1,5 +1,5 @@
 -- Lemmas on specs/Reading.antt: the data file.
-use Rattle.std.proofs.Common.{◌≡◌, ℕ, zero, suc, ◌+◌, ◌<◌, ◌≤◌, Bool, true, false, List, [], ◌∷◌, length, replicate, Option, Some, None, IfSome, Result, Ok, Err, if◌then◌else◌, nat_lt, refl, ap, sym, ◌∙◌, arith}
+use Rattle.std.proofs.Common.{◌≡◌, ℕ, suc, ◌<◌, ◌≤◌, List, [], length, replicate, Option, Some, None, IfSome, Result, Ok, Err, refl, ap, ◌∙◌, arith}
 use Rattle.std.specs.Prelude.{IsSomeAnd, ok_or}
 use Rattle.std.proofs.lemmas.Bool.Decides.{nat_tests}
 use Rattle.std.proofs.lemmas.List.{length-replicate}
@@ -9,7 +9,6 @@ use Rattle.standin_core.specs.Reading.{HoldsHosts, HoldsNone, HoldsPairs, ReadsD
 use Rattle.standin_core.specs.Transcript.{hosts_at, hosts_or_fault, text_held}
 use Rattle.standin_core.specs.declared.fault.DataFault.{DataFault}
 use Rattle.standin_core.specs.declared.fault.DataFault.TheVariants as fault
-use Rattle.standin_core.specs.declared.status.HelperStatus.{HelperStatus}
 use Rattle.standin_core.specs.declared.status.HelperStatus.TheVariants.{FileFault, BadFile}
 use Rattle.standin_core.proofs.HostLemmas.{ArePairs-nil}
 use Rattle.world_ports.specs.Files.{FilesView, Holds, HoldsMore}
@@ -23,6 +22,10 @@ agreed (Some at) P holds default other = (at, refl, holds)
 anything : (told : Option (List ℕ → Option (List ℕ))) → IfSome told (λ held. Unit {0})
 anything None = tt
 anything (Some at) = tt
+
+-- what files hold, where that is told
+pub files_agree : (told : Option (List ℕ → Option (List ℕ))) → (held : List ℕ → Option (List ℕ)) × IfSome told (λ at. at ≡ held)
+files_agree told = let at = agreed told (λ held. Unit {0}) (anything told) (λ name. None) tt in (at.0, at.1)
 
 -- a text of more bytes
 longer : (most : ℕ) → (text : List ℕ) × (most < length text)

@@ -1,13 +1,12 @@
 -- Lemmas on specs/Keys.antt.
-use Rattle.std.proofs.Common.{◌≡◌, ◌≢◌, true, false, Bool, ℕ, ◌+◌, ◌<◌, ◌≤◌, List, [], ◌∷◌, ◌++◌, length, drop, take, Option, Some, None, is_some, if◌then◌else◌, refl, ap, sym, ◌∙◌, subst, append_assoc, take-append-drop, arith, eqb, MatchOption, Bor}
+use Rattle.std.proofs.Common.{◌≡◌, true, false, Bool, ℕ, ◌+◌, List, [], ◌∷◌, ◌++◌, length, drop, take, Option, Some, None, is_some, if◌then◌else◌, refl, ap, sym, ◌∙◌, append_assoc, take-append-drop, arith, eqb, MatchOption, Bor}
 use Rattle.std.proofs.lemmas.Bool.Decides.{nat_tests, Decides-eqb}
 use Rattle.std.proofs.lemmas.List.{drop_at, take_at, length-append, length-drop}
 use Rattle.std.proofs.lemmas.Slice.Eq.{bytes_eq-Decides, slice_eq-Decides}
 use Rattle.std.specs.Cmp.Lexicographic.{pointwise}
 use Rattle.std.specs.Str.{bytes_eq}
-use Rattle.standin_core.specs.Keys.{HasNoFront, IsBlob, IsPrivate, blob_of, private_of, secret_of, signature_of, tag_of, type_name}
+use Rattle.standin_core.specs.Keys.{HasNoFront, IsBlob, IsPrivate, blob_of, secret_of, tag_of, type_name}
 use Rattle.wire_text.specs.Wire.{string, uint32}
-use Rattle.wire_text.proofs.WireLemmas.{length-string, length-uint32}
 
 -- ---- fronts
 

@@ -1,9 +1,9 @@
 -- How a stand-in helper may end, a record an end (ours). The file is read from its end, `Answers`.
-use Rattle.std.specs.Prelude.{◌≡◌, ◌⊎◌, ℕ, List, [], ◌∷◌, ◌++◌, Option, Some, IfSome}
+use Rattle.std.specs.Prelude.{◌≡◌, ◌⊎◌, ℕ, List, [], ◌∷◌, Option, Some, IfSome}
 use Rattle.std.specs.Io.KnownBytes.{Appends}
 use Rattle.child_peer.specs.Talk.{HasRead, HoldsOfInput, IsFront}
 use Rattle.child_peer.specs.Words.{ChildWords, words_of}
-use Rattle.standin_core.specs.Transcript.{Transcript, transcript_of}
+use Rattle.standin_core.specs.Transcript.{Transcript, ended, transcript_of}
 use Rattle.standin_core.specs.declared.status.HelperStatus.{HelperStatus}
 use Rattle.standin_core.specs.declared.status.HelperStatus.TheVariants.{Done, BadFrame, Usage, FileFault, BadFile, Memory, ReadFault, WriteFault, TornEnd}
 use Rattle.world_ports.specs.Causes.{Rose}
@@ -54,9 +54,10 @@ Ends WriteFault whole old new = EndsAtWriteFault whole old new
 Ends Done whole old new = EndsAs Done whole old new
 Ends BadFrame whole old new = EndsAs BadFrame whole old new
 Ends TornEnd whole old new = EndsAs TornEnd whole old new
-Ends Usage whole old new = EndsAs Usage whole old new
-Ends FileFault whole old new = EndsAs FileFault whole old new
-Ends BadFile whole old new = EndsAs BadFile whole old new
+-- these come before the talk
+Ends Usage whole old new = ⊥
+Ends FileFault whole old new = ⊥
+Ends BadFile whole old new = ⊥
 
 -- ---- the files too
 
@@ -65,14 +66,22 @@ pub record Seen : Type 0 where
   pub files : FilesView
   pub peer : StreamView
 
--- the end is that of the words, of what files hold, and of all that the agent says; no file failed
-pub record EndsByFiles (status : HelperStatus) (words : List (List ℕ)) (old new : Seen) : Type 0 where
+-- the talk is that of the words, of what files hold, and of what the agent says; no file failed
+pub record EndsTalk (status : HelperStatus) (words : List (List ℕ)) (old new : Seen) : Type 0 where
   pub held : List ℕ → Option (List ℕ)
   pub told : IfSome old.files.held (λ at. at ≡ held)
   pub ends : Ends status (transcript_of words held) old.peer new.peer
   pub faults : new.files.faults ≡ old.files.faults
 
--- the data file could not be read, and nothing else was done
+-- this is the end, whatever the agent says: nothing was read from it and nothing sent; no file failed
+pub record EndsUnsaid (status : HelperStatus) (words : List (List ℕ)) (old new : Seen) : Type 0 where
+  pub held : List ℕ → Option (List ℕ)
+  pub told : IfSome old.files.held (λ at. at ≡ held)
+  pub is : (stream : List ℕ) → transcript_of words held stream ≡ ended status
+  pub peer : new.peer ≡ old.peer
+  pub faults : new.files.faults ≡ old.files.faults
+
+-- the data file could not be read, and nothing was read from the agent and nothing sent
 pub record FailsAtFile (words : List (List ℕ)) (old new : Seen) : Type 0 where
   pub read : ChildWords
   pub of_words : words_of words ≡ Some read
@@ -82,18 +91,15 @@ pub record FailsAtFile (words : List (List ℕ)) (old new : Seen) : Type 0 where
   pub cause : Rose old.files.faults new.files.faults
   pub peer : new.peer ≡ old.peer
 
--- memory ran out before HELLO was to be sent
-pub record EndsUnread (old new : Seen) : Type 0 where
-  pub peer : new.peer ≡ old.peer
-
 -- what a status says
 abbrev pub Answers : HelperStatus → List (List ℕ) → Seen → Seen → Type 0
-Answers FileFault words old new = EndsByFiles FileFault words old new ⊎ FailsAtFile words old new
-Answers Memory words old new = EndsByFiles Memory words old new ⊎ EndsUnread old new
-Answers Done words old new = EndsByFiles Done words old new
-Answers BadFrame words old new = EndsByFiles BadFrame words old new
-Answers Usage words old new = EndsByFiles Usage words old new
-Answers BadFile words old new = EndsByFiles BadFile words old new
-Answers ReadFault words old new = EndsByFiles ReadFault words old new
-Answers WriteFault words old new = EndsByFiles WriteFault words old new
-Answers TornEnd words old new = EndsByFiles TornEnd words old new
+Answers Done words old new = EndsTalk Done words old new
+Answers BadFrame words old new = EndsTalk BadFrame words old new
+Answers Usage words old new = EndsUnsaid Usage words old new
+Answers FileFault words old new = EndsUnsaid FileFault words old new ⊎ FailsAtFile words old new
+Answers BadFile words old new = EndsUnsaid BadFile words old new
+-- memory ran out in the talk or before it
+Answers Memory words old new = EndsTalk Memory words old new ⊎ (new.peer ≡ old.peer)
+Answers ReadFault words old new = EndsTalk ReadFault words old new
+Answers WriteFault words old new = EndsTalk WriteFault words old new
+Answers TornEnd words old new = EndsTalk TornEnd words old new

@@ -1,7 +1,6 @@
 -- A helper between two frames, and the steps that it takes (ours).
-use Rattle.std.specs.Prelude.{◌≡◌, ℕ, Bool, true, false, List, [], ◌++◌, Option, Some, None}
-use Rattle.std.specs.Io.KnownBytes.{Appends, Keeps}
-use Rattle.child_msg.specs.ChildFrames.{from_child_body}
+use Rattle.std.specs.Prelude.{◌≡◌, ℕ, List, ◌++◌}
+use Rattle.std.specs.Io.KnownBytes.{Appends}
 use Rattle.child_peer.specs.Talk.{HasRead}
 use Rattle.standin_core.specs.Hosts.{Host}
 use Rattle.standin_core.specs.Transcript.{Transcript, after, served}

@@ -1,6 +1,6 @@
 -- What a stand-in helper sends, and how it ends: a function of its words, of what files hold, and of all that the
 -- agent says (ours). `transcript_of` is the last definition.
-use Rattle.std.specs.Prelude.{ℕ, Bool, true, false, ◌&&◌, nat_lt, if◌then◌else◌, List, [], ◌∷◌, ◌++◌, length, map, Option, Some, None, is_some, Result, Ok, Err, ok_or}
+use Rattle.std.specs.Prelude.{ℕ, Bool, true, ◌&&◌, nat_lt, if◌then◌else◌, List, [], ◌∷◌, ◌++◌, length, map, Option, Some, None, is_some, Result, Ok, Err, ok_or}
 use Rattle.child_msg.specs.ChildFrames.{from_child_body}
 use Rattle.child_msg.specs.Messages.{FromChildMessage, Hello}
 use Rattle.child_peer.specs.Words.{ChildWords, words_of}

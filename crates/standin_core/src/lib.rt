@@ -7,9 +7,9 @@ mod answer;
 mod fault;
 mod hosts;
 mod keys;
+mod program;
 mod status;
 mod stream;
 
-pub use hosts::read_data;
+pub use program::helper_main;
 pub use status::HelperStatus;
-pub use stream::serve;

@@ -1,10 +1,10 @@
 // The agent's stream, one frame after another.
-ghost use Rattle.std.specs.Prelude.{◌≡◌, ◌+◌, ◌≤◌, [], List, ℕ, length, MatchOption};
+ghost use Rattle.std.specs.Prelude.{◌≡◌, ◌+◌, ◌≤◌, [], List, ℕ, length, IfNone, MatchOption};
 ghost use Rattle.standin_core.specs.Claims.{Ends};
 ghost use Rattle.standin_core.specs.Hosts.{Host, ArePairs};
 ghost use Rattle.standin_core.specs.Serving.{IsUnderWay};
 ghost use Rattle.standin_core.specs.Transcript.{Transcript};
-ghost use Rattle.wire_text.specs.Frames.{front_body};
+ghost use Rattle.wire_text.specs.Frames.{Whole, More, front, front_body};
 ghost use Rattle.world_ports.specs.Streams.{StreamView};
 
 use crate::answer::put_answer;
@@ -34,7 +34,16 @@ fn answer_front<P: Sink>(
     heard: &mut ScrubBuf,
     out: &mut ScrubBuf,
     peer: &mut P,
-) -> Option<HelperStatus> {
+) -> Option<HelperStatus>
+    requires found { front 1048576 heard.old.live ≡ Whole body_len }
+    requires empty { out.old.live ≡ [] }
+    ensures empty { IfNone result (out.new.live ≡ []) }
+    ensures talk { (hosts : List Host) (whole : List ℕ → Transcript) (start : StreamView)
+        → ArePairs pairs.now hosts → IsUnderWay hosts whole start (P.seen peer.old) heard.old.live
+        → MatchOption result
+        (IsUnderWay hosts whole start (P.seen peer.new) heard.new.live)
+        (λ status. Ends status whole start (P.seen peer.new)) }
+{
     let Ok(is_request) = put_answer(pairs, body_of(heard.live(), body_len), out) else {
         return Some(HelperStatus::Memory);
     };
@@ -49,11 +58,14 @@ fn answer_front<P: Sink>(
 }
 
 // Reads once, where no whole frame is in front.
-fn hear_more<P: Source>(
-    room: &mut Room,
-    heard: &mut ScrubBuf,
-    peer: &mut P,
-) -> Option<HelperStatus> {
+fn hear_more<P: Source>(room: &mut Room, heard: &mut ScrubBuf, peer: &mut P) -> Option<HelperStatus>
+    requires { front 1048576 heard.old.live ≡ More }
+    ensures { (hosts : List Host) (whole : List ℕ → Transcript) (start : StreamView)
+        → IsUnderWay hosts whole start (P.seen peer.old) heard.old.live
+        → MatchOption result
+        (IsUnderWay hosts whole start (P.seen peer.new) heard.new.live)
+        (λ status. Ends status whole start (P.seen peer.new)) }
+{
     match room.hear(peer, heard) {
         Ok(Pulled::Bytes(_)) => None,
         Ok(Pulled::End) if heard.live().is_empty() => Some(HelperStatus::Done),
@@ -72,10 +84,11 @@ fn serve_once<P: Source + Sink>(
     peer: &mut P,
 ) -> Option<HelperStatus>
     requires { out.old.live ≡ [] }
-    ensures { (hosts : List Host) (whole : List ℕ → Transcript) (start : StreamView)
+    ensures empty { IfNone result (out.new.live ≡ []) }
+    ensures talk { (hosts : List Host) (whole : List ℕ → Transcript) (start : StreamView)
         → ArePairs pairs.now hosts → IsUnderWay hosts whole start (P.seen peer.old) heard.old.live
         → MatchOption result
-        (IsUnderWay hosts whole start (P.seen peer.new) heard.new.live × (out.new.live ≡ []))
+        (IsUnderWay hosts whole start (P.seen peer.new) heard.new.live)
         (λ status. Ends status whole start (P.seen peer.new)) }
 {
     match look(heard.live(), MAX_BODY) {

@@ -1,4 +1,4 @@
-use Rattle.std.proofs.Common.{◌∙◌, ap, sym, refl, ◌++◌, List, ℕ, Option}
+use Rattle.std.proofs.Common.{◌∙◌, ap, refl, ◌++◌, List, ℕ, Option}
 use Rattle.child_msg.specs.ChildFrames.{from_child_body}
 use Rattle.child_msg.specs.Messages.{Confirm, Signing, Verification}
 use Rattle.standin_core.specs.Answers.{answer_of, signed_with}

@@ -1,4 +1,4 @@
-use Rattle.std.proofs.Common.{◌≡◌, ◌∙◌, ap, sym, refl, ℕ, List, Option, Some, option_map, Bor, subst}
+use Rattle.std.proofs.Common.{◌∙◌, ap, refl, ℕ, List, option_map, Bor, subst}
 use Rattle.secret_buf.specs.Buffers.{Buffer}
 use Rattle.standin_core.specs.Reading.{ReadsText}
 use Rattle.standin_core.proofs.DataLemmas.{holds_no_file, holds_long, reads_by_text}

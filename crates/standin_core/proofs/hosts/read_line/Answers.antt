@@ -1,5 +1,4 @@
-use Rattle.std.proofs.Common.{◌≡◌, ◌∙◌, ap, sym, take, drop, refl, arith, length}
-use Rattle.std.specs.Result.{result_ok}
+use Rattle.std.proofs.Common.{take, drop, refl}
 use Rattle.hex.specs.Hex.{decode_sized}
 use Rattle.standin_core.proofs.HostLemmas.{decoded, not_decoded, reads_by, host_at-no_space, host_at-no_lf, host_at-no_tag}
 use Rattle.standin_core.proofs.hosts.read_line.Goals as goal

@@ -1,8 +1,8 @@
-use Rattle.std.proofs.Common.{◌≡◌, ◌∙◌, ap, sym, ◌<◌, ◌++◌, List, ℕ, [], length, arith, subst, drop}
+use Rattle.std.proofs.Common.{◌≡◌, ◌∙◌, ap, sym, ◌<◌, ◌++◌, List, ℕ, [], length, arith, subst}
 use Rattle.std.proofs.lemmas.Bool.Decides.{nat_tests}
 use Rattle.std.proofs.lemmas.List.{length-drop, nil_from_length}
 use Rattle.standin_core.specs.Reading.{IsReading}
-use Rattle.standin_core.proofs.HostLemmas.{reading-start, reading-line, reading-bad, reading-end, host_at-short}
+use Rattle.standin_core.proofs.HostLemmas.{reading-line, reading-bad, reading-end, host_at-short}
 use Rattle.standin_core.proofs.hosts.read_text.Goals as goal
 
 pub returns-then-rest-lt-LINE : goal.returns-then-rest-lt-LINE

@@ -1,4 +1,4 @@
-use Rattle.std.proofs.Common.{sym, ap, ◌∙◌, arith, option_map}
+use Rattle.std.proofs.Common.{sym, arith}
 use Rattle.standin_core.proofs.KeyLemmas.{secret_of-no_tag, secret_of-no_blob, secret_of-no_length, secret_of-other, secret_of-some}
 use Rattle.standin_core.proofs.keys.secret_in.Goals as goal
 

@@ -1,9 +1,8 @@
-use Rattle.std.proofs.Common.{◌≡◌, ℕ, List, [], ◌∷◌, ◌++◌, length, drop, take, replicate, refl, sym, ap, ◌∙◌, arith}
+use Rattle.std.proofs.Common.{◌≡◌, ℕ, List, [], ◌++◌, length, drop, take, replicate, refl, sym, ap, ◌∙◌, arith}
 use borrow.Rule.Slice.PartMut.{put_mid}
 use Rattle.std.proofs.lemmas.List.{drop_at, drop_all, take_at, append-nil, length-append, length-drop, length-take}
 use Rattle.hmac_core.specs.Hmac.{hmac}
 use Rattle.sha2.specs.Sha256.{sha256}
-use Rattle.standin_core.specs.Keys.{signature_of}
 use Rattle.standin_core.proofs.KeyLemmas.{head, headed}
 use Rattle.standin_core.proofs.keys.signature.Goals as goal
 

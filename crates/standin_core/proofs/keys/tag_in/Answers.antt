@@ -1,4 +1,4 @@
-use Rattle.std.proofs.Common.{sym, ap, ◌∙◌, arith, option_map}
+use Rattle.std.proofs.Common.{sym, arith}
 use Rattle.standin_core.proofs.KeyLemmas.{tag_of-none, tag_of-other, tag_of-some}
 use Rattle.standin_core.proofs.keys.tag_in.Goals as goal
 
