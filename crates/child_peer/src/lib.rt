@@ -4,13 +4,17 @@
 #![tactic(auto)]
 
 mod fault;
+mod frame;
+mod no_peer;
 mod output;
 mod room;
 mod scratch;
 mod words;
 
-pub use fault::HearFault;
-pub use output::flush;
+pub use fault::{HearFault, SayFault};
+pub use frame::body_of;
+pub use no_peer::NoPeer;
+pub use output::{flush, say};
 pub use room::Room;
 pub use scratch::Scratch;
 pub use words::{Words, read_words};

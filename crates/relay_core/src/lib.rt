@@ -4,11 +4,12 @@
 #![tactic(auto)]
 
 mod asking;
+mod consent;
+mod hearing;
 mod program;
 mod prompt;
 mod status;
-mod verdict;
 
+pub use consent::verdict;
 pub use program::relay_main;
 pub use status::RelayStatus;
-pub use verdict::verdict;

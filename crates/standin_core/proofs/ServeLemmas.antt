@@ -1,16 +1,17 @@
 -- Lemmas on specs/Transcript.antt: what is served of a stream, one frame after another.
-use Rattle.std.proofs.Common.{◌≡◌, ℕ, ◌+◌, ◌≤◌, ◌&&◌, Bool, List, [], ◌∷◌, ◌++◌, length, take, drop, map, Option, Some, None, is_some, if◌then◌else◌, refl, ap, sym, ◌∙◌, append_assoc, arith}
-use Rattle.std.proofs.lemmas.List.{append-nil, length-drop, take-append-le, drop-append-le}
+use Rattle.std.proofs.Common.{◌≡◌, ℕ, ◌+◌, ◌&&◌, Bool, List, [], ◌∷◌, ◌++◌, drop, map, Option, Some, None, is_some, if◌then◌else◌, refl, ap, sym, ◌∙◌, append_assoc}
+use Rattle.std.proofs.lemmas.List.{append-nil, drop-append-le}
 use Rattle.child_msg.specs.ChildFrames.{from_child_body}
 use Rattle.child_msg.specs.Messages.{FromChildMessage}
+use Rattle.child_peer.proofs.FrameLemmas.{body-append, whole_fits}
 use Rattle.standin_core.specs.Answers.{answer_of}
 use Rattle.standin_core.specs.Hosts.{Host}
 use Rattle.standin_core.specs.Transcript.{Transcript, after, answers_to, are_requests, ended, served, served_split, status_at, then_answers, torn_or_done}
 use Rattle.standin_core.specs.declared.status.HelperStatus.{HelperStatus}
 use Rattle.standin_core.specs.declared.status.HelperStatus.TheVariants.{BadFrame}
 use Rattle.wire_text.specs.Frames.{Front, Whole, Bad, More, Split, after_front, front, front_body, frames, split, then_split, unsplit}
-use Rattle.wire_text.specs.Wire.{announced_len, string}
-use Rattle.wire_text.proofs.FrontLemmas.{front_says, front-append_whole, front-append_bad}
+use Rattle.wire_text.specs.Wire.{string}
+use Rattle.wire_text.proofs.FrontLemmas.{front-append_whole, front-append_bad}
 use Rattle.wire_text.proofs.SplitLemmas.{split-whole, split-bad, split-more}
 
 -- ---- transcripts
@@ -29,35 +30,13 @@ after-ended sent status = ap (λ (s : List ℕ). transcript s) (append-nil sent)
 
 -- ---- a whole frame in front
 
--- it is there
-pub whole_fits : (bytes : List ℕ) (body_len : ℕ) → front 1048576 bytes ≡ Whole body_len → 4 + body_len ≤ length bytes
-whole_fits bytes body_len found =
-    let is = front_says 1048576 bytes (Whole body_len) found in
-    let follows : 4 + announced_len bytes ≤ length bytes = is.0.follows in
-    let same : body_len ≡ announced_len bytes = is.1 in
-    omega arith
-
--- it is small
-pub whole_small : (bytes : List ℕ) (body_len : ℕ) → front 1048576 bytes ≡ Whole body_len → body_len ≤ 1048576
-whole_small bytes body_len found =
-    let is = front_says 1048576 bytes (Whole body_len) found in
-    let within : announced_len bytes ≤ 1048576 = is.0.within in
-    let same : body_len ≡ announced_len bytes = is.1 in
-    omega arith
-
--- its body, and what stands behind it, whatever follows
-body-append : (s t : List ℕ) (body_len : ℕ) → front 1048576 s ≡ Whole body_len → front_body body_len (s ++ t) ≡ front_body body_len s
-body-append s t body_len found =
-    let fits = whole_fits s body_len found in
-    ap (take body_len) (drop-append-le 4 s t (omega arith)) ∙ take-append-le body_len (drop 4 s) t (omega (arith, length-drop 4 s))
-
 -- the stream behind the frame
 frame-split : (s t : List ℕ) (body_len : ℕ) → front 1048576 s ≡ Whole body_len
     → split 1048576 (s ++ t) ≡ then_split (front_body body_len s ∷ []) (split 1048576 (drop (4 + body_len) s ++ t))
 frame-split s t body_len found =
-    let fits = whole_fits s body_len found in
+    let fits = whole_fits 1048576 s body_len found in
     split-whole 1048576 (s ++ t) body_len (front-append_whole 1048576 s t body_len found)
-    ∙ ap (λ (b : List ℕ). then_split (b ∷ []) (split 1048576 (after_front body_len (s ++ t)))) (body-append s t body_len found)
+    ∙ ap (λ (b : List ℕ). then_split (b ∷ []) (split 1048576 (after_front body_len (s ++ t)))) (body-append 1048576 s t body_len found)
     ∙ ap (λ (r : List ℕ). then_split (front_body body_len s ∷ []) (split 1048576 r)) (drop-append-le (4 + body_len) s t fits)
 
 -- a body, and what is served of a split, by the answer to the body

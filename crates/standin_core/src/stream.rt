@@ -1,15 +1,15 @@
 // The agent's stream, one frame after another.
-ghost use Rattle.std.specs.Prelude.{◌≡◌, ◌+◌, ◌≤◌, [], List, ℕ, length, IfNone, MatchOption};
+ghost use Rattle.std.specs.Prelude.{◌≡◌, [], List, ℕ, IfNone, MatchOption};
 ghost use Rattle.standin_core.specs.Claims.{Ends};
 ghost use Rattle.standin_core.specs.Hosts.{Host, ArePairs};
 ghost use Rattle.standin_core.specs.Serving.{IsUnderWay};
 ghost use Rattle.standin_core.specs.Transcript.{Transcript};
-ghost use Rattle.wire_text.specs.Frames.{Whole, More, front, front_body};
+ghost use Rattle.wire_text.specs.Frames.{Whole, More, front};
 ghost use Rattle.world_ports.specs.Streams.{StreamView};
 
 use crate::answer::put_answer;
 use crate::status::HelperStatus;
-use child_peer::{HearFault, Room, flush};
+use child_peer::{HearFault, Room, body_of, flush};
 use frame_core::{Look, look};
 use secret_buf::ScrubBuf;
 use std::alloc::Global;
@@ -18,14 +18,6 @@ use world_ports::{Pulled, Sink, Source};
 
 /// The longest body that the agent may send (ours).
 const MAX_BODY: u32 = 1048576;
-
-// The body of the frame in front.
-fn body_of(bytes: &[u8], body_len: usize) -> &[u8]
-    requires { 4 + body_len ≤ length bytes.now }
-    ensures { result.now ≡ front_body body_len bytes.now }
-{
-    &bytes[4..4 + body_len]
-}
 
 // Answers the frame in front, whose bytes are wiped before the answer is sent.
 fn answer_front<P: Sink>(

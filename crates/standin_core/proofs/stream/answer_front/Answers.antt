@@ -6,17 +6,17 @@ use Rattle.standin_core.specs.Serving.{IsUnderWay}
 use Rattle.wire_text.specs.Frames.{front_body}
 use Rattle.standin_core.proofs.AnswerLemmas.{no_answer, some_answer}
 use Rattle.standin_core.proofs.EndLemmas.{ends_early, ends_bad_body, ends_unwritten, under_way-answered}
-use Rattle.standin_core.proofs.ServeLemmas.{whole_fits, whole_small}
+use Rattle.child_peer.proofs.FrameLemmas.{whole_fits, whole_small}
 use Rattle.standin_core.proofs.stream.answer_front.Goals as goal
 
 pub body_of-requires : goal.body_of-requires
-body_of-requires g c = omega (arith, ap length c.live.ensures, whole_fits c.args.heard.now.live c.args.body_len c.requires.found)
+body_of-requires g c = omega (arith, ap length c.live.ensures, whole_fits 1048576 c.args.heard.now.live c.args.body_len c.requires.found)
 
 pub overflow_add-body_len : goal.overflow_add-body_len
-overflow_add-body_len g c = omega (arith, whole_small c.args.heard.now.live c.args.body_len c.requires.found)
+overflow_add-body_len g c = omega (arith, whole_small 1048576 c.args.heard.now.live c.args.body_len c.requires.found)
 
 pub consume-requires : goal.consume-requires
-consume-requires g c = whole_fits c.args.heard.now.live c.args.body_len c.requires.found
+consume-requires g c = whole_fits 1048576 c.args.heard.now.live c.args.body_len c.requires.found
 
 pub returns-in_default-clause-talk : goal.returns-in_default-clause-talk
 returns-in_default-clause-talk g c = λ hosts whole start are under. ends_early hosts whole start (g.P.Stream.seen c.args.peer.now) c.args.heard.now.live under
