@@ -1,0 +1,20 @@
+//! What the programs that the agent starts have in common: the words that they are started with, and
+//! how they read from their connection to the agent and write to it (docs/PROTOCOL.md, "Messages of
+//! child processes"). Stands on child_msg and world_ports, and on hex of the kit.
+#![tactic(auto)]
+
+mod fault;
+mod frame;
+mod no_peer;
+mod output;
+mod room;
+mod scratch;
+mod words;
+
+pub use fault::{HearFault, SayFault};
+pub use frame::body_of;
+pub use no_peer::NoPeer;
+pub use output::{flush, say};
+pub use room::Room;
+pub use scratch::Scratch;
+pub use words::{Words, read_words};

@@ -1,0 +1,49 @@
+//! The relay that asks the user: `confirm_relay SOCKET JOB TICKET ASKPASS` connects to the agent, runs
+//! ASKPASS with the agent's prompt, and tells the agent what the user said. `relay_main` of relay_core is
+//! the program; here are its words, its connection, and what it says on standard error.
+#![tactic(auto)]
+
+use child_peer::NoPeer;
+use real_edge::{RealSpawner, connect};
+use relay_core::{RelayStatus, relay_main};
+use std::env;
+use std::io::{ErrorKind, Result as IoResult};
+use std::process::ExitCode;
+
+fn run(rt: &HostRuntime) -> IoResult<RelayStatus> {
+    let alloc = rt.alloc();
+    let words: Vec<String> = env::args(rt)?.skip(1).collect(alloc)?;
+    let mut spawner = RealSpawner::new(rt);
+    if let Some(path) = words.first() {
+        if let Ok(mut peer) = connect(rt, path.as_str()) {
+            return Ok(relay_main(alloc, &words, &mut spawner, &mut peer));
+        }
+    }
+    Ok(relay_main(alloc, &words, &mut spawner, &mut NoPeer::new()))
+}
+
+// What is told on standard error.
+fn trouble(status: RelayStatus) -> Option<&'static str> {
+    match status {
+        RelayStatus::Done => None,
+        RelayStatus::BadFrame => Some("the agent sent no plain request for this job"),
+        RelayStatus::Usage => Some("usage: confirm_relay SOCKET JOB TICKET ASKPASS"),
+        RelayStatus::Memory => Some("out of memory"),
+        RelayStatus::ReadFault => Some("the agent could not be read from"),
+        RelayStatus::WriteFault => Some("the agent could not be reached or written to"),
+        RelayStatus::TornEnd => Some("the agent ended before a whole request"),
+    }
+}
+
+fn main(rt: HostRuntime) -> ExitCode {
+    let status = match run(&rt) {
+        Ok(status) => status,
+        Err(error) if error.kind() == ErrorKind::OutOfMemory => RelayStatus::Memory,
+        // Words that can't be read are none of a relay's.
+        Err(_) => RelayStatus::Usage,
+    };
+    if let Some(trouble) = trouble(status) {
+        let _ = eprintln!(rt; "confirm_relay: {trouble}");
+    }
+    ExitCode::from(status.code())
+}

@@ -1,0 +1,4 @@
+pub mod AskLemmas
+pub mod PromptLemmas
+pub mod RelayLemmas
+pub mod VerdictLemmas

@@ -1,0 +1,6 @@
+pub mod Claims
+pub mod Codes
+pub mod Prompts
+pub mod Steps
+pub mod Transcript
+pub mod Verdicts

@@ -1,0 +1,41 @@
+// Waiting for the agent's request.
+ghost use Rattle.std.specs.Prelude.{◌≡◌, ◌<◌, [], length, IfNone, MatchOption};
+ghost use Rattle.relay_core.specs.Steps.{HearsFrame};
+ghost use Rattle.world_ports.specs.Streams.{OnlyReads};
+
+use crate::status::RelayStatus;
+use child_peer::{HearFault, Room};
+use frame_core::{Look, look};
+use secret_buf::ScrubBuf;
+use std::alloc::Global;
+use world_ports::{Pulled, Source};
+
+/// The longest body that the agent may send (ours).
+const MAX_BODY: u32 = 1048576;
+
+/// Reads until a whole frame stands in front, and gives the length of its body.
+pub fn hear_frame<P: Source>(
+    alloc: Global,
+    heard: &mut ScrubBuf,
+    peer: &mut P,
+) -> Result<usize, RelayStatus>
+    requires { heard.old.live ≡ [] }
+    ensures hears { HearsFrame result heard.new.live (P.seen peer.old) (P.seen peer.new) }
+    ensures only { OnlyReads (P.seen peer.old) (P.seen peer.new) }
+{
+    let Ok(mut room) = Room::new(alloc) else {
+        return Err(RelayStatus::Memory);
+    };
+    'pieces: loop {
+        match look(heard.live(), MAX_BODY) {
+            Look::Whole { body } => return Ok(body as usize),
+            Look::Bad { .. } => return Err(RelayStatus::BadFrame),
+            Look::More => match room.hear(peer, heard) {
+                Ok(Pulled::Bytes(_)) => {}
+                Ok(Pulled::End) => return Err(RelayStatus::TornEnd),
+                Err(HearFault::Failed) => return Err(RelayStatus::ReadFault),
+                Err(HearFault::Memory) => return Err(RelayStatus::Memory),
+            },
+        }
+    }
+}

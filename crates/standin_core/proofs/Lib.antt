@@ -1,0 +1,7 @@
+pub mod AnswerLemmas
+pub mod DataLemmas
+pub mod EndLemmas
+pub mod HostLemmas
+pub mod KeyLemmas
+pub mod ProgramLemmas
+pub mod ServeLemmas

@@ -1,0 +1,9 @@
+pub mod Answers
+pub mod Claims
+pub mod Codes
+pub mod Hosts
+pub mod Keys
+pub mod Reading
+pub mod Requests
+pub mod Serving
+pub mod Transcript

@@ -1,0 +1,51 @@
+//! A helper that signs with stand-in keys, for tests: `standin_helper SOCKET JOB TICKET [DATA]` connects
+//! to the agent, and answers its requests. `helper_main` of standin_core is the program; here are its
+//! words, its files, its connection, and what it says on standard error.
+#![tactic(auto)]
+
+use child_peer::NoPeer;
+use real_edge::{RealFiles, connect};
+use standin_core::{HelperStatus, helper_main};
+use std::env;
+use std::io::{ErrorKind, Result as IoResult};
+use std::process::ExitCode;
+
+fn run(rt: &HostRuntime) -> IoResult<HelperStatus> {
+    let alloc = rt.alloc();
+    let words: Vec<String> = env::args(rt)?.skip(1).collect(alloc)?;
+    let mut files = RealFiles::new(rt);
+    if let Some(path) = words.first() {
+        if let Ok(mut peer) = connect(rt, path.as_str()) {
+            return Ok(helper_main(rt, alloc, &words, &mut files, &mut peer));
+        }
+    }
+    Ok(helper_main(rt, alloc, &words, &mut files, &mut NoPeer::new()))
+}
+
+// What is told on standard error.
+fn trouble(status: HelperStatus) -> Option<&'static str> {
+    match status {
+        HelperStatus::Done => None,
+        HelperStatus::BadFrame => Some("the agent sent no request to a helper"),
+        HelperStatus::Usage => Some("usage: standin_helper SOCKET JOB TICKET [DATA]"),
+        HelperStatus::FileFault => Some("the data file could not be read"),
+        HelperStatus::BadFile => Some("the data file has a line of another form"),
+        HelperStatus::Memory => Some("out of memory"),
+        HelperStatus::ReadFault => Some("the agent could not be read from"),
+        HelperStatus::WriteFault => Some("the agent could not be reached or written to"),
+        HelperStatus::TornEnd => Some("the agent ended within a frame"),
+    }
+}
+
+fn main(rt: HostRuntime) -> ExitCode {
+    let status = match run(&rt) {
+        Ok(status) => status,
+        Err(error) if error.kind() == ErrorKind::OutOfMemory => HelperStatus::Memory,
+        // Words that can't be read are none of a helper's.
+        Err(_) => HelperStatus::Usage,
+    };
+    if let Some(trouble) = trouble(status) {
+        let _ = eprintln!(rt; "standin_helper: {trouble}");
+    }
+    ExitCode::from(status.code())
+}
