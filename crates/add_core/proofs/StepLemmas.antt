@@ -3,13 +3,17 @@ use Rattle.std.proofs.Common.{◌≡◌, ℕ, List, [], ◌++◌, Option, None, 
 use Rattle.std.proofs.KnownBytes.{Appends-nil, Appends-trans}
 use Rattle.std.proofs.lemmas.List.{append-nil}
 use Rattle.std.specs.Io.KnownBytes.{Appends}
-use Rattle.world_ports.specs.Streams.{StreamView, WritesFront, WritesPart}
+use Rattle.world_ports.specs.Streams.{StreamView, OnlyReads, WritesFront, WritesPart}
 use Rattle.add_core.specs.declared.fault.AddFault.{AddFault}
 use Rattle.add_core.specs.declared.fault.AddFault.TheVariants as why
 use Rattle.add_core.specs.declared.fault.Stop.{Stop}
 use Rattle.add_core.specs.declared.fault.Stop.TheVariants.{Fault, Memory}
 use Rattle.add_core.specs.Steps.{Step, nothing, failing, telling, followed_by, followed, IsMade, IsCut, IsStopped, Stops, IsWhole, Follows}
-use Rattle.add_core.specs.Exchanges.{judged, stepped, Tells, Judges}
+use Rattle.agent_msg.specs.ReplyReading.{reply_of}
+use Rattle.agent_msg.specs.declared.agent_reply.ReplyFault.{ReplyFault}
+use Rattle.agent_msg.specs.ReplyReading.{AgentReply}
+use Rattle.add_core.specs.Hearing.{answer_at, TakesReply}
+use Rattle.add_core.specs.Exchanges.{answered, asked, judged, reply_in, reply_at, verdict_of, stepped, Tells, Judges}
 
 -- ---- fronts
 
@@ -189,3 +193,44 @@ judges_follows (Err (Fault why.EmptyPassphrase)) verdict left p s known is = abs
 judges_follows (Err (Fault why.LongPassphrase)) verdict left p s known is = absurd is
 judges_follows (Err (Fault why.TooLong)) verdict left p s known is = absurd is
 judges_follows (Err (Fault why.NoIdentities)) verdict left p s known is = absurd is
+
+-- ---- a request
+
+-- a frame that is sent, and the reply that was read
+pub asked_whole : (frame replies body : List ℕ) (p0 p1 p2 s : StreamView) → Appends p0.written p1.written frame → OnlyReads p1 p2
+    → TakesReply replies body p2 → IsWhole (asked frame replies) p0 p2 s s
+asked_whole frame replies body p0 p1 p2 s sent only takes =
+    subst (λ (answer : Option (List ℕ × List ℕ)). IsWhole (answered frame answer) p0 p2 s s) (sym takes.answer) record {
+      goes_on = refl;
+      made = record {
+        sent = subst (λ (w : Option (List ℕ)). Appends p0.written w frame) (sym only.written) sent;
+        told = Appends-nil s.written;
+      };
+      left = takes.left;
+    }
+
+-- the reply that was read is the agent's next
+pub reply_is : (replies body : List ℕ) (now : StreamView) → TakesReply replies body now → reply_at replies ≡ reply_of body
+reply_is replies body now takes = ap reply_in takes.answer
+
+-- what is made of the reply to a frame that was sent
+pub asked_judged : {T : Type 0} (result : Result T Stop) (frame replies body : List ℕ) (p0 p1 s : StreamView)
+    → IsWhole (asked frame replies) p0 p1 s s → reply_at replies ≡ reply_of body → Judges result (verdict_of (reply_of body))
+    → Follows result (followed (asked frame replies) (judged (verdict_of (reply_at replies)))) p0 p1 s s
+asked_judged result frame replies body p0 p1 s whole is judges =
+    goes_on result (asked frame replies) (judged (verdict_of (reply_at replies))) p0 p1 p1 s s s whole
+    (judges_follows result (verdict_of (reply_at replies)) (asked frame replies).left p1 s whole.left
+    (subst (λ (r : Result AgentReply ReplyFault). Judges result (verdict_of r)) (sym is) judges))
+
+-- a text that is written
+pub told_whole : (text left : List ℕ) (p s0 s1 : StreamView) → p.left ≡ Some left → Appends s0.written s1.written text
+    → IsWhole (telling text left) p p s0 s1
+told_whole text left p s0 s1 known written = record {
+  goes_on = refl;
+  made = record { sent = Appends-nil p.written; told = written };
+  left = known;
+}
+
+-- a front of a text that is written
+pub told_cut : (text left : List ℕ) (p s0 s1 : StreamView) → WritesPart text s0 s1 → IsCut (telling text left) p p s0 s1
+told_cut text left p s0 s1 part = record { sent = no_front [] p; told = part }

@@ -1,5 +1,5 @@
 // A request and its reply.
-ghost use Rattle.std.specs.Prelude.{◌≡◌, ℕ, List, Some, IfOk};
+ghost use Rattle.std.specs.Prelude.{◌≡◌, ◌≢◌, ℕ, List, Some, Err, IfOk};
 ghost use Rattle.add_core.specs.Exchanges.{Judges, asked, reply_at, requested, verdict_of};
 ghost use Rattle.add_core.specs.Steps.{Follows, HasPeerCause, HasSinkCause};
 ghost use Rattle.agent_msg.specs.ReplyReading.{reply_of};
@@ -22,11 +22,11 @@ pub fn exchange<P: Source + Sink>(
     ensures reply { (replies : List ℕ) → (P.seen peer.old).left ≡ Some replies
         → IfOk result (λ body. reply_at replies ≡ reply_of body.items) }
     ensures cause { HasPeerCause result (P.seen peer.old) (P.seen peer.new) }
+    ensures own { result ≢ Err (Stop.Fault AddFault.OutputFault) }
 {
-    let sent = write_all(peer, frame);
-    if sent.is_err() {
+    let Ok(()) = write_all(peer, frame) else {
         return Err(Stop::Fault(AddFault::PeerFault));
-    }
+    };
     Ok(take_reply(alloc, peer)?)
 }
 

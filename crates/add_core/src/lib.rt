@@ -6,5 +6,7 @@
 mod exchange;
 mod fault;
 mod hearing;
+mod passphrase;
+mod sending;
 
 pub use fault::{AddFault, AddStatus, DestFault};
