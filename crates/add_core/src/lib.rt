@@ -1,0 +1,12 @@
+//! `ssh-add`: adds keys to an agent, removes and lists them, locks and unlocks it (ssh-add(1)), over
+//! any files, connection, input and outputs. Stands on agent_msg, key_file, known_hosts, add_words and
+//! world_ports.
+#![tactic(auto)]
+
+mod exchange;
+mod fault;
+mod hearing;
+mod passphrase;
+mod sending;
+
+pub use fault::{AddFault, AddStatus, DestFault};
