@@ -26,7 +26,9 @@ class Skip(Exception):
 
 def install(name, *packages):
     """Debian's packages, those that are missing; a `Skip` names them where they can't be had."""
-    asked = subprocess.run(["dpkg-query", "-W", "-f", "${Package} ${Status}\n", *packages], capture_output=True, text=True)
+    asked = subprocess.run(
+        ["dpkg-query", "-W", "-f", "${Package} ${Status}\n", *packages], capture_output=True, text=True
+    )
     there = {line.split()[0] for line in asked.stdout.splitlines() if line.endswith(" installed")}
     missing = [package for package in packages if package not in there]
     if not missing:
@@ -35,7 +37,9 @@ def install(name, *packages):
     if os.geteuid() != 0:
         raise Skip(f"first, as root: {' '.join(command)}")
     print(f"{name}: installing {' '.join(missing)}", flush=True)
-    quiet = dict(stdout=subprocess.DEVNULL, stderr=subprocess.DEVNULL, env=dict(os.environ, DEBIAN_FRONTEND="noninteractive"))
+    quiet = dict(
+        stdout=subprocess.DEVNULL, stderr=subprocess.DEVNULL, env=dict(os.environ, DEBIAN_FRONTEND="noninteractive")
+    )
     subprocess.run(["apt-get", "-q", "update"], **quiet)
     if subprocess.run(command, **quiet).returncode:
         raise Skip(f"apt-get couldn't install {' '.join(missing)}")
@@ -44,7 +48,9 @@ def install(name, *packages):
 def run(words, status=0, **more):
     """What a command prints on both streams; its status has to be as said, or any where that is None."""
     more.setdefault("timeout", 120)
-    done = subprocess.run([str(word) for word in words], stdout=subprocess.PIPE, stderr=subprocess.STDOUT, text=True, **more)
+    done = subprocess.run(
+        [str(word) for word in words], stdout=subprocess.PIPE, stderr=subprocess.STDOUT, text=True, **more
+    )
     assert status is None or done.returncode == status, f"{words}: status {done.returncode}: {done.stdout[-2000:]}"
     return done.stdout
 
@@ -68,8 +74,12 @@ def serves(program):
         return False
     with tempfile.TemporaryDirectory() as folder:
         path = folder + "/s"
-        agent = subprocess.Popen([program, "serve", "-a", path, "--helper", "/bin/false"],
-                                 stdin=subprocess.DEVNULL, stdout=subprocess.DEVNULL, stderr=subprocess.DEVNULL)
+        agent = subprocess.Popen(
+            [program, "serve", "-a", path, "--helper", "/bin/false"],
+            stdin=subprocess.DEVNULL,
+            stdout=subprocess.DEVNULL,
+            stderr=subprocess.DEVNULL,
+        )
         try:
             until(lambda: agent.poll() is not None or os.path.exists(path + ".children"), what="the agent")
             return agent.poll() is None
@@ -301,8 +311,14 @@ class Checks:
                 skipped += 1
             except Exception as fault:
                 frame = traceback.extract_tb(fault.__traceback__)
-                at = next((f for f in reversed(frame) if f.filename.startswith(str(TOP / ".ci")) and "rig" not in f.filename),
-                          frame[-1])
+                at = next(
+                    (
+                        f
+                        for f in reversed(frame)
+                        if f.filename.startswith(str(TOP / ".ci")) and "rig" not in f.filename
+                    ),
+                    frame[-1],
+                )
                 print(f"{self.name}: {what}: failed at line {at.lineno}: {type(fault).__name__}: {fault}", flush=True)
                 failed += 1
             finally:
