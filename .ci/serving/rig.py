@@ -98,6 +98,11 @@ def agent_program():
     return program if serves(program) else None
 
 
+def is_stand_in(program):
+    """Whether a program isn't an agent of ours, but OpenSSH's in its words."""
+    return program.name == "stand_in_agent"
+
+
 def built(name):
     """A built program, or a `Skip`."""
     if not (BUILT / name).exists():
@@ -212,6 +217,12 @@ class Peer:
             return True
 
 
+def plain_key(tag, comment=b"one"):
+    """The fields of a key of Ed25519 as they are added, and its blob: it is held, and signs nothing."""
+    kind = string(b"ssh-ed25519")
+    return kind + string(tag) + string(tag * 2), string(comment), kind + string(tag)
+
+
 def stand_in_key(tag, comment=b"one"):
     """The fields of a key that the helper for tests signs with, as they are added, and its blob."""
     kind = string(b"keyed-sha256@example.com")
@@ -261,6 +272,14 @@ def openssh_agent(folder, *words, name="openssh", **more):
     return Agent(process, path)
 
 
+def listens(path, stale):
+    """Whether somebody listens at a path: a file is enough, but for one that lay there before."""
+    if not stale:
+        return os.path.exists(path)
+    with socket.socket(socket.AF_UNIX) as peer:
+        return peer.connect_ex(path) == 0
+
+
 def our_agent(program, folder, *words, helper=None, name="ours", limits=(), **more):
     """Ours, started as its words say, with the helper that signs where it is built."""
     path = f"{folder}/{name}.sock"
@@ -268,8 +287,9 @@ def our_agent(program, folder, *words, helper=None, name="ours", limits=(), **mo
     command = [*limits, str(program), "serve", "-a", path, "--helper", str(helper), *map(str, words)]
     more.setdefault("stdin", subprocess.DEVNULL)
     more.setdefault("stdout", subprocess.DEVNULL)
+    stale = os.path.exists(path + ".children")
     process = subprocess.Popen(command, **more)
-    until(lambda: os.path.exists(path + ".children") or process.poll() is not None, what="the agent's socket")
+    until(lambda: listens(path + ".children", stale) or process.poll() is not None, what="the agent's socket")
     assert process.poll() is None, f"the agent ended with status {process.returncode}"
     return Agent(process, path)
 
