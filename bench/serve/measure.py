@@ -90,7 +90,7 @@ def tell(what, found, unit, ratio=None):
 
 def system_calls(agent, clients):
     """System calls a request, by tracepoints, which don't slow the agent."""
-    words = [PERF, "stat", "-x,", "-e", "raw_syscalls:sys_enter", "-p", str(agent.process.pid)]
+    words = [PERF, "stat", "-x,", "-e", "raw_syscalls:sys_enter", "-p", ",".join(map(str, family(agent)))]
     counter = subprocess.Popen(words, stderr=subprocess.PIPE, text=True)
     time.sleep(0.3)
     replies = load(agent, clients, [b"\xc8"], 1)
