@@ -5,7 +5,7 @@
 # make helper     builds the helper that signs, which isn't proved, or says which packages it wants
 # make install    copies what was built to $(DESTDIR)$(PREFIX), with manuals, completions and a systemd unit
 # make uninstall  removes what that copied
-# make deb        builds a Debian package of it, in ..
+# make deb        builds a Debian package of it, in bin/
 # make picture    draws the crates anew: docs/crates.svg (needs graphviz)
 
 RT ?= rt
@@ -81,8 +81,10 @@ uninstall:
 	rm -f $(UNITS)/mortarleek-agent.service
 	[ ! -d $(LIBEXEC) ] || rmdir $(LIBEXEC)
 
-deb:
-	dpkg-buildpackage -us -uc -b -d
+deb: $(INSTALLED:%=bin/%)
+	dpkg-checkbuilddeps
+	debian/rules binary
+	debian/rules clean
 
 picture:
 	scripts/crates-dot > docs/crates.dot
