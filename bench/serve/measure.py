@@ -15,7 +15,8 @@ sys.path.insert(0, str(TOP / "helper/tests"))
 
 import openssh
 import rig
-from rig import ADD, LIST, REMOVE, SIGN, Agent, children, openssh_agent, our_agent, plain_key, string, until
+from rig import ADD, ADD_LIMITED, FAILURE, LIST, LOCK, REMOVE, SIGN, SUCCESS, UNLOCK
+from rig import Agent, children, openssh_agent, our_agent, plain_key, string, until
 
 WORK, ROUNDS = pathlib.Path(sys.argv[1]), int(sys.argv[2])
 SECONDS = 0.3
@@ -99,6 +100,59 @@ def system_calls(agent, clients):
     return int(said.split(",")[0]) / replies
 
 
+def share(agent, disturb):
+    """The replies that 15 clients get while another client does something, as a part of those that they get else."""
+    counts = []
+    for during in (lambda: None, disturb):
+        (WORK / "messages").write_bytes(string(b"\xc8"))
+        words = [WORK / "load", agent.path, "15", "1.5", str(10**12), WORK / "messages"]
+        others = subprocess.Popen(words, stdout=subprocess.PIPE, text=True)
+        time.sleep(0.1)
+        during()
+        counts.append(int(others.communicate()[0]))
+    return counts[1] / counts[0]
+
+
+def tell_shares(what, found):
+    """Lines of shares, for which more is better."""
+    print(f"{what}: " + ", ".join(f"{name} {100 * value:.0f} %" for name, value in found.items()), flush=True)
+
+
+def guess(agent):
+    """Locks the agent, and tries three wrong passphrases."""
+    with agent.peer(seconds=60) as peer:
+        peer.ask(LOCK, string(b"right"))
+        for _ in range(3):
+            assert peer.ask(UNLOCK, string(b"wrong"))[0] == FAILURE
+        assert peer.ask(UNLOCK, string(b"right"))[0] == SUCCESS
+
+
+def await_confirmation(agent):
+    """Asks for a signature that the user refuses after a second."""
+    fields, comment, blob = plain_key(b"c" * 32)
+    with agent.peer(seconds=60) as peer:
+        assert peer.ask(ADD_LIMITED, fields, comment, b"\x02")[0] == SUCCESS
+        assert peer.ask(SIGN, string(blob), string(b"message"), bytes(4))[0] == FAILURE
+
+
+def others_wait(program, agents):
+    """What 15 clients get while one unlocks with wrong passphrases, and while one waits for a confirmation."""
+    found = {name: share(agent, lambda: guess(agent)) for name, agent in agents.items()}
+    tell_shares("refusals of 15 clients while one guesses the passphrase of the lock", found)
+    relay = "/bin/true" if rig.is_stand_in(program) else rig.BUILT / "confirm_relay"
+    if not os.path.exists(relay):
+        print("serve: no confirmations: bin/confirm_relay isn't built")
+        return
+    asker = rig.script(WORK / "ask", "sleep 1; exit 1")
+    variables = dict(os.environ, SSH_ASKPASS=str(asker), SSH_ASKPASS_REQUIRE="force", DISPLAY=":none")
+    words = ("--relay", relay, "--askpass", asker)
+    with our_agent(program, WORK, *words, name="asks", stderr=subprocess.DEVNULL) as ours:
+        with openssh_agent(WORK, name="theirs", env=variables, stderr=subprocess.DEVNULL) as theirs:
+            agents = {"ours": ours, "ssh-agent": theirs}
+            found = {name: share(agent, lambda: await_confirmation(agent)) for name, agent in agents.items()}
+            tell_shares("refusals of 15 clients while one waits for a confirmation", found)
+
+
 def instructions(start):
     """Instructions a request that valgrind counts: of many requests less those of few, so that the start doesn't count."""
     totals = []
@@ -147,6 +201,7 @@ def main():
         for agent in agents.values():
             with agent.peer() as peer:
                 peer.ask(19)
+        others_wait(program, agents)
         if (rig.BUILT / "mortarleek-helper").exists():
             for kind, bits, flags in (("ed25519", "256", 0), ("rsa", "2048", 4), ("ecdsa", "256", 0)):
                 key = openssh.generate(WORK, kind, bits)
