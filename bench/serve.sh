@@ -3,7 +3,8 @@
 # whatever comes: processor time for each refusal, list, signature, addition and removal, memory, system calls and
 # instructions. Rounds take turns; the median of them is printed, and the ratio to ssh-agent's in the same run. The first
 # word is the number of rounds, 7 where there is none. Needs python3, gcc and OpenSSH; perf and valgrind where they are.
-# With the environment variable AGENT another program is taken for the agent.
+# With the environment variable AGENT another program is taken for the agent; with PLOTS=bench/plots the plots there are
+# drawn anew, by gnuplot.
 set -eu
 cd "$(dirname "$0")/.."
 work=$(mktemp -d)

@@ -14,6 +14,7 @@ sys.path.insert(0, str(TOP / ".ci/serving"))
 sys.path.insert(0, str(TOP / "helper/tests"))
 
 import openssh
+import plots
 import rig
 from rig import ADD, ADD_LIMITED, FAILURE, LIST, LOCK, REMOVE, SIGN, SUCCESS, UNLOCK
 from rig import Agent, children, openssh_agent, our_agent, plain_key, string, until
@@ -83,7 +84,11 @@ def compare(what, agents, clients, messages, unit="us"):
     )
 
 
+FOUND = {}
+
+
 def tell(what, found, unit, ratio=None):
+    FOUND[what] = found
     ratio = found["ours"] / found["ssh-agent"] if ratio is None else ratio
     others = ", ".join(f"{name} {value:.4g} {unit}" for name, value in found.items())
     print(f"{what}: {others}; ours beside ssh-agent {ratio:.2f}", flush=True)
@@ -231,6 +236,8 @@ def main():
             "ssh-agent": instructions(start_theirs),
         }
         tell("instructions a refusal, 1 client", found, "")
+    if "PLOTS" in os.environ:
+        plots.draw(os.environ["PLOTS"], FOUND)
 
 
 main()
