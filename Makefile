@@ -3,7 +3,9 @@
 # make check      proves and tests everything: the gate
 # make bench      measures, beside other programs of the same machine
 # make helper     builds the helper that signs, which isn't proved, or says which packages it wants
-# make install    copies what was built to $(DESTDIR)$(PREFIX)
+# make install    copies what was built to $(DESTDIR)$(PREFIX), with manuals, completions and a systemd unit
+# make uninstall  removes what that copied
+# make deb        builds a Debian package of it, in bin/
 # make picture    draws the crates anew: docs/crates.svg (needs graphviz)
 
 RT ?= rt
@@ -12,7 +14,7 @@ PROGRAMS := $(patsubst crates/%/src/main.rt,%,$(wildcard crates/*/src/main.rt))
 INSTALLED := agent_prog
 SOURCES := crates.txt $(shell find crates -name out -prune -o \( -name '*.rt' -o -name '*.antt' \) -print)
 
-.PHONY: all proofs helper demo check bench install picture clean
+.PHONY: all proofs helper demo check bench install uninstall deb picture clean
 
 all: proofs $(PROGRAMS:%=bin/%)
 	@helper/build || true
@@ -44,13 +46,45 @@ check:
 bench: $(PROGRAMS:%=bin/%)
 	bench/run
 
+# Agent and helpers can be run and not be read: their user's other programs can't trace them then, where root installs.
+BIN := $(DESTDIR)$(PREFIX)/bin
+LIBEXEC := $(DESTDIR)$(PREFIX)/libexec/mortarleek
+SHARE := $(DESTDIR)$(PREFIX)/share
+UNITS := $(DESTDIR)$(PREFIX)/lib/systemd/user
+COMPLETIONS := $(SHARE)/bash-completion/completions $(SHARE)/zsh/site-functions $(SHARE)/fish/vendor_completions.d
+HELPERS := mortarleek-helper standin_helper confirm_relay add_tool
+SCRIPTS := mortarleek-agent mortarleek-add
+
 install: $(INSTALLED:%=bin/%)
-	install -d $(DESTDIR)$(PREFIX)/bin
-	install -m 755 $(INSTALLED:%=bin/%) $(DESTDIR)$(PREFIX)/bin
-	if [ -x bin/mortarleek-helper ]; then \
-	    install -d $(DESTDIR)$(PREFIX)/libexec && \
-	    install -m 711 bin/mortarleek-helper $(DESTDIR)$(PREFIX)/libexec; \
-	fi
+	install -d $(BIN) $(LIBEXEC) $(SHARE)/man/man1 $(SHARE)/man/man8 $(COMPLETIONS) $(UNITS)
+	$(if $(INSTALLED),install -m 711 $(INSTALLED:%=bin/%) $(BIN))
+	install -m 755 $(SCRIPTS:%=scripts/%) $(BIN)
+	for name in $(HELPERS); do \
+	    if [ -x bin/$$name ]; then install -m 711 bin/$$name $(LIBEXEC) || exit 1; fi; \
+	done
+	install -m 644 man/*.1 $(SHARE)/man/man1
+	install -m 644 man/*.8 $(SHARE)/man/man8
+	for name in $(SCRIPTS); do \
+	    install -m 644 contrib/completions/mortarleek.bash $(SHARE)/bash-completion/completions/$$name && \
+	    install -m 644 contrib/completions/mortarleek.fish $(SHARE)/fish/vendor_completions.d/$$name.fish || exit 1; \
+	done
+	install -m 644 contrib/completions/_mortarleek $(SHARE)/zsh/site-functions
+	sed 's,/usr/local/bin,$(PREFIX)/bin,' contrib/systemd/mortarleek-agent.service > $(UNITS)/mortarleek-agent.service
+	chmod 644 $(UNITS)/mortarleek-agent.service
+
+uninstall:
+	rm -f $(INSTALLED:%=$(BIN)/%) $(SCRIPTS:%=$(BIN)/%) $(HELPERS:%=$(LIBEXEC)/%)
+	rm -f $(patsubst man/%,$(SHARE)/man/man1/%,$(wildcard man/*.1))
+	rm -f $(patsubst man/%,$(SHARE)/man/man8/%,$(wildcard man/*.8))
+	rm -f $(SCRIPTS:%=$(SHARE)/bash-completion/completions/%)
+	rm -f $(SCRIPTS:%=$(SHARE)/fish/vendor_completions.d/%.fish) $(SHARE)/zsh/site-functions/_mortarleek
+	rm -f $(UNITS)/mortarleek-agent.service
+	[ ! -d $(LIBEXEC) ] || rmdir $(LIBEXEC)
+
+deb: $(INSTALLED:%=bin/%)
+	dpkg-checkbuilddeps
+	debian/rules binary
+	debian/rules clean
 
 picture:
 	scripts/crates-dot > docs/crates.dot

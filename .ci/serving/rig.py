@@ -1,0 +1,348 @@
+"""What the checks of the serving agent share: counting, packages, agents, and clients that speak for themselves."""
+
+import contextlib
+import os
+import pathlib
+import shutil
+import signal
+import socket
+import struct
+import subprocess
+import sys
+import tempfile
+import time
+import traceback
+
+TOP = pathlib.Path(__file__).resolve().parents[2]
+BUILT = TOP / "bin"
+STAND_INS = pathlib.Path(__file__).resolve().parent
+FAILURE, SUCCESS, IDENTITIES, SIGNATURE = 5, 6, 12, 14
+LIST, SIGN, ADD, REMOVE, REMOVE_ALL, LOCK, UNLOCK, ADD_LIMITED, EXTENSION = 11, 13, 17, 18, 19, 22, 23, 25, 27
+
+
+class Skip(Exception):
+    """The check can't be made here, for the reason that it carries."""
+
+
+def install(name, *packages):
+    """Debian's packages, those that are missing; a `Skip` names them where they can't be had."""
+    asked = subprocess.run(
+        ["dpkg-query", "-W", "-f", "${Package} ${Status}\n", *packages], capture_output=True, text=True
+    )
+    there = {line.split()[0] for line in asked.stdout.splitlines() if line.endswith(" installed")}
+    missing = [package for package in packages if package not in there]
+    if not missing:
+        return
+    command = ["apt-get", "-qy", "install", "--no-install-recommends", *missing]
+    if os.geteuid() != 0:
+        raise Skip(f"first, as root: {' '.join(command)}")
+    print(f"{name}: installing {' '.join(missing)}", flush=True)
+    quiet = dict(
+        stdout=subprocess.DEVNULL, stderr=subprocess.DEVNULL, env=dict(os.environ, DEBIAN_FRONTEND="noninteractive")
+    )
+    subprocess.run(["apt-get", "-q", "update"], **quiet)
+    if subprocess.run(command, **quiet).returncode:
+        raise Skip(f"apt-get couldn't install {' '.join(missing)}")
+
+
+def run(words, status=0, **more):
+    """What a command prints on both streams; its status has to be as said, or any where that is None."""
+    more.setdefault("timeout", 120)
+    done = subprocess.run(
+        [str(word) for word in words], stdout=subprocess.PIPE, stderr=subprocess.STDOUT, text=True, **more
+    )
+    assert status is None or done.returncode == status, f"{words}: status {done.returncode}: {done.stdout[-2000:]}"
+    return done.stdout
+
+
+def until(condition, seconds=10, what="it"):
+    """Waits for a condition to hold, and answers what it answered."""
+    end = time.monotonic() + seconds
+    while True:
+        if found := condition():
+            return found
+        assert time.monotonic() < end, f"{what} didn't come in {seconds} s"
+        time.sleep(0.01)
+
+
+# Programs.
+
+
+def serves(program):
+    """Whether a built agent_prog knows `serve`: without a helper's word it refuses, and with one it binds."""
+    if not program.exists():
+        return False
+    with tempfile.TemporaryDirectory() as folder:
+        path = folder + "/s"
+        agent = subprocess.Popen(
+            [program, "serve", "-a", path, "--helper", "/bin/false"],
+            stdin=subprocess.DEVNULL,
+            stdout=subprocess.DEVNULL,
+            stderr=subprocess.DEVNULL,
+        )
+        try:
+            until(lambda: agent.poll() is not None or os.path.exists(path + ".children"), what="the agent")
+            return agent.poll() is None
+        except AssertionError:
+            return False
+        finally:
+            agent.kill()
+            agent.wait()
+
+
+def agent_program():
+    """The built agent where it serves, or where AGENT names another, that one; else None."""
+    if "AGENT" in os.environ:
+        return pathlib.Path(os.environ["AGENT"])
+    program = BUILT / "agent_prog"
+    return program if serves(program) else None
+
+
+def is_stand_in(program):
+    """Whether a program isn't an agent of ours, but OpenSSH's in its words."""
+    return program.name == "stand_in_agent"
+
+
+def built(name):
+    """A built program, or a `Skip`."""
+    if not (BUILT / name).exists():
+        raise Skip(f"bin/{name} isn't built")
+    return BUILT / name
+
+
+# Processes.
+
+
+def children(pid):
+    """The numbers of the processes that a process started and that have not ended."""
+    found = []
+    for stat in pathlib.Path("/proc").glob("[0-9]*/stat"):
+        with contextlib.suppress(OSError):
+            fields = stat.read_text().rpartition(")")[2].split()
+            if int(fields[1]) == pid and fields[0] != "Z":
+                found.append(int(stat.parent.name))
+    return found
+
+
+def zombies(pid):
+    """How many of the processes that a process started ended without being waited for."""
+    found = 0
+    for stat in pathlib.Path("/proc").glob("[0-9]*/stat"):
+        with contextlib.suppress(OSError):
+            fields = stat.read_text().rpartition(")")[2].split()
+            found += int(fields[1]) == pid and fields[0] == "Z"
+    return found
+
+
+def is_alive(pid):
+    with contextlib.suppress(OSError):
+        return pathlib.Path(f"/proc/{pid}/stat").read_text().rpartition(")")[2].split()[0] != "Z"
+    return False
+
+
+def spent(pid):
+    """Processor seconds that a process has used."""
+    fields = pathlib.Path(f"/proc/{pid}/stat").read_text().rpartition(")")[2].split()
+    return (int(fields[11]) + int(fields[12])) / os.sysconf("SC_CLK_TCK")
+
+
+# The agent's protocol.
+
+
+def string(content):
+    return struct.pack(">I", len(content)) + content
+
+
+def strings(content):
+    found = []
+    while content:
+        (length,) = struct.unpack_from(">I", content)
+        found.append(content[4 : 4 + length])
+        content = content[4 + length :]
+    return found
+
+
+class Ended(Exception):
+    """The agent closed the connection where a reply was due."""
+
+
+class Peer:
+    """A client of an agent."""
+
+    def __init__(self, path, seconds=20):
+        self.socket = socket.socket(socket.AF_UNIX)
+        self.socket.settimeout(seconds)
+        self.socket.connect(str(path))
+        self.heard = b""
+
+    def __enter__(self):
+        return self
+
+    def __exit__(self, *_):
+        self.socket.close()
+
+    def close(self):
+        self.socket.close()
+
+    def send(self, *bodies):
+        self.socket.sendall(b"".join(map(string, bodies)))
+
+    def reply(self):
+        """The body of the next reply."""
+        while len(self.heard) < 4 or len(self.heard) < 4 + int.from_bytes(self.heard[:4], "big"):
+            more = self.socket.recv(1 << 16)
+            if not more:
+                raise Ended()
+            self.heard += more
+        end = 4 + int.from_bytes(self.heard[:4], "big")
+        body, self.heard = self.heard[4:end], self.heard[end:]
+        return body
+
+    def ask(self, number, *content):
+        self.send(bytes([number]) + b"".join(content))
+        return self.reply()
+
+    def blobs(self):
+        """The keys that the agent lists, each with its comment."""
+        body = self.ask(LIST)
+        assert body[0] == IDENTITIES, body[:1]
+        found = strings(body[5:])
+        return list(zip(found[::2], found[1::2]))
+
+    def has_ended(self):
+        """Whether the agent closed the connection."""
+        try:
+            return self.socket.recv(1) == b""
+        except ConnectionResetError:
+            return True
+
+
+def plain_key(tag, comment=b"one"):
+    """The fields of a key of Ed25519 as they are added, and its blob: it is held, and signs nothing."""
+    kind = string(b"ssh-ed25519")
+    return kind + string(tag) + string(tag * 2), string(comment), kind + string(tag)
+
+
+def stand_in_key(tag, comment=b"one"):
+    """The fields of a key that the helper for tests signs with, as they are added, and its blob."""
+    kind = string(b"keyed-sha256@example.com")
+    return kind + string(tag) + string(bytes(range(32))), string(comment), kind + string(tag)
+
+
+# Agents.
+
+
+class Agent:
+    """An agent that runs: its socket, and its process."""
+
+    def __init__(self, process, path):
+        self.process, self.path = process, str(path)
+        self.environment = dict(os.environ, SSH_AUTH_SOCK=self.path)
+
+    def __enter__(self):
+        return self
+
+    def __exit__(self, *_):
+        self.end()
+
+    def end(self):
+        if self.process.poll() is None:
+            # A stopped process hears of its end only once it goes on.
+            self.process.terminate()
+            self.process.send_signal(signal.SIGCONT)
+        try:
+            return self.process.wait(10)
+        except subprocess.TimeoutExpired:
+            self.process.kill()
+            return self.process.wait()
+
+    def peer(self, **more):
+        return Peer(self.path, **more)
+
+    def run(self, *words, status=0, **more):
+        more["env"] = dict(self.environment, **more.pop("env", {}))
+        return run(words, status, **more)
+
+
+def openssh_agent(folder, *words, name="openssh", **more):
+    """OpenSSH's own."""
+    path = f"{folder}/{name}.sock"
+    process = subprocess.Popen(["ssh-agent", "-D", "-a", path, *words], stdout=subprocess.DEVNULL, **more)
+    until(lambda: os.path.exists(path), what="ssh-agent's socket")
+    return Agent(process, path)
+
+
+def listens(path, stale):
+    """Whether somebody listens at a path: a file is enough, but for one that lay there before."""
+    if not stale:
+        return os.path.exists(path)
+    with socket.socket(socket.AF_UNIX) as peer:
+        return peer.connect_ex(path) == 0
+
+
+def our_agent(program, folder, *words, helper=None, name="ours", limits=(), **more):
+    """Ours, started as its words say, with the helper that signs where it is built."""
+    path = f"{folder}/{name}.sock"
+    helper = helper or BUILT / "mortarleek-helper"
+    command = [*limits, str(program), "serve", "-a", path, "--helper", str(helper), *map(str, words)]
+    more.setdefault("stdin", subprocess.DEVNULL)
+    more.setdefault("stdout", subprocess.DEVNULL)
+    stale = os.path.exists(path + ".children")
+    process = subprocess.Popen(command, **more)
+    until(lambda: listens(path + ".children", stale) or process.poll() is not None, what="the agent's socket")
+    assert process.poll() is None, f"the agent ended with status {process.returncode}"
+    return Agent(process, path)
+
+
+def script(path, text):
+    """A shell script that can be run."""
+    path = pathlib.Path(path)
+    path.write_text(f"#!/bin/sh\n{text}\n")
+    path.chmod(0o700)
+    return path
+
+
+# Counting.
+
+
+class Checks:
+    """A list of checks, of which each is a function of a folder of its own."""
+
+    def __init__(self, name):
+        self.name, self.cases = name, []
+
+    def __call__(self, case):
+        self.cases.append(case)
+        return case
+
+    def run(self, words):
+        """Runs all checks, or those of which a word is a part of the name. The process ends with 1 where one failed."""
+        passed = failed = skipped = 0
+        for case in self.cases:
+            what = case.__name__.replace("_", " ")
+            if words and not any(word.replace("_", " ") in what for word in words):
+                continue
+            folder = tempfile.mkdtemp(prefix="mk-")
+            try:
+                case(pathlib.Path(folder))
+                passed += 1
+            except Skip as reason:
+                print(f"{self.name}: {what}: skipped: {reason}", flush=True)
+                skipped += 1
+            except Exception as fault:
+                frame = traceback.extract_tb(fault.__traceback__)
+                at = next(
+                    (
+                        f
+                        for f in reversed(frame)
+                        if f.filename.startswith(str(TOP / ".ci")) and "rig" not in f.filename
+                    ),
+                    frame[-1],
+                )
+                print(f"{self.name}: {what}: failed at line {at.lineno}: {type(fault).__name__}: {fault}", flush=True)
+                failed += 1
+            finally:
+                shutil.rmtree(folder, ignore_errors=True)
+        tail = f", {skipped} skipped" if skipped else ""
+        print(f"{self.name}: {passed} passed, {failed} failed{tail}")
+        sys.exit(failed != 0)

@@ -1,0 +1,243 @@
+"""The measurements of bench/serve.sh: a line each. The words are a folder with `load` and `null`, and a number of rounds."""
+
+import os
+import pathlib
+import re
+import shutil
+import statistics
+import subprocess
+import sys
+import time
+
+TOP = pathlib.Path(__file__).resolve().parents[2]
+sys.path.insert(0, str(TOP / ".ci/serving"))
+sys.path.insert(0, str(TOP / "helper/tests"))
+
+import openssh
+import plots
+import rig
+from rig import ADD, ADD_LIMITED, FAILURE, LIST, LOCK, REMOVE, SIGN, SUCCESS, UNLOCK
+from rig import Agent, children, openssh_agent, our_agent, plain_key, string, until
+
+WORK, ROUNDS = pathlib.Path(sys.argv[1]), int(sys.argv[2])
+SECONDS = 0.3
+PERF, VALGRIND = shutil.which("perf"), shutil.which("valgrind")
+
+
+def spent(pid):
+    """Processor nanoseconds of a process, of all its threads."""
+    tasks = pathlib.Path(f"/proc/{pid}/task").glob("*/schedstat")
+    return sum(int(task.read_text().split()[0]) for task in tasks)
+
+
+def family(agent):
+    """The agent and the processes that it started."""
+    return [agent.process.pid, *children(agent.process.pid)]
+
+
+def load(agent, clients, messages, seconds=SECONDS, count=10**12):
+    """How many replies came to the messages."""
+    (WORK / "messages").write_bytes(b"".join(map(string, messages)))
+    words = [WORK / "load", agent.path, str(clients), str(seconds), str(count), WORK / "messages"]
+    return int(subprocess.run(words, check=True, stdout=subprocess.PIPE, text=True).stdout)
+
+
+def cost(agent, clients, messages):
+    """Processor microseconds a reply."""
+    pids = family(agent)
+    before = sum(map(spent, pids))
+    replies = load(agent, clients, messages)
+    return (sum(map(spent, pids)) - before) / replies / 1000
+
+
+def null_agent():
+    path = WORK / "null.sock"
+    process = subprocess.Popen([WORK / "null", path])
+    until(path.exists, what="the null agent")
+    return Agent(process, path)
+
+
+def fill(agent, count):
+    """Adds so many keys."""
+    with agent.peer() as peer:
+        for number in range(count):
+            fields, comment, _ = plain_key(number.to_bytes(2, "big") * 16, b"key %d" % number)
+            assert peer.ask(ADD, fields, comment)[0] == 6
+
+
+def memory(agent):
+    """Resident kB."""
+    return int(re.search(r"VmRSS:\s+(\d+)", pathlib.Path(f"/proc/{agent.process.pid}/status").read_text())[1])
+
+
+def compare(what, agents, clients, messages, unit="us"):
+    """Measures agents in turn, and prints the median of each and of the ratios to OpenSSH's."""
+    seen = {name: [] for name in agents}
+    for _ in range(ROUNDS):
+        for name, agent in agents.items():
+            seen[name].append(cost(agent, clients, messages))
+    tell(
+        what,
+        {name: statistics.median(found) for name, found in seen.items()},
+        unit,
+        statistics.median(ours / theirs for ours, theirs in zip(seen["ours"], seen["ssh-agent"])),
+    )
+
+
+FOUND = {}
+
+
+def tell(what, found, unit, ratio=None):
+    FOUND[what] = found
+    ratio = found["ours"] / found["ssh-agent"] if ratio is None else ratio
+    others = ", ".join(f"{name} {value:.4g} {unit}" for name, value in found.items())
+    print(f"{what}: {others}; ours beside ssh-agent {ratio:.2f}", flush=True)
+
+
+def system_calls(agent, clients):
+    """System calls a request, by tracepoints, which don't slow the agent."""
+    words = [PERF, "stat", "-x,", "-e", "raw_syscalls:sys_enter", "-p", ",".join(map(str, family(agent)))]
+    counter = subprocess.Popen(words, stderr=subprocess.PIPE, text=True)
+    time.sleep(0.3)
+    replies = load(agent, clients, [b"\xc8"], 1)
+    counter.send_signal(2)
+    said = counter.communicate()[1]
+    return int(said.split(",")[0]) / replies
+
+
+def share(agent, disturb):
+    """The replies that 15 clients get while another client does something, as a part of those that they get else."""
+    counts = []
+    for during in (lambda: None, disturb):
+        (WORK / "messages").write_bytes(string(b"\xc8"))
+        words = [WORK / "load", agent.path, "15", "1.5", str(10**12), WORK / "messages"]
+        others = subprocess.Popen(words, stdout=subprocess.PIPE, text=True)
+        time.sleep(0.1)
+        during()
+        counts.append(int(others.communicate()[0]))
+    return counts[1] / counts[0]
+
+
+def tell_shares(what, found):
+    """Lines of shares, for which more is better."""
+    print(f"{what}: " + ", ".join(f"{name} {100 * value:.0f} %" for name, value in found.items()), flush=True)
+
+
+def guess(agent):
+    """Locks the agent, and tries three wrong passphrases."""
+    with agent.peer(seconds=60) as peer:
+        peer.ask(LOCK, string(b"right"))
+        for _ in range(3):
+            assert peer.ask(UNLOCK, string(b"wrong"))[0] == FAILURE
+        assert peer.ask(UNLOCK, string(b"right"))[0] == SUCCESS
+
+
+def await_confirmation(agent):
+    """Asks for a signature that the user refuses after a second."""
+    fields, comment, blob = plain_key(b"c" * 32)
+    with agent.peer(seconds=60) as peer:
+        assert peer.ask(ADD_LIMITED, fields, comment, b"\x02")[0] == SUCCESS
+        assert peer.ask(SIGN, string(blob), string(b"message"), bytes(4))[0] == FAILURE
+
+
+def others_wait(program, agents):
+    """What 15 clients get while one unlocks with wrong passphrases, and while one waits for a confirmation."""
+    found = {name: share(agent, lambda: guess(agent)) for name, agent in agents.items()}
+    tell_shares("refusals of 15 clients while one guesses the passphrase of the lock", found)
+    relay = "/bin/true" if rig.is_stand_in(program) else rig.BUILT / "confirm_relay"
+    if not os.path.exists(relay):
+        print("serve: no confirmations: bin/confirm_relay isn't built")
+        return
+    asker = rig.script(WORK / "ask", "sleep 1; exit 1")
+    variables = dict(os.environ, SSH_ASKPASS=str(asker), SSH_ASKPASS_REQUIRE="force", DISPLAY=":none")
+    words = ("--relay", relay, "--askpass", asker)
+    with our_agent(program, WORK, *words, name="asks", stderr=subprocess.DEVNULL) as ours:
+        with openssh_agent(WORK, name="theirs", env=variables, stderr=subprocess.DEVNULL) as theirs:
+            agents = {"ours": ours, "ssh-agent": theirs}
+            found = {name: share(agent, lambda: await_confirmation(agent)) for name, agent in agents.items()}
+            tell_shares("refusals of 15 clients while one waits for a confirmation", found)
+
+
+def instructions(start):
+    """Instructions a request that valgrind counts: of many requests less those of few, so that the start doesn't count."""
+    totals = []
+    for count in (1000, 11000):
+        out = WORK / "callgrind"
+        agent = start([VALGRIND, "--tool=callgrind", f"--callgrind-out-file={out}"])
+        load(agent, 1, [b"\xc8"], 120, count)
+        agent.process.terminate()
+        agent.process.wait()
+        if os.path.exists(agent.path):
+            os.unlink(agent.path)
+        totals.append(int(re.search(r"(?m)^(?:summary|totals): (\d+)", out.read_text())[1]))
+    return (totals[1] - totals[0]) / 10000
+
+
+def main():
+    program = rig.agent_program()
+    if program is None:
+        print("serve: skipped: agent_prog doesn't serve yet")
+        return
+    quiet = dict(stderr=subprocess.DEVNULL)
+    ours, theirs = our_agent(program, WORK, **quiet), openssh_agent(WORK, **quiet)
+    agents = {"ours": ours, "ssh-agent": theirs}
+    with ours, theirs, null_agent() as null:
+        for clients in (1, 16, 100):
+            compare(f"a refusal, {clients} clients", dict(agents, null=null), clients, [b"\xc8"])
+        if PERF:
+            for clients in (1, 16, 100):
+                found = {name: system_calls(agent, clients) for name, agent in dict(agents, null=null).items()}
+                tell(f"system calls a refusal, {clients} clients", found, "calls")
+        tell("memory with no keys", {name: memory(agent) for name, agent in agents.items()}, "kB")
+        fields, comment, blob = plain_key(b"\xff" * 32)
+        pair = [bytes([ADD]) + fields + comment, bytes([REMOVE]) + string(blob)]
+        compare("an addition or a removal, no keys", agents, 1, pair)
+        held = 0
+        for count in (1, 100, 1000):
+            for agent in agents.values():
+                with agent.peer() as peer:
+                    for number in range(held, count):
+                        fields, comment, _ = plain_key(number.to_bytes(2, "big") * 16, b"key %d" % number)
+                        assert peer.ask(ADD, fields, comment)[0] == 6
+            held = count
+            compare(f"a list of {count} keys", agents, 1, [bytes([LIST])])
+        compare("an addition or a removal, 1000 keys", agents, 1, pair)
+        tell("memory with 1000 keys", {name: memory(agent) for name, agent in agents.items()}, "kB")
+        for agent in agents.values():
+            with agent.peer() as peer:
+                peer.ask(19)
+        others_wait(program, agents)
+        if (rig.BUILT / "mortarleek-helper").exists():
+            for kind, bits, flags in (("ed25519", "256", 0), ("rsa", "2048", 4), ("ecdsa", "256", 0)):
+                key = openssh.generate(WORK, kind, bits)
+                request = bytes([SIGN]) + string(key.blob) + string(bytes(200)) + flags.to_bytes(4, "big")
+                for agent in agents.values():
+                    with agent.peer() as peer:
+                        assert peer.ask(ADD, key.private, string(b""))[0] == 6
+                        assert peer.ask(SIGN, request[1:])[0] == 14
+                for clients in (1, 16):
+                    compare(f"a signature of {kind} {bits}, {clients} clients", agents, clients, [request])
+        else:
+            print("serve: no signatures: bin/mortarleek-helper isn't built")
+    if VALGRIND and not rig.is_stand_in(program):
+        # valgrind runs no program with its group's rights
+        shutil.copy(shutil.which("ssh-agent"), WORK / "ssh-agent")
+
+        def start_theirs(before):
+            path = WORK / "t.sock"
+            process = subprocess.Popen(
+                [*before, WORK / "ssh-agent", "-D", "-a", path], stdout=subprocess.DEVNULL, **quiet
+            )
+            until(path.exists, 60, "ssh-agent under valgrind")
+            return Agent(process, path)
+
+        found = {
+            "ours": instructions(lambda before: our_agent(program, WORK, name="v", limits=before, **quiet)),
+            "ssh-agent": instructions(start_theirs),
+        }
+        tell("instructions a refusal, 1 client", found, "")
+    if "PLOTS" in os.environ:
+        plots.draw(os.environ["PLOTS"], FOUND)
+
+
+main()
