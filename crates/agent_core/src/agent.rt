@@ -140,6 +140,13 @@ impl Agent {
         self.parts.keys.next_death()
     }
 
+    /// The greatest second of the monotonic clock so far, 0 before the first event.
+    pub fn second(&self) -> u64
+        ensures { result ≡ self.now.moment.mono }
+    {
+        self.parts.keys.second()
+    }
+
     /// How many identities are held. Each has its own blob and its own number, one message lists them all, and no
     /// private string is longer than a message.
     pub fn held(&self) -> usize

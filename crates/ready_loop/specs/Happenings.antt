@@ -1,18 +1,6 @@
--- The events of the loop as those of the abstract agent.
+-- What an event does to the numbers of ports (ours).
 use Rattle.std.specs.Prelude.{ℕ, suc}
-use Rattle.ready_loop.specs.declared.event.Event.{Event}
-use Rattle.ready_loop.specs.declared.event.Event.TheVariants as event
 use Rattle.agent_model.specs.Events.{Happening, Joined, Heard, Ended, Took, Started, StartFailed, Tick}
-
--- an event, its bytes as a list
-abbrev pub happening : Event → Happening
-happening (event.Joined door) = Joined door
-happening (event.Heard port piece) = Heard port piece.now
-happening (event.Ended port) = Ended port
-happening (event.Took port count) = Took port count
-happening (event.Started job ticket) = Started job ticket
-happening (event.StartFailed job) = StartFailed job
-happening event.Tick = Tick
 
 -- the number of the last port after an event, by that before it: one more where a port joined
 abbrev pub number_after : Happening → ℕ → ℕ

@@ -2,9 +2,9 @@
 ghost use Rattle.std.specs.Prelude.{◌≡◌, OnOk};
 ghost use Rattle.agent_model.specs.State.{Fits, State, client_count, is_open, next_due, owed_of, starts, wants};
 ghost use Rattle.agent_model.specs.Step.{step};
-ghost use Rattle.ready_loop.specs.Happenings.{happening};
+ghost use Rattle.agent_core.specs.Happenings.{happening};
 
-use crate::{CoreMemory, Event};
+use agent_core::{Agent, CoreMemory, Event};
 use world_ports::{Job, Moment};
 
 /// An agent that is told one event at a time, and tells what it owes to whom. The loop is proved over any such
@@ -54,4 +54,48 @@ pub trait Core {
     /// The number of the last port that joined, 0 where none did.
     fn ports_so_far(&self) -> u64
         ensures { result ≡ (state self.now).last_port };
+}
+
+impl Core for Agent {
+    ghost state = { λ agent. agent };
+
+    fn step(&mut self, moment: Moment, event: &Event<'_>) -> Result<(), CoreMemory> {
+        Agent::step(self, moment, event)
+    }
+
+    fn owed(&self, port: u64) -> &[u8] {
+        Agent::owed(self, port)
+    }
+
+    fn wants(&self, port: u64) -> bool {
+        Agent::wants(self, port)
+    }
+
+    fn is_port(&self, port: u64) -> bool {
+        Agent::is_port(self, port)
+    }
+
+    fn starts(&self) -> &[Job] {
+        Agent::starts(self)
+    }
+
+    fn closes(&self) -> &[u64] {
+        Agent::closes(self)
+    }
+
+    fn next_due(&self) -> Option<u64> {
+        Agent::next_due(self)
+    }
+
+    fn second(&self) -> u64 {
+        Agent::second(self)
+    }
+
+    fn clients(&self) -> usize {
+        Agent::clients(self)
+    }
+
+    fn ports_so_far(&self) -> u64 {
+        Agent::ports_so_far(self)
+    }
 }

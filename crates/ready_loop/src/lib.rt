@@ -3,7 +3,6 @@
 #![tactic(auto)]
 
 mod core;
-mod event;
 mod hub;
 mod laws;
 mod listeners;
@@ -16,7 +15,6 @@ mod things;
 mod turn;
 
 pub use core::Core;
-pub use event::{CoreMemory, Event};
 pub use hub::Hub;
 pub use laws::{all_wait_their_turn, what_comes_in_turn_is_legal};
 pub use outcome::{HubFault, ServeEnd, Turn};

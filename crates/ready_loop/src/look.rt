@@ -9,7 +9,8 @@ ghost use Rattle.world_ports.specs.Causes.{Rose};
 
 use crate::queue::Queue;
 use crate::turn::close_all;
-use crate::{Core, Event, HubFault, Turn};
+use crate::{Core, HubFault, Turn};
+use agent_core::Event;
 use world_ports::{Polled, Ready, World, WorldFault};
 
 // Whether nothing can be served, and no job waits.

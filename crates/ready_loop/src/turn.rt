@@ -5,14 +5,16 @@ ghost use Rattle.agent_model.specs.State.{Fits, starts};
 ghost use Rattle.ready_hub.specs.Answered.{Free, NowFor, due_of};
 ghost use Rattle.ready_hub.specs.LegalJournal.{is_first_job, read_room};
 ghost use Rattle.ready_hub.specs.declared.thing.Thing.TheVariants.{Accept, Read, Write};
-ghost use Rattle.ready_loop.specs.Happenings.{happening, number_after};
+ghost use Rattle.agent_core.specs.Happenings.{happening};
+ghost use Rattle.ready_loop.specs.Happenings.{number_after};
 ghost use Rattle.ready_loop.specs.InTurn.{in_state};
 ghost use Rattle.ready_loop.specs.Moves.{Goes, Serves};
 ghost use Rattle.ready_loop.specs.Queues.{dropped, first_servable, put_back};
 ghost use Rattle.ready_loop.specs.Rooms.{IsWiped};
 
 use crate::queue::Queue;
-use crate::{Core, CoreMemory, Event};
+use crate::Core;
+use agent_core::{CoreMemory, Event};
 use ready_hub::Thing;
 use world_ports::{Accepted, Door, Got, Job, World, WorldFault, Wrote};
 

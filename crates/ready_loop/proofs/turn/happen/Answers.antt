@@ -6,7 +6,7 @@ use Rattle.world_ports.specs.declared.entry.Entry.TheVariants as entry
 use Rattle.ready_hub.specs.Answered as hub
 use Rattle.ready_hub.specs.Answered.{NowFor}
 use Rattle.ready_hub.specs.Things.{set_of}
-use Rattle.ready_loop.specs.Happenings.{happening}
+use Rattle.agent_core.specs.Happenings.{happening}
 use Rattle.ready_loop.specs.InTurn.{in_state}
 use Rattle.ready_loop.proofs.CallLemmas.{left, now-any, now-taken}
 use Rattle.ready_loop.proofs.TurningLemmas.{goes_then, one_call, stops_short, stops_there}
