@@ -5,7 +5,7 @@
 set -eu
 cd "$(dirname "$0")/.."
 agent=$PWD/bin/agent_prog
-shapes=${*:-cut long many keys aged}
+shapes=${*:-cut long many keys aged signs}
 [ -x "$agent" ] || { echo "bench: run make first" >&2; exit 1; }
 work=$(mktemp -d)
 trap 'rm -rf "$work"' EXIT
@@ -93,6 +93,23 @@ with open(f"{folder}/keys", "w") as out:
 # the same with a moment before each draw, and lifetimes of up to 50,000 seconds
 with open(f"{folder}/aged", "w") as out:
     keys(out, True)
+
+# 16 clients that sign without pause over one helper, which answers once each of them has asked
+with open(f"{folder}/signs", "w") as out:
+    helper, token = 17, bytes(16)
+    for _ in range(16):
+        out.write("join client\n")
+    out.write(f"hear 1 {string(add + addition(1, 0)).hex()}\n")
+    request = string(b"\x0d" + string(kind + tag(1)) + string(bytes(32)) + bytes(4)).hex()
+    for turn in range(5_000):
+        for client in range(1, 17):
+            out.write(f"hear {client} {request}\n")
+        if turn == 0:
+            hello = string(struct.pack(">BQ", 1, 1) + string(token)).hex()
+            out.write(f"started 1 {token.hex()}\njoin child\nhear {helper} {hello}\n")
+        for client in range(1, 17):
+            signed = struct.pack(">BQ", 101, 16 * turn + client) + string(bytes(64))
+            out.write(f"hear {helper} {string(signed).hex()}\n")
 PYTHON
 
 # The least of three times of a command that reads the file, in seconds.

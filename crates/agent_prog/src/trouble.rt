@@ -10,7 +10,7 @@ use thiserror::Error;
 pub enum Trouble {
     #[error("line {line} is refused: {fault}")]
     Refused { line: u64, fault: FaultText },
-    #[error("usage: agent_prog replay")]
+    #[error("usage: agent_prog replay [-t LIFE]")]
     Usage,
     #[error("a socket could not be bound")]
     Bind,
@@ -35,7 +35,7 @@ impl fmt::Display for FaultText {
             LineFault::Number => "not a number",
             LineFault::Hex => "not hexadecimal",
             LineFault::UnknownPort => "no such port",
-            LineFault::Order => "more than the port is owed",
+            LineFault::Order => "more than the port is owed, or no such job",
             LineFault::TooLong => "too long",
             LineFault::Memory => "out of memory",
         })

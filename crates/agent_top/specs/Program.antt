@@ -6,7 +6,7 @@
 --   schedule_text, specs/Lines.antt and Deeds.antt: the lines that are read, and those that are printed
 --   agent_model, specs/Step.antt: one step of the abstract agent
 --   agent_model, specs/Dispatch.antt: the table of requests
-use Rattle.std.specs.Prelude.{◌≡◌, ℕ, None, IfSome}
+use Rattle.std.specs.Prelude.{◌≡◌, ℕ, Option, None, IfSome}
 use Rattle.world_ports.specs.Causes.{Rose}
 use Rattle.agent_top.specs.declared.status.Status.{Status}
 use Rattle.agent_top.specs.declared.status.Status.TheVariants as status
@@ -23,24 +23,25 @@ status_of Memory = status.Memory
 status_of ReadFault = status.ReadFault
 status_of WriteFault = status.WriteFault
 
--- the output is what the abstract agent prints for the input, as far as the status says
-abbrev pub ReplaysExactly : Status → Seen → Seen → Type 0
+-- the output is what the abstract agent prints for the input, as far as the status says; identities that come without a
+-- lifetime live for so many seconds
+abbrev pub ReplaysExactly : Option ℕ → Status → Seen → Seen → Type 0
 -- the input was read to its end, no line of it is refused, and all that it prints is written
-ReplaysExactly status.Done old new = EndsDone old new
+ReplaysExactly life status.Done old new = EndsDone life old new
 -- the first refused line of the input is this one, and all that the input prints is written
-ReplaysExactly (status.ScheduleRefused line fault) old new = EndsRefused line fault old new
--- the word was `replay`
-ReplaysExactly status.Usage old new = ⊥
+ReplaysExactly life (status.ScheduleRefused line fault) old new = EndsRefused life line fault old new
+-- the words were those of `replay`
+ReplaysExactly life status.Usage old new = ⊥
 -- no socket is bound
-ReplaysExactly status.BindFault old new = ⊥
+ReplaysExactly life status.BindFault old new = ⊥
 -- nothing is waited for
-ReplaysExactly status.PollFault old new = ⊥
+ReplaysExactly life status.PollFault old new = ⊥
 -- a front of what the input prints is written
-ReplaysExactly status.Memory old new = EndsEarly old new
+ReplaysExactly life status.Memory old new = EndsEarly life old new
 -- a read failed, and all that the whole lines before it print is written
-ReplaysExactly status.ReadFault old new = EndsAtReadFault old new
+ReplaysExactly life status.ReadFault old new = EndsAtReadFault life old new
 -- a write failed, and a front of what the input prints is written
-ReplaysExactly status.WriteFault old new = EndsAtWriteFault old new
+ReplaysExactly life status.WriteFault old new = EndsAtWriteFault life old new
 
 -- the input was run to its end or to its first refused line, unless memory ran out
 abbrev pub IsComplete : Status → Type 0
@@ -71,10 +72,10 @@ pub record HasNoFault (old new : Seen) : Type 0 where
 
 -- where no read and no write failed, the run is complete, and it is finished where no line of the
 -- input is refused
-pub record Completes (result : Status) (old new : Seen) : Type 0 where
+pub record Completes (life : Option ℕ) (result : Status) (old new : Seen) : Type 0 where
   pub complete : HasNoFault old new → IsComplete result
   pub finished : HasNoFault old new →
-      IfSome old.input.left (λ input. (run_of input).refused ≡ None → IsFinished result)
+      IfSome old.input.left (λ input. (run_of life input).refused ≡ None → IsFinished result)
 
 -- the exit status
 abbrev pub code_of : Status → ℕ

@@ -2,6 +2,7 @@
 // protocol: 11 asks for identities, 12 with a count of 0 answers, 5 is failure.
 ghost use Rattle.std.specs.Prelude.{◌<◌};
 
+mod children;
 mod ends;
 mod keys;
 mod limits;
@@ -245,14 +246,21 @@ fn start(alloc: Global, words: &[&str]) -> Result<(Status, VecSink), AllocError>
 
 #[test]
 fn other_words_write_nothing(rt: HostRuntime) -> Result<(), Fail> {
-    let (status, sink) = start(rt.alloc(), &["reply"])?;
-    assert_eq!(rt; status, Status::Usage);
-    assert!(rt; sink.written().is_empty());
-    let (status, sink) = start(rt.alloc(), &[])?;
-    assert_eq!(rt; status, Status::Usage);
-    assert!(rt; sink.written().is_empty());
-    let (status, sink) = start(rt.alloc(), &["replay", "x"])?;
-    assert_eq!(rt; status, Status::Usage);
-    assert!(rt; sink.written().is_empty());
+    let cases = [
+        [].as_slice(),
+        ["reply"].as_slice(),
+        ["replay", "x"].as_slice(),
+        ["replay", "-t"].as_slice(),
+        ["replay", "-t", "1x"].as_slice(),
+        ["replay", "-t", "4294967296"].as_slice(),
+        ["replay", "-l", "1"].as_slice(),
+        ["replay", "-t", "1", "x"].as_slice(),
+        ["reply", "-t", "1"].as_slice(),
+    ];
+    for words in cases {
+        let (status, sink) = start(rt.alloc(), words)?;
+        assert_eq!(rt; status, Status::Usage, "at {words:?}");
+        assert!(rt; sink.written().is_empty());
+    }
     Ok(())
 }

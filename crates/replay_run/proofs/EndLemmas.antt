@@ -26,19 +26,21 @@ ends_text old mid new ready mid_run mid_out new_run new_out =
     )
 
 -- by whether the last line was refused
-finished_by : (refused : Option LineFault) (old new : Feeding) (before after : StreamView) → new.run.refused ≡ refused → new.run ≡ ending_run old → Wrote before after (ending_text old) → Finishes (end_by new.run.line refused) old before after
+finished_by : (refused : Option LineFault) (old new : Feeding) (before after : StreamView) → new.run.refused ≡ refused → new.run ≡ ending_run old → Wrote before after (ending_text old) → Finishes (end_by new.run.line refused) old new.run before after
 finished_by None old new before after is run_is wrote = record {
+  run_is = run_is;
   wrote = wrote;
   accepted = sym (ap (λ (r : Run). r.refused) run_is) ∙ is;
 }
 finished_by (Some fault) old new before after is run_is wrote = record {
+  run_is = run_is;
   wrote = wrote;
   refused = sym (ap (λ (r : Run). r.refused) run_is) ∙ is;
   number = sym (ap (λ (r : Run). r.line) run_is);
 }
 
 -- all of it was written
-pub finished : (old new : Feeding) (before after : StreamView) → new.run ≡ ending_run old → new.out ≡ ending_text old → Wrote before after new.out → Finishes (end_of new.run) old before after
+pub finished : (old new : Feeding) (before after : StreamView) → new.run ≡ ending_run old → new.out ≡ ending_text old → Wrote before after new.out → Finishes (end_of new.run) old new.run before after
 finished old new before after run_is out_is wrote =
     finished_by new.run.refused old new before after refl run_is (subst (λ (o : List ℕ). Wrote before after o) out_is wrote)
 

@@ -6,7 +6,7 @@ use Rattle.world_ports.specs.Causes.{Rose}
 use Rattle.schedule_text.specs.declared.fault.LineFault.{LineFault}
 use Rattle.replay_run.specs.declared.run_end.RunEnd.{RunEnd}
 use Rattle.replay_run.specs.declared.run_end.RunEnd.TheVariants.{Done, Refused, Memory, ReadFault, WriteFault}
-use Rattle.replay_run.specs.Replay.{parts_of, printed}
+use Rattle.replay_run.specs.Replay.{Run, parts_of, printed}
 use Rattle.replay_run.specs.GoesOn.{GoesOn, IsLineEnd}
 use Rattle.replay_run.specs.Feeding.{Feeding, Wrote, Feeds, GoesOnFed, FedSoFar, fed_so_far, WritesFront, WritesRefusal, Halts}
 use Rattle.world_ports.specs.Streams.{StreamView, WritesPart}
@@ -57,23 +57,22 @@ feeds_front {old} {mid} {a} {b} {w0} {w1} {w2} first second = record {
 }
 
 -- a piece, and then a refusal
-feeds_refusal : {old mid : Feeding} {a b : List ℕ} {line : ℕ} {fault : LineFault} {w0 w1 w2 : StreamView} → Feeds old a mid w0 w1 → WritesRefusal mid b line fault w1 w2 → WritesRefusal old (a ++ b) line fault w0 w2
-feeds_refusal {old} {mid} {a} {b} {line} {fault} {w0} {w1} {w2} first second = record {
+feeds_refusal : {old mid : Feeding} {a b : List ℕ} {line : ℕ} {fault : LineFault} {run : Run} {w0 w1 w2 : StreamView} → Feeds old a mid w0 w1 → WritesRefusal mid b line fault run w1 w2 → WritesRefusal old (a ++ b) line fault run w0 w2
+feeds_refusal {old} {mid} {a} {b} {line} {fault} {run} {w0} {w1} {w2} first second = record {
   text = first.text ++ second.text;
   wrote = Wrote-then first.wrote second.wrote;
-  run = second.run;
   goes = rw (← (append_assoc old.pending a b)) (goes_on-then (goes_on-more b first.goes) (goes_on-front first.text second.goes));
   refused = second.refused;
   number = second.number;
 }
 
 -- a piece, and then the end of the run
-pub feeds_halts : (end : RunEnd) (old mid : Feeding) (a b : List ℕ) (w0 w1 w2 : StreamView) → Feeds old a mid w0 w1 → Halts end mid b w1 w2 → Halts end old (a ++ b) w0 w2
-feeds_halts Done old mid a b w0 w1 w2 first halts = halts
-feeds_halts (Refused line fault) old mid a b w0 w1 w2 first halts = feeds_refusal first halts
-feeds_halts Memory old mid a b w0 w1 w2 first halts = feeds_front first halts
-feeds_halts ReadFault old mid a b w0 w1 w2 first halts = halts
-feeds_halts WriteFault old mid a b w0 w1 w2 first halts = record { front = feeds_front first halts.front; cause = subst (λ (n : ℕ). Rose n w2.write_faults) first.wrote.kept halts.cause }
+pub feeds_halts : (end : RunEnd) (old mid : Feeding) (a b : List ℕ) (run : Run) (w0 w1 w2 : StreamView) → Feeds old a mid w0 w1 → Halts end mid b run w1 w2 → Halts end old (a ++ b) run w0 w2
+feeds_halts Done old mid a b run w0 w1 w2 first halts = halts
+feeds_halts (Refused line fault) old mid a b run w0 w1 w2 first halts = feeds_refusal first halts
+feeds_halts Memory old mid a b run w0 w1 w2 first halts = feeds_front first halts
+feeds_halts ReadFault old mid a b run w0 w1 w2 first halts = halts
+feeds_halts WriteFault old mid a b run w0 w1 w2 first halts = record { front = feeds_front first halts.front; cause = subst (λ (n : ℕ). Rose n w2.write_faults) first.wrote.kept halts.cause }
 
 -- the end of the run before all was fed
 front_more : {old : Feeding} {a : List ℕ} {w0 w1 : StreamView} (b : List ℕ) → WritesFront old a w0 w1 → WritesFront old (a ++ b) w0 w1
@@ -86,22 +85,21 @@ front_more {old} {a} {w0} {w1} b writes = record {
       record { more = all.more; is = all.is ∙ sym (ap (λ (t : List ℕ). old.out ++ printed ended old.run (parts_of t)) texts) };
 }
 
-refusal_more : {old : Feeding} {a : List ℕ} {line : ℕ} {fault : LineFault} {w0 w1 : StreamView} (b : List ℕ) → WritesRefusal old a line fault w0 w1 → WritesRefusal old (a ++ b) line fault w0 w1
-refusal_more {old} {a} {line} {fault} {w0} {w1} b writes = record {
+refusal_more : {old : Feeding} {a : List ℕ} {line : ℕ} {fault : LineFault} {run : Run} {w0 w1 : StreamView} (b : List ℕ) → WritesRefusal old a line fault run w0 w1 → WritesRefusal old (a ++ b) line fault run w0 w1
+refusal_more {old} {a} {line} {fault} {run} {w0} {w1} b writes = record {
   text = writes.text;
   wrote = writes.wrote;
-  run = writes.run;
-  goes = rw (← (append_assoc old.pending a b)) (goes_on-then (goes_on-more b writes.goes) (goes_on-refused writes.text writes.run b [] fault writes.refused));
+  goes = rw (← (append_assoc old.pending a b)) (goes_on-then (goes_on-more b writes.goes) (goes_on-refused writes.text run b [] fault writes.refused));
   refused = writes.refused;
   number = writes.number;
 }
 
-pub halts_more : (end : RunEnd) (old : Feeding) (a b : List ℕ) (w0 w1 : StreamView) → Halts end old a w0 w1 → Halts end old (a ++ b) w0 w1
-halts_more Done old a b w0 w1 halts = halts
-halts_more (Refused line fault) old a b w0 w1 halts = refusal_more b halts
-halts_more Memory old a b w0 w1 halts = front_more b halts
-halts_more ReadFault old a b w0 w1 halts = halts
-halts_more WriteFault old a b w0 w1 halts = record { front = front_more b halts.front; cause = halts.cause }
+pub halts_more : (end : RunEnd) (old : Feeding) (a b : List ℕ) (run : Run) (w0 w1 : StreamView) → Halts end old a run w0 w1 → Halts end old (a ++ b) run w0 w1
+halts_more Done old a b run w0 w1 halts = halts
+halts_more (Refused line fault) old a b run w0 w1 halts = refusal_more b halts
+halts_more Memory old a b run w0 w1 halts = front_more b halts
+halts_more ReadFault old a b run w0 w1 halts = halts
+halts_more WriteFault old a b run w0 w1 halts = record { front = front_more b halts.front; cause = halts.cause }
 
 -- ---- at one place
 
@@ -136,11 +134,10 @@ front_written feeding bytes before after some = record {
 }
 
 -- a run that was refused, with all of it written
-pub refusal_written : (feeding : Feeding) (fault : LineFault) (before after : StreamView) → Some fault ≡ feeding.run.refused → Wrote before after feeding.out → WritesRefusal feeding [] feeding.run.line fault before after
+pub refusal_written : (feeding : Feeding) (fault : LineFault) (before after : StreamView) → Some fault ≡ feeding.run.refused → Wrote before after feeding.out → WritesRefusal feeding [] feeding.run.line fault feeding.run before after
 refusal_written feeding fault before after refused wrote = record {
   text = feeding.out;
   wrote = wrote;
-  run = feeding.run;
   goes = goes_on-refused feeding.out feeding.run (feeding.pending ++ []) [] fault (sym refused);
   refused = sym refused;
   number = refl;
@@ -151,7 +148,7 @@ refusal_written feeding fault before after refused wrote = record {
 -- what an answer says of bytes that were fed
 abbrev pub Answers : Option RunEnd → Feeding → List ℕ → Feeding → ℕ → StreamView → StreamView → Type 0
 Answers result old bytes new most w0 w1 =
-    MatchOption result (GoesOnFed old bytes new w0 w1 × (length new.out ≤ most)) (λ end. Halts end old bytes w0 w1)
+    MatchOption result (GoesOnFed old bytes new w0 w1 × (length new.out ≤ most)) (λ end. Halts end old bytes new.run w0 w1)
 
 -- after a line, or the front of one
 pub fed_then : (result : Option RunEnd) (old mid new : Feeding) (bytes : List ℕ) (most : ℕ) (w0 w1 : StreamView) → old.run.refused ≡ None → GoesOn old.out old.run (old.pending ++ bytes) mid.out mid.run mid.pending → (mid.run.refused ≡ None → fed_so_far mid ≡ fed_so_far old + length bytes) → Answers result mid [] new most w0 w1 → Answers result old bytes new most w0 w1
@@ -165,7 +162,7 @@ fed_then None old mid new bytes most w0 w1 accepted goes size answer = (
   answer.1,
 )
 fed_then (Some end) old mid new bytes most w0 w1 accepted goes size answer =
-    subst (λ (b : List ℕ). Halts end old b w0 w1) (append-nil bytes) (feeds_halts end old mid bytes [] w0 w0 w1 (feeds_by w0 goes) answer)
+    subst (λ (b : List ℕ). Halts end old b new.run w0 w1) (append-nil bytes) (feeds_halts end old mid bytes [] new.run w0 w0 w1 (feeds_by w0 goes) answer)
 
 -- ---- the lines of a piece
 
@@ -176,11 +173,11 @@ line_of_piece front line tail rest piece is cut =
     texts ∙ ap (λ (r : List ℕ). front ++ r) cut ∙ is
 
 -- the end of the run at that line
-pub piece_halts : (end : RunEnd) (old mid : Feeding) (front line tail rest piece : List ℕ) (w0 w1 w2 : StreamView) → GoesOnFed old front mid w0 w1 → front ++ rest ≡ piece → line ++ 10 ∷ tail ≡ rest → Halts end mid (line ++ 10 ∷ []) w1 w2 → Halts end old piece w0 w2
-piece_halts end old mid front line tail rest piece w0 w1 w2 fed is cut halts =
-    subst (λ (b : List ℕ). Halts end old b w0 w2) (line_of_piece front line tail rest piece is cut)
-    (halts_more end old (front ++ (line ++ 10 ∷ [])) tail w0 w2
-    (feeds_halts end old mid front (line ++ 10 ∷ []) w0 w1 w2 fed.feeds halts))
+pub piece_halts : (end : RunEnd) (old mid : Feeding) (front line tail rest piece : List ℕ) (run : Run) (w0 w1 w2 : StreamView) → GoesOnFed old front mid w0 w1 → front ++ rest ≡ piece → line ++ 10 ∷ tail ≡ rest → Halts end mid (line ++ 10 ∷ []) run w1 w2 → Halts end old piece run w0 w2
+piece_halts end old mid front line tail rest piece run w0 w1 w2 fed is cut halts =
+    subst (λ (b : List ℕ). Halts end old b run w0 w2) (line_of_piece front line tail rest piece is cut)
+    (halts_more end old (front ++ (line ++ 10 ∷ [])) tail run w0 w2
+    (feeds_halts end old mid front (line ++ 10 ∷ []) run w0 w1 w2 fed.feeds halts))
 
 -- the run goes on behind that line
 pub piece_fed : (old mid new : Feeding) (front line tail rest piece : List ℕ) (w0 w1 w2 : StreamView) → GoesOnFed old front mid w0 w1 → front ++ rest ≡ piece → line ++ 10 ∷ tail ≡ rest → GoesOnFed mid (line ++ 10 ∷ []) new w1 w2 → FedSoFar old piece tail new w0 w2
@@ -207,7 +204,7 @@ last_fed None old mid new front rest piece most w0 w1 w2 fed is answer = (
   answer.1,
 )
 last_fed (Some end) old mid new front rest piece most w0 w1 w2 fed is answer =
-    subst (λ (b : List ℕ). Halts end old b w0 w2) is (feeds_halts end old mid front rest w0 w1 w2 fed.feeds answer)
+    subst (λ (b : List ℕ). Halts end old b new.run w0 w2) is (feeds_halts end old mid front rest new.run w0 w1 w2 fed.feeds answer)
 
 -- a line and what stands behind it, as slices
 pub line_cut : (rest : List ℕ) (place : ℕ) → IsLineEnd rest place → take place rest ++ 10 ∷ take (length rest - (place + 1)) (drop (place + 1) rest) ≡ rest

@@ -1,9 +1,9 @@
 -- A line keeps what the numbers of a run say.
 use Rattle.std.proofs.Common.{◌≡◌, ℕ, suc, ◌+◌, ◌<◌, ◌≤◌, List, [], length, refl, ap, sym, ◌∙◌, arith, Option, Some, None, Bool, true, false, nat_lt, if◌then◌else◌, Result, Ok, Err}
 use Rattle.std.proofs.lemmas.Bool.Decides.{nat_tests}
-use Rattle.world_ports.specs.declared.Door.TheVariants.{Clients, Children}
+use Rattle.world_ports.specs.declared.Job.{Job}
 use Rattle.agent_model.specs.Events.{Happening, Joined, Heard, Ended, Took, Started, StartFailed, Tick}
-use Rattle.agent_model.specs.State.{State, Port, find_port, owed_of}
+use Rattle.agent_model.specs.State.{State, Port, find_port, find_to_start, owed_of, starts}
 use Rattle.agent_model.proofs.RunLemmas.{step-last_port, last_after}
 use Rattle.schedule_text.specs.declared.fault.LineFault.{LineFault}
 use Rattle.schedule_text.specs.declared.fault.LineFault.TheVariants.{TooLong}
@@ -11,8 +11,8 @@ use Rattle.schedule_text.specs.declared.step.Step.{Step}
 use Rattle.schedule_text.specs.declared.step.Step.TheVariants.{Skip, At, Join, Hear, End, Hold, Free, Take, Started as StartedStep, Failed}
 use Rattle.schedule_text.specs.Lines.{step_of}
 use Rattle.replay_run.specs.Holding.{free_port, hold_port}
-use Rattle.replay_run.specs.Settling.{after_event, close_lines, sending_lines, sent}
-use Rattle.replay_run.specs.Replay.{Run, Turned, happened, settling_turn, took, took_by, at_port, step_turned, line_turned, turned, turned_by, longest_schedule}
+use Rattle.replay_run.specs.Settling.{after_event, event_lines, sending_lines, sent}
+use Rattle.replay_run.specs.Replay.{Run, Turned, happened, settling_turn, took, took_by, at_job, at_port, step_turned, line_turned, turned, turned_by, longest_schedule}
 use Rattle.replay_run.specs.Counts.{IsCounted, IsNext}
 use Rattle.replay_run.proofs.SettlingLemmas.{settled-last_port}
 
@@ -49,7 +49,7 @@ happened-next : (event : Happening) (size : ℕ) (run after : Run) → 0 < size 
 happened-next event size run after some within counted agent_is line_is read_is accepted =
     let state = after_event after.moment after.agent event in
     let stepping = step-last_port after.agent after.moment event ∙ ap (λ (s : State). last_after event s.last_port) agent_is in
-    settling-next (close_lines state.closes) size run (record after { agent = state }) some within counted
+    settling-next (event_lines after.agent state) size run (record after { agent = state }) some within counted
     (rw stepping (last_after-most event run.agent.last_port)) line_is read_is accepted
 
 -- the line of a port
@@ -57,6 +57,12 @@ at_port-next : (found : Option Port) (turned : Turned) (size : ℕ) (run : Run) 
     → (at_port found turned run).run.refused ≡ None → IsNext run size (at_port found turned run).run
 at_port-next None turned size run next accepted = absurd (cc)
 at_port-next (Some port) turned size run next accepted = next
+
+-- the line of a job
+at_job-next : (found : Option Job) (turned : Turned) (size : ℕ) (run : Run) → IsNext run size turned.run
+    → (at_job found turned run).run.refused ≡ None → IsNext run size (at_job found turned run).run
+at_job-next None turned size run next accepted = absurd (cc)
+at_job-next (Some job) turned size run next accepted = next
 
 -- a taking, by whether it is of more than is owed
 took_by-next : (test : Bool) (port count size : ℕ) (run : Run) → 0 < size → run.read + size ≤ longest_schedule → IsCounted run
@@ -88,9 +94,8 @@ step_turned-next Skip size run some within counted accepted = record {
 }
 step_turned-next (At moment) size run some within counted accepted =
     happened-next Tick size run (record run { moment = moment }) some within counted refl refl refl counted.accepted
-step_turned-next (Join Clients) size run some within counted accepted =
-    happened-next (Joined Clients) size run run some within counted refl refl refl counted.accepted
-step_turned-next (Join Children) size run some within counted accepted = absurd (cc)
+step_turned-next (Join door) size run some within counted accepted =
+    happened-next (Joined door) size run run some within counted refl refl refl counted.accepted
 step_turned-next (Hear port bytes) size run some within counted accepted =
     at_port-next (find_port port run.agent.ports) (happened (Heard port bytes) size run) size run
     (happened-next (Heard port bytes) size run run some within counted refl refl refl counted.accepted) accepted
@@ -107,8 +112,12 @@ step_turned-next (Free port) size run some within counted accepted =
     (settling-next [] size run after some within counted (omega arith) refl refl counted.accepted) accepted
 step_turned-next (Take port count) size run some within counted accepted =
     took_at-next (find_port port run.agent.ports) port count size run some within counted accepted
-step_turned-next (StartedStep job ticket) size run some within counted accepted = absurd (cc)
-step_turned-next (Failed job) size run some within counted accepted = absurd (cc)
+step_turned-next (StartedStep job ticket) size run some within counted accepted =
+    at_job-next (find_to_start job (starts run.agent)) (happened (Started job ticket) size run) size run
+    (happened-next (Started job ticket) size run run some within counted refl refl refl counted.accepted) accepted
+step_turned-next (Failed job) size run some within counted accepted =
+    at_job-next (find_to_start job (starts run.agent)) (happened (StartFailed job) size run) size run
+    (happened-next (StartFailed job) size run run some within counted refl refl refl counted.accepted) accepted
 
 -- what a line asks for
 line_turned-next : (asked : Result Step LineFault) (size : ℕ) (run : Run) → 0 < size → run.read + size ≤ longest_schedule → IsCounted run → (line_turned asked size run).run.refused ≡ None → IsNext run size (line_turned asked size run).run

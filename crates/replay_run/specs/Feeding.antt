@@ -1,5 +1,5 @@
 -- A run that is fed with pieces of its schedule, and writes what it prints (ours).
-use Rattle.std.specs.Prelude.{◌≡◌, ℕ, Bool, List, [], ◌++◌, ◌+◌, length, Some, None}
+use Rattle.std.specs.Prelude.{◌≡◌, ℕ, Bool, List, [], ◌++◌, ◌+◌, length, Option, Some, None}
 use Rattle.std.specs.Io.KnownBytes.{Appends}
 use Rattle.world_ports.specs.Causes.{Rose}
 use Rattle.world_ports.specs.Streams.{StreamView}
@@ -18,8 +18,8 @@ pub record Feeding : Type 0 where
   pub out : List ℕ
 
 -- nothing was fed yet
-abbrev pub start_feeding : Feeding
-start_feeding = record { run = start_run; pending = []; out = [] }
+abbrev pub start_feeding : Option ℕ → Feeding
+start_feeding life = record { run = start_run life; pending = []; out = [] }
 
 -- no line was refused, and the one that waits may still be run
 pub record IsReady (feeding : Feeding) : Type 0 where
@@ -58,13 +58,12 @@ pub record WritesFront
   pub front : (ended : Bool) (more : List ℕ) →
       IsFront text (old.out ++ printed ended old.run (parts_of ((old.pending ++ bytes) ++ more)))
 
--- a line was refused, and all that the run prints is written
+-- a line was refused, which left this run, and all that it prints is written
 pub record WritesRefusal
-    (old : Feeding) (bytes : List ℕ) (line : ℕ) (fault : LineFault) (before after : StreamView)
+    (old : Feeding) (bytes : List ℕ) (line : ℕ) (fault : LineFault) (run : Run) (before after : StreamView)
     : Type 0 where
   pub text : List ℕ
   pub wrote : Wrote before after text
-  pub run : Run
   pub goes : GoesOn old.out old.run (old.pending ++ bytes) text run []
   pub refused : run.refused ≡ Some fault
   pub number : run.line ≡ line
@@ -75,13 +74,13 @@ pub record WritesUntilFault
   pub front : WritesFront old bytes before after
   pub cause : Rose before.write_faults after.write_faults
 
--- why the run ended while these bytes were fed
-abbrev pub Halts : RunEnd → Feeding → List ℕ → StreamView → StreamView → Type 0
-Halts Done old bytes before after = ⊥
-Halts (Refused line fault) old bytes before after = WritesRefusal old bytes line fault before after
-Halts Memory old bytes before after = WritesFront old bytes before after
-Halts ReadFault old bytes before after = ⊥
-Halts WriteFault old bytes before after = WritesUntilFault old bytes before after
+-- why the run ended while these bytes were fed, and which run it left
+abbrev pub Halts : RunEnd → Feeding → List ℕ → Run → StreamView → StreamView → Type 0
+Halts Done old bytes run before after = ⊥
+Halts (Refused line fault) old bytes run before after = WritesRefusal old bytes line fault run before after
+Halts Memory old bytes run before after = WritesFront old bytes before after
+Halts ReadFault old bytes run before after = ⊥
+Halts WriteFault old bytes run before after = WritesUntilFault old bytes before after
 
 -- the front of a piece was fed, and this is left of it
 pub record FedSoFar

@@ -4,18 +4,18 @@
 -- after it is in specs/Settling.antt.
 use Rattle.std.specs.Prelude.{ℕ, suc, ◌+◌, ◌==◌, ◌||◌, nat_lt, Bool, true, false, if◌then◌else◌, List, [], ◌∷◌, ◌++◌, length, Option, None, Some, Result, Ok, Err}
 use Rattle.std.specs.List.{slice_split}
-use Rattle.world_ports.specs.declared.Door.TheVariants.{Clients, Children}
+use Rattle.world_ports.specs.declared.Job.{Job}
 use Rattle.world_ports.specs.declared.Moment.{Moment}
-use Rattle.agent_model.specs.Events.{Happening, Joined, Heard, Ended, Tick}
-use Rattle.agent_model.specs.State.{State, Port, first_state, find_port, owed_of}
+use Rattle.agent_model.specs.Events.{Happening, Joined, Heard, Ended, StartFailed, Started as JobStarted, Tick}
+use Rattle.agent_model.specs.State.{State, Port, first_state, find_port, find_to_start, owed_of, starts}
 use Rattle.schedule_text.specs.declared.fault.LineFault.{LineFault}
-use Rattle.schedule_text.specs.declared.fault.LineFault.TheVariants.{Word, UnknownPort, Order, TooLong}
+use Rattle.schedule_text.specs.declared.fault.LineFault.TheVariants.{UnknownPort, Order, TooLong}
 use Rattle.schedule_text.specs.declared.step.Step.{Step}
 use Rattle.schedule_text.specs.declared.step.Step.TheVariants.{Skip, At, Join, Hear, End, Hold, Free, Take, Started, Failed}
 use Rattle.schedule_text.specs.Deeds.{refused_line, end_line}
 use Rattle.schedule_text.specs.Lines.{step_of}
 use Rattle.replay_run.specs.Holding.{hold_port, free_port}
-use Rattle.replay_run.specs.Settling.{after_event, close_lines, sending_lines, sent, settled}
+use Rattle.replay_run.specs.Settling.{after_event, event_lines, sending_lines, sent, settled}
 
 -- a run so far: the agent, the moment of the last `at` line, the held ports, how many lines were run, how many
 -- bytes they had, and why the next one was refused; the refused line is counted, and its bytes are not
@@ -27,10 +27,10 @@ pub record Run : Type 0 where
   pub read : ℕ
   pub refused : Option LineFault
 
--- the run before the first line
-abbrev pub start_run : Run
-start_run = record {
-  agent = first_state None;
+-- the run before the first line; identities that come without a lifetime live for so many seconds
+abbrev pub start_run : Option ℕ → Run
+start_run life = record {
+  agent = first_state life;
   moment = record { mono = 0; wall = 0 };
   held = [];
   line = 0;
@@ -75,12 +75,17 @@ settling_turn output size run =
 abbrev pub happened : Happening → ℕ → Run → Turned
 happened event size run =
     let state = after_event run.moment run.agent event in
-    settling_turn (close_lines state.closes) size (record run { agent = state })
+    settling_turn (event_lines run.agent state) size (record run { agent = state })
 
 -- what a line of a port brings, where that one is open
 abbrev pub at_port : Option Port → Turned → Run → Turned
 at_port None turned run = refuse UnknownPort run
 at_port (Some port) turned run = turned
+
+-- what a line of a job brings, where that one waits to be started
+abbrev pub at_job : Option Job → Turned → Run → Turned
+at_job None turned run = refuse Order run
+at_job (Some job) turned run = turned
 
 -- the port takes so many bytes, and the settling after it; it is refused where they are more than it is owed
 abbrev pub took_by : Bool → ℕ → ℕ → ℕ → Run → Turned
@@ -97,8 +102,7 @@ took port count size run =
 abbrev pub step_turned : Step → ℕ → Run → Turned
 step_turned Skip size run = skipped size run
 step_turned (At moment) size run = happened Tick size (record run { moment = moment })
-step_turned (Join Clients) size run = happened (Joined Clients) size run
-step_turned (Join Children) size run = refuse Word run
+step_turned (Join door) size run = happened (Joined door) size run
 step_turned (Hear port bytes) size run =
     at_port (find_port port run.agent.ports) (happened (Heard port bytes) size run) run
 step_turned (End port) size run =
@@ -111,8 +115,10 @@ step_turned (Free port) size run =
     (settling_turn [] size (record run { held = free_port port run.held })) run
 step_turned (Take port count) size run =
     at_port (find_port port run.agent.ports) (took port count size run) run
-step_turned (Started job ticket) size run = refuse Word run
-step_turned (Failed job) size run = refuse Word run
+step_turned (Started job ticket) size run =
+    at_job (find_to_start job (starts run.agent)) (happened (JobStarted job ticket) size run) run
+step_turned (Failed job) size run =
+    at_job (find_to_start job (starts run.agent)) (happened (StartFailed job) size run) run
 
 -- the most bytes of a line, without its LF, and of a schedule
 abbrev pub longest_line : ℕ
@@ -189,14 +195,14 @@ ran ended run [] = run
 ran ended run (part ∷ []) = (part_turned ended part run).run
 ran ended run (line ∷ next ∷ parts) = ran ended (whole_turned line run).run (next ∷ parts)
 
--- all that a schedule prints
-abbrev pub output_of : List ℕ → List ℕ
-output_of text = printed true start_run (parts_of text)
+-- all that a schedule prints, where identities that come without a lifetime live for so many seconds
+abbrev pub output_of : Option ℕ → List ℕ → List ℕ
+output_of life text = printed true (start_run life) (parts_of text)
 
 -- the run after a schedule
-abbrev pub run_of : List ℕ → Run
-run_of text = ran true start_run (parts_of text)
+abbrev pub run_of : Option ℕ → List ℕ → Run
+run_of life text = ran true (start_run life) (parts_of text)
 
 -- what the whole lines of the front of a schedule print
-abbrev pub output_so_far : List ℕ → List ℕ
-output_so_far text = printed false start_run (parts_of text)
+abbrev pub output_so_far : Option ℕ → List ℕ → List ℕ
+output_so_far life text = printed false (start_run life) (parts_of text)

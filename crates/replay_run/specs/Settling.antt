@@ -1,11 +1,12 @@
 -- Settling: after a line every port that isn't held takes what it is owed (ours: docs/PROTOCOL.md, "Output").
-use Rattle.std.specs.Prelude.{ℕ, zero, suc, List, [], ◌∷◌, ◌++◌, length, take, Option, None, Some}
+use Rattle.std.specs.Prelude.{ℕ, zero, suc, if◌then◌else◌, is_some, List, [], ◌∷◌, ◌++◌, length, take, Option, None, Some}
+use Rattle.world_ports.specs.declared.Job.{Job}
 use Rattle.world_ports.specs.declared.Moment.{Moment}
 use Rattle.agent_model.specs.Budget.{budget}
 use Rattle.agent_model.specs.Events.{Happening, Took}
-use Rattle.agent_model.specs.State.{State, owed_of}
+use Rattle.agent_model.specs.State.{State, find_to_start, owed_of, starts}
 use Rattle.agent_model.specs.Step.{step}
-use Rattle.schedule_text.specs.Deeds.{to_line, close_line}
+use Rattle.schedule_text.specs.Deeds.{to_line, close_line, start_line}
 use Rattle.replay_run.specs.Holding.{next_unheld}
 
 -- the state that an event at a moment leaves
@@ -21,10 +22,21 @@ abbrev pub close_lines : List ℕ → List ℕ
 close_lines [] = []
 close_lines (port ∷ ports) = close_line port ++ close_lines ports
 
--- what that prints: the bytes, and then the ports that were closed by it
+-- a line for each of the jobs that isn't one of those that waited to be started before
+abbrev pub start_lines : List Job → List Job → List ℕ
+start_lines before [] = []
+start_lines before (job ∷ jobs) =
+    (if is_some (find_to_start job.number before) then [] else start_line job) ++ start_lines before jobs
+
+-- what an event prints, by the states before and after it: the jobs that are to be started since, and then the ports
+-- that it closed
+abbrev pub event_lines : State → State → List ℕ
+event_lines old new = start_lines (starts old) (starts new) ++ close_lines new.closes
+
+-- what a taking prints: the bytes, and then what comes of it
 abbrev pub sending_lines : Moment → ℕ → ℕ → State → List ℕ
 sending_lines moment port count state =
-    to_line port (take count (owed_of port state)) ++ close_lines (sent moment port count state).closes
+    to_line port (take count (owed_of port state)) ++ event_lines state (sent moment port count state)
 
 -- the state after a port took all that it was owed, and what that prints
 abbrev pub delivered : Moment → ℕ → State → State

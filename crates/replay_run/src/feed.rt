@@ -2,7 +2,7 @@
 ghost use Rattle.std.specs.Prelude.{◌≡◌, ◌∷◌, [], ◌++◌, ◌≤◌, ◌+◌, length, true};
 ghost use Rattle.std.specs.Prelude.{MatchOption, None, OnErr, OnOk};
 ghost use Rattle.world_ports.specs.Causes.{HasCause};
-ghost use Rattle.replay_run.specs.Finishing.{Finishes, end_of};
+ghost use Rattle.replay_run.specs.Finishing.{Finishes, agent_at, end_of};
 ghost use Rattle.replay_run.specs.Replay.{last_turned, ending};
 ghost use Rattle.replay_run.specs.Feeding.{Wrote, start_feeding, IsReady, GoesOnFed, Halts, fed_so_far};
 ghost use Rattle.replay_run.specs.GoesOn.{HasNoLf, IsLineEnd, GoesOn};
@@ -10,7 +10,7 @@ ghost use Rattle.world_ports.specs.Streams.{OnlyWrites, WritesPart};
 
 use crate::limits::{LONGEST_LINE, LONGEST_SCHEDULE, ROOM};
 use crate::{Replay, RunEnd};
-use agent_core::CoreMemory;
+use agent_core::{Agent, CoreMemory};
 use schedule_text::{Deed, LineFault, put_deed};
 use std::alloc::Global;
 use std::marker::Model;
@@ -40,18 +40,18 @@ pub fn line_end(bytes: &[u8]) -> Option<usize>
 }
 
 impl Feed {
-    pub fn new(alloc: Global) -> Self
-        ensures { result ≡ start_feeding }
+    pub fn new(alloc: Global, default_life: Option<u32>) -> Self
+        ensures { result ≡ start_feeding default_life }
     {
         Feed {
-            run: Replay::new(alloc),
+            run: Replay::new(alloc, default_life),
             pending: Vec::new(alloc),
             out: Vec::new(alloc),
         }
     }
 
     // Runs the line that ends with these bytes. Where nothing waits, they aren't copied.
-    fn end_line(&mut self, alloc: Global, line: &[u8]) -> Result<(), CoreMemory>
+    fn end_line(&mut self, line: &[u8]) -> Result<(), CoreMemory>
         requires ready { IsReady self.old }
         requires part { HasNoLf line.now }
         ensures goes { OnOk result (GoesOn
@@ -63,11 +63,11 @@ impl Feed {
     {
         if self.pending.as_slice().is_empty() {
             let size = line.len() as u64 + 1;
-            return self.run.turn(alloc, line, size, &mut self.out);
+            return self.run.turn(line, size, &mut self.out);
         }
         self.pending.extend_from_slice(line)?;
         let size = self.pending.as_slice().len() as u64 + 1;
-        self.run.turn(alloc, &self.pending, size, &mut self.out)?;
+        self.run.turn(&self.pending, size, &mut self.out)?;
         self.pending.clear();
         Ok(())
     }
@@ -113,7 +113,7 @@ impl Feed {
         ensures feeds { MatchOption result
             (GoesOnFed self.old [] self.new (O.seen output.old) (O.seen output.new)
             × (length self.new.out ≤ most))
-            (λ end. Halts end self.old [] (O.seen output.old) (O.seen output.new)) }
+            (λ end. Halts end self.old [] self.new.run (O.seen output.old) (O.seen output.new)) }
         ensures only { OnlyWrites (O.seen output.old) (O.seen output.new) }
     {
         if let Some(fault) = self.run.refused() {
@@ -133,18 +133,18 @@ impl Feed {
     }
 
     // Runs the line that ends with these bytes, and writes what was printed where that is much.
-    fn run_line<O: Sink>(&mut self, alloc: Global, line: &[u8], output: &mut O) -> Option<RunEnd>
+    fn run_line<O: Sink>(&mut self, line: &[u8], output: &mut O) -> Option<RunEnd>
         requires ready { IsReady self.old }
         requires part { HasNoLf line.now }
         ensures feeds { MatchOption result
             (GoesOnFed self.old (line.now ++ 10 ∷ []) self.new
             (O.seen output.old) (O.seen output.new)
             × (length self.new.out ≤ 65536))
-            (λ end. Halts end self.old (line.now ++ 10 ∷ [])
+            (λ end. Halts end self.old (line.now ++ 10 ∷ []) self.new.run
             (O.seen output.old) (O.seen output.new)) }
         ensures only { OnlyWrites (O.seen output.old) (O.seen output.new) }
     {
-        let Ok(()) = self.end_line(alloc, line) else {
+        let Ok(()) = self.end_line(line) else {
             return Some(RunEnd::Memory);
         };
         self.look_back(ROOM, output)
@@ -157,7 +157,8 @@ impl Feed {
         ensures feeds { MatchOption result
             (GoesOnFed self.old front.now self.new (O.seen output.old) (O.seen output.new)
             × (length self.new.out ≤ 0))
-            (λ end. Halts end self.old front.now (O.seen output.old) (O.seen output.new)) }
+            (λ end. Halts end self.old front.now self.new.run
+            (O.seen output.old) (O.seen output.new)) }
         ensures only { OnlyWrites (O.seen output.old) (O.seen output.new) }
     {
         let Ok(()) = self.begin_line(front) else {
@@ -167,22 +168,18 @@ impl Feed {
     }
 
     /// Runs the lines of a piece, and writes all that they print.
-    pub fn run_piece<O: Sink>(
-        &mut self,
-        alloc: Global,
-        piece: &[u8],
-        output: &mut O,
-    ) -> Option<RunEnd>
+    pub fn run_piece<O: Sink>(&mut self, piece: &[u8], output: &mut O) -> Option<RunEnd>
         requires ready { IsReady self.old }
         ensures feeds { MatchOption result
             (GoesOnFed self.old piece.now self.new (O.seen output.old) (O.seen output.new)
             × (length self.new.out ≤ 0))
-            (λ end. Halts end self.old piece.now (O.seen output.old) (O.seen output.new)) }
+            (λ end. Halts end self.old piece.now self.new.run
+            (O.seen output.old) (O.seen output.new)) }
         ensures only { OnlyWrites (O.seen output.old) (O.seen output.new) }
     {
         let mut rest = piece;
         'lines: while let Some(place) = line_end(rest) {
-            if let Some(end) = self.run_line(alloc, &rest[..place], output) {
+            if let Some(end) = self.run_line(&rest[..place], output) {
                 return Some(end);
             }
             rest = &rest[place + 1..];
@@ -191,7 +188,7 @@ impl Feed {
     }
 
     // Runs a last line without LF, where one waits.
-    fn run_pending(&mut self, alloc: Global) -> Result<(), CoreMemory>
+    fn run_pending(&mut self) -> Result<(), CoreMemory>
         requires ready { IsReady self.old }
         ensures run { OnOk result (self.new.run ≡ (last_turned self.old.pending self.old.run).run) }
         ensures out { OnOk result (self.new.out
@@ -201,7 +198,7 @@ impl Feed {
             return Ok(());
         }
         let size = self.pending.as_slice().len() as u64;
-        self.run.turn(alloc, &self.pending, size, &mut self.out)
+        self.run.turn(&self.pending, size, &mut self.out)
     }
 
     // Prints `end`, unless the run was refused.
@@ -230,12 +227,12 @@ impl Feed {
     }
 
     /// Ends the schedule, and writes all that is left to write.
-    pub fn finish<O: Sink>(&mut self, alloc: Global, output: &mut O) -> RunEnd
+    pub fn finish<O: Sink>(&mut self, output: &mut O) -> RunEnd
         requires ready { IsReady self.old }
-        ensures ends { Finishes result self.old (O.seen output.old) (O.seen output.new) }
+        ensures ends { Finishes result self.old self.new.run (O.seen output.old) (O.seen output.new) }
         ensures only { OnlyWrites (O.seen output.old) (O.seen output.new) }
     {
-        let Ok(()) = self.run_pending(alloc) else {
+        let Ok(()) = self.run_pending() else {
             return RunEnd::Memory;
         };
         let Ok(()) = self.put_end() else {
@@ -245,6 +242,19 @@ impl Feed {
         match self.write_out(output) {
             Ok(()) => end,
             Err(_) => RunEnd::WriteFault,
+        }
+    }
+
+    /// The agent that was run, where the schedule was run to its end or to a refused line.
+    pub fn into_agent(self, end: RunEnd) -> Option<Agent>
+        ensures { result ≡ agent_at end self.run }
+    {
+        match end {
+            RunEnd::Done | RunEnd::Refused { .. } => {
+                let Feed { run, .. } = self;
+                Some(run.into_agent())
+            }
+            RunEnd::Memory | RunEnd::ReadFault | RunEnd::WriteFault => None,
         }
     }
 }

@@ -1,26 +1,27 @@
 // A run of a schedule, a line at a time.
-ghost use Rattle.std.specs.Prelude.{◌≡◌, ◌≢◌, ◌+◌, ◌<◌, ◌≤◌, ◌++◌, ◌^◌, IsSome, OnOk, None, length, []};
+ghost use Rattle.std.specs.Prelude.{◌≡◌, ◌≢◌, ◌+◌, ◌<◌, ◌≤◌, ◌++◌, ◌^◌, OnOk, []};
 ghost use Rattle.agent_core.specs.Happenings.{happening};
-ghost use Rattle.agent_model.specs.Events.{Tick};
-ghost use Rattle.agent_model.specs.State.{Fits, find_port};
+ghost use Rattle.agent_model.specs.State.{Fits};
 ghost use Rattle.schedule_text.specs.Steps.{SaysSome};
 ghost use Rattle.replay_run.specs.Counts.{IsCounted};
-ghost use Rattle.replay_run.specs.Holding.{free_port, hold_port};
 ghost use Rattle.replay_run.specs.Replay.{start_run, longest_schedule, turned, step_turned};
-ghost use Rattle.replay_run.specs.Replay.{refuse, happened, at_port, settling_turn, took};
+ghost use Rattle.replay_run.specs.Replay.{refuse, happened, settling_turn};
+
+mod steps;
 
 use crate::held::Held;
 use crate::limits::LONGEST_SCHEDULE;
-use crate::settle::{run_event, send, settle};
+use crate::settle::{run_event, settle};
 use agent_core::{Agent, CoreMemory, Event, Settings};
 use schedule_text::{Deed, LineFault, Step, put_deed, read_line};
 use std::alloc::Global;
 use std::marker::Model;
-use world_ports::{Door, Moment};
+use world_ports::Moment;
 
 /// The agent, the moment of its events, the held ports, and how far the schedule was run.
 #[derive(Drop)]
 pub struct Replay {
+    alloc: Global,
     agent: Agent,
     moment: Moment,
     held: Held,
@@ -45,11 +46,12 @@ impl Model for Replay {
 }
 
 impl Replay {
-    pub fn new(alloc: Global) -> Self
-        ensures { result ≡ start_run }
+    pub fn new(alloc: Global, default_life: Option<u32>) -> Self
+        ensures { result ≡ start_run default_life }
     {
         Replay {
-            agent: Agent::new(alloc, Settings { default_life: None }),
+            alloc,
+            agent: Agent::new(alloc, Settings { default_life }),
             moment: Moment { mono: 0, wall: 0 },
             held: Held::new(alloc),
             line: 0,
@@ -72,6 +74,14 @@ impl Replay {
         self.read
     }
 
+    /// The agent that was run.
+    pub fn into_agent(self) -> Agent
+        ensures { result ≡ self.agent }
+    {
+        let Replay { agent, .. } = self;
+        agent
+    }
+
     /// Why the last line was refused.
     pub fn refused(&self) -> Option<LineFault>
         ensures { result ≡ self.now.refused }
@@ -80,13 +90,7 @@ impl Replay {
     }
 
     /// Runs one line, which takes `size` bytes of the schedule, its LF among them.
-    pub fn turn(
-        &mut self,
-        alloc: Global,
-        line: &[u8],
-        size: u64,
-        out: &mut Vec<u8>,
-    ) -> Result<(), CoreMemory>
+    pub fn turn(&mut self, line: &[u8], size: u64, out: &mut Vec<u8>) -> Result<(), CoreMemory>
         requires counted { IsCounted self.old }
         requires some { 0 < size }
         requires fits { size + self.old.read < 2 ^ 64 }
@@ -97,7 +101,7 @@ impl Replay {
         if self.read + size > LONGEST_SCHEDULE {
             return self.refuse(LineFault::TooLong, out);
         }
-        match read_line(alloc, line) {
+        match read_line(self.alloc, line) {
             Ok(step) => self.take_step(&step, size, out),
             Err(fault) => self.refuse_for(fault, out),
         }
@@ -120,7 +124,7 @@ impl Replay {
                 Ok(())
             }
             Step::At(moment) => self.set_moment(*moment, size, out),
-            Step::Join(Door::Clients) => self.happen(&Event::Joined(Door::Clients), size, out),
+            Step::Join(door) => self.happen(&Event::Joined(*door), size, out),
             Step::Hear { port, bytes } => {
                 let piece = bytes.as_slice();
                 self.happen_at(*port, &Event::Heard { port: *port, piece }, size, out)
@@ -129,112 +133,15 @@ impl Replay {
             Step::Hold(port) => self.hold(*port, size, out),
             Step::Free(port) => self.free(*port, size, out),
             Step::Take { port, count } => self.take(*port, *count, size, out),
-            _ => self.refuse(LineFault::Word, out),
+            Step::Started { job, ticket } => {
+                let event = Event::Started {
+                    job: *job,
+                    ticket: *ticket,
+                };
+                self.happen_to(*job, &event, size, out)
+            }
+            Step::Failed(job) => self.happen_to(*job, &Event::StartFailed { job: *job }, size, out),
         }
-    }
-
-    // From here on events come at this moment. The agent is told at once.
-    fn set_moment(&mut self, moment: Moment, size: u64, out: &mut Vec<u8>) -> Result<(), CoreMemory>
-        requires counted { IsCounted self.old }
-        requires some { 0 < size }
-        requires within { self.old.read + size ≤ longest_schedule }
-        ensures run { OnOk result
-            (self.new ≡ (happened Tick size (record self.old { moment = moment })).run) }
-        ensures out { OnOk result (out.new.items ≡ out.old.items
-            ++ (happened Tick size (record self.old { moment = moment })).output) }
-    {
-        self.moment = moment;
-        self.happen(&Event::Tick, size, out)
-    }
-
-    // From here on the port takes bytes only by `take`.
-    fn hold(&mut self, port: u64, size: u64, out: &mut Vec<u8>) -> Result<(), CoreMemory>
-        requires counted { IsCounted self.old }
-        requires within { self.old.read + size ≤ longest_schedule }
-        ensures run { OnOk result (self.new ≡ (at_port (find_port port self.old.agent.ports)
-            (settling_turn [] size (record self.old { held = hold_port port self.old.held }))
-            self.old).run) }
-        ensures out { OnOk result (out.new.items ≡ out.old.items
-            ++ (at_port (find_port port self.old.agent.ports)
-            (settling_turn [] size (record self.old { held = hold_port port self.old.held }))
-            self.old).output) }
-    {
-        if !self.agent.is_port(port) {
-            return self.refuse(LineFault::UnknownPort, out);
-        }
-        self.held.hold(port)?;
-        self.end_turn(size, out)
-    }
-
-    // The port takes all again.
-    fn free(&mut self, port: u64, size: u64, out: &mut Vec<u8>) -> Result<(), CoreMemory>
-        requires counted { IsCounted self.old }
-        requires within { self.old.read + size ≤ longest_schedule }
-        ensures run { OnOk result (self.new ≡ (at_port (find_port port self.old.agent.ports)
-            (settling_turn [] size (record self.old { held = free_port port self.old.held }))
-            self.old).run) }
-        ensures out { OnOk result (out.new.items ≡ out.old.items
-            ++ (at_port (find_port port self.old.agent.ports)
-            (settling_turn [] size (record self.old { held = free_port port self.old.held }))
-            self.old).output) }
-    {
-        if !self.agent.is_port(port) {
-            return self.refuse(LineFault::UnknownPort, out);
-        }
-        self.held.free(port);
-        self.end_turn(size, out)
-    }
-
-    // The port takes so many bytes, where it is open and owed them.
-    fn take(
-        &mut self,
-        port: u64,
-        count: u64,
-        size: u64,
-        out: &mut Vec<u8>,
-    ) -> Result<(), CoreMemory>
-        requires counted { IsCounted self.old }
-        requires within { self.old.read + size ≤ longest_schedule }
-        requires count { 0 < count }
-        ensures run { OnOk result (self.new ≡ (at_port (find_port port self.old.agent.ports)
-            (took port count size self.old) self.old).run) }
-        ensures out { OnOk result (out.new.items ≡ out.old.items
-            ++ (at_port (find_port port self.old.agent.ports)
-            (took port count size self.old) self.old).output) }
-    {
-        if !self.agent.is_port(port) {
-            return self.refuse(LineFault::UnknownPort, out);
-        }
-        if count > self.agent.owed(port).len() as u64 {
-            return self.refuse(LineFault::Order, out);
-        }
-        send(&mut self.agent, self.moment, port, count as usize, out)?;
-        self.end_turn(size, out)
-    }
-
-    // The event of a port, where that one is open.
-    fn happen_at(
-        &mut self,
-        port: u64,
-        event: &Event<'_>,
-        size: u64,
-        out: &mut Vec<u8>,
-    ) -> Result<(), CoreMemory>
-        requires counted { IsCounted self.old }
-        requires some { 0 < size }
-        requires within { self.old.read + size ≤ longest_schedule }
-        requires fits { IsSome (find_port port self.old.agent.ports) →
-            Fits (happening event.now) self.old.agent }
-        ensures run { OnOk result (self.new ≡ (at_port (find_port port self.old.agent.ports)
-            (happened (happening event.now) size self.old) self.old).run) }
-        ensures out { OnOk result (out.new.items ≡ out.old.items
-            ++ (at_port (find_port port self.old.agent.ports)
-            (happened (happening event.now) size self.old) self.old).output) }
-    {
-        if !self.agent.is_port(port) {
-            return self.refuse(LineFault::UnknownPort, out);
-        }
-        self.happen(event, size, out)
     }
 
     // The event, and the settling after it.
@@ -247,7 +154,7 @@ impl Replay {
         ensures out { OnOk result (out.new.items ≡ out.old.items
             ++ (happened (happening event.now) size self.old).output) }
     {
-        run_event(&mut self.agent, self.moment, event, out)?;
+        run_event(self.alloc, &mut self.agent, self.moment, event, out)?;
         self.end_turn(size, out)
     }
 
@@ -259,7 +166,7 @@ impl Replay {
         ensures out { OnOk result (out.new.items ≡ out.old.items
             ++ (settling_turn [] size self.old).output) }
     {
-        settle(&mut self.agent, self.moment, &self.held, out)?;
+        settle(self.alloc, &mut self.agent, self.moment, &self.held, out)?;
         self.line += 1;
         self.read += size;
         Ok(())

@@ -1,12 +1,14 @@
 // The loop over reads.
-ghost use Rattle.std.specs.Prelude.{◌≡◌, ◌<◌, IfOk, MatchOption, length, vec_len};
-ghost use Rattle.replay_run.specs.Claims.{Seen, Ends};
+ghost use Rattle.std.specs.Prelude.{◌≡◌, ◌<◌, ℕ, IfOk, MatchOption, Option, length, vec_len};
+ghost use Rattle.replay_run.specs.Claims.{Seen, Ends, HandsBack};
 ghost use Rattle.replay_run.specs.Feeding.{IsReady};
+ghost use Rattle.replay_run.specs.Finishing.{agent_at};
 ghost use Rattle.replay_run.specs.Rounds.{IsLonger, IsUnderWay};
 ghost use Rattle.world_ports.specs.Streams.{OnlyReads, OnlyWrites};
 
 use crate::limits::ROOM;
 use crate::{Feed, RunEnd};
+use agent_core::Agent;
 use std::alloc::{AllocError, Global};
 use world_ports::{Pulled, Sink, Source};
 
@@ -19,7 +21,6 @@ fn zeros(alloc: Global, size: usize) -> Result<Vec<u8>, AllocError>
 
 // Reads once, and runs what was read.
 fn run_round<I: Source, O: Sink>(
-    alloc: Global,
     feed: &mut Feed,
     room: &mut [u8],
     input: &mut I,
@@ -27,18 +28,20 @@ fn run_round<I: Source, O: Sink>(
 ) -> Option<RunEnd>
     requires room { 0 < length room.old }
     requires ready { IsReady feed.old }
-    ensures round { (start : Seen) →
-        IsUnderWay start (record { input = I.seen input.old; output = O.seen output.old }) feed.old →
+    ensures round { (life : Option ℕ) (start : Seen) →
+        IsUnderWay life start (record { input = I.seen input.old; output = O.seen output.old }) feed.old →
         MatchOption result
-        (IsUnderWay start (record { input = I.seen input.new; output = O.seen output.new }) feed.new
+        (IsUnderWay life start (record { input = I.seen input.new; output = O.seen output.new }) feed.new
         × IsLonger feed.old feed.new)
-        (λ end. Ends end start (record { input = I.seen input.new; output = O.seen output.new })) }
+        (λ end. Ends life end start (record { input = I.seen input.new; output = O.seen output.new })
+        × HandsBack life end (agent_at end feed.new.run) start
+        (record { input = I.seen input.new; output = O.seen output.new })) }
     ensures input_only { OnlyReads (I.seen input.old) (I.seen input.new) }
     ensures output_only { OnlyWrites (O.seen output.old) (O.seen output.new) }
 {
     match input.read(room) {
-        Ok(Pulled::Bytes(n)) => feed.run_piece(alloc, &room[..n as usize], output),
-        Ok(Pulled::End) => Some(feed.finish(alloc, output)),
+        Ok(Pulled::Bytes(n)) => feed.run_piece(&room[..n as usize], output),
+        Ok(Pulled::End) => Some(feed.finish(output)),
         Err(_) => Some(RunEnd::ReadFault),
     }
 }
@@ -46,21 +49,25 @@ fn run_round<I: Source, O: Sink>(
 // Reads into this room until the run ends.
 fn run_rounds<I: Source, O: Sink>(
     alloc: Global,
+    life: Option<u32>,
     room: &mut [u8],
     input: &mut I,
     output: &mut O,
-) -> RunEnd
+) -> (RunEnd, Option<Agent>)
     requires { 0 < length room.old }
-    ensures ends { Ends result
+    ensures ends { Ends life result.0
+        (record { input = I.seen input.old; output = O.seen output.old })
+        (record { input = I.seen input.new; output = O.seen output.new }) }
+    ensures agent { HandsBack life result.0 result.1
         (record { input = I.seen input.old; output = O.seen output.old })
         (record { input = I.seen input.new; output = O.seen output.new }) }
     ensures input_only { OnlyReads (I.seen input.old) (I.seen input.new) }
     ensures output_only { OnlyWrites (O.seen output.old) (O.seen output.new) }
 {
-    let mut feed = Feed::new(alloc);
+    let mut feed = Feed::new(alloc, life);
     'rounds: loop {
-        if let Some(end) = run_round(alloc, &mut feed, room, input, output) {
-            return end;
+        if let Some(end) = run_round(&mut feed, room, input, output) {
+            return (end, feed.into_agent(end));
         }
     }
 }
@@ -70,16 +77,25 @@ fn run_rounds<I: Source, O: Sink>(
 ///
 /// Lines are run as they are read, and what they print is written before the next read. A line may
 /// have 65536 bytes and a schedule 268435456. Reading stops at the first refused line, and nothing is
-/// written after a failed write.
-pub fn run_replay<I: Source, O: Sink>(alloc: Global, input: &mut I, output: &mut O) -> RunEnd
-    ensures ends { Ends result
+/// written after a failed write. Identities that come without a lifetime live for `life` seconds, where
+/// that is given. The agent is handed back at `Done` and `Refused`, as the last line that was run left it.
+pub fn run_replay<I: Source, O: Sink>(
+    alloc: Global,
+    life: Option<u32>,
+    input: &mut I,
+    output: &mut O,
+) -> (RunEnd, Option<Agent>)
+    ensures ends { Ends life result.0
+        (record { input = I.seen input.old; output = O.seen output.old })
+        (record { input = I.seen input.new; output = O.seen output.new }) }
+    ensures agent { HandsBack life result.0 result.1
         (record { input = I.seen input.old; output = O.seen output.old })
         (record { input = I.seen input.new; output = O.seen output.new }) }
     ensures input_only { OnlyReads (I.seen input.old) (I.seen input.new) }
     ensures output_only { OnlyWrites (O.seen output.old) (O.seen output.new) }
 {
     let Ok(mut room) = zeros(alloc, ROOM) else {
-        return RunEnd::Memory;
+        return (RunEnd::Memory, None);
     };
-    run_rounds(alloc, &mut room, input, output)
+    run_rounds(alloc, life, &mut room, input, output)
 }

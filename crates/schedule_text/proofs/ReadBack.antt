@@ -13,7 +13,7 @@ use Rattle.schedule_text.specs.declared.fault.LineFault.TheVariants.{Hex, Number
 use Rattle.schedule_text.specs.declared.step.Step.{Step}
 use Rattle.schedule_text.specs.declared.step.Step.TheVariants.{Skip, At, Join, Hear, End, Hold, Free, Take, Started, Failed}
 use Rattle.schedule_text.specs.Fields.{fields_of, is_space}
-use Rattle.schedule_text.specs.Lines.{◌>>=◌, at_least_one, at_step, bytes_field, count_field, hear_step, number_field, only_number, step_of, step_of_fields, step_of_short, take_step}
+use Rattle.schedule_text.specs.Lines.{◌>>=◌, at_least_one, at_step, bytes_field, count_field, hear_step, number_field, only_number, sixteen, started_step, step_of, step_of_fields, step_of_short, take_step, ticket_field}
 use Rattle.schedule_text.specs.Steps.{IsReadBack, bytes_text, one_text, two_text}
 use Rattle.schedule_text.proofs.NumberLemmas.{all_digits-decimal, bytes_of-encode_lower, number_of-decimal}
 use Rattle.schedule_text.proofs.Theorems.{step_of-empty}
@@ -119,6 +119,19 @@ take_back port count small_port small_count some =
     ∙ ap (λ r. (ok_or r Number >>= at_least_one) >>= (λ n. Ok (Take port n))) (number_of-decimal count small_count)
     ∙ ap (λ r. r >>= (λ n. Ok (Take port n))) (counted count some)
 
+-- a one-time token has 16 bytes
+of_sixteen : (ticket : List ℕ) → length ticket ≡ 16 → sixteen ticket ≡ Ok ticket
+of_sixteen ticket size =
+    let is : (length ticket == 16) ≡ true = grind (arith, nat_tests) in
+    ap (λ t. if t then Ok ticket else Err Hex) is
+
+started_back : (job : ℕ) (ticket : List ℕ) → job < 2 ^ 64 → IsBytes ticket → length ticket ≡ 16
+    → started_step (decimal job ∷ encode_lower ticket ∷ []) ≡ Ok (Started job ticket)
+started_back job ticket small are_bytes size =
+    ap (λ r. ok_or r Number >>= (λ j. ticket_field (encode_lower ticket) >>= (λ t. Ok (Started j t)))) (number_of-decimal job small)
+    ∙ ap (λ r. (ok_or r Hex >>= sixteen) >>= (λ t. Ok (Started job t))) (bytes_of-encode_lower ticket (omega arith) are_bytes)
+    ∙ ap (λ r. r >>= (λ t. Ok (Started job t))) (of_sixteen ticket size)
+
 -- the line of a word and a number
 one_line : (word : List ℕ) (n : ℕ) → HasNoSpace word → says (one_text word n) ≡ true → n < 2 ^ 64
     → length (one_text word n) ≤ 65536 → step_of (one_text word n) ≡ step_of_fields (word ∷ decimal n ∷ [])
@@ -142,23 +155,26 @@ bytes_line word n bytes none said small short =
     ∙ ap step_of_fields (fields_of-two word (decimal n) (encode_lower bytes) none (no_space-decimal n small) (no_space-hex bytes))
 
 pub read_back : IsReadBack
-read_back Skip is_read range line = step_of-empty
-read_back (At moment) is_read range line =
+read_back Skip range line = step_of-empty
+read_back (At moment) range line =
     two_line (codes "at") moment.mono moment.wall (refl, (refl, tt)) refl range.0 range.1 line.short
     ∙ at_back moment.mono moment.wall range.0 range.1
-read_back (Join Clients) is_read range line = step_of-says (codes "join client") line.short refl
-read_back (Join Children) is_read range line = absurd is_read
-read_back (Hear port bytes) is_read range line =
+read_back (Join Clients) range line = step_of-says (codes "join client") line.short refl
+read_back (Join Children) range line = step_of-says (codes "join child") line.short refl
+read_back (Hear port bytes) range line =
     bytes_line (codes "hear") port bytes (refl, (refl, (refl, (refl, tt)))) refl range.0 line.short
     ∙ hear_back port bytes range.0 line.some range.1
-read_back (End port) is_read range line =
+read_back (End port) range line =
     one_line (codes "end") port (refl, (refl, (refl, tt))) refl range line.short ∙ one_back End port range
-read_back (Hold port) is_read range line =
+read_back (Hold port) range line =
     one_line (codes "hold") port (refl, (refl, (refl, (refl, tt)))) refl range line.short ∙ one_back Hold port range
-read_back (Free port) is_read range line =
+read_back (Free port) range line =
     one_line (codes "free") port (refl, (refl, (refl, (refl, tt)))) refl range line.short ∙ one_back Free port range
-read_back (Take port count) is_read range line =
+read_back (Take port count) range line =
     two_line (codes "take") port count (refl, (refl, (refl, (refl, tt)))) refl range.0 range.1 line.short
     ∙ take_back port count range.0 range.1 line.some
-read_back (Started job ticket) is_read range line = absurd is_read
-read_back (Failed job) is_read range line = absurd is_read
+read_back (Started job ticket) range line =
+    bytes_line (codes "started") job ticket (refl, (refl, (refl, (refl, (refl, (refl, (refl, tt))))))) refl range.0 line.short
+    ∙ started_back job ticket range.0 range.1 range.2
+read_back (Failed job) range line =
+    one_line (codes "failed") job (refl, (refl, (refl, (refl, (refl, (refl, tt)))))) refl range line.short ∙ one_back Failed job range

@@ -4,9 +4,9 @@ use Rattle.std.proofs.lemmas.Bool.Decides.{nat_tests}
 use Rattle.schedule_text.specs.declared.fault.LineFault.{LineFault}
 use Rattle.schedule_text.specs.declared.fault.LineFault.TheVariants.{Hex, Memory, Number, TooLong}
 use Rattle.schedule_text.specs.declared.step.Step.{Step}
-use Rattle.schedule_text.specs.declared.step.Step.TheVariants.{Skip, Take}
+use Rattle.schedule_text.specs.declared.step.Step.TheVariants.{Skip, Started, Take}
 use Rattle.schedule_text.specs.Fields.{fields_of}
-use Rattle.schedule_text.specs.Lines.{◌>>=◌, at_least_one, at_step, end_step, free_step, hear_step, hold_step, join_step, step_of, step_of_fields, step_of_short, take_step}
+use Rattle.schedule_text.specs.Lines.{◌>>=◌, at_least_one, at_step, end_step, failed_step, free_step, hear_step, hold_step, join_step, sixteen, started_step, step_of, step_of_fields, step_of_short, take_step}
 use Rattle.schedule_text.specs.Numbers.{bytes_of, number_of}
 use Rattle.schedule_text.specs.Steps.{SaysSome}
 use Rattle.schedule_text.proofs.NumberLemmas.{length-bytes_of}
@@ -48,7 +48,8 @@ IsSound-at (mono ∷ wall ∷ next ∷ fields) = tt
 
 IsSound-join : (fields : List (List ℕ)) → IsSound (join_step fields)
 IsSound-join [] = tt
-IsSound-join (name ∷ []) = IsSound-if (bytes_eq name (codes "client")) _ _ tt tt
+IsSound-join (name ∷ []) =
+    IsSound-if (bytes_eq name (codes "client")) _ _ tt (IsSound-if (bytes_eq name (codes "child")) _ _ tt tt)
 IsSound-join (name ∷ next ∷ fields) = tt
 
 IsSound-hear : (fields : List (List ℕ)) → IsSound (hear_step fields)
@@ -89,6 +90,26 @@ IsSound-take (port ∷ []) = tt
 IsSound-take (port ∷ count ∷ []) = IsSound-field (number_of port) Number _ tt (λ n _. IsSound-count n (number_of count))
 IsSound-take (port ∷ count ∷ next ∷ fields) = tt
 
+-- by whether the bytes are 16
+IsSound-sixteen : (job : ℕ) (bytes : List ℕ) (test : Bool) → IsSound ((if test then Ok bytes else Err Hex) >>= (λ t. Ok (Started job t)))
+IsSound-sixteen job bytes true = tt
+IsSound-sixteen job bytes false = tt
+
+IsSound-ticket : (job : ℕ) (read : Option (List ℕ)) → IsSound ((ok_or read Hex >>= sixteen) >>= (λ t. Ok (Started job t)))
+IsSound-ticket job None = tt
+IsSound-ticket job (Some bytes) = IsSound-sixteen job bytes (length bytes == 16)
+
+IsSound-started : (fields : List (List ℕ)) → IsSound (started_step fields)
+IsSound-started [] = tt
+IsSound-started (job ∷ []) = tt
+IsSound-started (job ∷ ticket ∷ []) = IsSound-field (number_of job) Number _ tt (λ j _. IsSound-ticket j (bytes_of ticket))
+IsSound-started (job ∷ ticket ∷ next ∷ fields) = tt
+
+IsSound-failed : (fields : List (List ℕ)) → IsSound (failed_step fields)
+IsSound-failed [] = tt
+IsSound-failed (job ∷ []) = IsSound-field (number_of job) Number _ tt (λ n _. tt)
+IsSound-failed (job ∷ next ∷ fields) = tt
+
 IsSound-fields : (fields : List (List ℕ)) → IsSound (step_of_fields fields)
 IsSound-fields [] = tt
 IsSound-fields (word ∷ fields) =
@@ -98,7 +119,9 @@ IsSound-fields (word ∷ fields) =
     IsSound-if (bytes_eq word (codes "end")) _ _ (IsSound-end fields) (
     IsSound-if (bytes_eq word (codes "hold")) _ _ (IsSound-hold fields) (
     IsSound-if (bytes_eq word (codes "free")) _ _ (IsSound-free fields) (
-    IsSound-if (bytes_eq word (codes "take")) _ _ (IsSound-take fields) tt))))))
+    IsSound-if (bytes_eq word (codes "take")) _ _ (IsSound-take fields) (
+    IsSound-if (bytes_eq word (codes "started")) _ _ (IsSound-started fields) (
+    IsSound-if (bytes_eq word (codes "failed")) _ _ (IsSound-failed fields) tt))))))))
 
 IsSound-short : (line : List ℕ) → IsSound (step_of_short line)
 IsSound-short [] = tt

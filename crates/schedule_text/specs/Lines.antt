@@ -1,10 +1,10 @@
 -- Lines of a schedule (ours): docs/PROTOCOL.md, "Schedules".
 use Rattle.std.specs.Prelude.{◌≡◌, ◌⊎◌, ℕ, ◌==◌, nat_lt, if◌then◌else◌, bytes_eq, codes, length, List, [], ◌∷◌, Result, Ok, Err, ok_or}
-use Rattle.world_ports.specs.declared.Door.TheVariants.{Clients}
+use Rattle.world_ports.specs.declared.Door.TheVariants.{Clients, Children}
 use Rattle.schedule_text.specs.declared.fault.LineFault.{LineFault}
 use Rattle.schedule_text.specs.declared.fault.LineFault.TheVariants.{Hex, Memory, Number, TooLong, Word}
 use Rattle.schedule_text.specs.declared.step.Step.{Step}
-use Rattle.schedule_text.specs.declared.step.Step.TheVariants.{Skip, At, Join, Hear, End, Hold, Free, Take}
+use Rattle.schedule_text.specs.declared.step.Step.TheVariants.{Skip, At, Join, Hear, End, Hold, Free, Take, Started, Failed}
 use Rattle.schedule_text.specs.Fields.{fields_of}
 use Rattle.schedule_text.specs.Numbers.{bytes_of, number_of}
 
@@ -36,6 +36,16 @@ count_field field = do
 abbrev pub bytes_field : List ℕ → Result (List ℕ) LineFault
 bytes_field field = ok_or (bytes_of field) Hex
 
+-- bytes that are a one-time token: there are 16 of them
+abbrev pub sixteen : List ℕ → Result (List ℕ) LineFault
+sixteen bytes = if length bytes == 16 then Ok bytes else Err Hex
+
+-- the one-time token that a field writes
+abbrev pub ticket_field : List ℕ → Result (List ℕ) LineFault
+ticket_field field = do
+  bytes ← bytes_field field
+  sixteen bytes
+
 -- the number that the only field writes
 abbrev pub only_number : List (List ℕ) → Result ℕ LineFault
 only_number (field ∷ []) = number_field field
@@ -49,9 +59,12 @@ at_step (mono ∷ wall ∷ []) = do
   Ok (At (record { mono = mono; wall = wall }))
 at_step _ = Err Word
 
--- `join client`
+-- `join client` or `join child`
 abbrev pub join_step : List (List ℕ) → Result Step LineFault
-join_step (name ∷ []) = if bytes_eq name (codes "client") then Ok (Join Clients) else Err Word
+join_step (name ∷ []) =
+    if bytes_eq name (codes "client") then Ok (Join Clients)
+    else if bytes_eq name (codes "child") then Ok (Join Children)
+    else Err Word
 join_step _ = Err Word
 
 -- `hear PORT HEX`
@@ -88,6 +101,20 @@ take_step (port ∷ count ∷ []) = do
   Ok (Take port count)
 take_step _ = Err Word
 
+-- `started JOB HEX`
+abbrev pub started_step : List (List ℕ) → Result Step LineFault
+started_step (job ∷ ticket ∷ []) = do
+  job ← number_field job
+  ticket ← ticket_field ticket
+  Ok (Started job ticket)
+started_step _ = Err Word
+
+-- `failed JOB`
+abbrev pub failed_step : List (List ℕ) → Result Step LineFault
+failed_step fields = do
+  job ← only_number fields
+  Ok (Failed job)
+
 -- what the fields ask for by the first of them, or their first fault
 abbrev pub step_of_fields : List (List ℕ) → Result Step LineFault
 step_of_fields [] = Err Word
@@ -99,6 +126,8 @@ step_of_fields (word ∷ fields) =
     else if bytes_eq word (codes "hold") then hold_step fields
     else if bytes_eq word (codes "free") then free_step fields
     else if bytes_eq word (codes "take") then take_step fields
+    else if bytes_eq word (codes "started") then started_step fields
+    else if bytes_eq word (codes "failed") then failed_step fields
     else Err Word
 
 -- the same of a line that isn't too long: where it is empty or begins with `#`, it is skipped

@@ -52,7 +52,7 @@ pub record HasLine (step : Step) : Type 0 where
   pub some : SaysSome step
   pub short : length (step_text step) ≤ 65536
 
--- numbers are below 2 ^ 64, and bytes below 256
+-- numbers are below 2 ^ 64, bytes below 256, and a one-time token has 16 of them
 abbrev pub IsInRange : Step → Type 0
 IsInRange Skip = Unit {0}
 IsInRange (At moment) = (moment.mono < 2 ^ 64) × (moment.wall < 2 ^ 64)
@@ -62,16 +62,9 @@ IsInRange (End port) = port < 2 ^ 64
 IsInRange (Hold port) = port < 2 ^ 64
 IsInRange (Free port) = port < 2 ^ 64
 IsInRange (Take port count) = (port < 2 ^ 64) × (count < 2 ^ 64)
-IsInRange (Started job ticket) = (job < 2 ^ 64) × IsBytes ticket
+IsInRange (Started job ticket) = (job < 2 ^ 64) × IsBytes ticket × (length ticket ≡ 16)
 IsInRange (Failed job) = job < 2 ^ 64
-
--- the step has a word that is read: those of children have none
-abbrev pub IsRead : Step → Type 0
-IsRead (Join Children) = ⊥
-IsRead (Started job ticket) = ⊥
-IsRead (Failed job) = ⊥
-IsRead _ = Unit {0}
 
 -- the line of each such step is read as that step
 abbrev pub IsReadBack : Type 0
-IsReadBack = (step : Step) → IsRead step → IsInRange step → HasLine step → step_of (step_text step) ≡ Ok step
+IsReadBack = (step : Step) → IsInRange step → HasLine step → step_of (step_text step) ≡ Ok step

@@ -2,8 +2,7 @@
 
 ghost use Rattle.schedule_text.specs.Steps.{IsReadBack};
 
-/// A line that is written for a step is read as that step, but for the lines of children, which
-/// aren't read.
+/// A line that is written for a step is read as that step.
 pub fn a_written_step_is_read_back()
     ensures { IsReadBack }
 {}

@@ -3,7 +3,8 @@
 ghost use Rattle.std.specs.Prelude.{◌≡◌, IfOk, IfErr};
 ghost use Rattle.schedule_text.specs.Fields.{fields_of};
 ghost use Rattle.schedule_text.specs.Lines.{IsFaultOf, bytes_field, count_field, number_field, only_number};
-ghost use Rattle.schedule_text.specs.Lines.{at_step, hear_step, join_step, take_step, step_of, step_of_fields};
+ghost use Rattle.schedule_text.specs.Lines.{at_step, hear_step, join_step, started_step, take_step, step_of};
+ghost use Rattle.schedule_text.specs.Lines.{step_of_fields, ticket_field};
 
 use crate::fields::Fields;
 use crate::numbers::number;
@@ -55,6 +56,10 @@ fn read_fields(alloc: Global, line: &[u8]) -> Result<Step, LineFault>
         Ok(Step::Free(read_only_number(fields)?))
     } else if word == b"take".as_slice() {
         read_take(fields)
+    } else if word == b"started".as_slice() {
+        read_started(fields)
+    } else if word == b"failed".as_slice() {
+        Ok(Step::Failed(read_only_number(fields)?))
     } else {
         Err(LineFault::Word)
     }
@@ -85,6 +90,7 @@ fn read_join(mut fields: Fields<'_>) -> Result<Step, LineFault>
     };
     match name {
         b"client" => Ok(Step::Join(Door::Clients)),
+        b"child" => Ok(Step::Join(Door::Children)),
         _ => Err(LineFault::Word),
     }
 }
@@ -123,6 +129,22 @@ fn read_take(mut fields: Fields<'_>) -> Result<Step, LineFault>
     Ok(Step::Take { port, count })
 }
 
+/// The rest of a line `started JOB HEX`.
+fn read_started(mut fields: Fields<'_>) -> Result<Step, LineFault>
+    ensures { result ≡ started_step fields.entry }
+{
+    let (Some(job), Some(ticket), None) = (
+        fields.next_field(),
+        fields.next_field(),
+        fields.next_field(),
+    ) else {
+        return Err(LineFault::Word);
+    };
+    let job = read_number(job)?;
+    let ticket = read_ticket(ticket)?;
+    Ok(Step::Started { job, ticket })
+}
+
 /// The rest of a line of a word and one number.
 fn read_only_number(mut fields: Fields<'_>) -> Result<u64, LineFault>
     ensures { result ≡ only_number fields.entry }
@@ -145,6 +167,16 @@ fn read_count(field: &[u8]) -> Result<u64, LineFault>
     match read_number(field)? {
         0 => Err(LineFault::Number),
         count => Ok(count),
+    }
+}
+
+fn read_ticket(field: &[u8]) -> Result<[u8; 16], LineFault>
+    ensures { result ≡ ticket_field field.now }
+{
+    let mut ticket = [0; 16];
+    match hex::decode_to_slice(field, &mut ticket) {
+        Ok(()) => Ok(ticket),
+        Err(_) => Err(LineFault::Hex),
     }
 }
 

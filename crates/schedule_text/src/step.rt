@@ -5,16 +5,14 @@ use world_ports::{Door, Moment};
 
 /// What one line of a schedule asks for. Ports and jobs are numbers as the run counts them, from 1.
 ///
-/// Has no `Debug`, since what a port sends may hold a private key or a passphrase. `put_step`
-/// writes each of them; `read_line` reads all but `join child`, `started` and `failed`, which it
-/// refuses as `LineFault::Word`.
+/// Has no `Debug`, since what a port sends may hold a private key or a passphrase.
 #[derive(PartialEq, Eq, Drop)]
 pub enum Step {
     /// A line that is empty or begins with `#`. It is counted and does nothing else.
     Skip,
     /// `at MONO WALL`: the moment of the lines that follow.
     At(Moment),
-    /// `join client`, or `join child`, which isn't read: a connection comes in.
+    /// `join client` or `join child`: a connection comes in.
     Join(Door),
     /// `hear PORT HEX`: the port sends bytes, of which there is one at least.
     Hear { port: u64, bytes: Bytes },
@@ -26,9 +24,8 @@ pub enum Step {
     Free(u64),
     /// `take PORT N`: the port takes so many bytes, one at least.
     Take { port: u64, count: u64 },
-    /// `started JOB HEX`, which isn't read: the child process runs and was given this one-time
-    /// token.
+    /// `started JOB HEX`: the child process runs and was given this one-time token.
     Started { job: u64, ticket: [u8; 16] },
-    /// `failed JOB`, which isn't read: the child process could not be started.
+    /// `failed JOB`: the child process could not be started.
     Failed(u64),
 }

@@ -4,6 +4,7 @@
 
 use crate::agent::agent_main;
 use crate::status::Status;
+use crate::tests::texts;
 use std::alloc::{AllocError, Global};
 use std::test::Fail;
 use world_ports::{SliceSource, VecSink};
@@ -46,10 +47,14 @@ fn repeated(alloc: Global, digits: &str, count: u32) -> Result<String, AllocErro
 
 // What is printed for a schedule, which is to be run to its end.
 pub fn printed(alloc: Global, schedule: &[u8]) -> Result<VecSink, Fail> {
+    printed_by(alloc, &["replay"], schedule)
+}
+
+// The same with these words.
+pub fn printed_by(alloc: Global, words: &[&str], schedule: &[u8]) -> Result<VecSink, Fail> {
     let mut source = SliceSource::new(schedule, 4096, Vec::new(alloc));
     let mut sink = VecSink::new(alloc, ROOM, Vec::new(alloc))?;
-    let mut words = Vec::new(alloc);
-    words.push(String::from_str(alloc, "replay")?)?;
+    let words = texts(alloc, words)?;
     match agent_main(alloc, &words, &mut source, &mut sink) {
         Status::Done => Ok(sink),
         _ => Err("the schedule is not run to its end".into()),

@@ -168,12 +168,12 @@ fn lines_of_held_ports_are_refused(rt: HostRuntime) -> Result<(), Fail> {
             b"refused 1 number\n".as_slice(),
         ),
         (
-            b"join child\n".as_slice(),
+            b"join child\nfailed 1\n".as_slice(),
             Status::ScheduleRefused {
-                line: 1,
-                fault: LineFault::Word,
+                line: 2,
+                fault: LineFault::Order,
             },
-            b"refused 1 word\n".as_slice(),
+            b"refused 2 order\n".as_slice(),
         ),
     ];
     for (schedule, status, output) in cases {

@@ -19,6 +19,7 @@ fn empty_lines_and_comments_are_skipped(rt: HostRuntime) {
 fn joins_and_ends_are_read(rt: HostRuntime) {
     let cases = [
         (b"join client".as_slice(), Step::Join(Door::Clients)),
+        (b"join child".as_slice(), Step::Join(Door::Children)),
         (b"end 0".as_slice(), Step::End(0)),
         (b"end 10".as_slice(), Step::End(10)),
         (b"end 18446744073709551615".as_slice(), Step::End(u64::MAX)),
@@ -41,6 +42,23 @@ fn bytes_are_heard_in_either_case(rt: HostRuntime) -> Result<(), Fail> {
         );
     }
     Ok(())
+}
+
+#[test]
+fn jobs_are_read(rt: HostRuntime) {
+    let ticket = [
+        0, 17, 34, 51, 68, 85, 102, 119, 136, 153, 170, 187, 204, 221, 238, 255,
+    ];
+    let cases = [
+        (
+            b"started 3 00112233445566778899aAbBcCdDeEfF".as_slice(),
+            Step::Started { job: 3, ticket },
+        ),
+        (b"failed 0".as_slice(), Step::Failed(0)),
+    ];
+    for (line, want) in cases {
+        assert!(rt; read_line(rt.alloc(), line) == Ok(want), "at {line:?}");
+    }
 }
 
 #[test]
@@ -70,7 +88,7 @@ fn another_word_or_number_of_fields_is_refused(rt: HostRuntime) {
         b" join client".as_slice(),
         b"join".as_slice(),
         b"join ".as_slice(),
-        b"join child".as_slice(),
+        b"join children".as_slice(),
         b"join clients".as_slice(),
         b"join Client".as_slice(),
         b"join client ".as_slice(),
@@ -91,8 +109,10 @@ fn another_word_or_number_of_fields_is_refused(rt: HostRuntime) {
         b"free".as_slice(),
         b"take 1".as_slice(),
         b"take 1 1 1".as_slice(),
-        b"started 1 00000000000000000000000000000000".as_slice(),
-        b"failed 1".as_slice(),
+        b"started 1".as_slice(),
+        b"started 1 00000000000000000000000000000000 1".as_slice(),
+        b"failed".as_slice(),
+        b"failed 1 1".as_slice(),
     ];
     for line in lines {
         assert_eq!(rt;
@@ -123,6 +143,8 @@ fn a_field_that_is_no_number_is_refused(rt: HostRuntime) {
         b"take x 1".as_slice(),
         b"take 1 0".as_slice(),
         b"take 1 01".as_slice(),
+        b"started 01 00000000000000000000000000000000".as_slice(),
+        b"failed x".as_slice(),
     ];
     for line in lines {
         assert_eq!(rt;
@@ -140,6 +162,11 @@ fn a_field_that_is_no_hexadecimal_is_refused(rt: HostRuntime) {
         b"hear 1 0".as_slice(),
         b"hear 1 000".as_slice(),
         b"hear 1 0g".as_slice(),
+        b"started 1 ".as_slice(),
+        b"started 1 0000000000000000000000000000000".as_slice(),
+        b"started 1 000000000000000000000000000000".as_slice(),
+        b"started 1 0000000000000000000000000000000000".as_slice(),
+        b"started 1 0000000000000000000000000000000g".as_slice(),
     ] {
         assert_eq!(rt;
             read_line(rt.alloc(), line).err(),
@@ -155,6 +182,7 @@ fn the_first_of_two_faults_is_told(rt: HostRuntime) {
         (b"hear x 0g".as_slice(), LineFault::Number),
         (b"hear 01 ".as_slice(), LineFault::Number),
         (b"take 1x 0".as_slice(), LineFault::Number),
+        (b"started x 00".as_slice(), LineFault::Number),
         (b"hear x 0g 1".as_slice(), LineFault::Word),
         (b"take 01 0 1".as_slice(), LineFault::Word),
         (b"leave x".as_slice(), LineFault::Word),

@@ -1,15 +1,23 @@
+use Rattle.std.proofs.Common.{◌≡◌, ◌∙◌, ℕ, Option, Some}
 use Rattle.replay_run.specs.Claims.{Seen}
+use Rattle.agent_top.specs.Program.{Completes, ReplaysExactly}
 use Rattle.agent_top.proofs.ProgramLemmas.{replays_by, completes_by}
 use Rattle.agent_top.proofs.agent.agent_main.Goals as goal
 
+-- the words say one lifetime
+same_life : {one other : Option ℕ} → Some one ≡ Some other → one ≡ other
+same_life same = cc
+
 pub returns-clause-replays : goal.returns-clause-replays
-returns-clause-replays g c replay =
+returns-clause-replays g c life replay =
     let old : Seen = record { input = g.I.Stream.seen c.args.input.now; output = g.O.Stream.seen c.args.output.now } in
-    let new : Seen = record { input = g.I.Stream.seen c.run_replay.new.input; output = g.O.Stream.seen c.run_replay.new.output } in
-    rw c.status_of_end.ensures (replays_by c.run_replay.result old new c.run_replay.ensures.ends)
+    let new : Seen = record { input = g.I.Stream.seen c.run_replay-end.new.input; output = g.O.Stream.seen c.run_replay-end.new.output } in
+    rw (← (same_life (c.in-Some.ensures ∙ replay)), c.status_of_end.ensures)
+    (replays_by c.in-Some.words.life c.run_replay-end.result.0 old new c.run_replay-end.ensures.ends)
 
 pub returns-clause-completes : goal.returns-clause-completes
-returns-clause-completes g c replay =
+returns-clause-completes g c life replay =
     let old : Seen = record { input = g.I.Stream.seen c.args.input.now; output = g.O.Stream.seen c.args.output.now } in
-    let new : Seen = record { input = g.I.Stream.seen c.run_replay.new.input; output = g.O.Stream.seen c.run_replay.new.output } in
-    rw c.status_of_end.ensures (completes_by c.run_replay.result old new c.run_replay.ensures.ends)
+    let new : Seen = record { input = g.I.Stream.seen c.run_replay-end.new.input; output = g.O.Stream.seen c.run_replay-end.new.output } in
+    rw (← (same_life (c.in-Some.ensures ∙ replay)), c.status_of_end.ensures)
+    (completes_by c.in-Some.words.life c.run_replay-end.result.0 old new c.run_replay-end.ensures.ends)

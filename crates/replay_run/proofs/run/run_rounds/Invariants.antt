@@ -8,7 +8,7 @@ use Rattle.replay_run.proofs.run.run_rounds.Given as goal
 -- the run is under way, and nothing else changed
 abbrev pub invariant-rounds : goal.invariant-rounds
 invariant-rounds g l = record {
-  under : IsUnderWay
+  under : IsUnderWay l.fn.life
       (record { input = g.I.Stream.seen l.fn.input; output = g.O.Stream.seen l.fn.output })
       (record { input = g.I.Stream.seen l.input; output = g.O.Stream.seen l.output })
       l.feed;

@@ -5,7 +5,7 @@ use Rattle.replay_run.proofs.feed.Feed.look_back.Goals as goal
 
 pub returns-in-Ok-clause-feeds : goal.returns-in-Ok-clause-feeds
 returns-in-Ok-clause-feeds g c =
-    rw (c.line-line.ensures ∙ ap (λ (f : Feeding). f.run.line) c.self.view_is)
+    rw (c.line-line.ensures ∙ ap (λ (f : Feeding). f.run.line) c.self.view_is, ap (λ (f : Feeding). f.run) c.in-Ok.ensures.new)
     (refusal_written c.args.self.now c.in-Some.fault (g.O.Stream.seen c.args.output.now) (g.O.Stream.seen c.write_out.new.output)
     (c.in-Some.ensures ∙ ap (λ (f : Feeding). f.run.refused) c.self.view_is) c.in-Ok.ensures.ok)
 

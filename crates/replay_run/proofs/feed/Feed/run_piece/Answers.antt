@@ -8,7 +8,7 @@ returns-in-Some-run_line-clause-feeds g c =
     let so_far = c.lines.invariant in
     let rest = c.lines.rest.now in
     let place = c.in-Some.place in
-    piece_halts c.in-Some-run_line.end c.args.self.now c.lines.self so_far.fed.front (take place rest) (take (length rest - (place + 1)) (drop (place + 1) rest)) rest c.args.piece.now
+    piece_halts c.in-Some-run_line.end c.args.self.now c.lines.self so_far.fed.front (take place rest) (take (length rest - (place + 1)) (drop (place + 1) rest)) rest c.args.piece.now c.run_line.new.self.run
     (g.O.Stream.seen c.args.output.now) (g.O.Stream.seen c.lines.output) (g.O.Stream.seen c.run_line.new.output)
     so_far.fed.fed so_far.fed.is (line_cut rest place c.in-Some.ensures) c.in-Some-run_line.ensures.feeds
 
