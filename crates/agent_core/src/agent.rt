@@ -140,7 +140,7 @@ impl Agent {
         self.parts.keys.next_death()
     }
 
-    /// The greatest second of the monotonic clock so far.
+    /// The greatest second of the monotonic clock so far, 0 before the first event.
     pub fn second(&self) -> u64
         ensures { result ≡ self.now.moment.mono }
     {

@@ -1,4 +1,4 @@
--- The numbers of ports over the events of the abstract agent.
+-- What an event does to the numbers of ports (ours).
 use Rattle.std.specs.Prelude.{ℕ, suc}
 use Rattle.agent_model.specs.Events.{Happening, Joined, Heard, Ended, Took, Started, StartFailed, Tick}
 

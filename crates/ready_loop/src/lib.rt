@@ -1,5 +1,5 @@
 //! The readiness loop: which call on the world comes next, and what the agent is told of its answer.
-//! Stands on ready_hub (which journals are legal), agent_core (the agent), agent_model (its steps) and world_ports.
+//! Stands on ready_hub (which journals are legal), agent_model (the steps of the agent) and world_ports.
 #![tactic(auto)]
 
 mod core;
