@@ -167,8 +167,8 @@ pub accept-taken : (state : State) (line : Line) (door : Door) (number : ℕ) �
 accept-taken state line door number found =
     let queue = queued_port number line.queue in
     let ready : set_of queue (Accept door) ≡ true =
-        ap (λ (hot : Hot). hot (Accept door)) (set_of-queued_port number line.queue)
-        ∙ (first_is_found state line.queue (Accept door) found).ready in
+    ap (λ (hot : Hot). hot (Accept door)) (set_of-queued_port number line.queue)
+    ∙ (first_is_found state line.queue (Accept door) found).ready in
     accept-any state line door (Ok (accepted.Port number)) found
     ∙ lands state (record { queue = put_back (Accept door) queue; joined = is_client door || line.joined })
     (heated_port number (set_of line.queue)) (NowFor (Joined door))

@@ -39,8 +39,8 @@ ahead_by : (here : Bool) (other thing first : Thing) (queue : List Thing) → (h
 ahead_by true other thing first queue has lacks rest = refl
 ahead_by false other thing first queue has lacks rest =
     elim (same_thing first thing) as (λ b. (b || set_of queue thing) ≡ false → (not b && ahead other thing queue) ≡ true) [
-      true ↦ λ never. cc
-    | false ↦ λ later. rest has later
+      | true ↦ λ never. cc
+      | false ↦ λ later. rest has later
     ] lacks
 
 ahead_alone : (other thing : Thing) (queue : List Thing) → set_of queue other ≡ true → set_of queue thing ≡ false → ahead other thing queue ≡ true
@@ -67,8 +67,8 @@ ahead_left_by true true this other thing third first queue gone here apart is re
     cc
 ahead_left_by true false this other thing third first queue gone here apart is rest =
     elim (same_thing first thing) as (λ b. (not b && ahead other thing queue) ≡ true → ahead other thing (dropped third queue) ≡ true) [
-      true ↦ λ never. cc
-    | false ↦ λ later. rest later
+      | true ↦ λ never. cc
+      | false ↦ λ later. rest later
     ] is
 ahead_left_by false here this other thing third first queue gone here_is apart is rest =
     ap (λ (b : Bool). if b then true else (not (same_thing first thing) && ahead other thing (dropped third queue))) here_is
@@ -233,11 +233,11 @@ out_of_turn state (entry.Now answer) other thing queue service waits apart is = 
 after_is : (turning after : Turning) (next : Entry) → taken turning next ≡ Some after → after.line ≡ line_after turning.reading.state next turning.line
 after_is turning after next is =
     elim (is_in_turn turning.reading.state turning.line.queue next) as (λ b. taken_if b turning next ≡ Some after → after.line ≡ line_after turning.reading.state next turning.line) [
-      true ↦ λ here. elim (allowed turning.reading next) as (λ r. option_map (λ (reading : Reading). record { reading = reading; line = line_after turning.reading.state next turning.line }) r ≡ Some after → after.line ≡ line_after turning.reading.state next turning.line) [
-        None ↦ λ none. cc
-      | Some reading ↦ λ some. let same : record { reading = reading; line = line_after turning.reading.state next turning.line } ≡ after = cc in ap (λ (t : Turning). t.line) (sym same)
+      | true ↦ λ here. elim (allowed turning.reading next) as (λ r. option_map (λ (reading : Reading). record { reading = reading; line = line_after turning.reading.state next turning.line }) r ≡ Some after → after.line ≡ line_after turning.reading.state next turning.line) [
+        | None ↦ λ none. cc
+        | Some reading ↦ λ some. let same : record { reading = reading; line = line_after turning.reading.state next turning.line } ≡ after = cc in ap (λ (t : Turning). t.line) (sym same)
       ] here
-    | false ↦ λ none. cc
+      | false ↦ λ none. cc
     ] is
 
 waiting_at_once : (other : Thing) (turning : Turning) (entries : List Entry) → waits_on other turning entries ≡ true → is_waiting other turning ≡ true
@@ -260,7 +260,7 @@ never_last other thing turning to last service apart first waits legal =
     let has = and_both (set_of turning.line.queue other) (is_servable turning.reading.state other) waits in
     let never = out_of_turn turning.reading.state last other thing turning.line.queue service has.1 apart first in
     let none : option_and_then (λ (after : Turning). turned after []) (taken_if false turning last) ≡ Some to =
-        ap (λ (b : Bool). option_and_then (λ (after : Turning). turned after []) (taken_if b turning last)) (sym never) ∙ legal in
+    ap (λ (b : Bool). option_and_then (λ (after : Turning). turned after []) (taken_if b turning last)) (sym never) ∙ legal in
     cc
 
 between : (other thing : Thing) (turning to : Turning) (entries : List Entry) (last : Entry) → is_service thing last ≡ true → same_thing thing other ≡ false → ahead other thing turning.line.queue ≡ true → turned turning (entries ++ last ∷ []) ≡ Some to → waits_on other turning entries ≡ true → list_any (is_service other) entries ≡ true
@@ -290,8 +290,8 @@ legal_step : (turn : Bool) (found : Option Reading) (turning : Turning) (to : Tu
 legal_step false found turning to next later is legal rest = cc
 legal_step true None turning to next later is legal rest =
     let none : option_and_then (λ (after : Turning). turned after later) None ≡ Some to =
-        ap (λ (r : Option Reading). option_and_then (λ (after : Turning). turned after later)
-        (option_map (λ (reading : Reading). record { reading = reading; line = line_after turning.reading.state next turning.line }) r)) (sym is) ∙ legal in
+    ap (λ (r : Option Reading). option_and_then (λ (after : Turning). turned after later)
+    (option_map (λ (reading : Reading). record { reading = reading; line = line_after turning.reading.state next turning.line }) r)) (sym is) ∙ legal in
     cc
 legal_step true (Some reading) turning to next later is legal rest =
     let after : Turning = record { reading = reading; line = line_after turning.reading.state next turning.line } in

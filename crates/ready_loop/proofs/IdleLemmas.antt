@@ -50,8 +50,8 @@ none_by : (test : Bool) (state : State) (first : Thing) (queue : List Thing) (th
 none_by true state first queue thing is rest found = cc
 none_by false state first queue thing is rest found =
     elim (same_thing first thing) as (λ b. same_thing first thing ≡ b → ((b || set_of queue thing) && is_servable state thing) ≡ false) [
-      true ↦ λ same. ap (is_servable state) (sym (same_thing-true first thing same)) ∙ is
-    | false ↦ λ apart. rest found
+      | true ↦ λ same. ap (is_servable state) (sym (same_thing-true first thing same)) ∙ is
+      | false ↦ λ apart. rest found
     ] refl
 
 pub none_is_found : (state : State) (queue : List Thing) (thing : Thing) → first_servable state queue ≡ None → may_serve state (set_of queue) thing ≡ false

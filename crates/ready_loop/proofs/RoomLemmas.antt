@@ -12,7 +12,7 @@ zeros_are_wiped bytes count is = is ∙ ap (λ (n : ℕ). replicate n 0) (sym (a
 pub wiped_again : (filled now before : List ℕ) (count some : ℕ) → filled ≡ replicate some 0 → drop count now ≡ drop count before → IsWiped before → IsWiped (filled ++ drop count now)
 wiped_again filled now before count some is rest wiped =
     let left : drop count now ≡ replicate (length before - count) 0 =
-        rest ∙ ap (drop count) wiped ∙ drop-replicate count (length before) 0 in
+    rest ∙ ap (drop count) wiped ∙ drop-replicate count (length before) 0 in
     zeros_are_wiped (filled ++ drop count now) (some + (length before - count))
     (ap (λ (xs : List ℕ). xs ++ drop count now) is ∙ ap (λ (ys : List ℕ). replicate some 0 ++ ys) left
     ∙ replicate-append-replicate some (length before - count) 0)

@@ -114,8 +114,8 @@ poll_step setting mid to poll found may may_is is legal =
     ap (λ (b : Bool). option_and_then (λ (s : Stage). ran setting s []) (running_if b mid poll)) may_is
     ∙ ap (λ (t : Option Turning). option_and_then (λ (s : Stage). ran setting s []) (option_map Running t)) is
     ∙ (elim found as (λ t. option_and_then (λ (after : Turning). turned after []) t ≡ Some to → option_and_then (λ (s : Stage). ran setting s []) (option_map Running t) ≡ Some (Running to)) [
-      None ↦ λ none. cc
-    | Some after ↦ λ some. ap (option_map Running) some
+      | None ↦ λ none. cc
+      | Some after ↦ λ some. ap (option_map Running) some
     ]) legal
 
 with_line : Line → Reading → Turning
@@ -131,7 +131,7 @@ look_step setting state line moment wait items answer to true done legal =
     let mid : Turning = with_line line (after_look {E = AllocError} state (set_of line.queue) (Ok moment)) in
     let poll = entry.Poll wait items answer in
     let may : may_come setting.until_idle mid poll ≡ true =
-        ap (λ (b : Bool). not (setting.until_idle && b)) (sym (and_true (is_deserted (in_state state line Free)))) ∙ ap not done in
+    ap (λ (b : Bool). not (setting.until_idle && b)) (sym (and_true (is_deserted (in_state state line Free)))) ∙ ap not done in
     poll_step setting mid to poll (taken mid poll) (may_come setting.until_idle mid poll) may refl legal
 
 -- what a look and a poll add is a run, where the loop isn't to end there

@@ -74,7 +74,11 @@ impl Hub {
     }
 
     /// Starts the first job that waits, or serves the first thing that can be served, or looks at the clock and polls.
-    pub fn turn<A: Core, W: World>(&mut self, agent: &mut A, world: &mut W) -> Result<Turn, HubFault>
+    pub fn turn<A: Core, W: World>(
+        &mut self,
+        agent: &mut A,
+        world: &mut W,
+    ) -> Result<Turn, HubFault>
         requires { W.last_port world.old ≡ (A.state agent.old).last_port }
         ensures legal { Turns result (in_state (A.state agent.old) self.old Free)
             (W.journal world.old) (W.journal world.new) (A.state agent.new) self.new }

@@ -67,8 +67,8 @@ impl Queue {
     // A connection was accepted at a listener.
     pub fn accept(&mut self, door: Door, port: u64) -> Result<(), AllocError>
         ensures { OnOk result (self.new ≡ record {
-            queue = put_back (Accept door) (queued_port port self.old.queue);
-            joined = is_client door || self.old.joined;
+          queue = put_back (Accept door) (queued_port port self.old.queue);
+          joined = is_client door || self.old.joined;
         }) }
     {
         add_if(&mut self.things, true, Thing::Read(port))?;

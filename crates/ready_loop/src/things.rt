@@ -86,7 +86,11 @@ fn add_item<A: Core>(things: &mut Vec<Thing>, agent: &A, item: Ready) -> Result<
 }
 
 // Adds what a poll's items make ready.
-pub fn add_all<A: Core>(things: &mut Vec<Thing>, agent: &A, items: &[Ready]) -> Result<(), AllocError>
+pub fn add_all<A: Core>(
+    things: &mut Vec<Thing>,
+    agent: &A,
+    items: &[Ready],
+) -> Result<(), AllocError>
     ensures { OnOk result (things.new.items ≡ queued_all (A.state agent.now) items.now things.old.items) }
 {
     'items: for item in items {

@@ -12,8 +12,8 @@ ghost use Rattle.ready_loop.specs.Moves.{Goes, Serves};
 ghost use Rattle.ready_loop.specs.Queues.{dropped, first_servable, put_back};
 ghost use Rattle.ready_loop.specs.Rooms.{IsWiped};
 
-use crate::queue::Queue;
 use crate::Core;
+use crate::queue::Queue;
 use agent_core::{CoreMemory, Event};
 use ready_hub::Thing;
 use world_ports::{Accepted, Door, Got, Job, World, WorldFault, Wrote};
@@ -241,7 +241,15 @@ pub fn start<A: Core, W: World>(
 {
     let number = job.number;
     match world.start(job) {
-        Ok(ticket) => happen(queue, agent, world, &Event::Started { job: number, ticket }),
+        Ok(ticket) => happen(
+            queue,
+            agent,
+            world,
+            &Event::Started {
+                job: number,
+                ticket,
+            },
+        ),
         Err(WorldFault::Failed) => happen(queue, agent, world, &Event::StartFailed { job: number }),
         Err(WorldFault::Memory) => Err(CoreMemory),
     }

@@ -38,7 +38,7 @@ returns-in_default-close_all-clause-legal g c =
     let line = c.args.queue.now in
     let full : c.is_empty.result ≡ false = grind arith in
     let some : (length after.closes == 0) ≡ false =
-        ap (λ (ps : List ℕ). length ps == 0) (sym c.closes.ensures) ∙ sym c.is_empty.ensures ∙ full in
+    ap (λ (ps : List ℕ). length ps == 0) (sym c.closes.ensures) ∙ sym c.is_empty.ensures ∙ full in
     inl (stops_later (one_call (in_state state line Free) (in_state after line (due_of after.closes))
     (g.W.World.journal c.args.world.now) (g.W.World.journal c.now.new.self) (entry.Now (Ok c.in-Ok.moment)) refl
     (look-taken state after line c.in-Ok.moment c.requires.idle c.in-Ok-step.ensures
@@ -52,7 +52,7 @@ returns-then-not-is_empty-clause-legal g c =
     let line = c.args.queue.now in
     let full : c.is_empty.result ≡ false = grind arith in
     let some : (length after.closes == 0) ≡ false =
-        ap (λ (ps : List ℕ). length ps == 0) (sym c.closes.ensures) ∙ sym c.is_empty.ensures ∙ full in
+    ap (λ (ps : List ℕ). length ps == 0) (sym c.closes.ensures) ∙ sym c.is_empty.ensures ∙ full in
     advances (entry.Now (Ok c.in-Ok.moment)) refl
     (look-taken state after line c.in-Ok.moment c.requires.idle c.in-Ok-step.ensures
     ∙ ap (λ (d : Due). Some (in_state after line d)) (look-closes after.closes (is_idle after (set_of line.queue)) some))
@@ -66,7 +66,7 @@ returns-then-not-is_idle-clause-legal g c =
     let bare : c.is_empty.result ≡ true = grind arith in
     let busy : c.is_idle.result ≡ false = grind arith in
     let none : (length after.closes == 0) ≡ true =
-        ap (λ (ps : List ℕ). length ps == 0) (sym c.closes.ensures) ∙ sym c.is_empty.ensures ∙ bare in
+    ap (λ (ps : List ℕ). length ps == 0) (sym c.closes.ensures) ∙ sym c.is_empty.ensures ∙ bare in
     advances_once (in_state state line Free) (in_state after line Free)
     (g.W.World.journal c.args.world.now) (g.W.World.journal c.now.new.self) (entry.Now (Ok c.in-Ok.moment)) refl
     (look-taken state after line c.in-Ok.moment c.requires.idle c.in-Ok-step.ensures
@@ -82,7 +82,7 @@ returns-clause-legal g c =
     let bare : c.is_empty.result ≡ true = grind arith in
     let idle : c.is_idle.result ≡ true = grind arith in
     let none : (length after.closes == 0) ≡ true =
-        ap (λ (ps : List ℕ). length ps == 0) (sym c.closes.ensures) ∙ sym c.is_empty.ensures ∙ bare in
+    ap (λ (ps : List ℕ). length ps == 0) (sym c.closes.ensures) ∙ sym c.is_empty.ensures ∙ bare in
     looks_by c.poll.result c.in-Ok.moment (in_state state line Free) (in_state after line Polling)
     (g.W.World.journal c.args.world.now) (g.W.World.journal c.now.new.self) (g.W.World.journal c.poll.new.world)
     after c.poll.new.queue

@@ -21,13 +21,16 @@ returns-in_default-clause-legal g c =
     let items = c.poll.new.out.items in
     let answer : Result Polled WorldFault = Ok polled.Some in
     let to = left state line (entry.Poll c.wait_of.result items answer) (hub.after_poll items state (set_of line.queue) answer) in
-    inr (record { answer = answer; last = record {
-      to = to;
-      waits = waits_once (in_state state line Polling) to (g.W.World.journal c.args.world.now) (g.W.World.journal c.poll.new.self) c.wait_of.result items answer
-          (poll-any state line c.wait_of.result items answer c.wait_of.ensures)
-          (told_at (λ r. entry.Poll c.wait_of.result c.poll.new.out.items r) (g.W.World.journal c.args.world.now) (g.W.World.journal c.poll.new.self)
-    (c.in-Ok-Some.is ∙ ap Ok c.in-Ok-Some.field-0-is) c.poll.ensures.told);
-    } })
+    inr (record {
+      answer = answer;
+      last = record {
+        to = to;
+        waits = waits_once (in_state state line Polling) to (g.W.World.journal c.args.world.now) (g.W.World.journal c.poll.new.self) c.wait_of.result items answer
+            (poll-any state line c.wait_of.result items answer c.wait_of.ensures)
+            (told_at (λ r. entry.Poll c.wait_of.result c.poll.new.out.items r) (g.W.World.journal c.args.world.now) (g.W.World.journal c.poll.new.self)
+            (c.in-Ok-Some.is ∙ ap Ok c.in-Ok-Some.field-0-is) c.poll.ensures.told);
+      };
+    })
 
 pub returns-in-Ok-clause-legal : goal.returns-in-Ok-clause-legal
 returns-in-Ok-clause-legal g c =
@@ -53,7 +56,7 @@ returns-in-Ok-Over-clause-legal g c =
       waits = waits_once (in_state state line Polling) to (g.W.World.journal c.args.world.now) (g.W.World.journal c.poll.new.self) c.wait_of.result items answer
           (poll-any state line c.wait_of.result items answer c.wait_of.ensures)
           (told_at (λ r. entry.Poll c.wait_of.result c.poll.new.out.items r) (g.W.World.journal c.args.world.now) (g.W.World.journal c.poll.new.self)
-    (c.in-Ok-Over.is ∙ ap Ok c.in-Ok-Over.field-0-is) c.poll.ensures.told);
+          (c.in-Ok-Over.is ∙ ap Ok c.in-Ok-Over.field-0-is) c.poll.ensures.told);
     }
 
 pub returns-in-Err-Failed-clause-legal : goal.returns-in-Err-Failed-clause-legal
@@ -68,7 +71,7 @@ returns-in-Err-Failed-clause-legal g c =
       waits = waits_once (in_state state line Polling) to (g.W.World.journal c.args.world.now) (g.W.World.journal c.poll.new.self) c.wait_of.result items answer
           (poll-any state line c.wait_of.result items answer c.wait_of.ensures)
           (told_at (λ r. entry.Poll c.wait_of.result c.poll.new.out.items r) (g.W.World.journal c.args.world.now) (g.W.World.journal c.poll.new.self)
-    (c.in-Err-Failed.is ∙ ap Err c.in-Err-Failed.field-0-is) c.poll.ensures.told);
+          (c.in-Err-Failed.is ∙ ap Err c.in-Err-Failed.field-0-is) c.poll.ensures.told);
     }
 
 pub returns-in-Err-Memory-clause-legal : goal.returns-in-Err-Memory-clause-legal

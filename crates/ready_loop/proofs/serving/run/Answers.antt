@@ -23,23 +23,31 @@ returns-then-is_done-clause-serves g c = λ path state.
     }
 
 pub turns-preserved-in-Ok-Served : goal.turns-preserved-in-Ok-Served
-turns-preserved-in-Ok-Served g c =
-    (tt, tt, λ path state. runs_more (c.turns.invariant.2 path state)
-    (served_runs (record { path = path; until_idle = c.args.until_idle; state = state })
-    (in_state (g.A.Core.state c.turns.agent) c.turns.hub Free) (in_state (g.A.Core.state c.turn.new.agent) c.turn.new.self Free)
-    (turn_at (in_state (g.A.Core.state c.turns.agent) c.turns.hub Free) (g.W.World.journal c.turns.world) (g.W.World.journal c.turn.new.world)
-    (g.A.Core.state c.turn.new.agent) c.turn.new.self (c.in-Ok-Served.is ∙ ap Ok c.in-Ok-Served.field-0-is) c.turn.ensures.legal)),
-    c.in-Ok-Served.ensures.ports, omega (arith, c.turns.invariant.4, c.turn.ensures.later))
+turns-preserved-in-Ok-Served g c = (
+  tt,
+  tt,
+  λ path state. runs_more (c.turns.invariant.2 path state)
+      (served_runs (record { path = path; until_idle = c.args.until_idle; state = state })
+      (in_state (g.A.Core.state c.turns.agent) c.turns.hub Free) (in_state (g.A.Core.state c.turn.new.agent) c.turn.new.self Free)
+      (turn_at (in_state (g.A.Core.state c.turns.agent) c.turns.hub Free) (g.W.World.journal c.turns.world) (g.W.World.journal c.turn.new.world)
+      (g.A.Core.state c.turn.new.agent) c.turn.new.self (c.in-Ok-Served.is ∙ ap Ok c.in-Ok-Served.field-0-is) c.turn.ensures.legal)),
+  c.in-Ok-Served.ensures.ports,
+  omega (arith, c.turns.invariant.4, c.turn.ensures.later),
+)
 
 pub turns-preserved : goal.turns-preserved
-turns-preserved g c =
-    (tt, tt, λ path state. runs_more (c.turns.invariant.2 path state)
-    (polled_runs (record { path = path; until_idle = c.args.until_idle; state = state })
-    (g.A.Core.state c.turns.agent) (g.A.Core.state c.turn.new.agent) c.turns.hub c.turn.new.self
-    (sym c.is_done.ensures ∙ c.if-is_done.false)
-    (turn_at (in_state (g.A.Core.state c.turns.agent) c.turns.hub Free) (g.W.World.journal c.turns.world) (g.W.World.journal c.turn.new.world)
-    (g.A.Core.state c.turn.new.agent) c.turn.new.self (c.in-Ok-Polled.is ∙ ap Ok c.in-Ok-Polled.field-0-is) c.turn.ensures.legal)),
-    c.in-Ok-Polled.ensures.ports, omega (arith, c.turns.invariant.4, c.turn.ensures.later))
+turns-preserved g c = (
+  tt,
+  tt,
+  λ path state. runs_more (c.turns.invariant.2 path state)
+      (polled_runs (record { path = path; until_idle = c.args.until_idle; state = state })
+      (g.A.Core.state c.turns.agent) (g.A.Core.state c.turn.new.agent) c.turns.hub c.turn.new.self
+      (sym c.is_done.ensures ∙ c.if-is_done.false)
+      (turn_at (in_state (g.A.Core.state c.turns.agent) c.turns.hub Free) (g.W.World.journal c.turns.world) (g.W.World.journal c.turn.new.world)
+      (g.A.Core.state c.turn.new.agent) c.turn.new.self (c.in-Ok-Polled.is ∙ ap Ok c.in-Ok-Polled.field-0-is) c.turn.ensures.legal)),
+  c.in-Ok-Polled.ensures.ports,
+  omega (arith, c.turns.invariant.4, c.turn.ensures.later),
+)
 
 pub returns-in-Ok-Over-clause-serves : goal.returns-in-Ok-Over-clause-serves
 returns-in-Ok-Over-clause-serves g c = λ path state.

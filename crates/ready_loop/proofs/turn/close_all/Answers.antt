@@ -19,7 +19,7 @@ returns-in_default-clause-legal g c =
     let next = entry.Close port c.close.result in
     let due = due-drop items c.ports.port-index c.ports-test.true in
     let before = lands_at (in_state state line (due_of (drop c.ports.port-index items))) (in_state state line (Closing port later))
-        (ap (λ (d : Due). in_state state line d) due) c.ports.invariant.calls in
+    (ap (λ (d : Due). in_state state line d) due) c.ports.invariant.calls in
     record {
       by = stops_later before
           (stops_short (in_state state line (Closing port later)) (left state line next (hub.after_close port later state (set_of line.queue) c.close.result))
@@ -37,7 +37,7 @@ ports-preserved g c =
     let next = entry.Close port (Ok tt) in
     let due = due-drop items c.ports.port-index c.ports-test.true in
     let before = lands_at (in_state state line (due_of (drop c.ports.port-index items))) (in_state state line (Closing port later))
-        (ap (λ (d : Due). in_state state line d) due) c.ports.invariant.calls in
+    (ap (λ (d : Due). in_state state line d) due) c.ports.invariant.calls in
     record {
       calls = goes_on before (one_call (in_state state line (Closing port later)) (in_state state c.close-in-ports.new.self (due_of later))
           (g.W.World.journal c.ports.world) (g.W.World.journal c.close.new.self) next refl

@@ -24,9 +24,10 @@ use Rattle.ready_loop.proofs.turn.read.Goals as goal
 
 pub hear-heard-requires-clause-fits : goal.hear-heard-requires-clause-fits
 hear-heard-requires-clause-fits g c =
-    let within = subst (λ r. GotWithin r (length c.args.room.now)) (c.in-Ok-Bytes.is ∙ ap Ok c.in-Ok-Bytes.field-0-is) c.read.ensures.within in
-    (calls.read-open (g.A.Core.state c.args.agent.now) c.args.queue.now c.args.port c.requires.next,
-    omega (arith, length-take c.in-Ok-Bytes.n c.read.new.room, within.0, within.1))
+    let within = subst (λ r. GotWithin r (length c.args.room.now)) (c.in-Ok-Bytes.is ∙ ap Ok c.in-Ok-Bytes.field-0-is) c.read.ensures.within in (
+      calls.read-open (g.A.Core.state c.args.agent.now) c.args.queue.now c.args.port c.requires.next,
+      omega (arith, length-take c.in-Ok-Bytes.n c.read.new.room, within.0, within.1),
+    )
 
 pub end-requires-clause-fits : goal.end-requires-clause-fits
 end-requires-clause-fits g c = calls.read-open (g.A.Core.state c.args.agent.now) c.args.queue.now c.args.port c.requires.next
@@ -76,7 +77,7 @@ returns-in-Ok-NotNow-clause-legal g c =
           (calls.read-any state line c.args.port (length c.args.room.now) [] answer c.requires.next c.requires.room
           ∙ calls.dropped-lands state line c.remove.new.self (Read c.args.port) Free c.remove.ensures)
           (told_at (λ r. entry.Read c.args.port (length c.args.room.now) (got_of r c.read.new.room) r) (g.W.World.journal c.args.world.now) (g.W.World.journal c.read.new.self)
-    (c.in-Ok-NotNow.is ∙ ap Ok c.in-Ok-NotNow.field-0-is) c.read.ensures.told);
+          (c.in-Ok-NotNow.is ∙ ap Ok c.in-Ok-NotNow.field-0-is) c.read.ensures.told);
     }
 
 pub returns-in-Err-Failed-clause-legal : goal.returns-in-Err-Failed-clause-legal
@@ -102,5 +103,5 @@ returns-in-Err-Memory-clause-legal g c =
           (g.W.World.journal c.args.world.now) (g.W.World.journal c.read.new.self) true next refl
           (calls.read-any state line c.args.port (length c.args.room.now) [] answer c.requires.next c.requires.room)
           (told_at (λ r. entry.Read c.args.port (length c.args.room.now) (got_of r c.read.new.room) r) (g.W.World.journal c.args.world.now) (g.W.World.journal c.read.new.self)
-    (c.in-Err-Memory.is ∙ ap Err c.in-Err-Memory.field-0-is) c.read.ensures.told);
+          (c.in-Err-Memory.is ∙ ap Err c.in-Err-Memory.field-0-is) c.read.ensures.told);
     }

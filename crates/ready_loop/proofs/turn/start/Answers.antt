@@ -48,5 +48,5 @@ returns-in-Err-Memory-clause-legal g c =
           (g.W.World.journal c.args.world.now) (g.W.World.journal c.start.new.self) true next refl
           (calls.start-any state line c.args.job answer c.requires.first)
           (told_at (λ r. entry.Start c.args.job r) (g.W.World.journal c.args.world.now) (g.W.World.journal c.start.new.self)
-    (c.in-Err-Memory.is ∙ ap Err c.in-Err-Memory.field-0-is) c.start.ensures.told);
+          (c.in-Err-Memory.is ∙ ap Err c.in-Err-Memory.field-0-is) c.start.ensures.told);
     }

@@ -48,7 +48,7 @@ returns-in-Ok-NotNow-clause-legal g c =
           (calls.write-any state line c.args.port c.owed.result.now answer c.requires.next c.owed.ensures
           ∙ calls.dropped-lands state line c.remove.new.self (Write c.args.port) Free c.remove.ensures)
           (told_at (λ r. entry.Write c.args.port c.owed.result.now r) (g.W.World.journal c.args.world.now) (g.W.World.journal c.write.new.self)
-    (c.in-Ok-NotNow.is ∙ ap Ok c.in-Ok-NotNow.field-0-is) c.write.ensures.told);
+          (c.in-Ok-NotNow.is ∙ ap Ok c.in-Ok-NotNow.field-0-is) c.write.ensures.told);
     }
 
 pub returns-in-Err-Failed-clause-legal : goal.returns-in-Err-Failed-clause-legal
@@ -74,5 +74,5 @@ returns-in-Err-Memory-clause-legal g c =
           (g.W.World.journal c.args.world.now) (g.W.World.journal c.write.new.self) true next refl
           (calls.write-any state line c.args.port c.owed.result.now answer c.requires.next c.owed.ensures)
           (told_at (λ r. entry.Write c.args.port c.owed.result.now r) (g.W.World.journal c.args.world.now) (g.W.World.journal c.write.new.self)
-    (c.in-Err-Memory.is ∙ ap Err c.in-Err-Memory.field-0-is) c.write.ensures.told);
+          (c.in-Err-Memory.is ∙ ap Err c.in-Err-Memory.field-0-is) c.write.ensures.told);
     }
