@@ -38,12 +38,7 @@ fn begins_serve(words: &[String]) -> bool
 }
 
 // Serves clients over the world, where the words are those of the command.
-pub fn serve_by<R: Wait, W: World>(
-    rt: &R,
-    alloc: Global,
-    words: &[String],
-    world: &mut W,
-) -> Status
+pub fn serve_by<R: Wait, W: World>(rt: &R, alloc: Global, words: &[String], world: &mut W) -> Status
     requires { W.last_port world.old ≡ 0 }
     ensures serves { (setting : Setting) → IsServe words.now setting
         → ServesExactly setting result (W.journal world.old) (W.journal world.new) }
