@@ -1,5 +1,4 @@
-use Rattle.std.proofs.Common.{◌≡◌, ◌∙◌, ap, sym}
-use Rattle.agent_model.specs.State.{change_port}
+use Rattle.std.proofs.Common.{ap, sym}
 use Rattle.agent_model.specs.Verdicts.{HelperLost, Refuses, tell}
 use Rattle.agent_model.proofs.PortsLemmas.{found_number}
 use Rattle.agent_core.specs.Slots.{OpenPorts, port_of, ports_of}
