@@ -43,7 +43,7 @@ verifies_nothing answer.True one before none =
 verifies_nothing answer.False one before none = ap (remove_verification one.ask) none
 
 -- so do all of them
-all_answered : (settled : List Settled) (before : Answering) → before.verifications ≡ [] → (answer_all settled before).ports ≡ answered settled before.ports
+pub all_answered : (settled : List Settled) (before : Answering) → before.verifications ≡ [] → (answer_all settled before).ports ≡ answered settled before.ports
 all_answered [] before none = refl
 all_answered (one ∷ later) before none =
     all_answered later (answer_by one.answer one before) (verifies_nothing one.answer one before none)

@@ -11,3 +11,4 @@ pub mod AgentLemmas
 pub mod ChildLemmas
 pub mod NextLemmas
 pub mod ShortLemmas
+pub mod BoundLemmas

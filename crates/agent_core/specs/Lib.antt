@@ -7,3 +7,4 @@ pub mod Served
 pub mod Settlings
 pub mod Plain
 pub mod Parts
+pub mod Bound

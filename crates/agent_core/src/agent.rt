@@ -1,10 +1,11 @@
 //! The agent.
 
-ghost use Rattle.std.specs.Prelude.{◌≡◌, ◌↔◌, [], IsSome, IsTrue, OnErr, OnOk, length};
+ghost use Rattle.std.specs.Prelude.{◌≡◌, ◌↔◌, [], IsOk, IsSome, IsTrue, OnErr, OnOk, length};
 ghost use Rattle.identity_table.specs.Identities.{IsSound};
 ghost use Rattle.agent_model.specs.Sound.{IsSteady};
 ghost use Rattle.agent_model.specs.State.{Fits, client_count, find_port, first_state, next_due, next_owed, owed_of, starts, wants};
 ghost use Rattle.agent_model.specs.Step.{step};
+ghost use Rattle.agent_core.specs.Bound.{WantsNoMemory};
 ghost use Rattle.agent_core.specs.Happenings.{happening};
 
 use crate::keys::Keys;
@@ -27,14 +28,14 @@ pub struct Agent {
 }
 
 impl Model for Agent {
-    ghost use Rattle.std.specs.Prelude.{◌≡◌, []};
     ghost use Rattle.agent_model.specs.State.{State};
+    ghost use Rattle.agent_core.specs.Bound.{IsAtRest};
 
     ghost Value = { State };
 
     ghost view = { λ a. a.parts };
 
-    ghost invariant = { λ a. a.parts.under_way.link.failed ≡ [] };
+    ghost invariant = { λ a. IsAtRest a.parts };
 }
 
 impl Agent {
@@ -80,6 +81,7 @@ impl Agent {
         requires { Fits (happening event.now) self.old }
         ensures stepped { OnOk result
             (self.new ≡ (step self.old moment (happening event.now)).state) }
+        ensures succeeds { WantsNoMemory (happening event.now) → IsOk result }
         ensures wiped { OnErr result (self.new ≡ first_state self.old.held.table.life) }
     {
         let default_life = self.parts.keys.default_life();

@@ -8,6 +8,7 @@ ghost use Rattle.agent_model.specs.Children.{first_message, unnamed_heard};
 ghost use Rattle.agent_model.specs.KeyStates.{KeyState};
 ghost use Rattle.agent_model.specs.State.{Port, find_port};
 ghost use Rattle.agent_model.specs.Step.{gone};
+ghost use Rattle.agent_core.specs.Bound.{IsBound};
 ghost use Rattle.agent_core.specs.Parts.{state_of};
 ghost use Rattle.agent_core.specs.Settlings.{IsNamed, named_job};
 ghost use Rattle.agent_core.specs.Slots.{heard_in};
@@ -28,6 +29,7 @@ pub fn hear_unnamed(
     piece: &[u8],
 ) -> Result<(), CoreMemory>
     requires is_open { IsSome (find_port number ports.old.ports) }
+    requires bound { IsBound ports.old.ports under_way.old }
     requires failed { under_way.old.link.failed ≡ [] }
 
     ensures state { (wall : ℕ) (keys : KeyState) (port : Port) (c : List ℕ)
@@ -66,6 +68,7 @@ fn take_first(
     requires is_open { IsSome (find_port number ports.old.ports) }
     requires whole { (port : Port) → find_port number ports.old.ports ≡ Some port
         → front 262144 port.heard ≡ Whole body_len }
+    requires bound { IsBound ports.old.ports under_way.old }
     requires failed { under_way.old.link.failed ≡ [] }
 
     ensures state { (wall : ℕ) (keys : KeyState) (port : Port) (c : List ℕ)

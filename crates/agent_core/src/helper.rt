@@ -9,12 +9,13 @@ ghost use Rattle.agent_model.specs.State.{find_port};
 ghost use Rattle.agent_model.specs.Step.{gone};
 ghost use Rattle.agent_model.specs.Verdicts.{HelperLost, Refuses};
 ghost use Rattle.under_way.specs.Parts.{IsAlone};
+ghost use Rattle.agent_core.specs.Bound.{AreSilent, IsBound};
 ghost use Rattle.agent_core.specs.Parts.{state_of};
 ghost use Rattle.agent_core.specs.Settlings.{AreShortAnswers, answered};
 
 use crate::CoreMemory;
 use crate::ports::Ports;
-use helper_link::{Answer, LinkState, Settled};
+use helper_link::{LinkState, Settled};
 use under_way::UnderWay;
 
 /// The helper sent more: each asker is told its answer, and at a fault of the stream the helper is lost.
@@ -26,6 +27,7 @@ pub fn hear_helper(
 ) -> Result<(), CoreMemory>
     requires linked { under_way.old.link.state ≡ LinkState.Linked helper }
     requires is_open { IsSome (find_port helper ports.old.ports) }
+    requires bound { IsBound ports.old.ports under_way.old }
     requires failed { under_way.old.link.failed ≡ [] }
 
     ensures state { (wall : ℕ) (keys : KeyState) (c : List ℕ) → OnOk result
@@ -38,52 +40,50 @@ pub fn hear_helper(
     let told = under_way.helper_told(piece)?;
     answer_all(ports, told.settled.as_slice())?;
     match told.fault {
-        Some(_) => lose_helper(ports, under_way, helper),
+        Some(_) => {
+            lose_helper(ports, under_way, helper);
+            Ok(())
+        }
         None => Ok(()),
     }
 }
 
-/// The helper is gone: its port is closed, and each client that waits for an answer of it is told.
-pub fn lose_helper(
-    ports: &mut Ports,
-    under_way: &mut UnderWay,
-    helper: u64,
-) -> Result<(), CoreMemory>
+/// The helper is gone: its port is closed, and each client that waits for an answer of it is told. Takes no memory.
+pub fn lose_helper(ports: &mut Ports, under_way: &mut UnderWay, helper: u64)
     requires linked { under_way.old.link.state ≡ LinkState.Linked helper }
     requires is_open { IsSome (find_port helper ports.old.ports) }
+    requires bound { IsBound ports.old.ports under_way.old }
     requires failed { under_way.old.link.failed ≡ [] }
 
-    ensures state { (wall : ℕ) (keys : KeyState) (c : List ℕ) → OnOk result
-        (state_of wall keys under_way.new ports.new c
-        ≡ (lose (state_of wall keys under_way.old ports.old c)).state) }
+    ensures state { (wall : ℕ) (keys : KeyState) (c : List ℕ) → state_of wall keys under_way.new ports.new c
+        ≡ (lose (state_of wall keys under_way.old ports.old c)).state }
     ensures rising { IsRising 0 ports.old.last ports.old.ports }
-    ensures closes { ports.old.closed ≡ [] → OnOk result
-        (ports.new.closed ≡ gone ports.old.last ports.old.ports ports.new.last ports.new.ports) }
-    ensures failed { OnOk result (under_way.new.link.failed ≡ []) }
+    ensures closes { ports.old.closed ≡ []
+        → ports.new.closed ≡ gone ports.old.last ports.old.ports ports.new.last ports.new.ports }
+    ensures failed { under_way.new.link.failed ≡ [] }
 {
     ports.close(helper);
-    lose_link(ports, under_way)
+    lose_link(ports, under_way);
 }
 
-/// No helper is there or coming any more: each client that waits for an answer of it is told.
-pub fn lose_link(ports: &mut Ports, under_way: &mut UnderWay) -> Result<(), CoreMemory>
+/// No helper is there or coming any more: each client that waits for an answer of it is told. Takes no memory.
+pub fn lose_link(ports: &mut Ports, under_way: &mut UnderWay)
     requires some { under_way.old.link.state ≢ LinkState.None }
     requires jobs { IsStarting under_way.old.link.state
         → (under_way.old.to_start ≡ []) × (under_way.old.started ≡ []) }
+    requires silent { AreSilent (askers under_way.old.link.asks) ports.old.ports }
     requires failed { under_way.old.link.failed ≡ [] }
 
-    ensures ports { OnOk result (ports.new ≡ record ports.old {
+    ensures ports { ports.new ≡ record ports.old {
       ports = tell_each (Refuses HelperLost) (askers under_way.old.link.asks) ports.old.ports;
-    }) }
-    ensures under_way { OnOk result
-        (under_way.new ≡ record under_way.old { link = link_lost under_way.old.link }) }
+    } }
+    ensures under_way { under_way.new ≡ record under_way.old { link = link_lost under_way.old.link } }
     ensures alone { IsAlone under_way.old }
 {
     under_way.lose();
     'askers: while let Some(asker) = under_way.next_failed() {
-        ports.tell(asker, &Answer::Refused)?;
+        ports.refuse(asker);
     }
-    Ok(())
 }
 
 // Tells each asker its answer, in the order of the answers.

@@ -4,7 +4,7 @@ ghost use Rattle.std.specs.Prelude.{◌≡◌, ◌≤◌, ℕ, [], false, OnOk, 
 ghost use Rattle.wire_text.specs.Frames.{Whole, front_body};
 ghost use Rattle.agent_model.specs.Looks.{due};
 ghost use Rattle.agent_model.specs.Step.{take_frame, took_some};
-ghost use Rattle.agent_model.specs.Verdicts.{tell};
+ghost use Rattle.agent_model.specs.Verdicts.{HelperLost, Refuses, tell};
 ghost use Rattle.agent_core.specs.Rising.{IsRisingNumbers, inserted, noted};
 ghost use Rattle.agent_core.specs.Served.{served_body};
 ghost use Rattle.agent_core.specs.Settlings.{IsShortAnswer, verdict_of};
@@ -95,4 +95,20 @@ pub fn tell_at(slot: &mut Slot, owing: &mut Vec<u64>, answer: &Answer) -> Result
     let told = slot::tell(slot, answer);
     note_owed(slot, owing);
     told
+}
+
+/// Tells a client that waits that the helper is lost, and lists it. Takes no memory.
+pub fn refuse_at(slot: &mut Slot, owing: &mut Vec<u64>)
+    requires silent { slot.old.owed ≡ [] }
+    requires rising { IsRisingNumbers 0 owing.old.items }
+    requires room { length (inserted slot.old.number owing.old.items) ≤ vec_capacity owing.old }
+
+    ensures port { port_of slot.new ≡ tell (Refuses HelperLost) (port_of slot.old) }
+    ensures number { slot.new.number ≡ slot.old.number }
+    ensures door { slot.new.door ≡ slot.old.door }
+    ensures items { owing.new.items ≡ noted (is_owing (port_of slot.new)) slot.old.number owing.old.items }
+    ensures room { vec_capacity owing.old ≤ vec_capacity owing.new }
+{
+    slot::refuse(slot);
+    note_owed(slot, owing);
 }

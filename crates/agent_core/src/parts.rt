@@ -1,11 +1,12 @@
 //! The agent's state in storage, and what each event does to it.
 
-ghost use Rattle.std.specs.Prelude.{◌≡◌, ℕ, List, [], IsSome, OnOk};
+ghost use Rattle.std.specs.Prelude.{◌≡◌, ℕ, List, [], IsOk, IsSome, OnOk};
 ghost use Rattle.agent_model.specs.Children.{changed, heard_more};
 ghost use Rattle.agent_model.specs.Events.{Ended, Heard, Joined, StartFailed, Started, Took};
 ghost use Rattle.agent_model.specs.Sound.{IsSteady};
 ghost use Rattle.agent_model.specs.State.{Fits, find_port, next_owed, owed_of};
 ghost use Rattle.agent_model.specs.Step.{closed_between, handle, looked, step};
+ghost use Rattle.agent_core.specs.Bound.{IsBound, WantsNoMemory};
 ghost use Rattle.agent_core.specs.Happenings.{happening};
 ghost use Rattle.agent_core.specs.Parts.{with_closes};
 
@@ -48,9 +49,11 @@ impl Parts {
     /// Takes one event at a moment.
     pub fn take(&mut self, moment: Moment, event: &Event<'_>) -> Result<(), CoreMemory>
         requires fits { Fits (happening event.now) self.old }
+        requires bound { IsBound self.old.ports self.old.under_way }
         requires failed { self.old.under_way.link.failed ≡ [] }
 
         ensures stepped { OnOk result (self.new ≡ (step self.old moment (happening event.now)).state) }
+        ensures succeeds { WantsNoMemory (happening event.now) → IsOk result }
         ensures failed { OnOk result (self.new.under_way.link.failed ≡ []) }
     {
         self.wall = moment.wall;
@@ -84,24 +87,32 @@ impl Parts {
     // Takes one event after its moment.
     fn handle(&mut self, event: &Event<'_>) -> Result<(), CoreMemory>
         requires fits { Fits (happening event.now) self.old }
+        requires bound { IsBound self.old.ports self.old.under_way }
         requires failed { self.old.under_way.link.failed ≡ [] }
         requires closes { self.old.closes ≡ [] }
 
         ensures state { (c : List ℕ) → OnOk result (with_closes c self.new
             ≡ (handle (happening event.now) (with_closes c self.old)).state) }
         ensures closes { OnOk result (self.new.closes ≡ closed_between self.old self.new) }
+        ensures succeeds { WantsNoMemory (happening event.now) → IsOk result }
         ensures failed { OnOk result (self.new.under_way.link.failed ≡ []) }
     {
         match *event {
             Event::Joined(door) => self.join(door),
             Event::Heard { port, piece } => self.hear(port, piece),
-            Event::Ended { port } => self.end(port),
+            Event::Ended { port } => {
+                self.end(port);
+                Ok(())
+            }
             Event::Took { port, count } => self.send(port, count),
             Event::Started { job, ticket } => {
                 self.start(job, ticket);
                 Ok(())
             }
-            Event::StartFailed { job } => self.fail(job),
+            Event::StartFailed { job } => {
+                self.fail(job);
+                Ok(())
+            }
             Event::Tick => Ok(()),
         }
     }
@@ -126,6 +137,7 @@ impl Parts {
     // A port sent more.
     fn hear(&mut self, port: u64, piece: &[u8]) -> Result<(), CoreMemory>
         requires is_open { IsSome (find_port port self.old.ports) }
+        requires bound { IsBound self.old.ports self.old.under_way }
         requires failed { self.old.under_way.link.failed ≡ [] }
         requires closes { self.old.closes ≡ [] }
 
@@ -183,25 +195,20 @@ impl Parts {
     }
 
     // A port has ended.
-    fn end(&mut self, port: u64) -> Result<(), CoreMemory>
+    fn end(&mut self, port: u64)
         requires is_open { IsSome (find_port port self.old.ports) }
+        requires bound { IsBound self.old.ports self.old.under_way }
         requires failed { self.old.under_way.link.failed ≡ [] }
         requires closes { self.old.closes ≡ [] }
 
-        ensures state { (c : List ℕ) → OnOk result (with_closes c self.new
-            ≡ (handle (Ended port) (with_closes c self.old)).state) }
-        ensures closes { OnOk result (self.new.closes ≡ closed_between self.old self.new) }
-        ensures failed { OnOk result (self.new.under_way.link.failed ≡ []) }
+        ensures state { (c : List ℕ) → with_closes c self.new
+            ≡ (handle (Ended port) (with_closes c self.old)).state }
+        ensures closes { self.new.closes ≡ closed_between self.old self.new }
+        ensures failed { self.new.under_way.link.failed ≡ [] }
     {
         match role_at(&self.ports, &self.under_way, port) {
-            Some(Role::Client) => {
-                self.ports.close(port);
-                Ok(())
-            }
-            Some(Role::Unnamed) => {
-                self.ports.close(port);
-                Ok(())
-            }
+            Some(Role::Client) => self.ports.close(port),
+            Some(Role::Unnamed) => self.ports.close(port),
             Some(Role::Helper) => lose_helper(&mut self.ports, &mut self.under_way, port),
             None => unreachable!(),
         }
@@ -221,18 +228,19 @@ impl Parts {
     }
 
     // A child process could not be started.
-    fn fail(&mut self, job: u64) -> Result<(), CoreMemory>
+    fn fail(&mut self, job: u64)
         requires fits { Fits (StartFailed job) self.old }
+        requires bound { IsBound self.old.ports self.old.under_way }
         requires failed { self.old.under_way.link.failed ≡ [] }
         requires closes { self.old.closes ≡ [] }
 
-        ensures state { (c : List ℕ) → OnOk result (with_closes c self.new
-            ≡ (handle (StartFailed job) (with_closes c self.old)).state) }
-        ensures closes { OnOk result (self.new.closes ≡ closed_between self.old self.new) }
-        ensures failed { OnOk result (self.new.under_way.link.failed ≡ []) }
+        ensures state { (c : List ℕ) → with_closes c self.new
+            ≡ (handle (StartFailed job) (with_closes c self.old)).state }
+        ensures closes { self.new.closes ≡ closed_between self.old self.new }
+        ensures failed { self.new.under_way.link.failed ≡ [] }
     {
         self.under_way.job_failed(job);
-        lose_link(&mut self.ports, &mut self.under_way)
+        lose_link(&mut self.ports, &mut self.under_way);
     }
 
     // Takes the first request of a client where it is whole, and closes its port where its length is bad.

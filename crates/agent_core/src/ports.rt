@@ -8,7 +8,7 @@ ghost use Rattle.agent_model.specs.Looks.{due_by};
 ghost use Rattle.agent_model.specs.Sound.{IsRising};
 ghost use Rattle.agent_model.specs.State.{Port, UnderWay as AnUnderWay, change_port, client_count, find_port, remove_port, unnamed_count, wants_by};
 ghost use Rattle.agent_model.specs.Step.{admitted, gone, take_frame, took_some};
-ghost use Rattle.agent_model.specs.Verdicts.{tell};
+ghost use Rattle.agent_model.specs.Verdicts.{HelperLost, Refuses, tell};
 ghost use Rattle.agent_core.specs.Plain.{ArePlain};
 ghost use Rattle.agent_core.specs.Rising.{first_above, inserted};
 ghost use Rattle.agent_core.specs.Roles.{door_by};
@@ -17,7 +17,7 @@ ghost use Rattle.agent_core.specs.Settlings.{IsShortAnswer, verdict_of};
 ghost use Rattle.agent_core.specs.Slots.{heard_in, owed_in, owing_of, port_of};
 
 use crate::keys::Keys;
-use crate::listed::{drop_sent_at, serve_at, tell_at};
+use crate::listed::{drop_sent_at, refuse_at, serve_at, tell_at};
 use crate::owed::Owed;
 use crate::places::place_of;
 use crate::slot::{self, Slot};
@@ -281,6 +281,20 @@ impl Ports {
         match place_of(&self.slots, number) {
             Some(place) => tell_at(&mut self.slots[place], &mut self.owing, answer),
             None => Ok(()),
+        }
+    }
+
+    /// Tells a client that waits that the helper is lost: nobody, where it has left. Takes no memory.
+    pub fn refuse(&mut self, number: u64)
+        requires { (port : Port) → find_port number self.old.ports ≡ Some port → port.owed ≡ [] }
+
+        ensures { self.new ≡ record self.old {
+          ports = change_port number (tell (Refuses HelperLost)) self.old.ports;
+        } }
+    {
+        match place_of(&self.slots, number) {
+            Some(place) => refuse_at(&mut self.slots[place], &mut self.owing),
+            None => {}
         }
     }
 

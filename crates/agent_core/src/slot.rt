@@ -8,7 +8,7 @@ ghost use Rattle.agent_model.specs.Limits.{longest_body};
 ghost use Rattle.agent_model.specs.Looks.{due};
 ghost use Rattle.agent_model.specs.State.{wants_at};
 ghost use Rattle.agent_model.specs.Step.{take_frame, took_some};
-ghost use Rattle.agent_model.specs.Verdicts.{tell};
+ghost use Rattle.agent_model.specs.Verdicts.{HelperLost, Refuses, tell};
 ghost use Rattle.agent_core.specs.Served.{served_body};
 ghost use Rattle.agent_core.specs.Settlings.{IsShortAnswer, verdict_of};
 ghost use Rattle.agent_core.specs.Slots.{port_of};
@@ -160,6 +160,17 @@ pub fn first_body(heard: &[u8], body_len: u32) -> &[u8]
 {
     let end = body_len as usize + 4;
     &heard[4..end]
+}
+
+/// Owes a failure, and waits no more. Takes no memory.
+pub fn refuse(slot: &mut Slot)
+    requires { slot.old.owed ≡ [] }
+    ensures port { port_of slot.new ≡ tell (Refuses HelperLost) (port_of slot.old) }
+    ensures number { slot.new.number ≡ slot.old.number }
+    ensures door { slot.new.door ≡ slot.old.door }
+{
+    slot.owed.put_status(false);
+    slot.waits = Waits::Nothing;
 }
 
 // Drops the frame at the front, and with the last byte the storage that a long one took.

@@ -7,6 +7,7 @@ use Rattle.agent_model.proofs.PortsLemmas.{numbers-change_port}
 use Rattle.agent_core.specs.Parts.{state_of}
 use Rattle.agent_core.specs.Slots.{OpenPorts}
 use Rattle.agent_core.proofs.AgentLemmas.{closes_one}
+use Rattle.agent_core.proofs.BoundLemmas.{bound-pushed}
 use Rattle.agent_core.proofs.ChildLemmas.{pushed_found, unnamed_state}
 use Rattle.agent_core.proofs.HeldLemmas.{after_ok}
 use Rattle.agent_core.proofs.HelperLemmas.{closes_same, closes_since, open-change_port}
@@ -15,6 +16,10 @@ use Rattle.agent_core.proofs.children.hear_unnamed.Goals as goal
 pub take_first-requires-clause-is_open : goal.take_first-requires-clause-is_open
 take_first-requires-clause-is_open c =
     rw c.in_ok-push.ensures.ports (open-change_port c.args.number c.args.number (heard_more c.args.piece.now) c.args.ports.now.ports (λ p. refl) c.requires.is_open)
+
+pub take_first-requires-clause-bound : goal.take_first-requires-clause-bound
+take_first-requires-clause-bound c =
+    bound-pushed c.args.number c.args.piece.now c.args.ports.now c.push.new.self c.args.under_way.now c.requires.bound c.in_ok-push.ensures.ports
 
 pub close-requires : goal.close-requires
 close-requires c =

@@ -7,6 +7,7 @@ use Rattle.agent_model.specs.State.{Port, find_port}
 use Rattle.agent_model.proofs.PortsLemmas.{numbers-change_port}
 use Rattle.agent_core.specs.Settlings.{named_job}
 use Rattle.agent_core.specs.Slots.{OpenPorts, heard_in}
+use Rattle.agent_core.proofs.BoundLemmas.{bound-named}
 use Rattle.agent_core.proofs.ChildLemmas.{child_named}
 use Rattle.agent_core.proofs.HeldLemmas.{after_ok}
 use Rattle.agent_core.proofs.HelperLemmas.{closes_since, open-change_port}
@@ -15,6 +16,10 @@ use Rattle.agent_core.proofs.children.take_first.Goals as goal
 pub hear_helper-requires-clause-is_open : goal.hear_helper-requires-clause-is_open
 hear_helper-requires-clause-is_open c =
     rw c.take_heard-heard.ensures.ports (open-change_port c.args.number c.args.number unheard c.args.ports.now.ports (λ p. refl) c.requires.is_open)
+
+pub hear_helper-requires-clause-bound : goal.hear_helper-requires-clause-bound
+hear_helper-requires-clause-bound c =
+    bound-named c.args.number c.in-Some.job c.args.ports.now c.take_heard-heard.new.self c.args.under_way.now c.helper_named.new.self c.requires.bound c.helper_named.ensures c.take_heard-heard.ensures.ports
 
 pub returns-clause-state : goal.returns-clause-state
 returns-clause-state c = λ (wall : ℕ) (keys : KeyState) (port : Port) (closes : List ℕ) (there : find_port c.args.number c.args.ports.now.ports ≡ Some port).

@@ -3,7 +3,7 @@ use Rattle.agent_model.specs.KeyStates.{KeyState}
 use Rattle.helper_link.specs.declared.answer.Settled.{Settled}
 use Rattle.agent_core.specs.Settlings.{AreShortAnswers}
 use Rattle.agent_core.specs.Slots.{OpenPorts}
-use Rattle.agent_core.proofs.HeldLemmas.{after_ok}
+use Rattle.agent_core.proofs.BoundLemmas.{bound-answered}
 use Rattle.agent_core.proofs.HelperLemmas.{closes_same, closes_since, heard_state, numbers-answered, open-answered}
 use Rattle.agent_core.proofs.ShortLemmas.{told_short}
 use Rattle.agent_core.proofs.helper.hear_helper.Goals as goal
@@ -17,17 +17,19 @@ pub lose_helper-requires-clause-is_open : goal.lose_helper-requires-clause-is_op
 lose_helper-requires-clause-is_open c =
     rw c.in_ok-answer_all.ensures (open-answered c.args.helper c.as_slice.result.now c.args.ports.now.ports c.requires.is_open)
 
+pub lose_helper-requires-clause-bound : goal.lose_helper-requires-clause-bound
+lose_helper-requires-clause-bound c =
+    bound-answered c.args.piece.now c.args.ports.now c.answer_all.new.ports c.args.under_way.now c.helper_told.new.self c.as_slice.result.now c.requires.bound c.in_ok-told.ensures.link (c.as_slice.ensures ∙ c.in_ok-told.ensures.settled) c.in_ok-answer_all.ensures
+
 pub returns-in-Some-clause-state : goal.returns-in-Some-clause-state
 returns-in-Some-clause-state c = λ (wall : ℕ) (keys : KeyState) (closes : List ℕ).
-    after_ok c.lose_helper.result (λ lost.
-    lost ∙ heard_state wall keys c.args.under_way.now c.helper_told.new.self c.args.ports.now c.answer_all.new.ports closes c.args.piece.now c.as_slice.result.now (Some c.in-Some.field-0) c.in_ok-told.ensures.alone.verifications c.in_ok-told.ensures.link (c.as_slice.ensures ∙ c.in_ok-told.ensures.settled) (sym c.in-Some.is ∙ c.in_ok-told.ensures.fault) c.in_ok-answer_all.ensures)
-    (c.lose_helper.ensures.state wall keys closes)
+    c.lose_helper.ensures.state wall keys closes
+    ∙ heard_state wall keys c.args.under_way.now c.helper_told.new.self c.args.ports.now c.answer_all.new.ports closes c.args.piece.now c.as_slice.result.now (Some c.in-Some.field-0) c.in_ok-told.ensures.alone.verifications c.in_ok-told.ensures.link (c.as_slice.ensures ∙ c.in_ok-told.ensures.settled) (sym c.in-Some.is ∙ c.in_ok-told.ensures.fault) c.in_ok-answer_all.ensures
 
 pub returns-in-Some-clause-closes : goal.returns-in-Some-clause-closes
 returns-in-Some-clause-closes c = λ (none : c.args.ports.now.closed ≡ []).
     let told = c.in_ok-answer_all.ensures in
-    after_ok c.lose_helper.result (λ is.
-    closes_since c.args.ports.now c.answer_all.new.ports c.lose_helper.new.ports.last _ c.lose_helper.new.ports.ports c.lose_helper.new.ports.closed told (numbers-answered c.as_slice.result.now c.args.ports.now.ports) is)
+    closes_since c.args.ports.now c.answer_all.new.ports c.lose_helper.new.ports.last _ c.lose_helper.new.ports.ports c.lose_helper.new.ports.closed told (numbers-answered c.as_slice.result.now c.args.ports.now.ports)
     (c.lose_helper.ensures.closes (ap (λ (v : OpenPorts). v.closed) told ∙ none))
 
 pub returns-clause-state : goal.returns-clause-state

@@ -2,7 +2,6 @@ use Rattle.std.proofs.Common.{◌∙◌, ℕ, List, ap, inl, inr, sym, Some}
 use Rattle.std.specs.Option.{option_map}
 use Rattle.agent_core.specs.Roles.{role_word}
 use Rattle.agent_core.proofs.AgentLemmas.{agent_ends, agent_linked, agent_loses}
-use Rattle.agent_core.proofs.HeldLemmas.{after_ok}
 use Rattle.agent_core.proofs.parts.Parts.end.Goals as goal
 
 pub lose_helper-requires-clause-linked : goal.lose_helper-requires-clause-linked
@@ -14,8 +13,8 @@ pub returns-in-Some-Helper-clause-state : goal.returns-in-Some-Helper-clause-sta
 returns-in-Some-Helper-clause-state c =
     let is = sym c.role_at.ensures.value ∙ ap (option_map role_word) c.in-Some-Helper.is ∙ ap (λ r. Some (role_word r)) c.in-Some-Helper.field-0-is in
     rw (← c.self.view_is) (λ (closes : List ℕ).
-    after_ok c.lose_helper.result (λ lost. lost ∙ agent_loses c.self.inside.wall c.self.inside.keys c.self.inside.under_way c.self.inside.ports closes c.args.port c.role_at.ensures.alone.confirmations c.lose_helper.ensures.rising is)
-    (c.lose_helper.ensures.state c.self.inside.wall c.self.inside.keys closes))
+    c.lose_helper.ensures.state c.self.inside.wall c.self.inside.keys closes
+    ∙ agent_loses c.self.inside.wall c.self.inside.keys c.self.inside.under_way c.self.inside.ports closes c.args.port c.role_at.ensures.alone.confirmations c.lose_helper.ensures.rising is)
 
 pub returns-in-Some-Client-clause-state : goal.returns-in-Some-Client-clause-state
 returns-in-Some-Client-clause-state c =

@@ -1,0 +1,34 @@
+-- What holds between the open ports and the unanswered asks, so that the loss of the helper wants no memory (ours).
+use Rattle.std.specs.Prelude.{◌≡◌, ℕ, List, [], ◌∷◌, Some}
+use Rattle.helper_link.specs.Sound.{RiseTo}
+use Rattle.agent_model.specs.Events.{Happening, Joined, Heard, Ended, Took, Started, StartFailed, Tick}
+use Rattle.agent_model.specs.Sound.{AreTied, IsTied}
+use Rattle.agent_model.specs.State.{Port, State, UnderWay, change_port, find_port}
+use Rattle.agent_model.specs.Verdicts.{HelperLost, Refuses, tell}
+
+-- the numbers of the unanswered asks rise, and who waits is tied to them
+pub record IsBound (ports : List Port) (going : UnderWay) : Type 0 where
+  pub order : RiseTo 0 going.link.asks going.link.last
+  pub tied : AreTied ports going.link.asks
+
+-- each of these clients is owed nothing when it is told that the helper is lost
+abbrev pub AreSilent : List ℕ → List Port → Type 0
+AreSilent [] ports = Unit {0}
+AreSilent (asker ∷ others) ports =
+    ((port : Port) → find_port asker ports ≡ Some port → port.owed ≡ [])
+    × AreSilent others (change_port asker (tell (Refuses HelperLost)) ports)
+
+-- the agent between two events: who waits is tied to the asks, and each failed ask was handed out
+pub record IsAtRest (state : State) : Type 0 where
+  pub tied : IsTied state
+  pub failed : state.under_way.link.failed ≡ []
+
+-- the event wants no memory: a port ends, a child process was started or couldn't be, or nothing but the time
+abbrev pub WantsNoMemory : Happening → Type 0
+WantsNoMemory (Joined door) = ⊥
+WantsNoMemory (Heard port piece) = ⊥
+WantsNoMemory (Ended port) = Unit {0}
+WantsNoMemory (Took port count) = ⊥
+WantsNoMemory (Started job ticket) = Unit {0}
+WantsNoMemory (StartFailed job) = Unit {0}
+WantsNoMemory Tick = Unit {0}
