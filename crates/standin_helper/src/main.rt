@@ -9,17 +9,19 @@ use standin_core::{HelperStatus, helper_main};
 use std::env;
 use std::io::{ErrorKind, Result as IoResult};
 use std::process::ExitCode;
+use std::sync::Wait;
 
-fn run(rt: &HostRuntime) -> IoResult<HelperStatus> {
+// The runtime is handed in twice: only `main`'s own may wait.
+fn run<W: Wait>(rt: &HostRuntime, wait: &W) -> IoResult<HelperStatus> {
     let alloc = rt.alloc();
     let words: Vec<String> = env::args(rt)?.skip(1).collect(alloc)?;
     let mut files = RealFiles::new(rt);
     if let Some(path) = words.first() {
         if let Ok(mut peer) = connect(rt, path.as_str()) {
-            return Ok(helper_main(rt, alloc, &words, &mut files, &mut peer));
+            return Ok(helper_main(wait, alloc, &words, &mut files, &mut peer));
         }
     }
-    Ok(helper_main(rt, alloc, &words, &mut files, &mut NoPeer::new()))
+    Ok(helper_main(wait, alloc, &words, &mut files, &mut NoPeer::new()))
 }
 
 // What is told on standard error.
@@ -38,7 +40,7 @@ fn trouble(status: HelperStatus) -> Option<&'static str> {
 }
 
 fn main(rt: HostRuntime) -> ExitCode {
-    let status = match run(&rt) {
+    let status = match run(&rt, &rt) {
         Ok(status) => status,
         Err(error) if error.kind() == ErrorKind::OutOfMemory => HelperStatus::Memory,
         // Words that can't be read are none of a helper's.
