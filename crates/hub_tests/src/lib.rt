@@ -1,0 +1,8 @@
+//! Tests of the readiness loop over scripted worlds.
+//! Stands on ready_loop, agent_core and world_ports.
+#![tactic(auto)]
+
+#[cfg(test)]
+mod scripts;
+#[cfg(test)]
+mod tests;
