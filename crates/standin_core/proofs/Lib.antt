@@ -3,5 +3,6 @@ pub mod DataLemmas
 pub mod EndLemmas
 pub mod HostLemmas
 pub mod KeyLemmas
+pub mod LawLemmas
 pub mod ProgramLemmas
 pub mod ServeLemmas

@@ -3,6 +3,7 @@ pub mod Claims
 pub mod Codes
 pub mod Hosts
 pub mod Keys
+pub mod Laws
 pub mod Reading
 pub mod Requests
 pub mod Serving

@@ -7,9 +7,15 @@ mod answer;
 mod fault;
 mod hosts;
 mod keys;
+mod laws;
 mod program;
 mod status;
 mod stream;
+#[cfg(test)]
+mod tests;
 
+pub use laws::{
+    a_signature_is_by_the_secret_of_its_own_frame, answers_are_in_order, keys_are_read_exactly,
+};
 pub use program::helper_main;
 pub use status::HelperStatus;
