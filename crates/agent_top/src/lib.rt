@@ -8,7 +8,8 @@ mod serving;
 mod status;
 #[cfg(test)]
 mod tests;
+mod top;
 mod words;
 
-pub use agent::agent_main;
 pub use status::Status;
+pub use top::agent_main;

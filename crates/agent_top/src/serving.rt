@@ -1,8 +1,8 @@
 // The command `serve`.
-ghost use Rattle.std.specs.Prelude.{◌≡◌, ◌≤◌, ◌⊎◌, IfOk, true, false};
-ghost use Rattle.ready_loop.specs.Serving.{Serves, Setting, Unbound};
+ghost use Rattle.std.specs.Prelude.{◌≡◌, ◌⊎◌, true};
+ghost use Rattle.ready_loop.specs.Serving.{Setting};
 ghost use Rattle.agent_top.specs.ServeProgram.{ServesExactly, status_of_serving};
-ghost use Rattle.agent_top.specs.Words.{BeginsServe, IsServe, texts_of};
+ghost use Rattle.agent_top.specs.Words.{IsServe, texts_of};
 ghost use Rattle.serve_words.specs.Serve.{begins, is_usage};
 ghost use Rattle.world_ports.specs.Causes.{Rose};
 
@@ -28,7 +28,7 @@ fn status_of_serving(end: ServeEnd) -> Status
 }
 
 // Whether the first word is that of the command.
-fn begins_serve(words: &[String]) -> bool
+pub fn begins_serve(words: &[String]) -> bool
     ensures { result ≡ begins (texts_of words.now) }
 {
     match words.first() {
@@ -44,14 +44,11 @@ pub fn serve_by<R: Wait, W: World>(rt: &R, alloc: Global, words: &[String], worl
         → ServesExactly setting result (W.journal world.old) (W.journal world.new) }
     ensures usage { result ≡ Status.Usage → is_usage (texts_of words.now) ≡ true }
     ensures refused { is_usage (texts_of words.now) ≡ true
-        → ((result ≡ Status.Usage) ⊎ ((result ≡ Status.Memory) × BeginsServe words.now)) × (world.new ≡ world.old) }
+        → (result ≡ Status.Usage) ⊎ (result ≡ Status.Memory) }
+    ensures unused { is_usage (texts_of words.now) ≡ true → world.new ≡ world.old }
     ensures bind { result ≡ Status.BindFault → Rose (W.faults world.old) (W.faults world.new) }
     ensures poll { result ≡ Status.PollFault → Rose (W.faults world.old) (W.faults world.new) }
-    ensures later { W.faults world.old ≤ W.faults world.new }
 {
-    if !begins_serve(words) {
-        return Status::Usage;
-    }
     let served = match read_serve(alloc, words) {
         Ok(served) => served,
         Err(ServeFault::Usage) => return Status::Usage,

@@ -9,7 +9,7 @@ mod limits;
 mod lines;
 mod timed_keys;
 
-use crate::agent::agent_main;
+use crate::agent::replay_main;
 use crate::status::Status;
 use schedule_text::LineFault;
 use std::alloc::{AllocError, Global};
@@ -61,7 +61,7 @@ fn replay(alloc: Global, run: &Run<'_>) -> Result<(Status, VecSink), AllocError>
     let mut source = SliceSource::new(run.schedule, run.cut, call(alloc, run.failing_read)?);
     let mut sink = VecSink::with_cut(alloc, ROOM, run.sink_cut, call(alloc, run.failing_write)?)?;
     let words = texts(alloc, &["replay"])?;
-    let status = agent_main(alloc, &words, &mut source, &mut sink);
+    let status = replay_main(alloc, &words, &mut source, &mut sink);
     Ok((status, sink))
 }
 
@@ -240,7 +240,7 @@ fn start(alloc: Global, words: &[&str]) -> Result<(Status, VecSink), AllocError>
     let mut source = SliceSource::new(b"join client\n", 4096, Vec::new(alloc));
     let mut sink = VecSink::new(alloc, ROOM, Vec::new(alloc))?;
     let words = texts(alloc, words)?;
-    let status = agent_main(alloc, &words, &mut source, &mut sink);
+    let status = replay_main(alloc, &words, &mut source, &mut sink);
     Ok((status, sink))
 }
 

@@ -2,7 +2,7 @@
 //! Stands on ready_hub (which journals are legal), agent_model (the steps of the agent) and world_ports.
 #![tactic(auto)]
 
-mod core;
+mod agent;
 mod hub;
 mod laws;
 mod listeners;
@@ -14,7 +14,7 @@ mod serving;
 mod things;
 mod turn;
 
-pub use core::Core;
+pub use agent::Core;
 pub use hub::Hub;
 pub use laws::{all_wait_their_turn, what_comes_in_turn_is_legal};
 pub use listeners::children_path;

@@ -2,7 +2,7 @@
 ghost use Rattle.std.specs.Prelude.{◌<◌, None, length};
 ghost use Rattle.world_ports.specs.Streams.{reading_view};
 
-use crate::agent::agent_main;
+use crate::agent::replay_main;
 use crate::status::Status;
 use crate::tests::{ROOM, texts};
 use schedule_text::LineFault;
@@ -56,7 +56,7 @@ fn nothing_is_read_after_the_end(rt: HostRuntime) -> Result<(), Fail> {
             reads_after: 0,
         };
         let mut sink = VecSink::new(rt.alloc(), ROOM, Vec::new(rt.alloc()))?;
-        let status = agent_main(rt.alloc(), &words, &mut source, &mut sink);
+        let status = replay_main(rt.alloc(), &words, &mut source, &mut sink);
         assert_eq!(rt; status, Status::Done, "of {schedule:?}");
         assert!(rt; source.ended, "of {schedule:?}");
         assert_eq!(rt; source.reads_after, 0, "of {schedule:?}");
@@ -73,7 +73,7 @@ fn nothing_is_read_behind_a_refused_line(rt: HostRuntime) -> Result<(), Fail> {
         reads_after: 0,
     };
     let mut sink = VecSink::new(rt.alloc(), ROOM, Vec::new(rt.alloc()))?;
-    let status = agent_main(rt.alloc(), &words, &mut source, &mut sink);
+    let status = replay_main(rt.alloc(), &words, &mut source, &mut sink);
     let fault = LineFault::UnknownPort;
     assert_eq!(rt; status, Status::ScheduleRefused { line: 1, fault });
     assert_eq!(rt; source.bytes, b"join client\n".as_slice());

@@ -2,7 +2,7 @@
 // (draft-miller-ssh-agent) and this repository's stand-in key type: 17 adds, 11 lists, 13 asks for a
 // signature, 22 locks, 23 unlocks; 12 answers with a list, 6 is success, 5 is failure.
 
-use crate::agent::agent_main;
+use crate::agent::replay_main;
 use crate::status::Status;
 use crate::tests::texts;
 use std::alloc::{AllocError, Global};
@@ -55,7 +55,7 @@ pub fn printed_by(alloc: Global, words: &[&str], schedule: &[u8]) -> Result<VecS
     let mut source = SliceSource::new(schedule, 4096, Vec::new(alloc));
     let mut sink = VecSink::new(alloc, ROOM, Vec::new(alloc))?;
     let words = texts(alloc, words)?;
-    match agent_main(alloc, &words, &mut source, &mut sink) {
+    match replay_main(alloc, &words, &mut source, &mut sink) {
         Status::Done => Ok(sink),
         _ => Err("the schedule is not run to its end".into()),
     }

@@ -2,7 +2,7 @@ use Rattle.std.proofs.Common.{◌≡◌, ◌∙◌, ℕ, Option, Some}
 use Rattle.replay_run.specs.Claims.{Seen}
 use Rattle.agent_top.specs.Program.{Completes, ReplaysExactly}
 use Rattle.agent_top.proofs.ProgramLemmas.{replays_by, completes_by}
-use Rattle.agent_top.proofs.agent.agent_main.Goals as goal
+use Rattle.agent_top.proofs.agent.replay_main.Goals as goal
 
 -- the words say one lifetime
 same_life : {one other : Option ℕ} → Some one ≡ Some other → one ≡ other

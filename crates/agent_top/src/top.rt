@@ -1,0 +1,62 @@
+// The program over any input, output and world.
+ghost use Rattle.std.specs.Prelude.{◌≡◌, ◌⊎◌, ℕ, None, Option};
+ghost use Rattle.agent_top.specs.Program.{ReplaysExactly, Completes};
+ghost use Rattle.agent_top.specs.ServeProgram.{ServesExactly};
+ghost use Rattle.agent_top.specs.Words.{BeginsServe, IsReplay, IsServe, IsUsage, replay_life, texts_of};
+ghost use Rattle.ready_loop.specs.Serving.{Setting};
+ghost use Rattle.replay_run.specs.Claims.{Seen};
+ghost use Rattle.world_ports.specs.Causes.{Rose};
+ghost use Rattle.world_ports.specs.Streams.{OnlyReads, OnlyWrites};
+
+use crate::agent::replay_main;
+use crate::serving::{begins_serve, serve_by};
+use crate::status::Status;
+use std::alloc::Global;
+use std::sync::Wait;
+use world_ports::{Sink, Source, World};
+
+/// The program: `words` are those of the command line after the program's name.
+///
+/// With the word `replay` it runs the schedule that the input gives, and writes to the output what that
+/// prints. With `replay -t LIFE` identities that are added without a lifetime live so long: parts as in
+/// `1h30m`, or seconds; 0 stands for no lifetime. With `serve` and its options (crate serve_words) it
+/// serves clients over the world until that fails or, where it is asked to, until it is idle. With any
+/// other words it touches none of the three.
+///
+/// What the clauses say stands in specs/Program.antt and ServeProgram.antt, whose heads name where to
+/// read on, down to the table of requests.
+pub fn agent_main<R: Wait, W: World, I: Source, O: Sink>(
+    rt: &R,
+    alloc: Global,
+    words: &[String],
+    world: &mut W,
+    input: &mut I,
+    output: &mut O,
+) -> Status
+    requires { W.last_port world.old ≡ 0 }
+    ensures replays { (life : Option ℕ) → IsReplay words.now life → ReplaysExactly life result
+        (record { input = I.seen input.old; output = O.seen output.old })
+        (record { input = I.seen input.new; output = O.seen output.new }) }
+    ensures completes { (life : Option ℕ) → IsReplay words.now life → Completes life result
+        (record { input = I.seen input.old; output = O.seen output.old })
+        (record { input = I.seen input.new; output = O.seen output.new }) }
+    ensures serves { (setting : Setting) → IsServe words.now setting
+        → ServesExactly setting result (W.journal world.old) (W.journal world.new) }
+    ensures usage { result ≡ Status.Usage → IsUsage words.now }
+    ensures refused { IsUsage words.now
+        → (result ≡ Status.Usage) ⊎ ((result ≡ Status.Memory) × BeginsServe words.now) }
+    ensures unused { IsUsage words.now
+        → (input.new ≡ input.old) × (output.new ≡ output.old) × (world.new ≡ world.old) }
+    ensures replay_alone { (life : Option ℕ) → IsReplay words.now life → world.new ≡ world.old }
+    ensures serve_alone { replay_life (texts_of words.now) ≡ None
+        → (input.new ≡ input.old) × (output.new ≡ output.old) }
+    ensures bind { result ≡ Status.BindFault → Rose (W.faults world.old) (W.faults world.new) }
+    ensures poll { result ≡ Status.PollFault → Rose (W.faults world.old) (W.faults world.new) }
+    ensures input_only { OnlyReads (I.seen input.old) (I.seen input.new) }
+    ensures output_only { OnlyWrites (O.seen output.old) (O.seen output.new) }
+{
+    if begins_serve(words) {
+        return serve_by(rt, alloc, words, world);
+    }
+    replay_main(alloc, words, input, output)
+}
