@@ -1,6 +1,8 @@
 //! What no clause says: the bytes of requests and answers, written out from docs/PROTOCOL.md, with signatures by
 //! Python's hmac and hashlib; each end once.
 
+ghost use Rattle.std.specs.Prelude.{◌<◌};
+
 use crate::{HelperStatus, helper_main};
 use std::alloc::{AllocError, Global};
 use std::sync::Wait;
@@ -52,34 +54,29 @@ const CONFIRM: &str = "0000000f030000000000000001000000026f6b";
 
 const TICKET: &str = "00000000000000000000000000000000";
 
-/// One run.
-#[derive(Drop)]
-struct Run<'a> {
-    words: &'a [&'a str],
-    data_file: &'a [u8],
-    stream: &'a [u8],
-    /// How many bytes a read brings.
-    cut: u32,
-    /// The calls that fail, from 1: of files, of reads, of writes; 0 for none.
-    failing: (u64, u64, u64),
-}
+const NONE: (u64, u64, u64) = (0, 0, 0);
 
-// How it ends, and what was sent.
+// How a run ends, and what was sent. A read brings at most `cut` bytes; `failing` are the numbers, from 1, of the
+// calls that fail: of files, of reads, of writes, and 0 for none.
 fn told<R: Wait>(
     rt: &R,
     alloc: Global,
-    run: &Run<'_>,
+    words: &[&str],
+    data_file: &[u8],
+    stream: &[u8],
+    cut: u32,
+    failing: (u64, u64, u64),
 ) -> Result<(HelperStatus, Vec<u8>), AllocError>
-    requires { 0 < run.now.cut }
+    requires { 0 < cut }
 {
-    let words = texts(alloc, run.words)?;
+    let words = texts(alloc, words)?;
     let file = (
         String::from_str(alloc, "hosts")?,
-        Vec::from_slice(alloc, run.data_file)?,
+        Vec::from_slice(alloc, data_file)?,
     );
-    let mut files = MapFiles::new(vec![in alloc; file]?, [run.failing.0].to_vec(alloc)?);
-    let source = SliceSource::new(run.stream, run.cut, [run.failing.1].to_vec(alloc)?);
-    let sink = VecSink::new(alloc, 4096, [run.failing.2].to_vec(alloc)?)?;
+    let mut files = MapFiles::new(vec![in alloc; file]?, [failing.0].to_vec(alloc)?);
+    let source = SliceSource::new(stream, cut, [failing.1].to_vec(alloc)?);
+    let sink = VecSink::new(alloc, 4096, [failing.2].to_vec(alloc)?)?;
     let mut peer = MemPeer::new(source, sink);
     let status = helper_main(rt, alloc, &words, &mut files, &mut peer);
     let sent = Vec::from_slice(alloc, peer.written())?;
@@ -109,14 +106,8 @@ fn requests_are_answered_however_they_are_cut(rt: HostRuntime) -> Result<(), Fai
     let stream = bytes(alloc, &[SIGN_SHORT, SIGN_OTHER, SIGN, VERIFY, VERIFY_OTHER])?;
     let wanted = bytes(alloc, &[HELLO, REFUSED, REFUSED, SIGNED, TRUE, FALSE])?;
     for cut in [1, 7, 4096] {
-        let run = Run {
-            words: &["s", "1", TICKET, "hosts"],
-            data_file: HOST,
-            stream: &stream,
-            cut,
-            failing: (0, 0, 0),
-        };
-        let (status, sent) = told(&rt, alloc, &run)?;
+        let words = ["s", "1", TICKET, "hosts"];
+        let (status, sent) = told(&rt, alloc, &words, HOST, &stream, cut, NONE)?;
         assert_eq!(rt; status, HelperStatus::Done, "in pieces of {cut}");
         assert!(rt; sent == wanted, "in pieces of {cut}");
     }
@@ -124,76 +115,50 @@ fn requests_are_answered_however_they_are_cut(rt: HostRuntime) -> Result<(), Fai
 }
 
 #[test]
-fn each_end_comes_where_it_should(rt: HostRuntime) -> Result<(), Fail> {
+fn other_words_and_files_are_refused(rt: HostRuntime) -> Result<(), Fail> {
+    let alloc = rt.alloc();
+    for words in [["s", "01", TICKET], ["s", "+1", TICKET], ["s", "1", "00"]] {
+        let (status, _) = told(&rt, alloc, &words, HOST, &[], 4096, NONE)?;
+        assert_eq!(rt; status, HelperStatus::Usage, "of {words:?}");
+    }
+    let longer = vec![in alloc; 0; 1048577]?;
+    let missing = told(
+        &rt,
+        alloc,
+        &["s", "1", TICKET, "else"],
+        HOST,
+        &[],
+        4096,
+        NONE,
+    )?;
+    assert_eq!(rt; missing.0, HelperStatus::FileFault);
+    let words = ["s", "1", TICKET, "hosts"];
+    let failed = told(&rt, alloc, &words, HOST, &[], 4096, (1, 0, 0))?;
+    assert_eq!(rt; failed.0, HelperStatus::FileFault);
+    let long = told(&rt, alloc, &words, &longer, &[], 4096, NONE)?;
+    assert_eq!(rt; long.0, HelperStatus::FileFault);
+    let of_the_bound = told(&rt, alloc, &words, &longer[1..], &[], 4096, NONE)?;
+    assert_eq!(rt; of_the_bound.0, HelperStatus::BadFile);
+    let torn = told(&rt, alloc, &words, &HOST[..129], &[], 4096, NONE)?;
+    assert_eq!(rt; torn.0, HelperStatus::BadFile);
+    Ok(())
+}
+
+#[test]
+fn each_end_of_a_talk_has_its_status(rt: HostRuntime) -> Result<(), Fail> {
     let alloc = rt.alloc();
     let sign = bytes(alloc, &[SIGN])?;
-    let confirm = bytes(alloc, &[CONFIRM, SIGN])?;
-    let longest = vec![in alloc; 0; 1048576]?;
-    let longer = vec![in alloc; 0; 1048577]?;
-    let none = (0, 0, 0);
-    let hosts = ["s", "1", TICKET, "hosts"].as_slice();
-    let plain = ["s", "1", TICKET].as_slice();
-    let cases = [
-        (
-            ["s", "1"].as_slice(),
-            HOST,
-            sign.as_slice(),
-            none,
-            HelperStatus::Usage,
-        ),
-        (
-            ["s", "01", TICKET].as_slice(),
-            HOST,
-            sign.as_slice(),
-            none,
-            HelperStatus::Usage,
-        ),
-        (
-            ["s", "+1", TICKET].as_slice(),
-            HOST,
-            sign.as_slice(),
-            none,
-            HelperStatus::Usage,
-        ),
-        (
-            ["s", "1", "00"].as_slice(),
-            HOST,
-            sign.as_slice(),
-            none,
-            HelperStatus::Usage,
-        ),
-        (
-            ["s", "1", TICKET, "else"].as_slice(),
-            HOST,
-            &[],
-            none,
-            HelperStatus::FileFault,
-        ),
-        (hosts, HOST, &[], (1, 0, 0), HelperStatus::FileFault),
-        (hosts, &longer, &[], none, HelperStatus::FileFault),
-        (hosts, &longest, &[], none, HelperStatus::BadFile),
-        (hosts, &HOST[..129], &[], none, HelperStatus::BadFile),
-        (hosts, b"", &[], none, HelperStatus::Done),
-        (plain, HOST, &[], (1, 0, 0), HelperStatus::Done),
-        (plain, HOST, &confirm, none, HelperStatus::BadFrame),
-        (plain, HOST, &[0, 0, 0, 0], none, HelperStatus::BadFrame),
-        (plain, HOST, &[0, 16, 0, 1], none, HelperStatus::BadFrame),
-        (plain, HOST, &[0, 16, 0, 0], none, HelperStatus::TornEnd),
-        (plain, HOST, &[0], none, HelperStatus::TornEnd),
-        (plain, HOST, &sign, (0, 2, 0), HelperStatus::ReadFault),
-        (plain, HOST, &sign, (0, 0, 1), HelperStatus::WriteFault),
-        (plain, HOST, &sign, (0, 0, 2), HelperStatus::WriteFault),
-    ];
-    for (words, data_file, stream, failing, wanted) in cases {
-        let run = Run {
-            words,
-            data_file,
-            stream,
-            cut: 4096,
-            failing,
-        };
-        let (status, _) = told(&rt, alloc, &run)?;
-        assert_eq!(rt; status, wanted, "of {words:?} and {stream:?}");
-    }
+    let confirm = bytes(alloc, &[CONFIRM])?;
+    let words = ["s", "1", TICKET];
+    let bad = told(&rt, alloc, &words, HOST, &confirm, 4096, NONE)?;
+    assert_eq!(rt; bad.0, HelperStatus::BadFrame);
+    let above = told(&rt, alloc, &words, HOST, &[0, 16, 0, 1], 4096, NONE)?;
+    assert_eq!(rt; above.0, HelperStatus::BadFrame);
+    let of_the_bound = told(&rt, alloc, &words, HOST, &[0, 16, 0, 0], 4096, NONE)?;
+    assert_eq!(rt; of_the_bound.0, HelperStatus::TornEnd);
+    let unread = told(&rt, alloc, &words, HOST, &sign, 4096, (0, 2, 0))?;
+    assert_eq!(rt; unread.0, HelperStatus::ReadFault);
+    let unwritten = told(&rt, alloc, &words, HOST, &sign, 4096, (0, 0, 2))?;
+    assert_eq!(rt; unwritten.0, HelperStatus::WriteFault);
     Ok(())
 }
