@@ -294,6 +294,37 @@ def our_agent(program, folder, *words, helper=None, name="ours", limits=(), **mo
     return Agent(process, path)
 
 
+class Child:
+    """A program that an agent starts, of which this process is the agent: started with a socket, a job and a ticket."""
+
+    def __init__(self, program, folder, *words, job=7, ticket=bytes(range(16)), said=True):
+        self.job, self.ticket = job, ticket
+        path = f"{folder}/children"
+        with contextlib.suppress(FileNotFoundError):
+            os.unlink(path)
+        with socket.socket(socket.AF_UNIX) as listener:
+            listener.bind(path)
+            listener.listen()
+            listener.settimeout(10)
+            command = [str(program), path, str(job), ticket.hex(), *map(str, words)]
+            self.process = subprocess.Popen(
+                command, stdin=subprocess.DEVNULL, stdout=subprocess.PIPE, stderr=subprocess.PIPE
+            )
+            self.peer = Peer.__new__(Peer)
+            self.peer.socket, _ = listener.accept()
+            self.peer.socket.settimeout(20)
+            self.peer.heard = b""
+        if said:
+            assert self.peer.reply() == struct.pack(">BQ", 1, job) + string(ticket)
+
+    def end(self):
+        """Closes the connection, and answers the status, and what was said on standard error."""
+        self.peer.close()
+        output, errors = self.process.communicate(timeout=20)
+        assert output == b"", output
+        return self.process.returncode, errors.decode()
+
+
 def script(path, text):
     """A shell script that can be run."""
     path = pathlib.Path(path)
