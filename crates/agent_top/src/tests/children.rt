@@ -105,7 +105,8 @@ fn a_helper_that_cannot_be_started_is_started_anew(rt: HostRuntime) -> Result<()
         hear 1 000000500d00000040{TYPE}{TAG_1}0000000361626300000000\n\
         failed 1\n"
     )?;
-    let output = b"to 1 0000000106\nstart 1 helper\nto 1 0000000105\nstart 2 helper\nrefused 6 order\n";
+    let output =
+        b"to 1 0000000106\nstart 1 helper\nto 1 0000000105\nstart 2 helper\nrefused 6 order\n";
     let (ended, sink) = replay_whole(rt.alloc(), schedule.as_bytes())?;
     let refused = Status::ScheduleRefused {
         line: 6,
