@@ -235,31 +235,34 @@ fn a_sink_that_takes_one_byte_at_a_time_gets_all(rt: HostRuntime) -> Result<(), 
     Ok(())
 }
 
-// A run with these words.
-fn start(alloc: Global, words: &[&str]) -> Result<(Status, VecSink), AllocError> {
+// A run with the words of a line.
+fn start(alloc: Global, line: &str) -> Result<(Status, VecSink), AllocError> {
     let mut source = SliceSource::new(b"join client\n", 4096, Vec::new(alloc));
     let mut sink = VecSink::new(alloc, ROOM, Vec::new(alloc))?;
-    let words = texts(alloc, words)?;
+    let mut words = Vec::new(alloc);
+    for word in line.split_whitespace() {
+        words.push(String::from_str(alloc, word)?)?;
+    }
     let status = replay_main(alloc, &words, &mut source, &mut sink);
     Ok((status, sink))
 }
 
 #[test]
 fn other_words_write_nothing(rt: HostRuntime) -> Result<(), Fail> {
-    let cases = [
-        [].as_slice(),
-        ["reply"].as_slice(),
-        ["replay", "x"].as_slice(),
-        ["replay", "-t"].as_slice(),
-        ["replay", "-t", "1x"].as_slice(),
-        ["replay", "-t", "4294967296"].as_slice(),
-        ["replay", "-l", "1"].as_slice(),
-        ["replay", "-t", "1", "x"].as_slice(),
-        ["reply", "-t", "1"].as_slice(),
+    let lines = [
+        "",
+        "reply",
+        "replay x",
+        "replay -t",
+        "replay -t 1x",
+        "replay -t 4294967296",
+        "replay -l 1",
+        "replay -t 1 x",
+        "reply -t 1",
     ];
-    for words in cases {
-        let (status, sink) = start(rt.alloc(), words)?;
-        assert_eq!(rt; status, Status::Usage, "at {words:?}");
+    for line in lines {
+        let (status, sink) = start(rt.alloc(), line)?;
+        assert_eq!(rt; status, Status::Usage, "at {line}");
         assert!(rt; sink.written().is_empty());
     }
     Ok(())
