@@ -1,14 +1,18 @@
 -- The words of `serve` are none of `replay`, and what the status of `serve` says.
-use Rattle.std.proofs.Common.{◌≡◌, ℕ, List, [], ◌∷◌, refl, Option, Some, None, Bool, true, false, inl, inr, codes}
+use Rattle.std.proofs.Common.{◌≡◌, ◌∙◌, ℕ, List, [], ◌∷◌, append-nil, refl, subst, sym, Option, Some, None, Bool, true, false, inl, inr, codes}
 use Rattle.std.specs.Str.{bytes_eq}
+use Rattle.std.specs.declared.string.String.{String}
+use Rattle.std.specs.declared.alloc.Global.{Global}
 use Rattle.std.proofs.lemmas.Slice.Eq.{bytes_eq-Decides}
 use Rattle.world_ports.specs.declared.entry.Entry.{Entry}
-use Rattle.serve_words.specs.Serve.{begins, is_usage}
-use Rattle.ready_loop.specs.Serving.{Serves, Setting, Unbound}
+use Rattle.world_ports.specs.Journal.{Grows}
+use Rattle.agent_model.specs.State.{State, first_state}
+use Rattle.serve_words.specs.Serve.{begins, is_set, is_usage, life_in, value_of}
+use Rattle.ready_loop.specs.Serving.{RunsOut, Serves, Setting, Unbound}
 use Rattle.ready_loop.specs.declared.outcome.ServeEnd.{ServeEnd}
 use Rattle.ready_loop.specs.declared.outcome.ServeEnd.TheVariants as ends
 use Rattle.agent_top.specs.ServeProgram.{ServesExactly, status_of_serving}
-use Rattle.agent_top.specs.Words.{replay_life}
+use Rattle.agent_top.specs.Words.{IsServe, replay_life, texts_of}
 
 -- a word isn't both
 not_both : (word : List ℕ) → bytes_eq word (codes "serve") ≡ true → bytes_eq word (codes "replay") ≡ false
@@ -33,3 +37,29 @@ serves_by ends.Idle setting old new serves = inr serves
 serves_by ends.BindFault setting old new serves = serves
 serves_by ends.PollFault setting old new serves = serves
 serves_by ends.Memory setting old new serves = serves
+
+some_same : {one other : List ℕ} → Some one ≡ Some other → one ≡ other
+some_same same = cc
+
+-- the words say this setting
+said : (words : List (String Global)) (setting : Setting) (path : List ℕ) (until_idle : Bool) (life : Option ℕ) → IsServe words setting → Some path ≡ value_of (codes "path") (texts_of words) → until_idle ≡ is_set (value_of (codes "until-idle") (texts_of words)) → life ≡ life_in (texts_of words) → record { path = path; until_idle = until_idle; state = first_state life } ≡ setting
+said words setting path until_idle life is at idle lives =
+    let paths : path ≡ setting.path = some_same (at ∙ is.path) in
+    rw (paths, idle, lives, ← is.until_idle, ← is.state) refl
+
+-- what the loop's end says is said of the words' setting
+pub serves_words : (words : List (String Global)) (setting : Setting) (path : List ℕ) (until_idle : Bool) (life : Option ℕ) (state : State) (end : ServeEnd) (old new : Option (List Entry)) → IsServe words setting → Some path ≡ value_of (codes "path") (texts_of words) → until_idle ≡ is_set (value_of (codes "until-idle") (texts_of words)) → life ≡ life_in (texts_of words) → state ≡ first_state life → Serves end (record { path = path; until_idle = until_idle; state = state }) Unbound old new → ServesExactly setting (status_of_serving end) old new
+serves_words words setting path until_idle life state end old new is at idle lives begun serves =
+    subst (λ (s : Setting). ServesExactly s (status_of_serving end) old new) (said words setting path until_idle life is at idle lives)
+    (serves_by end _ old new (subst (λ (s : State). Serves end (record { path = path; until_idle = until_idle; state = s }) Unbound old new) begun serves))
+
+-- no call was made
+pub no_call : (setting : Setting) (journal : Option (List Entry)) → RunsOut setting Unbound journal journal
+no_call setting journal = record {
+  to = Unbound;
+  calls = record {
+    added = [];
+    told = elim journal as (λ j. Grows j j []) [ None ↦ tt | Some entries ↦ sym (append-nil entries) ];
+    legal = refl;
+  };
+}

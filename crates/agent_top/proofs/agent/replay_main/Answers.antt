@@ -1,6 +1,5 @@
 use Rattle.std.proofs.Common.{◌≡◌, ◌∙◌, ℕ, Option, Some}
 use Rattle.replay_run.specs.Claims.{Seen}
-use Rattle.agent_top.specs.Program.{Completes, ReplaysExactly}
 use Rattle.agent_top.proofs.ProgramLemmas.{replays_by, completes_by}
 use Rattle.agent_top.proofs.agent.replay_main.Goals as goal
 
