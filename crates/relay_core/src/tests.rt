@@ -62,7 +62,7 @@ fn told(
         return Err(Fail::from("another number of runs"));
     }
     for run in spawner.made() {
-        if run.program.as_slice() != b"ask" || run.word.as_slice() != b"ok" {
+        if run.program.as_slice() != b"ask".as_slice() || run.word.as_slice() != b"ok".as_slice() {
             return Err(Fail::from("another run"));
         }
     }
