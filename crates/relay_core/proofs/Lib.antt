@@ -1,4 +1,5 @@
 pub mod AskLemmas
+pub mod LawLemmas
 pub mod PromptLemmas
 pub mod RelayLemmas
 pub mod VerdictLemmas

@@ -6,10 +6,14 @@
 mod asking;
 mod consent;
 mod hearing;
+mod laws;
 mod program;
 mod prompt;
 mod status;
+#[cfg(test)]
+mod tests;
 
 pub use consent::verdict;
+pub use laws::{a_prompt_is_plain_and_of_the_job, granted_only_by_a_consent};
 pub use program::relay_main;
 pub use status::RelayStatus;
