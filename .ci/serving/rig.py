@@ -269,7 +269,7 @@ def openssh_agent(folder, *words, name="openssh", **more):
     """OpenSSH's own."""
     path = f"{folder}/{name}.sock"
     process = subprocess.Popen(["ssh-agent", "-D", "-a", path, *words], stdout=subprocess.DEVNULL, **more)
-    until(lambda: os.path.exists(path), what="ssh-agent's socket")
+    until(lambda: listens(path, True), what="ssh-agent's socket")
     return Agent(process, path)
 
 
