@@ -1,6 +1,7 @@
 """What the checks of the serving agent share: counting, packages, agents, and clients that speak for themselves."""
 
 import contextlib
+import functools
 import os
 import pathlib
 import shutil
@@ -268,7 +269,7 @@ def openssh_agent(folder, *words, name="openssh", **more):
     """OpenSSH's own."""
     path = f"{folder}/{name}.sock"
     process = subprocess.Popen(["ssh-agent", "-D", "-a", path, *words], stdout=subprocess.DEVNULL, **more)
-    until(lambda: os.path.exists(path), what="ssh-agent's socket")
+    until(lambda: listens(path, True), what="ssh-agent's socket")
     return Agent(process, path)
 
 
@@ -331,6 +332,49 @@ def script(path, text):
     path.write_text(f"#!/bin/sh\n{text}\n")
     path.chmod(0o700)
     return path
+
+
+# What an agent does already.
+
+
+@functools.cache
+def holds_destinations(program):
+    """Whether keys are held that may be used towards some hosts alone."""
+    hop = lambda host, *keys: string(string(b"") + string(host) + string(b"") + b"".join(keys))
+    fields, comment, blob = plain_key(b"k" * 32)
+    rule = string(hop(b"") + hop(b"host", string(blob) + b"\0") + string(b""))
+    terms = b"\xff" + string(b"restrict-destination-v00@openssh.com") + string(rule)
+    with tempfile.TemporaryDirectory() as folder, our_agent(program, folder, helper="/bin/false") as agent:
+        with agent.peer() as peer:
+            return peer.ask(ADD_LIMITED, fields, comment, terms) == bytes([SUCCESS])
+
+
+@functools.cache
+def asks_the_user(program):
+    """Whether the user is asked where a key is used that was added so."""
+    if is_stand_in(program):
+        return True
+    fields, comment, blob = plain_key(b"k" * 32)
+    with tempfile.TemporaryDirectory() as folder:
+        relay = script(f"{folder}/relay", f"touch {folder}/started")
+        words = ("--relay", relay, "--askpass", "/bin/true")
+        with our_agent(program, folder, *words, helper="/bin/false") as agent, agent.peer() as peer:
+            if peer.ask(ADD_LIMITED, fields, comment, b"\x02") != bytes([SUCCESS]):
+                return False
+            peer.send(bytes([SIGN]) + string(blob) + string(b"message") + bytes(4))
+            with contextlib.suppress(AssertionError):
+                return until(pathlib.Path(f"{folder}/started").exists, 2)
+    return False
+
+
+def needs_destinations(program):
+    if not holds_destinations(program):
+        raise Skip("the agent holds no keys for some destinations yet")
+
+
+def needs_confirmations(program):
+    if not asks_the_user(program):
+        raise Skip("the agent doesn't ask the user yet")
 
 
 # Counting.

@@ -148,6 +148,9 @@ def others_wait(program, agents):
     if not os.path.exists(relay):
         print("serve: no confirmations: bin/confirm_relay isn't built")
         return
+    if not rig.asks_the_user(program):
+        print("serve: no confirmations: the agent doesn't ask the user yet")
+        return
     asker = rig.script(WORK / "ask", "sleep 1; exit 1")
     variables = dict(os.environ, SSH_ASKPASS=str(asker), SSH_ASKPASS_REQUIRE="force", DISPLAY=":none")
     words = ("--relay", relay, "--askpass", asker)
