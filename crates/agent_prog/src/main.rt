@@ -38,8 +38,10 @@ where
     // Words that can't be read are no form of the program's.
     let mut given = env::args(rt).map_err(|error| status_of(&error, Status::Usage))?;
     let words: Vec<String> = given.skip(1).collect(alloc).map_err(|_| Status::Memory)?;
-    let mut world =
-        world_of(rt, alloc, &words).map_err(|error| status_of(&error, Status::PollFault))?;
+    let mut world = world_of(rt, alloc, &words).map_err(|error| status_of(
+        &error,
+        Status::PollFault,
+    ))?;
     let status = agent_main(rt, alloc, &words, &mut world, input, output);
     world.remove_files();
     Ok(status)
