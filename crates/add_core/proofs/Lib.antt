@@ -1,2 +1,5 @@
+pub mod FileLemmas
 pub mod HearingLemmas
+pub mod PassphraseLemmas
+pub mod SendingLemmas
 pub mod StepLemmas

@@ -13,7 +13,7 @@ use Rattle.agent_msg.specs.ReplyReading.{reply_of}
 use Rattle.agent_msg.specs.declared.agent_reply.ReplyFault.{ReplyFault}
 use Rattle.agent_msg.specs.ReplyReading.{AgentReply}
 use Rattle.add_core.specs.Hearing.{answer_at, TakesReply}
-use Rattle.add_core.specs.Exchanges.{answered, asked, judged, reply_in, reply_at, verdict_of, stepped, Tells, Judges}
+use Rattle.add_core.specs.Exchanges.{answered, asked, judged, reply_in, reply_at, verdict_of, stepped, Refuses, Judges}
 
 -- ---- fronts
 
@@ -234,3 +234,84 @@ told_whole text left p s0 s1 known written = record {
 -- a front of a text that is written
 pub told_cut : (text left : List ℕ) (p s0 s1 : StreamView) → WritesPart text s0 s1 → IsCut (telling text left) p p s0 s1
 told_cut text left p s0 s1 part = record { sent = no_front [] p; told = part }
+
+-- ---- readings
+
+-- a fault that a reading ends with
+failed : {A : Type 0} (fault : AddFault) (defined : Result A AddFault) (step : A → Step) (p s : StreamView) → defined ≡ Err fault
+    → IsStopped fault (stepped defined step) p p s s
+failed fault defined step p s is =
+    subst (λ (x : Step). IsStopped fault x p p s s) (ap (λ d. stepped d step) (sym is)) record {
+      fault_is = refl;
+      made = record { sent = Appends-nil p.written; told = Appends-nil s.written };
+    }
+
+-- a reading that stops is the last
+pub tells_stops : {A : Type 0} (stop : Stop) (defined : Result A AddFault) (step : A → Step) (p s : StreamView)
+    → Refuses stop defined → Stops stop (stepped defined step) p p s s
+tells_stops Memory defined step p s h = none_is_cut (stepped defined step) p s
+tells_stops (Fault (why.File place)) defined step p s h = none_is_cut (stepped defined step) p s
+tells_stops (Fault why.PeerFault) defined step p s h = none_is_cut (stepped defined step) p s
+tells_stops (Fault why.InputFault) defined step p s h = none_is_cut (stepped defined step) p s
+tells_stops (Fault why.OutputFault) defined step p s h = none_is_cut (stepped defined step) p s
+tells_stops (Fault why.Usage) defined step p s h = failed why.Usage defined step p s h
+tells_stops (Fault (why.FileTooLong place)) defined step p s h = failed (why.FileTooLong place) defined step p s h
+tells_stops (Fault (why.Body fault)) defined step p s h = failed (why.Body fault) defined step p s h
+tells_stops (Fault (why.Public fault)) defined step p s h = failed (why.Public fault) defined step p s h
+tells_stops (Fault (why.Destination fault)) defined step p s h = failed (why.Destination fault) defined step p s h
+tells_stops (Fault why.EmptyPassphrase) defined step p s h = failed why.EmptyPassphrase defined step p s h
+tells_stops (Fault why.LongPassphrase) defined step p s h = failed why.LongPassphrase defined step p s h
+tells_stops (Fault why.TooLong) defined step p s h = failed why.TooLong defined step p s h
+tells_stops (Fault why.Refused) defined step p s h = failed why.Refused defined step p s h
+tells_stops (Fault why.BadReply) defined step p s h = failed why.BadReply defined step p s h
+tells_stops (Fault why.NoIdentities) defined step p s h = failed why.NoIdentities defined step p s h
+
+-- after a reading its step follows
+pub tells_ok : {A T : Type 0} (result : Result T Stop) (value : A) (defined : Result A AddFault) (step : A → Step) (p0 p1 s0 s1 : StreamView)
+    → defined ≡ Ok value → Follows result (step value) p0 p1 s0 s1 → Follows result (stepped defined step) p0 p1 s0 s1
+tells_ok result value defined step p0 p1 s0 s1 is h =
+    subst (λ (x : Step). Follows result x p0 p1 s0 s1) (ap (λ d. stepped d step) (sym is)) h
+
+-- ---- one after another
+
+-- a step that goes on and another one are one
+abbrev joined : Step → Step → Step
+joined a b = followed_by None a b
+
+joined-assoc : (a b c : Step) → joined (joined a b) c ≡ joined a (joined b c)
+joined-assoc a b c =
+    ap (λ (l : List ℕ). record { sent = l; told = (a.told ++ b.told) ++ c.told; left = c.left; fault = c.fault }) (append_assoc a.sent b.sent c.sent)
+    ∙ ap (λ (l : List ℕ). record { sent = a.sent ++ (b.sent ++ c.sent); told = l; left = c.left; fault = c.fault }) (append_assoc a.told b.told c.told)
+
+assoc_by : (a : Step) (f g : List ℕ → Step) (first second : Option AddFault) → a.fault ≡ first → (f a.left).fault ≡ second
+    → followed (followed a f) g ≡ followed a (λ left. followed (f left) g)
+assoc_by a f g (Some fault) second is is2 =
+    ap (λ (x : Step). followed x g) (by_fault a f (Some fault) is) ∙ by_fault a g (Some fault) is
+    ∙ sym (by_fault a (λ left. followed (f left) g) (Some fault) is)
+assoc_by a f g None (Some fault) is is2 =
+    ap (λ (x : Step). followed x g) (by_fault a f None is) ∙ by_fault (joined a (f a.left)) g (Some fault) is2
+    ∙ ap (joined a) (sym (by_fault (f a.left) g (Some fault) is2)) ∙ sym (by_fault a (λ left. followed (f left) g) None is)
+assoc_by a f g None None is is2 =
+    ap (λ (x : Step). followed x g) (by_fault a f None is) ∙ by_fault (joined a (f a.left)) g None is2
+    ∙ joined-assoc a (f a.left) (g (f a.left).left)
+    ∙ ap (joined a) (sym (by_fault (f a.left) g None is2)) ∙ sym (by_fault a (λ left. followed (f left) g) None is)
+
+-- three in a row
+pub followed-assoc : (a : Step) (f g : List ℕ → Step) → followed (followed a f) g ≡ followed a (λ left. followed (f left) g)
+followed-assoc a f g = assoc_by a f g a.fault (f a.left).fault refl refl
+
+-- nothing follows
+pub followed-nothing : (a : Step) → a.fault ≡ None → followed a nothing ≡ a
+followed-nothing a is =
+    by_fault a nothing None is
+    ∙ ap (λ (l : List ℕ). record { sent = l; told = a.told ++ []; left = a.left; fault = None }) (append-nil a.sent)
+    ∙ ap (λ (l : List ℕ). record { sent = a.sent; told = l; left = a.left; fault = None }) (append-nil a.told)
+    ∙ ap (λ (f : Option AddFault). record { sent = a.sent; told = a.told; left = a.left; fault = f }) (sym is)
+
+-- before the first step
+pub nothing_made : (left : List ℕ) (p s : StreamView) → p.left ≡ Some left → IsWhole (nothing left) p p s s
+nothing_made left p s known = record {
+  goes_on = refl;
+  made = record { sent = Appends-nil p.written; told = Appends-nil s.written };
+  left = known;
+}

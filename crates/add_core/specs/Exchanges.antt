@@ -60,15 +60,20 @@ abbrev pub stepped : {A : Type 0} → Result A AddFault → (A → Step) → Ste
 stepped (Ok value) step = step value
 stepped (Err fault) step = failing fault
 
--- what the code tells of a reading, unless a file or the input failed or memory ran out
+-- what a stop tells of a reading: its fault, unless a file, the connection, the input or an output
+-- failed or memory ran out
+abbrev pub Refuses : {A : Type 0} → Stop → Result A AddFault → Type 0
+Refuses Memory defined = Unit {0}
+Refuses (Fault (File place)) defined = Unit {0}
+Refuses (Fault PeerFault) defined = Unit {0}
+Refuses (Fault InputFault) defined = Unit {0}
+Refuses (Fault OutputFault) defined = Unit {0}
+Refuses (Fault fault) defined = defined ≡ Err fault
+
+-- what the code tells of a reading
 abbrev pub Tells : {T A : Type 0} → (T → A) → Result T Stop → Result A AddFault → Type 0
 Tells seen (Ok value) defined = defined ≡ Ok (seen value)
-Tells seen (Err Memory) defined = Unit {0}
-Tells seen (Err (Fault (File place))) defined = Unit {0}
-Tells seen (Err (Fault PeerFault)) defined = Unit {0}
-Tells seen (Err (Fault InputFault)) defined = Unit {0}
-Tells seen (Err (Fault OutputFault)) defined = Unit {0}
-Tells seen (Err (Fault fault)) defined = defined ≡ Err fault
+Tells seen (Err stop) defined = Refuses stop defined
 
 -- what the code makes of a reply, by why it isn't SUCCESS
 abbrev pub Judges : {T : Type 0} → Result T Stop → Option AddFault → Type 0

@@ -1,5 +1,5 @@
 -- What is made of files: a request to add or to remove each key, one after another.
-use Rattle.std.specs.Prelude.{ℕ, ◌^◌, ◌-◌, min, nat_lt, suc, List, [], ◌∷◌, ◌++◌, length, codes, Option, None, Some, Result, Ok, Err, if◌then◌else◌}
+use Rattle.std.specs.Prelude.{ℕ, ◌+◌, ◌^◌, ◌-◌, min, nat_lt, List, [], ◌∷◌, ◌++◌, length, codes, Option, None, Some, Result, Ok, Err, if◌then◌else◌}
 use Rattle.wire_text.specs.Wire.{string}
 use Rattle.key_file.specs.declared.fault.KeyFileFault.{KeyFileFault}
 use Rattle.key_file.specs.declared.fault.KeyFileFault.TheVariants as of_body
@@ -84,7 +84,7 @@ file_step task held place path replies =
 abbrev pub each_file : FileTask → (List ℕ → Option (List ℕ)) → ℕ → List (List ℕ) → List ℕ → Step
 each_file task held place [] replies = nothing replies
 each_file task held place (path ∷ paths) replies =
-    followed (file_step task held place path replies) (each_file task held (suc place) paths)
+    followed (file_step task held place path replies) (each_file task held (place + 1) paths)
 
 -- ---- faults
 

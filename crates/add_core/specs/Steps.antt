@@ -3,9 +3,10 @@
 use Rattle.std.specs.Prelude.{◌≡◌, ◌⊎◌, ◌≤◌, ℕ, List, [], ◌++◌, Option, None, Some, Result, Ok, Err}
 use Rattle.std.specs.Io.KnownBytes.{Appends}
 use Rattle.world_ports.specs.Causes.{Rose}
+use Rattle.world_ports.specs.Files.{FilesView}
 use Rattle.world_ports.specs.Streams.{StreamView, WritesPart}
 use Rattle.add_core.specs.declared.fault.AddFault.{AddFault}
-use Rattle.add_core.specs.declared.fault.AddFault.TheVariants.{File, PeerFault, InputFault, OutputFault, BadReply}
+use Rattle.add_core.specs.declared.fault.AddFault.TheVariants.{File, FileTooLong, PeerFault, InputFault, OutputFault, BadReply}
 use Rattle.add_core.specs.declared.fault.PeerStop.{PeerStop}
 use Rattle.add_core.specs.declared.fault.PeerStop.TheVariants as of_peer
 use Rattle.add_core.specs.declared.fault.Stop.{Stop}
@@ -103,6 +104,37 @@ pub record HasPeerCause {T : Type 0} (result : Result T Stop) (before now : Stre
   pub writes : before.write_faults ≤ now.write_faults
   pub fault : result ≡ Err (Fault PeerFault)
       → Rose before.read_faults now.read_faults ⊎ Rose before.write_faults now.write_faults
+
+-- a fault of a file was counted, and none is forgotten
+pub record HasFileCause {T : Type 0} (result : Result T Stop) (before now : FilesView) : Type 0 where
+  pub later : before.faults ≤ now.faults
+  pub fault : (place : ℕ) → result ≡ Err (Fault (File place)) → Rose before.faults now.faults
+
+-- what a reading of a file ends with
+abbrev pub IsOwnOfFiles : {T : Type 0} → Result T Stop → Type 0
+IsOwnOfFiles (Ok value) = Unit {0}
+IsOwnOfFiles (Err Memory) = Unit {0}
+IsOwnOfFiles (Err (Fault (File place))) = Unit {0}
+IsOwnOfFiles (Err (Fault (FileTooLong place))) = Unit {0}
+IsOwnOfFiles (Err (Fault fault)) = ⊥
+
+-- no file, connection, input or output failed
+abbrev pub IsOwn : {T : Type 0} → Result T Stop → Type 0
+IsOwn (Ok value) = Unit {0}
+IsOwn (Err Memory) = Unit {0}
+IsOwn (Err (Fault (File place))) = ⊥
+IsOwn (Err (Fault PeerFault)) = ⊥
+IsOwn (Err (Fault InputFault)) = ⊥
+IsOwn (Err (Fault OutputFault)) = ⊥
+IsOwn (Err (Fault fault)) = Unit {0}
+
+-- no file and no input failed
+abbrev pub IsOfTalk : {T : Type 0} → Result T Stop → Type 0
+IsOfTalk (Ok value) = Unit {0}
+IsOfTalk (Err Memory) = Unit {0}
+IsOfTalk (Err (Fault (File place))) = ⊥
+IsOfTalk (Err (Fault InputFault)) = ⊥
+IsOfTalk (Err (Fault fault)) = Unit {0}
 
 -- a fault of an output was counted, and none is forgotten
 pub record HasSinkCause {T : Type 0} (result : Result T Stop) (before now : StreamView) : Type 0 where

@@ -1,7 +1,7 @@
 // A request and its reply.
 ghost use Rattle.std.specs.Prelude.{◌≡◌, ◌≢◌, ℕ, List, Some, Err, IfOk};
 ghost use Rattle.add_core.specs.Exchanges.{Judges, asked, reply_at, requested, verdict_of};
-ghost use Rattle.add_core.specs.Steps.{Follows, HasPeerCause, HasSinkCause};
+ghost use Rattle.add_core.specs.Steps.{Follows, HasPeerCause, HasSinkCause, IsOfTalk};
 ghost use Rattle.agent_msg.specs.ReplyReading.{reply_of};
 ghost use Rattle.world_ports.specs.Streams.{StreamView};
 
@@ -23,6 +23,7 @@ pub fn exchange<P: Source + Sink>(
         → IfOk result (λ body. reply_at replies ≡ reply_of body.items) }
     ensures cause { HasPeerCause result (P.seen peer.old) (P.seen peer.new) }
     ensures own { result ≢ Err (Stop.Fault AddFault.OutputFault) }
+    ensures talk { IsOfTalk result }
 {
     let Ok(()) = write_all(peer, frame) else {
         return Err(Stop::Fault(AddFault::PeerFault));
@@ -55,6 +56,7 @@ pub fn request<P: Source + Sink, S: Sink>(
         (P.seen peer.old) (P.seen peer.new) (S.seen sink.old) (S.seen sink.new) }
     ensures peer { HasPeerCause result (P.seen peer.old) (P.seen peer.new) }
     ensures sink { HasSinkCause result (S.seen sink.old) (S.seen sink.new) }
+    ensures talk { IsOfTalk result }
 {
     let body = exchange(alloc, peer, frame)?;
     judge(alloc, &body)?;

@@ -5,6 +5,7 @@
 
 mod exchange;
 mod fault;
+mod files;
 mod hearing;
 mod passphrase;
 mod sending;

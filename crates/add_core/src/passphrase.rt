@@ -41,10 +41,13 @@ fn read_line<I: Source>(alloc: Global, input: &mut I) -> Result<ScrubBuf, Stop>
 {
     let mut line = ScrubBuf::new(alloc);
     'bytes: while line.live().len() <= LONGEST {
-        match read_byte(input)? {
-            None | Some(b'\n') => return Ok(line),
-            Some(byte) => line.push_slice(&[byte])?,
+        let Some(byte) = read_byte(input)? else {
+            return Ok(line);
+        };
+        if byte == b'\n' {
+            return Ok(line);
         }
+        line.push_slice(&[byte])?;
     }
     Ok(line)
 }

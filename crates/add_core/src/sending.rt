@@ -2,6 +2,7 @@
 ghost use Rattle.std.specs.Prelude.{◌≡◌, ◌≢◌, [], Ok, Err, IfOk, OnOk, MatchResult, length};
 ghost use Rattle.add_core.specs.Exchanges.{Tells, sized};
 ghost use Rattle.add_core.specs.Sendings.{added_line, addition_of, body_stop, line_stop, removal_of, removed_line, sending_of, sent_for, IsDoable};
+ghost use Rattle.add_core.specs.Steps.{IsOwn};
 ghost use Rattle.agent_msg.specs.Requests.{Add};
 ghost use Rattle.agent_msg.specs.Writing.{request_body};
 ghost use Rattle.constraint_rec.specs.Writing.{IsWritable, constraints_bytes};
@@ -81,7 +82,8 @@ fn added_line(alloc: Global, path: &str, comment: &[u8]) -> Result<Vec<u8>, Allo
 
 /// The request to remove the public key of this text.
 fn removal(alloc: Global, path: &str, text: &[u8]) -> Result<Sending, Stop>
-    ensures { Tells sending_of result (removal_of path.now (line_key text.now)) }
+    ensures told { Tells sending_of result (removal_of path.now (line_key text.now)) }
+    ensures own { IsOwn result }
 {
     let blob = read_pub_line(alloc, text)?;
     if blob.len() > LONGEST_REQUEST - 5 {
@@ -103,6 +105,21 @@ fn constraints_len(alloc: Global, terms: &Terms) -> Result<usize, AllocError>
     Ok(text.len())
 }
 
+/// The constraints of an addition.
+fn given_back(alloc: Global, request: Request<'_>) -> Terms
+    ensures { (key : _) (comment : _) (terms : _) → request.entry ≡ Request.Add key comment terms
+        → result ≡ terms }
+{
+    match request {
+        Request::Add {
+            key: _key,
+            comment: _comment,
+            terms,
+        } => terms,
+        _other => Terms::new(alloc),
+    }
+}
+
 /// The frame of an addition. The constraints are lent to the request, and given back.
 fn addition_frame(
     alloc: Global,
@@ -118,6 +135,7 @@ fn addition_frame(
         (λ stop. stop ≢ Stop.Memory → (stop ≡ Stop.Fault AddFault.TooLong)
         × (sized (request_body (Add record { key = key; comment = comment.now; terms = terms.old })) []
         ≡ Err AddFault.TooLong)) }
+    ensures own { IsOwn result }
     ensures kept { OnOk result (terms.new ≡ terms.old) }
 {
     let constraints = constraints_len(alloc, terms)?;
@@ -132,10 +150,7 @@ fn addition_frame(
         terms: mem::replace(terms, Terms::new(alloc)),
     };
     write_request(alloc, &mut frame, &request)?;
-    let Request::Add { terms: lent, .. } = request else {
-        unreachable!()
-    };
-    *terms = lent;
+    *terms = given_back(alloc, request);
     Ok(frame)
 }
 
@@ -143,6 +158,7 @@ fn addition_frame(
 fn addition(alloc: Global, path: &str, text: &[u8], terms: &mut Terms) -> Result<Sending, Stop>
     requires { IsWritable terms.old }
     ensures told { Tells sending_of result (addition_of terms.old path.now (file_of text.now)) }
+    ensures own { IsOwn result }
     ensures kept { OnOk result (terms.new ≡ terms.old) }
 {
     let KeyFile { key, comment } = read_body(alloc, text)?;
@@ -156,6 +172,7 @@ impl FileTask {
     pub fn sending(&mut self, alloc: Global, path: &str, text: &[u8]) -> Result<Sending, Stop>
         requires { IsDoable self.old }
         ensures told { Tells sending_of result (sent_for self.old path.now text.now) }
+        ensures own { IsOwn result }
         ensures kept { OnOk result (self.new ≡ self.old) }
     {
         match self {
