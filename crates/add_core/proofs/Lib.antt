@@ -1,5 +1,6 @@
 pub mod FileLemmas
 pub mod HearingLemmas
+pub mod ListingLemmas
 pub mod PassphraseLemmas
 pub mod SendingLemmas
 pub mod StepLemmas

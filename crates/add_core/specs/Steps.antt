@@ -136,6 +136,15 @@ IsOfTalk (Err (Fault (File place))) = ⊥
 IsOfTalk (Err (Fault InputFault)) = ⊥
 IsOfTalk (Err (Fault fault)) = Unit {0}
 
+-- no file, connection or input failed
+abbrev pub IsOfOutput : {T : Type 0} → Result T Stop → Type 0
+IsOfOutput (Ok value) = Unit {0}
+IsOfOutput (Err Memory) = Unit {0}
+IsOfOutput (Err (Fault (File place))) = ⊥
+IsOfOutput (Err (Fault PeerFault)) = ⊥
+IsOfOutput (Err (Fault InputFault)) = ⊥
+IsOfOutput (Err (Fault fault)) = Unit {0}
+
 -- a fault of an output was counted, and none is forgotten
 pub record HasSinkCause {T : Type 0} (result : Result T Stop) (before now : StreamView) : Type 0 where
   pub writes : before.write_faults ≤ now.write_faults

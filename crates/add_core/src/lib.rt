@@ -7,6 +7,8 @@ mod exchange;
 mod fault;
 mod files;
 mod hearing;
+mod listing;
+mod locking;
 mod passphrase;
 mod sending;
 

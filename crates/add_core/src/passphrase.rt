@@ -62,6 +62,7 @@ pub fn read_passphrase<I: Source>(alloc: Global, input: &mut I) -> Result<ScrubB
     ensures fits { IfOk result (λ passphrase. length passphrase.live ≤ 1024) }
     ensures own { (result ≢ Err (Stop.Fault AddFault.OutputFault))
         × (result ≢ Err (Stop.Fault AddFault.PeerFault)) }
+    ensures files { (place : ℕ) → result ≢ Err (Stop.Fault (AddFault.File place)) }
 {
     let line = read_line(alloc, input)?;
     let len = line.live().len();
