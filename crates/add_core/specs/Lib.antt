@@ -5,3 +5,4 @@ pub mod Locks
 pub mod Passphrases
 pub mod Sendings
 pub mod Steps
+pub mod Talk

@@ -11,5 +11,6 @@ mod listing;
 mod locking;
 mod passphrase;
 mod sending;
+mod tool;
 
 pub use fault::{AddFault, AddStatus, DestFault};
