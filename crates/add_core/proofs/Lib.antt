@@ -4,3 +4,4 @@ pub mod ListingLemmas
 pub mod PassphraseLemmas
 pub mod SendingLemmas
 pub mod StepLemmas
+pub mod TalkLemmas

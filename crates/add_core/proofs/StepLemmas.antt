@@ -37,7 +37,7 @@ longer bytes more old new part = (
 )
 
 -- a front of what follows a text, and the text before it
-later_front : (bytes more : List ℕ) (old mid new : StreamView) → Appends old.written mid.written bytes → WritesPart more mid new
+pub later_front : (bytes more : List ℕ) (old mid new : StreamView) → Appends old.written mid.written bytes → WritesPart more mid new
     → WritesPart (bytes ++ more) old new
 later_front bytes more old mid new before part = (
   part.0,

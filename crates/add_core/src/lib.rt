@@ -14,3 +14,4 @@ mod sending;
 mod tool;
 
 pub use fault::{AddFault, AddStatus, DestFault};
+pub use tool::add_main;

@@ -1,7 +1,7 @@
 // The tool.
-ghost use Rattle.std.specs.Prelude.{◌≡◌, ◌⊎◌, ◌≤◌, ℕ, List, Option, Some, None, Err, IfSome, is_some, map, option_map, string_bytes};
+ghost use Rattle.std.specs.Prelude.{◌≡◌, ◌≢◌, ◌⊎◌, ◌≤◌, ℕ, List, Option, Some, None, Err, IfSome, MatchResult, true, is_some, map, option_map, string_bytes};
 ghost use Rattle.add_core.specs.Steps.{HasFileCause, HasPeerCause};
-ghost use Rattle.add_core.specs.Talk.{Ends, Runs, WritesAllOrFails, agent_seen, ended, form_of, is_list, last_line, run_step, talk, terms_of, word_of};
+ghost use Rattle.add_core.specs.Talk.{Ends, Runs, WritesAllOrFails, agent_seen, ended, form_of, is_list, last_line, run_step, talk, talk_with, terms_of};
 ghost use Rattle.add_words.specs.Words.{plain_words};
 ghost use Rattle.world_ports.specs.Causes.{Rose};
 ghost use Rattle.world_ports.specs.Streams.{StreamView};
@@ -107,7 +107,8 @@ fn write_last<E: Sink>(errors: &mut E, status: AddStatus)
 
 /// How the tool ends after its last step.
 fn ended(answer: Result<(), Stop>) -> AddStatus
-    ensures { result ≡ ended answer }
+    ensures value { result ≡ ended answer }
+    ensures reached { result ≢ AddStatus.NoAgent }
 {
     match answer {
         Ok(()) => AddStatus::Done,
@@ -116,8 +117,64 @@ fn ended(answer: Result<(), Stop>) -> AddStatus
     }
 }
 
-/// Reads the words, and does what they say with an agent.
+/// Does what the words say with this agent, and writes the last line.
 fn talk<F: Files, P: Source + Sink, I: Source, O: Sink, E: Sink>(
+    alloc: Global,
+    words: &AddWords<'_>,
+    files: &mut F,
+    peer: &mut P,
+    input: &mut I,
+    output: &mut O,
+    errors: &mut E,
+) -> AddStatus
+    ensures told { (held : List ℕ → Option (List ℕ)) (left replies : List ℕ)
+        → (F.seen files.old).held ≡ Some held → (I.seen input.old).left ≡ Some left
+        → (P.seen peer.old).left ≡ Some replies
+        → Ends result (talk_with true (plain_words words.now) held left replies)
+        (P.seen peer.old) (P.seen peer.new) (O.seen output.old) (O.seen output.new)
+        (E.seen errors.old) (E.seen errors.new) }
+    ensures reached { result ≢ AddStatus.NoAgent }
+    ensures files { (place : ℕ) → result ≡ AddStatus.Failed (AddFault.File place)
+        → Rose (F.seen files.old).faults (F.seen files.new).faults }
+    ensures agent { result ≡ AddStatus.Failed AddFault.PeerFault
+        → Rose (P.seen peer.old).read_faults (P.seen peer.new).read_faults
+        ⊎ Rose (P.seen peer.old).write_faults (P.seen peer.new).write_faults }
+    ensures input { result ≡ AddStatus.Failed AddFault.InputFault
+        → Rose (I.seen input.old).read_faults (I.seen input.new).read_faults }
+    ensures outputs { result ≡ AddStatus.Failed AddFault.OutputFault
+        → Rose (O.seen output.old).write_faults (O.seen output.new).write_faults
+        ⊎ Rose (E.seen errors.old).write_faults (E.seen errors.new).write_faults }
+{
+    let answer = run(alloc, words, files, peer, input, output, errors);
+    let status = ended(answer);
+    write_last(errors, status);
+    status
+}
+
+/// The words, where they are of one of the tool's forms.
+fn read_form<'a>(alloc: Global, words: &'a [String]) -> Result<AddWords<'a>, AddStatus>
+    ensures { MatchResult result
+        (λ read. form_of (map string_bytes words.entry.now) ≡ Some (plain_words read))
+        (λ status. (status ≡ AddStatus.Memory)
+        ⊎ ((status ≡ AddStatus.Failed AddFault.Usage)
+        × (form_of (map string_bytes words.entry.now) ≡ None))) }
+{
+    let words = match read_words(alloc, words) {
+        Ok(words) => words,
+        Err(WordsFault::Usage) => return Err(AddStatus::Failed(AddFault::Usage)),
+        Err(WordsFault::Memory) => return Err(AddStatus::Memory),
+    };
+    if !words.destinations.is_empty() || !words.hosts.is_empty() {
+        return Err(AddStatus::Failed(AddFault::Usage));
+    }
+    Ok(words)
+}
+
+/// The tool: does what the words behind the program's name say, with an agent where there is one.
+///
+/// Where it fails, `ssh-add: WORD` is its last line on `errors`, with the fault's name in lower case;
+/// there is none for an agent that holds no identity. What was done before a fault stands.
+pub fn add_main<F: Files, P: Source + Sink, I: Source, O: Sink, E: Sink>(
     alloc: Global,
     words: &[String],
     files: &mut F,
@@ -125,17 +182,43 @@ fn talk<F: Files, P: Source + Sink, I: Source, O: Sink, E: Sink>(
     input: &mut I,
     output: &mut O,
     errors: &mut E,
-) -> AddStatus {
-    let words = match read_words(alloc, words) {
+) -> AddStatus
+    // What is sent and written and how it ends, where the objects tell what they hold.
+    ensures told { (held : List ℕ → Option (List ℕ)) (left replies : List ℕ)
+        → (F.seen files.old).held ≡ Some held → (I.seen input.old).left ≡ Some left
+        → IfSome (option_map P.seen peer.old) (λ seen. seen.left ≡ Some replies)
+        → Ends result (talk (map string_bytes words.now) (is_some peer.old) held left replies)
+        (agent_seen (option_map P.seen peer.old)) (agent_seen (option_map P.seen peer.new))
+        (O.seen output.old) (O.seen output.new) (E.seen errors.old) (E.seen errors.new) }
+
+    // What it says of the words and of an agent is so in any case.
+    ensures usage { form_of (map string_bytes words.now) ≡ None
+        → (result ≡ AddStatus.Failed AddFault.Usage) ⊎ (result ≡ AddStatus.Memory) }
+    ensures no_agent { result ≡ AddStatus.NoAgent → peer.old ≡ None }
+
+    // A fault of an object was counted there.
+    ensures files { (place : ℕ) → result ≡ AddStatus.Failed (AddFault.File place)
+        → Rose (F.seen files.old).faults (F.seen files.new).faults }
+    ensures agent { result ≡ AddStatus.Failed AddFault.PeerFault
+        → Rose (agent_seen (option_map P.seen peer.old)).read_faults
+        (agent_seen (option_map P.seen peer.new)).read_faults
+        ⊎ Rose (agent_seen (option_map P.seen peer.old)).write_faults
+        (agent_seen (option_map P.seen peer.new)).write_faults }
+    ensures input { result ≡ AddStatus.Failed AddFault.InputFault
+        → Rose (I.seen input.old).read_faults (I.seen input.new).read_faults }
+    ensures outputs { result ≡ AddStatus.Failed AddFault.OutputFault
+        → Rose (O.seen output.old).write_faults (O.seen output.new).write_faults
+        ⊎ Rose (E.seen errors.old).write_faults (E.seen errors.new).write_faults }
+{
+    let words = match read_form(alloc, words) {
         Ok(words) => words,
-        Err(WordsFault::Usage) => return AddStatus::Failed(AddFault::Usage),
-        Err(WordsFault::Memory) => return AddStatus::Memory,
+        Err(status) => {
+            write_last(errors, status);
+            return status;
+        }
     };
-    if !words.destinations.is_empty() || !words.hosts.is_empty() {
-        return AddStatus::Failed(AddFault::Usage);
-    }
     let Some(peer) = peer else {
         return AddStatus::NoAgent;
     };
-    ended(run(alloc, &words, files, peer, input, output, errors))
+    talk(alloc, &words, files, peer, input, output, errors)
 }
