@@ -1,0 +1,7 @@
+pub mod FileLemmas
+pub mod HearingLemmas
+pub mod ListingLemmas
+pub mod PassphraseLemmas
+pub mod SendingLemmas
+pub mod StepLemmas
+pub mod TalkLemmas

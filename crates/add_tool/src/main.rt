@@ -1,0 +1,49 @@
+//! `ssh-add`: adds keys to the agent that listens at SSH_AUTH_SOCK, removes and lists them, locks and
+//! unlocks it. `add_main` of add_core is the program; here are its words, its files, its connection and
+//! its streams, and what it says on standard error behind the line that `add_main` writes.
+#![tactic(auto)]
+
+mod trouble;
+
+use crate::trouble::Trouble;
+use add_core::{AddFault, AddStatus, add_main};
+use real_edge::{RealFiles, connect};
+use std::env;
+use std::io::{ErrorKind, Result as IoResult};
+use std::process::ExitCode;
+use world_ports::{Reading, Writing};
+
+fn run(rt: &HostRuntime) -> IoResult<AddStatus> {
+    let alloc = rt.alloc();
+    let words: Vec<String> = env::args(rt)?.skip(1).collect(alloc)?;
+    let mut files = RealFiles::new(rt);
+    let mut peer = match env::var(rt, "SSH_AUTH_SOCK") {
+        Ok(path) => connect(rt, path.as_str()).ok(),
+        Err(_) => None,
+    };
+    let mut input = Reading::new(rt.stdin());
+    let mut output = Writing::new(rt.stdout());
+    let mut errors = Writing::new(rt.stderr());
+    Ok(add_main(
+        alloc,
+        &words,
+        &mut files,
+        &mut peer,
+        &mut input,
+        &mut output,
+        &mut errors,
+    ))
+}
+
+fn main(rt: HostRuntime) -> ExitCode {
+    let status = match run(&rt) {
+        Ok(status) => status,
+        Err(error) if error.kind() == ErrorKind::OutOfMemory => AddStatus::Memory,
+        // Words that can't be read are none of the tool's, and `add_main` had no say.
+        Err(_) => AddStatus::Failed(AddFault::Usage),
+    };
+    if let Some(trouble) = Trouble::of(status) {
+        let _ = eprintln!(rt; "ssh-add: {trouble}");
+    }
+    ExitCode::from(status.code())
+}

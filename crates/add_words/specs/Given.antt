@@ -1,0 +1,95 @@
+-- What words say, read from the left.
+use Rattle.std.specs.Prelude.{ℕ, Bool, true, false, List, [], ◌∷◌, ◌++◌, map, Option, Some, None, is_some, if◌then◌else◌}
+use Rattle.world_ports.specs.Life.{life_of}
+use Rattle.add_words.specs.declared.command.Command.{Command}
+use Rattle.add_words.specs.declared.given.Given.{Given as CodeGiven}
+use Rattle.add_words.specs.declared.option.Wanted.{Wanted}
+use Rattle.add_words.specs.declared.option.Wanted.TheVariants.{Life, Destination, Hosts}
+use Rattle.add_words.specs.declared.option.Word.{Word}
+use Rattle.add_words.specs.declared.option.Word.TheVariants.{Does, Confirm, Wants, Ends, Unknown, File}
+use Rattle.add_words.specs.Options.{option_of}
+
+-- what the words so far say, which value the next word is, and whether only files follow
+pub record Given : Type 0 where
+  pub command : Option Command
+  pub confirm : Bool
+  pub life : Option ℕ
+  pub destinations : List (List ℕ)
+  pub hosts : List (List ℕ)
+  pub files : List (List ℕ)
+  pub wanted : Option Wanted
+  pub ended : Bool
+
+-- the code's value, with lists in the place of vectors
+abbrev pub given_of : CodeGiven → Given
+given_of given = record {
+  command = given.command;
+  confirm = given.confirm;
+  life = given.life;
+  destinations = map (λ word. word.now) given.destinations.items;
+  hosts = map (λ word. word.now) given.hosts.items;
+  files = map (λ word. word.now) given.files.items;
+  wanted = given.wanted;
+  ended = given.ended;
+}
+
+-- no word
+abbrev pub nothing_given : Given
+nothing_given = record {
+  command = None;
+  confirm = false;
+  life = None;
+  destinations = [];
+  hosts = [];
+  files = [];
+  wanted = None;
+  ended = false;
+}
+
+-- ---- the next word, or nothing where it is refused
+
+-- a lifetime that was read, where it was
+abbrev pub with_life : Given → Option ℕ → Option Given
+with_life given None = None
+with_life given (Some life) = Some record given { wanted = None; life = Some life }
+
+-- the value that the option before it wants
+abbrev pub after_value : Wanted → Given → List ℕ → Option Given
+after_value Life given word = with_life given (life_of word)
+after_value Destination given word =
+    Some record given { wanted = None; destinations = given.destinations ++ word ∷ [] }
+after_value Hosts given word = Some record given { wanted = None; hosts = given.hosts ++ word ∷ [] }
+
+-- a file
+abbrev pub with_file : Given → List ℕ → Option Given
+with_file given word = Some record given { files = given.files ++ word ∷ [] }
+
+-- an option, which says only once what is to be done, that uses are confirmed, and a lifetime; or a file
+abbrev pub after_kind : Word → Given → List ℕ → Option Given
+after_kind (Does command) given word =
+    if is_some given.command then None else Some record given { command = Some command }
+after_kind Confirm given word = if given.confirm then None else Some record given { confirm = true }
+after_kind (Wants Life) given word =
+    if is_some given.life then None else Some record given { wanted = Some Life }
+after_kind (Wants Destination) given word = Some record given { wanted = Some Destination }
+after_kind (Wants Hosts) given word = Some record given { wanted = Some Hosts }
+after_kind Ends given word = Some record given { ended = true }
+after_kind Unknown given word = None
+after_kind File given word = with_file given word
+
+abbrev pub after_option : Given → List ℕ → Option Given
+after_option given word = after_kind (option_of word) given word
+
+-- where no value is wanted: a file where only files follow
+abbrev pub after_unwanted : Bool → Given → List ℕ → Option Given
+after_unwanted true given word = with_file given word
+after_unwanted false given word = after_option given word
+
+-- by whether a value is wanted
+abbrev pub after_wanted : Option Wanted → Given → List ℕ → Option Given
+after_wanted (Some wanted) given word = after_value wanted given word
+after_wanted None given word = after_unwanted given.ended given word
+
+-- the next word
+abbrev pub after_word : Given → List ℕ → Option Given
+after_word given word = after_wanted given.wanted given word
