@@ -55,13 +55,15 @@ fn plain(fault: AddFault) -> &'static str {
         AddFault::Usage => {
             "usage: ssh-add [-c] [-t LIFE] [-H HOSTS]... [-h DEST]... FILE... | -d FILE... | -D | -l | -L | -x | -X"
         }
-        AddFault::EmptyPassphrase => "the passphrase is empty: give it in the first line of the input",
+        AddFault::EmptyPassphrase =>
+            "the passphrase is empty: give it in the first line of the input",
         AddFault::LongPassphrase => "the passphrase has more than 1024 bytes: give a shorter one",
         AddFault::TooLong => {
             "the request would be too long: are there many destinations, or many known hosts?"
         }
         AddFault::Refused => "the agent refused: is it locked, or does it not hold the key?",
-        AddFault::BadReply => "the agent gave no proper answer: does SSH_AUTH_SOCK name an agent's socket?",
+        AddFault::BadReply =>
+            "the agent gave no proper answer: does SSH_AUTH_SOCK name an agent's socket?",
         AddFault::PeerFault => "the connection to the agent failed: is it still running?",
         AddFault::InputFault => "the input can't be read",
         AddFault::OutputFault => "the output can't be written",
@@ -78,7 +80,8 @@ fn body(fault: KeyFileFault) -> &'static str {
             "no private key of OpenSSH's format: give the text between the two armour lines alone"
         }
         KeyFileFault::Count => "the file holds more than one key: give each a file of its own",
-        KeyFileFault::Key(_) => "the key's type is none of those that are added, or its fields are broken",
+        KeyFileFault::Key(_) =>
+            "the key's type is none of those that are added, or its fields are broken",
         _ => "the private key is broken: is the file whole?",
     }
 }
@@ -95,8 +98,11 @@ fn public(fault: PubFault) -> &'static str {
 fn destination(fault: DestFault) -> &'static str {
     match fault {
         DestFault::SourceUser => "a source host has no user: write HOST>[USER@]HOST",
-        DestFault::EmptyHost => "a host is missing in a destination: write [USER@]HOST or HOST>[USER@]HOST",
-        DestFault::EmptyUser => "a user is missing before an @: leave out the @ where any user may be",
-        DestFault::NoKeys => "the files of known hosts have no key for a host: connect once, or name another -H",
+        DestFault::EmptyHost =>
+            "a host is missing in a destination: write [USER@]HOST or HOST>[USER@]HOST",
+        DestFault::EmptyUser =>
+            "a user is missing before an @: leave out the @ where any user may be",
+        DestFault::NoKeys =>
+            "the files of known hosts have no key for a host: connect once, or name another -H",
     }
 }
