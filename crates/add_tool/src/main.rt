@@ -35,6 +35,16 @@ fn run(rt: &HostRuntime) -> IoResult<AddStatus> {
     ))
 }
 
+// The exit status, as ssh-add(1) has it where it says one.
+fn code(status: AddStatus) -> u8 {
+    match status {
+        AddStatus::Done => 0,
+        AddStatus::Failed(_) => 1,
+        AddStatus::NoAgent => 2,
+        AddStatus::Memory => 5,
+    }
+}
+
 fn main(rt: HostRuntime) -> ExitCode {
     let status = match run(&rt) {
         Ok(status) => status,
@@ -45,5 +55,5 @@ fn main(rt: HostRuntime) -> ExitCode {
     if let Some(trouble) = Trouble::of(status) {
         let _ = eprintln!(rt; "ssh-add: {trouble}");
     }
-    ExitCode::from(status.code())
+    ExitCode::from(code(status))
 }
