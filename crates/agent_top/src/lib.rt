@@ -6,6 +6,8 @@
 mod agent;
 mod serving;
 mod status;
+#[cfg(test)]
+mod tests;
 mod top;
 mod words;
 
