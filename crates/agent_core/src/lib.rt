@@ -8,6 +8,8 @@ mod children;
 mod counting;
 mod event;
 mod helper;
+#[cfg(test)]
+mod helper_tests;
 mod keys;
 mod listed;
 mod owed;
@@ -18,6 +20,8 @@ mod requests;
 mod rising;
 mod role;
 mod slot;
+#[cfg(test)]
+mod tests;
 mod waits;
 
 pub use agent::Agent;
