@@ -1,13 +1,11 @@
 //! Asks whether a key may sign at the end of a way over 16 hosts, under constraints that name 961
 //! host keys, for `bench/rules.sh`, which takes the time. Proves nothing beyond safety.
-#![tactic(auto)]
 
 use constraint_rec::{Constraint, Hop, KeySpec};
 use dest_rule::{Chain, Next, may_sign};
 use key_blob::read_public;
 use plain_lists::{Bytes, PlainList};
 use std::alloc::{AllocError, Global};
-use std::{env, io};
 
 /// The hosts on the way.
 const HOSTS: u8 = 16;
@@ -95,7 +93,7 @@ fn message(alloc: Global) -> Result<Vec<u8>, AllocError> {
 }
 
 /// How often of so many times the key may sign.
-fn permitted(alloc: Global, times: u64) -> Result<u64, AllocError> {
+pub fn permitted(alloc: Global, times: u64) -> Result<u64, AllocError> {
     let rules = rules(alloc)?;
     let chain = chain(alloc)?;
     let message = message(alloc)?;
@@ -109,14 +107,3 @@ fn permitted(alloc: Global, times: u64) -> Result<u64, AllocError> {
     Ok(permitted)
 }
 
-fn main(rt: HostRuntime) -> io::Result<()> {
-    let mut words = env::args(&rt)?.skip(1);
-    let Some(count) = words.next() else {
-        return Err(io::ErrorKind::InvalidInput.into());
-    };
-    let Ok(times) = count.as_str().parse::<u64>() else {
-        return Err(io::ErrorKind::InvalidInput.into());
-    };
-    let permitted = permitted(rt.alloc(), times)?;
-    println!(rt; "{permitted} of {times} permitted")
-}

@@ -1,9 +1,7 @@
 //! Moves pieces through a ScrubBuf or a plain Vec, for `bench/secret_buf.sh`, which takes the time.
-#![tactic(auto)]
 
 use secret_buf::ScrubBuf;
 use std::alloc::{AllocError, Global};
-use std::{env, io};
 
 /// The bytes of a piece: what the agent reads at once.
 const PIECE: usize = 16384;
@@ -11,24 +9,8 @@ const PIECE: usize = 16384;
 /// The pieces that a buffer holds before the first is consumed.
 const BACKLOG: u64 = 64;
 
-fn main(rt: HostRuntime) -> io::Result<()> {
-    let mut words = env::args(&rt)?.skip(1);
-    let (Some(kind), Some(count)) = (words.next(), words.next()) else {
-        return Err(io::ErrorKind::InvalidInput.into());
-    };
-    let Ok(pieces) = count.as_str().parse::<u64>() else {
-        return Err(io::ErrorKind::InvalidInput.into());
-    };
-    let sum = match kind.as_str() {
-        "buffer" => through_a_buffer(rt.alloc(), pieces)?,
-        "vector" => through_a_vector(rt.alloc(), pieces)?,
-        _ => return Err(io::ErrorKind::InvalidInput.into()),
-    };
-    println!(rt; "{pieces} pieces of {PIECE} bytes through a {kind}, first bytes {sum}")
-}
-
-// The sum of the first bytes of the pieces, as they leave a buffer.
-fn through_a_buffer(alloc: Global, pieces: u64) -> Result<u64, AllocError> {
+/// The sum of the first bytes of the pieces, as they leave a buffer.
+pub fn through_a_buffer(alloc: Global, pieces: u64) -> Result<u64, AllocError> {
     let mut buffer = ScrubBuf::new(alloc);
     let mut piece = [0; PIECE];
     let mut sum: u64 = 0;
@@ -55,9 +37,9 @@ fn taken_from(buffer: &mut ScrubBuf) -> u64 {
     first as u64
 }
 
-// The sum of the first bytes of the pieces, each copied to the end of a vector, which is emptied
-// once it holds a backlog.
-fn through_a_vector(alloc: Global, pieces: u64) -> Result<u64, AllocError> {
+/// The sum of the first bytes of the pieces, each copied to the end of a vector, which is emptied
+/// once it holds a backlog.
+pub fn through_a_vector(alloc: Global, pieces: u64) -> Result<u64, AllocError> {
     let mut vector = Vec::new(alloc);
     let mut piece = [0; PIECE];
     let mut sum: u64 = 0;

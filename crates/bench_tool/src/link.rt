@@ -1,30 +1,16 @@
 //! Puts asks to a link and tells it the answers, for `bench/helper_link.sh`, which takes the time.
-#![tactic(auto)]
 
 ghost use Rattle.std.specs.Prelude.{◌≡◌, [], OnOk};
 ghost use Rattle.helper_link.specs.HelperLink.{IsLinked};
 
 use helper_link::{AskFault, Link};
 use std::alloc::{AllocError, Global};
-use std::{env, io};
 
 /// The asks that are unanswered before the first is answered.
 const BATCH: u64 = 256;
 
-fn main(rt: HostRuntime) -> io::Result<()> {
-    let mut words = env::args(&rt)?.skip(1);
-    let Some(count) = words.next() else {
-        return Err(io::ErrorKind::InvalidInput.into());
-    };
-    let Ok(batches) = count.as_str().parse::<u64>() else {
-        return Err(io::ErrorKind::InvalidInput.into());
-    };
-    let answers = answered(rt.alloc(), batches)?;
-    println!(rt; "{batches} batches of {BATCH} asks, {answers} answers")
-}
-
-// How many answers were told in so many batches.
-fn answered(alloc: Global, batches: u64) -> Result<u64, AllocError> {
+/// How many answers were told in so many batches.
+pub fn answered(alloc: Global, batches: u64) -> Result<u64, AllocError> {
     let mut link = Link::new(alloc);
     link.begin(1);
     link.linked(1);
