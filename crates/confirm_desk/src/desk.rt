@@ -55,7 +55,8 @@ impl Desk {
     /// The confirmation of this job.
     #[tactic(auto, using(crate::proofs::PlaceLemmas::found_there))]
     pub fn find_job(&self, job: u64) -> Option<&Pending>
-        ensures { option_copied result ≡ find_job job self.now }
+        ensures value { option_copied result ≡ find_job job self.now }
+        ensures sound { IsSound self.now }
     {
         let place = place_of(&self.confirmations, job)?;
         Some(&self.confirmations[place])
@@ -64,7 +65,8 @@ impl Desk {
     /// The confirmation that this client waits for.
     #[tactic(auto, using(crate::proofs::PlaceLemmas::asker_there))]
     pub fn find_asker(&self, asker: u64) -> Option<&Pending>
-        ensures { option_copied result ≡ find_asker asker self.now }
+        ensures value { option_copied result ≡ find_asker asker self.now }
+        ensures sound { IsSound self.now }
     {
         let place = place_of_asker(&self.confirmations, asker)?;
         Some(&self.confirmations[place])
@@ -73,7 +75,8 @@ impl Desk {
     /// The confirmation whose child process came to this port.
     #[tactic(auto, using(crate::proofs::PlaceLemmas::linked_there))]
     pub fn find_linked(&self, port: u64) -> Option<&Pending>
-        ensures { option_copied result ≡ find_linked port self.now }
+        ensures value { option_copied result ≡ find_linked port self.now }
+        ensures sound { IsSound self.now }
     {
         let place = place_linked(&self.confirmations, port)?;
         Some(&self.confirmations[place])

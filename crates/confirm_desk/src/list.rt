@@ -120,15 +120,6 @@ pub fn end_of(pending: &mut Vec<Pending>, asker: u64) -> Option<u64>
     Some(pending.remove(place).job())
 }
 
-/// The job whose child process came to this port.
-#[tactic(auto, using(crate::proofs::PlaceLemmas::linked_there))]
-pub fn job_at(pending: &[Pending], port: u64) -> Option<u64>
-    ensures { result ≡ option_map job_of (find_linked port pending.now) }
-{
-    let place = place_linked(pending, port)?;
-    Some(pending[place].job())
-}
-
 /// The first bytes that the child process at this port was owed are sent.
 pub fn take_at(pending: &mut Vec<Pending>, port: u64, count: usize)
     requires there { IsSome (find_linked port pending.old.items) }

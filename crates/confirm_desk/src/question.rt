@@ -25,8 +25,10 @@ pub fn prompt(alloc: Global, comment: &[u8], fingerprint: &[u8]) -> Result<Vec<u
 }
 
 /// The text for a held key with this comment and blob. A blob that is no key has no fingerprint.
+#[tactic(auto, using(crate::proofs::PromptLemmas::prompt_for_is_short))]
 pub fn prompt_for(alloc: Global, comment: &[u8], blob: &[u8]) -> Result<Vec<u8>, AllocError>
     ensures text { IfOk result (λ text. text.items ≡ prompt_for comment.now blob.now) }
+    ensures short { IfOk result (λ text. length text.items ≤ 363) }
 {
     match read_public(blob) {
         Ok(key) => {
