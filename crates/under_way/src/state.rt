@@ -1,7 +1,8 @@
 //! What is under way.
 
-ghost use Rattle.std.specs.Prelude.{◌≡◌, ◌≢◌, ◌↔◌, ◌+◌, ◌-◌, ◌^◌, ◌<◌, ◌≤◌, [], ◌++◌, ◌∷◌, IfOk, IsSome, IsTrue, MatchOption, OnOk, length, slice_get, Some, None};
+ghost use Rattle.std.specs.Prelude.{◌≡◌, ◌≢◌, ◌↔◌, ◌+◌, ◌-◌, ◌^◌, ◌<◌, ◌≤◌, [], ◌++◌, ◌∷◌, ◌⊎◌, IfOk, IsFalse, IsSome, IsTrue, MatchOption, OnOk, length, slice_get, Some, None};
 ghost use Rattle.helper_link.specs.HelperLink.{IsLinked, IsStarting, handed_out, linked_to, lost, sendable, sent};
+ghost use Rattle.helper_link.specs.Sound.{IsSound};
 ghost use Rattle.helper_link.specs.Telling.{telling};
 ghost use Rattle.agent_model.specs.Answers.{find_verification, remove_verification};
 ghost use Rattle.agent_model.specs.Children.{remove_to_start, started_if};
@@ -135,8 +136,8 @@ impl UnderWay {
             record { blob = key.now.blob; message = message.now; flags = flags }) asker self.old).verdict) }
         ensures failed { OnOk result (self.new.link.failed ≡ []) }
     {
-        if self.link.state() == LinkState::None {
-            if self.link.spent() || self.last_job == u64::MAX {
+        if self.lacks_helper() {
+            if self.is_spent() {
                 return Ok(None);
             }
             self.begin_helper()?;
@@ -182,8 +183,8 @@ impl UnderWay {
             self.old).verdict) }
         ensures failed { OnOk result (self.new.link.failed ≡ []) }
     {
-        if self.link.state() == LinkState::None {
-            if self.link.spent() || self.last_job == u64::MAX {
+        if self.lacks_helper() {
+            if self.is_spent() {
                 return Ok(None);
             }
             self.begin_helper()?;
@@ -322,6 +323,22 @@ impl UnderWay {
 }
 
 impl UnderWay {
+    // Whether no helper is there or coming.
+    fn lacks_helper(&self) -> bool
+        ensures value { IsTrue result ↔ (self.now.link.state ≡ LinkState.None) }
+        ensures sound { IsSound self.now.link }
+    {
+        self.link.state() == LinkState::None
+    }
+
+    // Whether no number is left for an ask, or none for a job.
+    fn is_spent(&self) -> bool
+        ensures value { IsTrue result ↔ ((self.now.link.last ≡ 2 ^ 64 - 1) ⊎ (self.now.last_job ≡ 2 ^ 64 - 1)) }
+        ensures left { IsFalse result → self.now.last_job < 2 ^ 64 - 1 }
+    {
+        self.link.spent() || self.last_job == u64::MAX
+    }
+
     // A helper is to be started; room is taken for its ticket.
     fn begin_helper(&mut self) -> Result<(), JobMemory>
         requires none { self.old.link.state ≡ LinkState.None }
