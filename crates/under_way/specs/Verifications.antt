@@ -1,6 +1,7 @@
 -- Verifications in storage, and where that of an ask stands (ours).
-use Rattle.std.specs.Prelude.{◌≡◌, ℕ, ◌<◌, List, Option, Some, None, length, map, slice_index_or}
+use Rattle.std.specs.Prelude.{◌≡◌, ℕ, ◌<◌, Bool, List, Option, Some, None, length, map, slice_index_or}
 use Rattle.std.specs.List.{remove}
+use Rattle.agent_msg.specs.Requests.{BindRequest}
 use Rattle.agent_model.specs.Answers.{find_verification, remove_verification}
 use Rattle.agent_model.specs.State.{Verification as Noted}
 use Rattle.under_way.specs.declared.verification.Verification.{Verification}
@@ -28,3 +29,8 @@ pub record IsVerificationAt (ask : ℕ) (verifications : List Verification) (pla
 pub record IsForNone (ask : ℕ) (verifications : List Verification) : Type 0 where
   pub none : find_verification ask (all_verifications verifications) ≡ None
   pub kept : remove_verification ask (all_verifications verifications) ≡ all_verifications verifications
+
+-- a request to bind of these parts
+abbrev pub bind_of : (host_key session signature : List ℕ) → Bool → BindRequest
+bind_of host_key session signature forwarding =
+    record { host_key = host_key; session = session; signature = signature; forwarding = forwarding }

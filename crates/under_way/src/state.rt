@@ -12,7 +12,7 @@ ghost use Rattle.world_ports.specs.declared.Job.{Job as AJob};
 ghost use Rattle.under_way.specs.Jobs.{started_job};
 ghost use Rattle.agent_model.specs.State.{StartedJob as AStartedJob, find_to_start, nothing_under_way};
 ghost use Rattle.under_way.specs.Parts.{IsAlone, IsHelpers, TellsOf};
-ghost use Rattle.under_way.specs.Verifications.{verification_of};
+ghost use Rattle.under_way.specs.Verifications.{bind_of, verification_of};
 
 use crate::jobs::{Started, place_of, place_of_started};
 use crate::verification::{Verification, place_of_verification};
@@ -167,20 +167,10 @@ impl UnderWay {
         requires failed { self.old.link.failed ≡ [] }
         requires short { 21 + length host_key.now + length signature.now + length session.now ≤ 1048576 }
 
-        ensures work { OnOk result (self.new ≡ (put_ask (Verifies record {
-          host_key = host_key.now;
-          session = session.now;
-          signature = signature.now;
-          forwarding = forwarding;
-        } is_new) asker
-            self.old).under_way) }
-        ensures told { IfOk result (TellsOf (put_ask (Verifies record {
-          host_key = host_key.now;
-          session = session.now;
-          signature = signature.now;
-          forwarding = forwarding;
-        } is_new) asker
-            self.old).verdict) }
+        ensures work { OnOk result (self.new ≡ (put_ask
+            (Verifies (bind_of host_key.now session.now signature.now forwarding) is_new) asker self.old).under_way) }
+        ensures told { IfOk result (TellsOf (put_ask
+            (Verifies (bind_of host_key.now session.now signature.now forwarding) is_new) asker self.old).verdict) }
         ensures failed { OnOk result (self.new.link.failed ≡ []) }
     {
         if self.lacks_helper() {
