@@ -10,7 +10,7 @@ use Rattle.agent_model.proofs.ServeLemmas.{IsServed, answered, asked, raised, re
 second-served : {asker : Asker} {held : KeyState} {under_way : UnderWay} {served : Served} → IsServed asker held under_way served → asker.mono ≡ held.table.greatest → served.held.table.greatest ≡ held.table.greatest
 second-served (answered reply kept keeps) same = keeps same
 second-served (refused cause) same = refl
-second-served (asked errand free) same = refl
+second-served (asked errand free right) same = refl
 second-served (raised key signing free) same = refl
 
 -- at the greatest second of the table a request leaves it

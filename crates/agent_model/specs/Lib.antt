@@ -2,6 +2,7 @@ pub mod Events
 pub mod Limits
 pub mod NumberLists
 pub mod KeyStates
+pub mod Binds
 pub mod State
 pub mod Verdicts
 pub mod Actions

@@ -1,5 +1,5 @@
 -- What holds of every state that events lead to: the ports' numbers rise, and not too many are open.
-use Rattle.std.specs.Prelude.{◌≡◌, ℕ, ◌<◌, ◌≤◌, List, [], ◌∷◌, Some}
+use Rattle.std.specs.Prelude.{◌≡◌, ℕ, ◌<◌, ◌≤◌, Bool, true, false, List, [], ◌∷◌, Some}
 use Rattle.std.specs.Option.{IfSome}
 use Rattle.world_ports.specs.declared.Door.TheVariants.{Clients, Children}
 use Rattle.helper_link.specs.HelperLink.{ask_of}
@@ -8,6 +8,7 @@ use Rattle.helper_link.specs.Sound.{RiseTo}
 use Rattle.helper_link.specs.declared.ask.Ask.{Ask}
 use Rattle.helper_link.specs.declared.ask.AskKind.{AskKind}
 use Rattle.helper_link.specs.declared.state.LinkState.TheVariants as states
+use Rattle.dest_rule.specs.Chains.{Judgement, New, Same}
 use Rattle.agent_model.specs.State.{OnAsk, Port, State, client_count, find_port}
 
 -- the numbers rise, each above `low` and none above `high`; so they are distinct, and the last one bounds them
@@ -28,6 +29,13 @@ pub record IsSound (state : State) : Type 0 where
 pub record IsSteady (state : State) : Type 0 where
   pub rising : IsRising 0 state.last_port state.ports
   pub alone : state.under_way.confirmations ≡ []
+
+-- ---- bindings that are verified
+
+-- what was judged of a binding as its ask was put
+abbrev pub judged : Bool → Judgement
+judged true = New
+judged false = Same
 
 -- ---- who waits for the helper
 
