@@ -143,7 +143,7 @@ settled-fates ask (one ∷ later) before =
 
 module _ (low last : ℕ) where
   -- what an answer leaves
-  one_answer : (one : Settled) (before : Answering) (asks : List Ask) → find_ask one.ask asks ≡ Some (ask_of one.ask one.asker (kind_answered one.answer)) → RiseTo low asks last → AreTied before.ports asks → AreTied (answer_by one.answer one before).ports (remove_ask one.ask asks)
+  pub one_answer : (one : Settled) (before : Answering) (asks : List Ask) → find_ask one.ask asks ≡ Some (ask_of one.ask one.asker (kind_answered one.answer)) → RiseTo low asks last → AreTied before.ports asks → AreTied (answer_by one.answer one before).ports (remove_ask one.ask asks)
   one_answer one before asks found rise tied =
       let told_as = answers_as one.answer one before in
       subst (λ ports. AreTied ports (remove_ask one.ask asks)) (sym told_as.ports)

@@ -9,8 +9,11 @@ use Rattle.agent_model.specs.Errands.{Errand, Signs, Verifies, ask_fault, put_un
 use Rattle.agent_msg.specs.Reading.{request_of}
 use Rattle.key_blob.specs.PublicKeys.{KeyParts, public_key_of}
 use Rattle.key_blob.specs.declared.fault.KeyFault.{KeyFault}
-use Rattle.dest_rule.specs.Chains.{Judgement, New, Refuse, Same, judge}
-use Rattle.dest_rule.specs.Rules.{Denial, denial_under}
+use Rattle.dest_rule.specs.Chains.{judge}
+use Rattle.dest_rule.specs.declared.fault.Next.{Next as Judgement}
+use Rattle.dest_rule.specs.declared.fault.Next.TheVariants.{New, Refuse, Same}
+use Rattle.dest_rule.specs.Rules.{denial_under}
+use Rattle.dest_rule.specs.declared.denial.Denial.{Denial}
 use Rattle.agent_model.specs.Binds.{agent_request_of, and_host_key, bind_with, with_host_key}
 use Rattle.agent_model.specs.KeyStates.{KeyState}
 use Rattle.agent_model.specs.Sound.{judged}
@@ -19,15 +22,15 @@ use Rattle.agent_model.specs.State.{UnderWay}
 use Rattle.agent_model.specs.Verdicts.{BindRefused, Cause, DestinationDenied, Identities, Locked, NoPassphrase, NotHeld, NotLocked, NotVisible, Reply, Success, Unserved, WrongPassphrase}
 
 -- what is put for an asker: a binding is put as its chain judges it, and its host key is one that is read
-abbrev pub IsRight : Asker → Errand → Type 0
-IsRight asker (Signs key signing) = Unit {0}
-IsRight asker (Verifies bind is_new) = IsOk (public_key_of bind.host_key) × (judge bind.host_key bind.session asker.chain ≡ judged is_new)
+abbrev pub MayPut : Asker → Errand → Type 0
+MayPut asker (Signs key signing) = Unit {0}
+MayPut asker (Verifies bind is_new) = IsOk (public_key_of bind.host_key) × (judge bind.host_key bind.session asker.chain ≡ judged is_new)
 
 -- the four ends of a request; no answer changes the greatest second of the table
 pub data IsServed (asker : Asker) (held : KeyState) (under_way : UnderWay) : Served → Type 0 where
   answered : (reply : Reply) (kept : KeyState) → (asker.mono ≡ held.table.greatest → kept.table.greatest ≡ held.table.greatest) → IsServed asker held under_way (answers reply kept under_way)
   refused : (cause : Cause) → IsServed asker held under_way (refuses cause held under_way)
-  asked : (errand : Errand) → ask_fault under_way ≡ None → IsRight asker errand → IsServed asker held under_way (keeps held (put_unless None errand asker.port under_way))
+  asked : (errand : Errand) → ask_fault under_way ≡ None → MayPut asker errand → IsServed asker held under_way (keeps held (put_unless None errand asker.port under_way))
   raised : (key : HeldKey) (signing : Signing) → raise_fault under_way ≡ None → IsServed asker held under_way (keeps held (raise_unless None key signing asker.port under_way))
 
 -- where it is a request to bind, its host key is one that is read
@@ -48,24 +51,24 @@ AreReadable (Ok request) = IsReadable request
 AreReadable (Err fault) = Unit {0}
 
 readable-bind : (read : Result KeyParts KeyFault) (bind : BindRequest) → public_key_of bind.host_key ≡ read → AreReadable (bind_with bind read)
-readable-bind (Ok key) bind is = subst IsOk (sym is) (record {})
-readable-bind (Err fault) bind is = record {}
+readable-bind (Ok key) bind is = subst IsOk (sym is) refl
+readable-bind (Err fault) bind is = tt
 
 readable-with : (request : ClientRequest) → AreReadable (with_host_key request)
-readable-with ListIdentities = record {}
-readable-with (Sign signing) = record {}
-readable-with (Add addition) = record {}
-readable-with (Remove blob) = record {}
-readable-with RemoveAll = record {}
-readable-with (Lock passphrase) = record {}
-readable-with (Unlock passphrase) = record {}
+readable-with ListIdentities = tt
+readable-with (Sign signing) = tt
+readable-with (Add addition) = tt
+readable-with (Remove blob) = tt
+readable-with RemoveAll = tt
+readable-with (Lock passphrase) = tt
+readable-with (Unlock passphrase) = tt
 readable-with (Bind bind) = readable-bind (public_key_of bind.host_key) bind refl
-readable-with (OtherExtension name) = record {}
-readable-with (Unsupported number) = record {}
+readable-with (OtherExtension name) = tt
+readable-with (Unsupported number) = tt
 
 readable-and : (read : Result ClientRequest MsgFault) → AreReadable (and_host_key read)
 readable-and (Ok request) = readable-with request
-readable-and (Err fault) = record {}
+readable-and (Err fault) = tt
 
 readable-agent : (body : List ℕ) → AreReadable (agent_request_of body)
 readable-agent body = readable-and (request_of body)
@@ -74,7 +77,7 @@ module _ (asker : Asker) (held : KeyState) (under_way : UnderWay) where
   abbrev Is : Served → Type 0
   Is served = IsServed asker held under_way served
 
-  served-put : (fault : Option Cause) (errand : Errand) → ask_fault under_way ≡ fault → IsRight asker errand → Is (keeps held (put_unless fault errand asker.port under_way))
+  served-put : (fault : Option Cause) (errand : Errand) → ask_fault under_way ≡ fault → MayPut asker errand → Is (keeps held (put_unless fault errand asker.port under_way))
   served-put (Some cause) errand is right = refused cause
   served-put None errand is right = asked errand is right
 
@@ -84,7 +87,7 @@ module _ (asker : Asker) (held : KeyState) (under_way : UnderWay) where
 
   served-with : (confirm : Bool) (key : HeldKey) (signing : Signing) → Is (keeps held (sign_with confirm asker key signing under_way))
   served-with true key signing = served-raise (raise_fault under_way) key signing refl
-  served-with false key signing = served-put (ask_fault under_way) (Signs key signing) refl (record {})
+  served-with false key signing = served-put (ask_fault under_way) (Signs key signing) refl tt
 
   served-permitted : (denial : Option Denial) (key : HeldKey) (signing : Signing) → Is (keeps held (sign_unless denial asker key signing under_way))
   served-permitted (Some denial) key signing = refused (DestinationDenied denial)

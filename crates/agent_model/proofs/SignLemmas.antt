@@ -7,7 +7,8 @@ use Rattle.identity_table.specs.Identities.{HeldKey, find_identity}
 use Rattle.agent_msg.specs.Requests.{Sign, Signing}
 use Rattle.agent_model.specs.Actions.{Work, settles}
 use Rattle.agent_model.specs.Askable.{HasRoom, IsJudgedAs, IsRefusedFor, IsUsable}
-use Rattle.dest_rule.specs.Rules.{Denial, denial_under}
+use Rattle.dest_rule.specs.Rules.{denial_under}
+use Rattle.dest_rule.specs.declared.denial.Denial.{Denial}
 use Rattle.agent_model.specs.Dispatch.{Asker, serve, serve_by, sign_by, sign_unless, sign_with}
 use Rattle.agent_model.specs.Errands.{Signs, ask_fault, ask_fault_by, helper_fault, put_unless, raise_fault, raise_fault_by, raise_unless}
 use Rattle.agent_model.specs.KeyStates.{KeyState}

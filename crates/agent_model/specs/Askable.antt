@@ -3,7 +3,8 @@ use Rattle.std.specs.Prelude.{◌≡◌, ◌≢◌, ◌-◌, ◌^◌, ◌<◌, �
 use Rattle.helper_link.specs.declared.state.LinkState.TheVariants as states
 use Rattle.identity_table.specs.Identities.{HeldKey, find_identity}
 use Rattle.agent_msg.specs.Requests.{Signing}
-use Rattle.dest_rule.specs.Rules.{Denial, denial_under}
+use Rattle.dest_rule.specs.Rules.{denial_under}
+use Rattle.dest_rule.specs.declared.denial.Denial.{Denial}
 use Rattle.agent_model.specs.Dispatch.{Asker}
 use Rattle.agent_model.specs.KeyStates.{KeyState}
 use Rattle.agent_model.specs.State.{UnderWay}

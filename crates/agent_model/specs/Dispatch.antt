@@ -12,8 +12,11 @@ use Rattle.agent_model.specs.KeyStates.{KeyState, shown}
 use Rattle.agent_model.specs.Actions.{Work, settles}
 use Rattle.agent_model.specs.Errands.{Signs, Verifies, ask_user, put_ask}
 use Rattle.agent_model.specs.Limits.{last_number}
-use Rattle.dest_rule.specs.Chains.{Judgement, New, Refuse, Same, judge}
-use Rattle.dest_rule.specs.Rules.{Denial, denial_under, visible}
+use Rattle.dest_rule.specs.Chains.{judge}
+use Rattle.dest_rule.specs.declared.fault.Next.{Next as Judgement}
+use Rattle.dest_rule.specs.declared.fault.Next.TheVariants.{New, Refuse, Same}
+use Rattle.dest_rule.specs.Rules.{denial_under, visible}
+use Rattle.dest_rule.specs.declared.denial.Denial.{Denial}
 use Rattle.dest_rule.specs.declared.binding.Binding.{Binding}
 use Rattle.agent_model.specs.State.{UnderWay}
 use Rattle.agent_model.specs.Verdicts.{Cause, Identities, Malformed, Locked, Unserved, NotHeld, NotVisible, DestinationDenied, Constraints, ListFull, NoPassphrase, WrongPassphrase, NotLocked, BindRefused, AdditionsSpent, Refuses, Replies, Reply, Success}

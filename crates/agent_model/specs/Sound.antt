@@ -8,7 +8,8 @@ use Rattle.helper_link.specs.Sound.{RiseTo}
 use Rattle.helper_link.specs.declared.ask.Ask.{Ask}
 use Rattle.helper_link.specs.declared.ask.AskKind.{AskKind}
 use Rattle.helper_link.specs.declared.state.LinkState.TheVariants as states
-use Rattle.dest_rule.specs.Chains.{Judgement, New, Same}
+use Rattle.dest_rule.specs.declared.fault.Next.{Next as Judgement}
+use Rattle.dest_rule.specs.declared.fault.Next.TheVariants.{New, Same}
 use Rattle.agent_model.specs.State.{OnAsk, Port, State, client_count, find_port}
 
 -- the numbers rise, each above `low` and none above `high`; so they are distinct, and the last one bounds them
