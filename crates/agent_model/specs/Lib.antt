@@ -20,3 +20,5 @@ pub mod ChildRows
 pub mod Sound
 pub mod Fates
 pub mod Askable
+pub mod Bindings
+pub mod Bindable
