@@ -29,3 +29,4 @@ pub mod JudgedLemmas
 pub mod JudgedRunLemmas
 pub mod RoomLemmas
 pub mod BindableLemmas
+pub mod BoundOneLemmas
