@@ -30,3 +30,5 @@ pub mod JudgedRunLemmas
 pub mod RoomLemmas
 pub mod BindableLemmas
 pub mod BoundOneLemmas
+pub mod UnseenLemmas
+pub mod UnseenEventLemmas

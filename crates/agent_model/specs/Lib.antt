@@ -22,3 +22,4 @@ pub mod Fates
 pub mod Askable
 pub mod Bindings
 pub mod Bindable
+pub mod Unseen

@@ -1,6 +1,6 @@
 //! Laws of bindings: which connections are bound to which hosts, and which requests to bind are put to the helper.
 
-ghost use Rattle.std.specs.Prelude.{◌≡◌, ◌≢◌, ◌↔◌, ◌+◌, ◌++◌, ◌≤◌, ℕ, List, [], length, Option, None, Ok, Err, Some, IsOk, All};
+ghost use Rattle.std.specs.Prelude.{◌≡◌, ◌≢◌, ◌↔◌, ◌+◌, ◌++◌, ◌≤◌, ℕ, List, [], ◌∷◌, false, length, Option, None, Ok, Err, Some, IsOk, All};
 ghost use Rattle.world_ports.specs.declared.Door.TheVariants.{Clients};
 ghost use Rattle.world_ports.specs.declared.Moment.{Moment};
 ghost use Rattle.key_blob.specs.PublicKeys.{KeyParts, public_key_of};
@@ -8,7 +8,10 @@ ghost use Rattle.key_blob.specs.declared.fault.KeyFault.{KeyFault};
 ghost use Rattle.agent_msg.specs.Faults.{key_fault};
 ghost use Rattle.agent_msg.specs.Reading.{request_of};
 ghost use Rattle.agent_msg.specs.Replies.{failure, success};
-ghost use Rattle.agent_msg.specs.Requests.{Bind, BindRequest};
+ghost use Rattle.agent_msg.specs.Requests.{Add, Addition, Bind, BindRequest, ClientRequest};
+ghost use Rattle.dest_rule.specs.Rules.{visible};
+ghost use Rattle.identity_table.specs.Identities.{HeldKey, find_identity};
+ghost use Rattle.wire_text.specs.Frames.{Whole, front_body};
 ghost use Rattle.helper_link.specs.declared.answer.Answer.{Answer};
 ghost use Rattle.helper_link.specs.declared.answer.Answer.TheVariants as answers;
 ghost use Rattle.helper_link.specs.declared.answer.Settled.{Settled};
@@ -17,15 +20,18 @@ ghost use Rattle.agent_model.specs.Askable.{HasRoom};
 ghost use Rattle.agent_model.specs.Bindable.{IsBindRefusedFor, IsBindable};
 ghost use Rattle.agent_model.specs.Bindings.{bound_after, chain_at};
 ghost use Rattle.agent_model.specs.Binds.{agent_request_of};
-ghost use Rattle.agent_model.specs.Dispatch.{Asker, serve};
+ghost use Rattle.agent_model.specs.Dispatch.{Asker, sees, serve, with_identities};
+ghost use Rattle.agent_model.specs.Children.{heard_more};
+ghost use Rattle.agent_model.specs.Looks.{due};
+ghost use Rattle.agent_model.specs.Unseen.{IsSameFor, IsSameReply, holding};
 ghost use Rattle.agent_model.specs.Errands.{Verifies, put_unless};
-ghost use Rattle.agent_model.specs.Events.{Happening, Heard, Timed};
+ghost use Rattle.agent_model.specs.Events.{Happening, Heard, Timed, Took};
 ghost use Rattle.agent_model.specs.Fates.{actions_of};
 ghost use Rattle.agent_model.specs.KeyStates.{KeyState};
 ghost use Rattle.agent_model.specs.Runs.{run};
 ghost use Rattle.agent_model.specs.Sound.{AreApart, IsJudged, IsTied};
 ghost use Rattle.agent_model.specs.State.{Nothing, OnAsk, Port, State, UnderWay, Verification, find_port, first_state};
-ghost use Rattle.agent_model.specs.Step.{step};
+ghost use Rattle.agent_model.specs.Step.{step, took_some};
 ghost use Rattle.agent_model.specs.Verdicts.{Awaits, Cause, Malformed, Refuses};
 
 /// Whatever happened before, a connection is bound to exactly those hosts whose signatures the helper found right for
@@ -99,4 +105,31 @@ pub fn a_binding_is_verified_exactly_where_it_may_be()
         ≡ Refuses (Malformed (key_fault fault)) }
     ensures read { (body : List ℕ) (bind : BindRequest) (key : KeyParts) → request_of body ≡ Ok (Bind bind)
         → public_key_of bind.host_key ≡ Ok key → agent_request_of body ≡ Ok (Bind bind) }
+{}
+
+/// A key that a client doesn't see changes no reply to it: from two states that differ in such a key alone, what the
+/// client sends and takes leaves every port owing and waiting for the same, the same under way, and the same put to the
+/// helper, unless an addition is taken of it.
+pub fn what_is_not_seen_changes_no_reply()
+    ensures request { (asker : Asker) (key : HeldKey) (before after : List HeldKey) (held : KeyState)
+        (under_way : UnderWay) → sees asker key ≡ false → find_identity key.blob (before ++ after) ≡ None
+        → (request : ClientRequest) → ((addition : Addition) → request ≢ Add addition)
+        → IsSameReply (serve (Ok request) asker (with_identities (before ++ key ∷ after) held) under_way).work
+        (serve (Ok request) asker (with_identities (before ++ after) held) under_way).work }
+    ensures heard { (state : State) (moment : Moment) (number : ℕ) (port : Port) (key : HeldKey)
+        (before after : List HeldKey) → find_port number state.ports ≡ Some port → port.door ≡ Clients
+        → find_identity key.blob (before ++ after) ≡ None
+        → visible key.rules port.chain port.attempted moment.wall ≡ false → (piece : List ℕ)
+        → ((body_len : ℕ) (addition : Addition) → due (heard_more piece port) ≡ Whole body_len
+        → agent_request_of (front_body body_len (port.heard ++ piece)) ≢ Ok (Add addition))
+        → IsSameFor (step (holding (before ++ key ∷ after) state) moment (Heard number piece))
+        (step (holding (before ++ after) state) moment (Heard number piece)) }
+    ensures took { (state : State) (moment : Moment) (number : ℕ) (port : Port) (key : HeldKey)
+        (before after : List HeldKey) → find_port number state.ports ≡ Some port → port.door ≡ Clients
+        → find_identity key.blob (before ++ after) ≡ None
+        → visible key.rules port.chain port.attempted moment.wall ≡ false → (count : ℕ)
+        → ((body_len : ℕ) (addition : Addition) → due (took_some count port) ≡ Whole body_len
+        → agent_request_of (front_body body_len port.heard) ≢ Ok (Add addition))
+        → IsSameFor (step (holding (before ++ key ∷ after) state) moment (Took number count))
+        (step (holding (before ++ after) state) moment (Took number count)) }
 {}

@@ -15,7 +15,7 @@ pub use asks::{
 };
 pub use bindings::{
     a_binding_is_added_where_it_is_right, a_binding_is_verified_exactly_where_it_may_be,
-    bindings_are_those_that_were_proved,
+    bindings_are_those_that_were_proved, what_is_not_seen_changes_no_reply,
 };
 pub use child_rows::{
     a_lost_helper_fails_its_asks, a_signature_goes_through_the_helper, a_ticket_names_a_job_once,
