@@ -5,6 +5,5 @@ pub mod Places
 pub mod Roles
 pub mod Served
 pub mod Settlings
-pub mod Plain
 pub mod Parts
 pub mod Bound

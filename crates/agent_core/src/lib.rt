@@ -4,6 +4,7 @@
 #![tactic(auto)]
 
 mod agent;
+mod asker;
 mod children;
 mod counting;
 mod event;
