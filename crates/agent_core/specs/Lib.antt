@@ -3,6 +3,7 @@ pub mod Rising
 pub mod Slots
 pub mod Places
 pub mod Roles
+pub mod Seen
 pub mod Served
 pub mod Settlings
 pub mod Parts

@@ -20,6 +20,7 @@ mod ports;
 mod requests;
 mod rising;
 mod role;
+mod seen;
 mod slot;
 #[cfg(test)]
 mod tests;

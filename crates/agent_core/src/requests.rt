@@ -15,6 +15,7 @@ ghost use Rattle.agent_core.specs.declared.asker.Asker.{Asker as AnAsker};
 use crate::CoreMemory;
 use crate::asker::Asker;
 use crate::owed::Owed;
+use crate::seen::list;
 use crate::waits::Waits;
 use agent_msg::{MsgFault, Request, read_request};
 use constraint_rec::Terms;
@@ -122,21 +123,6 @@ fn sign(
         Some(key) if !key.confirm() => Ok(under_way.put_sign(asker.port, key, message, flags)?),
         _ => Ok(None),
     }
-}
-
-// Owes the list of the identities, which is empty while the agent is locked.
-#[tactic(auto, using(crate::proofs::HeldLemmas::seen_by_all), unfolding(identity_table::specs::Identities::entries_len))]
-fn list(asker: &Asker<'_>, table: &Table, lock: &Lock, owed: &mut Owed) -> Result<(), CoreMemory>
-    requires { owed.old ≡ [] }
-    ensures { (under_way : AnUnderWay) → OnOk result (owed.new ≡ verdict_text
-        (served_by asker.now ListIdentities (keys_of table.now lock.now) under_way).work.verdict) }
-{
-    if lock.is_locked() {
-        owed.put_list(&[])?;
-    } else {
-        owed.put_list(table.as_slice())?;
-    }
-    Ok(())
 }
 
 // Does what any other request asks, and tells whether it succeeded.
