@@ -1,4 +1,4 @@
-use Rattle.std.proofs.Common.{◌≡◌, ◌+◌, ◌≤◌, drop, filter, length}
+use Rattle.std.proofs.Common.{◌≡◌, ◌+◌, ◌≤◌, drop, length}
 use Rattle.identity_table.specs.Identities.{answer_len, entries_len, max_answer}
 use Rattle.agent_core.specs.Seen.{seen}
 use Rattle.agent_core.proofs.seen.seen_size.Given as goal

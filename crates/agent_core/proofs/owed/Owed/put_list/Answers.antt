@@ -1,4 +1,4 @@
-use Rattle.std.proofs.Common.{◌≡◌, ◌∙◌, [], ◌++◌, length, arith, ap, sym, map}
+use Rattle.std.proofs.Common.{◌≡◌, ◌∙◌, [], ◌++◌, arith, ap, sym, map}
 use Rattle.std.proofs.lemmas.List.{length-map}
 use Rattle.agent_msg.proofs.ReplyLemmas.{list_head-entries}
 use Rattle.agent_msg.specs.Replies.{entries, list_head}
