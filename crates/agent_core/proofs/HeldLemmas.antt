@@ -6,6 +6,7 @@ use Rattle.agent_model.specs.Limits.{longest_body}
 use Rattle.agent_model.proofs.BoundLemmas.{private-within, text-within}
 use Rattle.agent_model.specs.Verdicts.{verdict_text}
 use Rattle.agent_core.specs.Served.{IsShortRequest, asker_of, keys_of, served_by}
+use Rattle.agent_core.specs.declared.asker.Asker.{Asker as CoreAsker}
 use Rattle.std.proofs.lemmas.List.{drop_more, length-append}
 use Rattle.wire_text.specs.Wire.{string, uint32}
 use Rattle.wire_text.proofs.WireLemmas.{length-string}
@@ -65,10 +66,10 @@ pub seen_by_all : (asker : Asker) (held : KeyState) → seen_by asker held ≡ m
 seen_by_all asker held = ap (map shown) (seen-all asker held.table.identities)
 
 -- so does the answer of an agent that isn't locked
-pub listed-unlocked : (table : TableState) (lock : Option (List ℕ)) (port wall : ℕ) (going : UnderWay) → is_some lock ≡ false → identities_answer (map shown table.identities) ≡ verdict_text (served_by port wall ListIdentities (keys_of table lock) going).work.verdict
-listed-unlocked table None port wall going unlocked =
-    ap identities_answer (sym (seen_by_all (asker_of port wall (keys_of table None)) (keys_of table None)))
-listed-unlocked table (Some passphrase) port wall going unlocked = absurd (cc)
+pub listed-unlocked : (table : TableState) (lock : Option (List ℕ)) (asker : CoreAsker) (going : UnderWay) → is_some lock ≡ false → identities_answer (map shown table.identities) ≡ verdict_text (served_by asker ListIdentities (keys_of table lock) going).work.verdict
+listed-unlocked table None asker going unlocked =
+    ap identities_answer (sym (seen_by_all (asker_of asker (keys_of table None)) (keys_of table None)))
+listed-unlocked table (Some passphrase) asker going unlocked = absurd (cc)
 
 -- an agent that isn't locked has no passphrase
 pub none_of : (lock : Option (List ℕ)) → is_some lock ≡ false → lock ≡ None

@@ -1,5 +1,5 @@
 -- What the code tells of requests (ours).
-use Rattle.std.specs.Prelude.{◌≡◌, ℕ, ◌+◌, ◌≤◌, Bool, List, Option, [], false, length}
+use Rattle.std.specs.Prelude.{◌≡◌, ℕ, ◌+◌, ◌≤◌, Bool, List, Option, length}
 use Rattle.identity_table.specs.Identities.{TableState}
 use Rattle.agent_msg.specs.Reading.{request_of}
 use Rattle.agent_msg.specs.Requests.{ClientRequest, ListIdentities, Sign, Add, Remove, RemoveAll, Lock, Unlock, Bind, OtherExtension, Unsupported}
@@ -7,26 +7,39 @@ use Rattle.agent_model.specs.Limits.{longest_body}
 use Rattle.agent_model.specs.Dispatch.{Asker, Served, serve, serve_by}
 use Rattle.agent_model.specs.KeyStates.{KeyState}
 use Rattle.agent_model.specs.Actions.{Work}
-use Rattle.agent_model.specs.State.{Nothing, UnderWay}
+use Rattle.agent_model.specs.State.{Nothing, Port, UnderWay}
+use Rattle.agent_model.specs.Step.{asker_at}
 use Rattle.agent_model.specs.Verdicts.{verdict_text, verdict_waits}
 use Rattle.agent_msg.specs.Replies.{status}
+use Rattle.wire_text.specs.Frames.{front_body}
+use Rattle.agent_core.specs.declared.asker.Asker.{Asker as CoreAsker}
 
--- a client at this port, whose connection is bound to no host; the second is the greatest that the table knows
-abbrev pub asker_of : ℕ → ℕ → KeyState → Asker
-asker_of port wall held =
-    record { port = port; chain = []; attempted = false; mono = held.table.greatest; wall = wall }
+-- who asks, as the code tells it; the second is the greatest that the table knows
+abbrev pub asker_of : CoreAsker → KeyState → Asker
+asker_of asker held = record {
+  port = asker.port;
+  chain = asker.chain.now.bindings;
+  attempted = asker.chain.now.attempted;
+  mono = held.table.greatest;
+  wall = asker.wall;
+}
 
 -- what is held, from its parts
 abbrev pub keys_of : TableState → Option (List ℕ) → KeyState
 keys_of table lock = record { table = table; lock = lock }
 
 -- what comes of its request
-abbrev pub served_by : ℕ → ℕ → ClientRequest → KeyState → UnderWay → Served
-served_by port wall request held under_way = serve_by held.lock request (asker_of port wall held) held under_way
+abbrev pub served_by : CoreAsker → ClientRequest → KeyState → UnderWay → Served
+served_by asker request held under_way = serve_by held.lock request (asker_of asker held) held under_way
 
 -- what comes of the request of this body
-abbrev pub served_body : ℕ → ℕ → List ℕ → KeyState → UnderWay → Served
-served_body port wall body held under_way = serve (request_of body) (asker_of port wall held) held under_way
+abbrev pub served_body : CoreAsker → List ℕ → KeyState → UnderWay → Served
+served_body asker body held under_way = serve (request_of body) (asker_of asker held) held under_way
+
+-- what comes of the first request of a client, with a body of this length, at this second of the wall clock
+abbrev pub served_at : ℕ → ℕ → Port → KeyState → UnderWay → Served
+served_at body_len wall port held under_way = serve (request_of (front_body body_len port.heard))
+    (asker_at (record { mono = held.table.greatest; wall = wall }) port) held under_way
 
 -- a status reply is all that comes of a request: nothing is put to the helper, and nothing waited for
 pub record IsStatus (done : Bool) (work : Work) (before : UnderWay) : Type 0 where

@@ -4,6 +4,7 @@
 #![tactic(auto)]
 
 mod agent;
+mod asker;
 mod children;
 mod counting;
 mod event;
@@ -19,6 +20,7 @@ mod ports;
 mod requests;
 mod rising;
 mod role;
+mod seen;
 mod slot;
 #[cfg(test)]
 mod tests;

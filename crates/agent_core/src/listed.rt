@@ -1,12 +1,12 @@
 //! One open port, and its place in the list of those that are owed bytes.
 
-ghost use Rattle.std.specs.Prelude.{◌≡◌, ◌≤◌, ℕ, [], false, OnOk, length, vec_capacity};
+ghost use Rattle.std.specs.Prelude.{◌≡◌, ◌≤◌, [], OnOk, length, vec_capacity};
 ghost use Rattle.wire_text.specs.Frames.{Whole, front_body};
 ghost use Rattle.agent_model.specs.Looks.{due};
-ghost use Rattle.agent_model.specs.Step.{take_frame, took_some};
+ghost use Rattle.agent_model.specs.Step.{attempts, take_frame, took_some};
 ghost use Rattle.agent_model.specs.Verdicts.{HelperLost, Refuses, tell};
 ghost use Rattle.agent_core.specs.Rising.{IsRisingNumbers, inserted, noted};
-ghost use Rattle.agent_core.specs.Served.{served_body};
+ghost use Rattle.agent_core.specs.Served.{served_at};
 ghost use Rattle.agent_core.specs.Settlings.{IsShortAnswer, verdict_of};
 ghost use Rattle.agent_core.specs.Slots.{is_owing, port_of};
 
@@ -54,6 +54,7 @@ pub fn serve_at(
     owing: &mut Vec<u64>,
     keys: &mut Keys,
     under_way: &mut UnderWay,
+    wall: u64,
     body_len: u32,
 ) -> Result<(), CoreMemory>
     requires due { due (port_of slot.old) ≡ Whole body_len }
@@ -61,21 +62,19 @@ pub fn serve_at(
     requires rising { IsRisingNumbers 0 owing.old.items }
     requires room { length (inserted slot.old.number owing.old.items) ≤ vec_capacity owing.old }
 
-    ensures port { (wall : ℕ) → OnOk result (port_of slot.new ≡ tell
-        (served_body slot.old.number wall (front_body body_len slot.old.heard.live) keys.old under_way.old).work.verdict
-        (take_frame body_len false (port_of slot.old))) }
-    ensures keys { (wall : ℕ) → OnOk result (keys.new
-        ≡ (served_body slot.old.number wall (front_body body_len slot.old.heard.live) keys.old under_way.old).held) }
-    ensures under_way { (wall : ℕ) → OnOk result (under_way.new
-        ≡ (served_body slot.old.number wall (front_body body_len slot.old.heard.live) keys.old
-        under_way.old).work.under_way) }
+    ensures port { OnOk result (port_of slot.new ≡ tell
+        (served_at body_len wall (port_of slot.old) keys.old under_way.old).work.verdict
+        (take_frame body_len (attempts keys.old.lock (front_body body_len slot.old.heard.live)) (port_of slot.old))) }
+    ensures keys { OnOk result (keys.new ≡ (served_at body_len wall (port_of slot.old) keys.old under_way.old).held) }
+    ensures under_way { OnOk result
+        (under_way.new ≡ (served_at body_len wall (port_of slot.old) keys.old under_way.old).work.under_way) }
     ensures failed { OnOk result (under_way.new.link.failed ≡ []) }
     ensures number { slot.new.number ≡ slot.old.number }
     ensures door { slot.new.door ≡ slot.old.door }
     ensures items { owing.new.items ≡ noted (is_owing (port_of slot.new)) slot.old.number owing.old.items }
     ensures room { vec_capacity owing.old ≤ vec_capacity owing.new }
 {
-    let served = slot::serve(slot, keys, under_way, body_len);
+    let served = slot::serve(slot, keys, under_way, wall, body_len);
     note_owed(slot, owing);
     served
 }

@@ -1,22 +1,24 @@
 //! One open port.
 
-ghost use Rattle.std.specs.Prelude.{◌≡◌, ◌+◌, ◌≤◌, ℕ, [], false, IfOk, OnOk, length};
+ghost use Rattle.std.specs.Prelude.{◌≡◌, ◌+◌, ◌≤◌, [], IfOk, OnOk, length};
 ghost use Rattle.wire_text.specs.Frames.{after_front, front, front_body, More, Whole};
 ghost use Rattle.frame_core.specs.Looks.{front_of};
 ghost use Rattle.agent_model.specs.Children.{heard_more, unheard};
 ghost use Rattle.agent_model.specs.Limits.{longest_body};
 ghost use Rattle.agent_model.specs.Looks.{due};
 ghost use Rattle.agent_model.specs.State.{wants_at};
-ghost use Rattle.agent_model.specs.Step.{take_frame, took_some};
+ghost use Rattle.agent_model.specs.Step.{attempts, take_frame, took_some};
 ghost use Rattle.agent_model.specs.Verdicts.{HelperLost, Refuses, tell};
-ghost use Rattle.agent_core.specs.Served.{served_body};
+ghost use Rattle.agent_core.specs.Served.{served_at};
 ghost use Rattle.agent_core.specs.Settlings.{IsShortAnswer, verdict_of};
 ghost use Rattle.agent_core.specs.Slots.{port_of};
 
 use crate::CoreMemory;
+use crate::asker::Asker;
 use crate::keys::Keys;
 use crate::owed::Owed;
 use crate::waits::Waits;
+use dest_rule::Chain;
 use frame_core::{Look, look};
 use helper_link::Answer;
 use secret_buf::ScrubBuf;
@@ -37,6 +39,8 @@ pub struct Slot {
     pub heard: ScrubBuf,
     /// What a client is owed. A child process is owed nothing here.
     pub owed: Owed,
+    /// The hosts that a client's connection was bound to.
+    pub chain: Chain,
     pub waits: Waits,
 }
 
@@ -48,6 +52,7 @@ impl Slot {
             door: _,
             heard: _,
             owed: _,
+            chain: _,
             waits: _,
         } = self;
     }
@@ -111,25 +116,29 @@ pub fn serve(
     slot: &mut Slot,
     keys: &mut Keys,
     under_way: &mut UnderWay,
+    wall: u64,
     body_len: u32,
 ) -> Result<(), CoreMemory>
     requires due { due (port_of slot.old) ≡ Whole body_len }
     requires failed { under_way.old.link.failed ≡ [] }
 
-    ensures port { (wall : ℕ) → OnOk result (port_of slot.new ≡ tell
-        (served_body slot.old.number wall (front_body body_len slot.old.heard.live) keys.old under_way.old).work.verdict
-        (take_frame body_len false (port_of slot.old))) }
-    ensures keys { (wall : ℕ) → OnOk result (keys.new
-        ≡ (served_body slot.old.number wall (front_body body_len slot.old.heard.live) keys.old under_way.old).held) }
-    ensures under_way { (wall : ℕ) → OnOk result (under_way.new
-        ≡ (served_body slot.old.number wall (front_body body_len slot.old.heard.live) keys.old
-        under_way.old).work.under_way) }
+    ensures port { OnOk result (port_of slot.new ≡ tell
+        (served_at body_len wall (port_of slot.old) keys.old under_way.old).work.verdict
+        (take_frame body_len (attempts keys.old.lock (front_body body_len slot.old.heard.live)) (port_of slot.old))) }
+    ensures keys { OnOk result (keys.new ≡ (served_at body_len wall (port_of slot.old) keys.old under_way.old).held) }
+    ensures under_way { OnOk result
+        (under_way.new ≡ (served_at body_len wall (port_of slot.old) keys.old under_way.old).work.under_way) }
     ensures failed { OnOk result (under_way.new.link.failed ≡ []) }
     ensures number { slot.new.number ≡ slot.old.number }
     ensures door { slot.new.door ≡ slot.old.door }
 {
+    let asker = Asker {
+        port: slot.number,
+        chain: &slot.chain,
+        wall,
+    };
     let body = first_body(slot.heard.live(), body_len);
-    slot.waits = keys.serve(under_way, slot.number, body, &mut slot.owed)?;
+    slot.waits = keys.serve(under_way, &asker, body, &mut slot.owed)?;
     drop_frame(&mut slot.heard, body_len);
     Ok(())
 }

@@ -6,6 +6,6 @@ use Rattle.agent_core.proofs.HeldLemmas.{removed-keys}
 use Rattle.agent_core.proofs.requests.remove.Goals as goal
 
 pub returns-clause-keys : goal.returns-clause-keys
-returns-clause-keys c = λ (port : ℕ) (wall : ℕ) (lock : Option (List ℕ)) (going : UnderWay).
+returns-clause-keys c = λ (lock : Option (List ℕ)) (going : UnderWay).
     ap (λ (table : TableState). keys_of table lock) c.remove.ensures.removed
-    ∙ removed-keys (find_identity c.args.blob.now c.args.table.now.identities) (asker_of port wall (keys_of c.args.table.now lock)) c.args.blob.now (keys_of c.args.table.now lock) going refl
+    ∙ removed-keys (find_identity c.args.blob.now c.args.table.now.identities) (asker_of c.args.asker.now (keys_of c.args.table.now lock)) c.args.blob.now (keys_of c.args.table.now lock) going refl
