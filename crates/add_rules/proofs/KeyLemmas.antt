@@ -1,7 +1,7 @@
 -- The keys that files of known hosts have can be read.
-use Rattle.std.proofs.Common.{◌≡◌, ℕ, List, [], ◌∷◌, ◌++◌, map, Option, Some, None, Result, Ok, Err, refl, sym, ap, subst, ◌∙◌}
+use Rattle.std.proofs.Common.{◌≡◌, ℕ, Bool, true, false, cond, List, [], ◌∷◌, Option, Some, None, Result, Ok, Err, refl, ap, subst}
 use Rattle.std.specs.Prelude.{All, IsOk, is_ok}
-use Rattle.std.specs.List.{flat_map, cons_option}
+use Rattle.std.specs.List.{cons_option}
 use Rattle.std.specs.Option.{ok_or, option_map}
 use Rattle.std.specs.Result.{result_ok}
 use Rattle.std.specs.Str.{bytes_eq}
@@ -47,17 +47,15 @@ entry_readable entry key (Ok blob) is e =
     subst IsReadable same (typed_readable entry.type_name entry.encoded blob is)
 entry_readable entry key (Err fault) is e = absurd cc
 
+some_guard : (b : Bool) (made : Option KeySpec) (key : KeySpec) → cond b made None ≡ Some key → made ≡ Some key
+some_guard true made key e = e
+some_guard false made key e = absurd cc
+
 key_readable : (host : List ℕ) (found : Option Entry) (key : KeySpec) → key_for host found ≡ Some key → IsReadable key
 key_readable host None key e = absurd cc
 key_readable host (Some entry) key e =
     let g = some_guard (takes_in entry.hosts host) (entry_key entry) key e in
     entry_readable entry key (typed_key entry.type_name entry.encoded) refl g
-  where
-    use Rattle.std.proofs.Common.{Bool, true, false, cond}
-
-    some_guard : (b : Bool) (made : Option KeySpec) (key : KeySpec) → cond b made None ≡ Some key → made ≡ Some key
-    some_guard true made key e = e
-    some_guard false made key e = absurd cc
 
 line_readable : (host line : List ℕ) (key : KeySpec) → line_key host line ≡ Some key → IsReadable key
 unfolding line_key

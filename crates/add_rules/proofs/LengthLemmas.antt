@@ -1,10 +1,11 @@
 -- Lengths of what is written, by its parts.
-use Rattle.std.proofs.Common.{◌≡◌, ◌<◌, ◌≤◌, ◌+◌, ◌^◌, ℕ, Bool, true, false, List, [], ◌∷◌, ◌++◌, map, take, length, get_or, Option, Some, None, refl, sym, ap, ◌∙◌, arith, length-append}
+use Rattle.std.proofs.Common.{◌≡◌, ◌<◌, ◌≤◌, ◌+◌, ◌^◌, ℕ, List, [], ◌∷◌, ◌++◌, map, take, length, get_or, Some, refl, sym, ap, ◌∙◌, arith, length-append}
 use Rattle.std.specs.Prelude.{All}
 use Rattle.std.specs.List.{flat_map}
-use Rattle.std.proofs.lemmas.List.{take_more, flat_map_more}
-use Rattle.wire_text.specs.Wire.{string}
-use Rattle.wire_text.proofs.WireLemmas.{length-string}
+use Rattle.std.proofs.lemmas.List.{take_more, take_all, flat_map_more}
+use Rattle.std.proofs.lemmas.List.Folds.{flat_map-map}
+use Rattle.wire_text.specs.Wire.{string, uint32}
+use Rattle.wire_text.proofs.WireLemmas.{length-string, length-uint32}
 use Rattle.constraint_rec.specs.declared.key_spec.KeySpec.{KeySpec}
 use Rattle.constraint_rec.specs.declared.constraint.Hop.{Hop}
 use Rattle.constraint_rec.specs.declared.constraint.Constraint.{Constraint}
@@ -26,13 +27,17 @@ one_more f xs i d within =
 pub length-key : (key : KeySpec) → length (key_text (spelt_key key)) ≡ length key.blob + 5
 length-key key = omega (arith, length-append (string key.blob) (is_ca_byte key.authority ∷ []), length-string key.blob)
 
+-- a key's text
+abbrev pub key_bytes : KeySpec → List ℕ
+key_bytes key = key_text (spelt_key key)
+
 -- a hop
-pub length-hop : (hop : Hop) → length (hop_text (spelt_hop hop))
-    ≡ length hop.user + length hop.host + length (flat_map key_text (map spelt_key hop.keys)) + 12
+pub length-hop : (hop : Hop) → length (hop_text (spelt_hop hop)) ≡ length hop.user + length hop.host + length (flat_map key_bytes hop.keys) + 12
 length-hop hop =
     let keys : List ℕ = flat_map key_text (map spelt_key hop.keys) in
     omega (
       arith,
+      ap length (flat_map-map key_text spelt_key hop.keys),
       length-append (string hop.user) (string hop.host ++ (string [] ++ keys)),
       length-append (string hop.host) (string [] ++ keys),
       length-append (string []) keys,
@@ -56,6 +61,15 @@ length-rule rule =
       length-string [],
     )
 
+-- a constraint's text, with its length
+abbrev pub rule_bytes : Constraint → List ℕ
+rule_bytes rule = string (constraint_text (spelt_constraint rule))
+
+-- all constraints, where so many are all
+pub list_of : (rules : List Constraint) (n : ℕ) → length rules ≤ n → flat_map rule_bytes (take n rules) ≡ list_text (map spelt_constraint rules)
+list_of rules n all =
+    ap (flat_map rule_bytes) (take_all n rules all) ∙ sym (flat_map-map (λ rule. string (constraint_text rule)) spelt_constraint rules)
+
 -- the extension's name
 length-name : length restrict_destination ≡ 36
 unfolding restrict_destination
@@ -75,11 +89,12 @@ length-rules rule rules =
       length-name,
     )
 
+pub some_rules : (rules : List Constraint) → 0 < length rules → length (flat_map item_text (rule_items rules)) ≡ length (list_text (map spelt_constraint rules)) + 45
+some_rules [] some = absurd (omega (arith, some))
+some_rules (rule ∷ rules) some = length-rules rule rules
+
 pub length-life : (seconds : ℕ) → length (flat_map item_text (life_items (Some seconds))) ≡ 5
 length-life seconds = omega (arith, length-append (uint32 seconds) [], length-uint32 seconds)
-  where
-    use Rattle.wire_text.specs.Wire.{uint32}
-    use Rattle.wire_text.proofs.WireLemmas.{length-uint32}
 
 -- all constraints
 pub length-constraints : (terms : Terms) → length (constraints_bytes terms)

@@ -3,7 +3,7 @@ use Rattle.std.proofs.Common.{◌≡◌, ◌≢◌, ◌<◌, ◌≤◌, ◌+◌,
 use Rattle.std.specs.Borrow.{Bor}
 use Rattle.std.specs.Prelude.{All}
 use Rattle.std.proofs.lemmas.List.{append-nil, drop_more, drop_all}
-use Rattle.std.proofs.lemmas.List.Elements.{All-nil, All-cons}
+use Rattle.std.proofs.lemmas.List.Elements.{All-nil}
 use Rattle.constraint_rec.specs.declared.key_spec.KeySpec.{KeySpec}
 use Rattle.constraint_rec.specs.declared.constraint.Hop.{Hop}
 use Rattle.constraint_rec.specs.declared.constraint.Constraint.{Constraint}
@@ -11,7 +11,7 @@ use Rattle.constraint_rec.specs.Hops.{IsReadable, IsFromHop, IsToHop, IsDestinat
 use Rattle.add_rules.specs.declared.fault.DestFault.{DestFault}
 use Rattle.add_rules.specs.declared.fault.DestFault.TheVariants.{SourceUser, EmptyUser, EmptyHost}
 use Rattle.add_rules.specs.Destinations.{Destination, destination_of, has_no_byte, is_empty_text, has_user, first_fault}
-use Rattle.add_rules.specs.Rules.{keys_of, hop_with, hop_to, hop_from, own_host, user_of, between, rule_unless, rule_for, rule_of, onto, rules_of}
+use Rattle.add_rules.specs.Rules.{keys_of, hop_with, hop_to, hop_from, own_host, user_of, between, rule_unless, rule_of, onto, rules_of}
 use Rattle.add_rules.proofs.KeyLemmas.{keys_readable}
 
 -- ---- hosts are there
@@ -97,6 +97,10 @@ rule_is files word rule e = rule_by files (destination_of word) (first_fault (de
 abbrev pub behind : List Constraint → Result (List Constraint) DestFault → Result (List Constraint) DestFault
 behind made (Ok rules) = Ok (made ++ rules)
 behind made (Err fault) = Err fault
+
+pub none_behind : (others : Result (List Constraint) DestFault) → others ≡ behind [] others
+none_behind (Ok rules) = refl
+none_behind (Err fault) = refl
 
 behind_onto : (made : List Constraint) (rule : Constraint) (others : Result (List Constraint) DestFault)
     → behind made (onto (Ok rule) others) ≡ behind (made ++ rule ∷ []) others

@@ -34,7 +34,7 @@ fn split_at(text: &[u8], mark: u8) -> Option<(&[u8], &[u8])>
 /// The destination behind a source, where there is one.
 fn entered<'a>(source: Option<&'a [u8]>, text: &'a [u8]) -> Destination<'a>
     ensures { destination result
-        ≡ entered (option_map (λ text. text.now) source) text.now (split_at 64 text.now) }
+        ≡ entered (option_map (λ text. text.now) source.entry) text.now (split_at 64 text.now) }
 {
     match split_at(text, b'@') {
         Some((user, host)) => Destination {
@@ -61,7 +61,7 @@ pub fn read_destination(word: &[u8]) -> Destination<'_>
 }
 
 fn is_empty_text(text: Option<&[u8]>) -> bool
-    ensures { result ≡ is_empty_text (option_map (λ text. text.now) text) }
+    ensures { result ≡ is_empty_text (option_map (λ text. text.now) text.entry) }
 {
     match text {
         Some(text) => text.is_empty(),
@@ -70,7 +70,7 @@ fn is_empty_text(text: Option<&[u8]>) -> bool
 }
 
 fn has_user(source: Option<&[u8]>) -> bool
-    ensures { result ≡ has_user (option_map (λ text. text.now) source) }
+    ensures { result ≡ has_user (option_map (λ text. text.now) source.entry) }
 {
     match source {
         Some(source) => split_at(source, b'@').is_some(),

@@ -3,7 +3,7 @@ ghost use Rattle.std.specs.Prelude.{◌≡◌, ◌<◌, ◌^◌, All, length, ma
 ghost use Rattle.std.specs.List.{flat_map};
 ghost use Rattle.constraint_rec.specs.Constraints.{item_text};
 ghost use Rattle.constraint_rec.specs.Hops.{IsDestination, constraint_text, hop_text, key_text, list_text};
-ghost use Rattle.constraint_rec.specs.Writing.{IsWritable, constraints_bytes, rule_items, spelt_constraint, spelt_hop, spelt_key};
+ghost use Rattle.constraint_rec.specs.Writing.{IsWritable, confirm_items, constraints_bytes, life_items, rule_items, spelt_constraint, spelt_hop, spelt_key};
 ghost use Rattle.add_rules.specs.Lengths.{counted};
 ghost use Rattle.wire_text.specs.Wire.{string};
 
@@ -60,6 +60,23 @@ fn rules_len(rules: &[Constraint]) -> usize
     list_len(rules).saturating_add(45)
 }
 
+/// The bytes of a lifetime, where it is there.
+fn life_len(life: Option<u32>) -> usize
+    ensures { result ≡ length (flat_map item_text (life_items life)) }
+{
+    match life {
+        Some(_) => 5,
+        None => 0,
+    }
+}
+
+/// The bytes of confirmation, where it is asked for.
+fn confirm_len(confirm: bool) -> usize
+    ensures { result ≡ length (flat_map item_text (confirm_items confirm)) }
+{
+    if confirm { 1 } else { 0 }
+}
+
 /// How many bytes the constraints take as `write_constraints` writes them, or the greatest number
 /// where it doesn't fit.
 pub fn constraints_len(terms: &Terms) -> usize
@@ -69,7 +86,7 @@ pub fn constraints_len(terms: &Terms) -> usize
     ensures writable { All IsDestination terms.now.rules
         → length (constraints_bytes terms.now) < 2 ^ 32 → IsWritable terms.now }
 {
-    let life: usize = if terms.life.is_some() { 5 } else { 0 };
-    let confirm: usize = if terms.confirm { 1 } else { 0 };
-    rules_len(terms.rules.as_slice()).saturating_add(life + confirm)
+    rules_len(terms.rules.as_slice())
+        .saturating_add(life_len(terms.life))
+        .saturating_add(confirm_len(terms.confirm))
 }

@@ -22,11 +22,7 @@ fn copied(alloc: Global, bytes: &[u8]) -> Result<Bytes, AllocError>
 }
 
 /// The keys of a host, of all files of known hosts in their order.
-fn keys_of(
-    alloc: Global,
-    files: &[Bytes],
-    host: &[u8],
-) -> Result<PlainList<KeySpec>, AllocError>
+fn keys_of(alloc: Global, files: &[Bytes], host: &[u8]) -> Result<PlainList<KeySpec>, AllocError>
     ensures { IfOk result (λ keys. keys ≡ keys_of files.now host.now) }
 {
     let mut keys = Vec::new(alloc);
@@ -55,7 +51,7 @@ fn hop_to(alloc: Global, files: &[Bytes], user: &[u8], host: &[u8]) -> Made<Hop>
 /// The hop that is left.
 fn hop_from(alloc: Global, files: &[Bytes], source: Option<&[u8]>) -> Made<Hop>
     ensures { IfOk result (λ made.
-        made ≡ hop_from files.now (option_map (λ text. text.now) source)) }
+        made ≡ hop_from files.now (option_map (λ text. text.now) source.entry)) }
 {
     match source {
         Some(source) => hop_to(alloc, files, &[], source),
