@@ -2,7 +2,8 @@
 # What the serving agent takes for its answers, beside OpenSSH's ssh-agent and beside an agent that answers five bytes
 # whatever comes: processor time for each refusal, list, signature, addition and removal, memory, system calls and
 # instructions. Rounds take turns; the median of them is printed, and the ratio to ssh-agent's in the same run. The first
-# word is the number of rounds, 7 where there is none. Needs python3, gcc and OpenSSH; perf and valgrind where they are.
+# word is the number of rounds, 7 where there is none; behind it may stand the parts that are to be measured, of refusals,
+# calls, keys, waits, signatures and instructions. Needs python3, gcc and OpenSSH; perf and valgrind where they are.
 # With the environment variable AGENT another program is taken for the agent; with PLOTS=bench/plots the plots there are
 # drawn anew, by gnuplot.
 set -eu
@@ -14,4 +15,6 @@ for tool in gcc python3 ssh-agent; do
 done
 gcc -O2 -o "$work/load" bench/serve/load.c
 gcc -O2 -o "$work/null" bench/serve/null.c
-python3 -B bench/serve/measure.py "$work" "${1:-7}"
+rounds=${1:-7}
+shift $(($# > 0 ? 1 : 0))
+python3 -B bench/serve/measure.py "$work" "$rounds" "$@"

@@ -1,4 +1,5 @@
-"""The measurements of bench/serve.sh: a line each. The words are a folder with `load` and `null`, and a number of rounds."""
+"""The measurements of bench/serve.sh: a line each. The words are a folder with `load` and `null`, a number of rounds, and
+the parts that are to be measured, all where there are none."""
 
 import os
 import pathlib
@@ -16,10 +17,11 @@ sys.path.insert(0, str(TOP / "helper/tests"))
 import openssh
 import plots
 import rig
-from rig import ADD, ADD_LIMITED, FAILURE, LIST, LOCK, REMOVE, SIGN, SUCCESS, UNLOCK
+from rig import ADD, ADD_LIMITED, FAILURE, LIST, LOCK, REMOVE, REMOVE_ALL, SIGN, SIGNATURE, SUCCESS, UNLOCK
 from rig import Agent, children, openssh_agent, our_agent, plain_key, string, until
 
-WORK, ROUNDS = pathlib.Path(sys.argv[1]), int(sys.argv[2])
+WORK, ROUNDS, CHOSEN = pathlib.Path(sys.argv[1]), int(sys.argv[2]), sys.argv[3:]
+PROGRAM = rig.agent_program()
 SECONDS = 0.3
 PERF, VALGRIND = shutil.which("perf"), shutil.which("valgrind")
 
@@ -46,7 +48,10 @@ def cost(agent, clients, messages):
     """Processor microseconds a reply."""
     pids = family(agent)
     before = sum(map(spent, pids))
-    replies = load(agent, clients, messages)
+    replies = 0
+    # on a busy machine one time may be too short for any
+    while replies < 100:
+        replies += load(agent, clients, messages)
     return (sum(map(spent, pids)) - before) / replies / 1000
 
 
@@ -57,12 +62,12 @@ def null_agent():
     return Agent(process, path)
 
 
-def fill(agent, count):
-    """Adds so many keys."""
-    with agent.peer() as peer:
-        for number in range(count):
+def fill(agent, numbers):
+    """Adds keys, one for each number."""
+    with agent.peer(seconds=60) as peer:
+        for number in numbers:
             fields, comment, _ = plain_key(number.to_bytes(2, "big") * 16, b"key %d" % number)
-            assert peer.ask(ADD, fields, comment)[0] == 6
+            assert peer.ask(ADD, fields, comment)[0] == SUCCESS
 
 
 def memory(agent):
@@ -140,105 +145,154 @@ def await_confirmation(agent):
         assert peer.ask(SIGN, string(blob), string(b"message"), bytes(4))[0] == FAILURE
 
 
-def others_wait(program, agents):
+def others_wait(agents):
     """What 15 clients get while one unlocks with wrong passphrases, and while one waits for a confirmation."""
     found = {name: share(agent, lambda: guess(agent)) for name, agent in agents.items()}
     tell_shares("refusals of 15 clients while one guesses the passphrase of the lock", found)
-    relay = "/bin/true" if rig.is_stand_in(program) else rig.BUILT / "confirm_relay"
+    relay = "/bin/true" if rig.is_stand_in(PROGRAM) else rig.BUILT / "confirm_relay"
     if not os.path.exists(relay):
         print("serve: no confirmations: bin/confirm_relay isn't built")
         return
-    if not rig.asks_the_user(program):
+    if not rig.asks_the_user(PROGRAM):
         print("serve: no confirmations: the agent doesn't ask the user yet")
         return
     asker = rig.script(WORK / "ask", "sleep 1; exit 1")
     variables = dict(os.environ, SSH_ASKPASS=str(asker), SSH_ASKPASS_REQUIRE="force", DISPLAY=":none")
     words = ("--relay", relay, "--askpass", asker)
-    with our_agent(program, WORK, *words, name="asks", stderr=subprocess.DEVNULL) as ours:
+    with our_agent(PROGRAM, WORK, *words, name="asks", stderr=subprocess.DEVNULL) as ours:
         with openssh_agent(WORK, name="theirs", env=variables, stderr=subprocess.DEVNULL) as theirs:
             agents = {"ours": ours, "ssh-agent": theirs}
             found = {name: share(agent, lambda: await_confirmation(agent)) for name, agent in agents.items()}
             tell_shares("refusals of 15 clients while one waits for a confirmation", found)
 
 
-def instructions(start):
-    """Instructions a request that valgrind counts: of many requests less those of few, so that the start doesn't count."""
+def instructions(start, messages, keys=0, few=1000, more=10000):
+    """Instructions a reply that valgrind counts: of many replies less those of few, so that the start doesn't count."""
     totals = []
-    for count in (1000, 11000):
+    for count in (few, few + more):
         out = WORK / "callgrind"
         agent = start([VALGRIND, "--tool=callgrind", f"--callgrind-out-file={out}"])
-        load(agent, 1, [b"\xc8"], 120, count)
+        fill(agent, range(keys))
+        load(agent, 1, messages, 600, count)
         agent.process.terminate()
         agent.process.wait()
         if os.path.exists(agent.path):
             os.unlink(agent.path)
         totals.append(int(re.search(r"(?m)^(?:summary|totals): (\d+)", out.read_text())[1]))
-    return (totals[1] - totals[0]) / 10000
+    return (totals[1] - totals[0]) / more
+
+
+def tell_instructions():
+    """What valgrind counts of both agents, each in a process of its own."""
+    # valgrind runs no program with its group's rights
+    shutil.copy(shutil.which("ssh-agent"), WORK / "ssh-agent")
+
+    def theirs(before):
+        path = WORK / "t.sock"
+        words = [*before, WORK / "ssh-agent", "-D", "-a", path]
+        process = subprocess.Popen(words, stdout=subprocess.DEVNULL, stderr=subprocess.DEVNULL)
+        until(path.exists, 60, "ssh-agent under valgrind")
+        return Agent(process, path)
+
+    starts = {
+        "ours": lambda before: our_agent(PROGRAM, WORK, name="v", limits=before, stderr=subprocess.DEVNULL),
+        "ssh-agent": theirs,
+    }
+    for what, messages, more in (
+        ("a refusal, 1 client", [b"\xc8"], dict()),
+        ("a list of 1 key", [bytes([LIST])], dict(keys=1, few=500, more=2000)),
+        ("a list of 100 keys", [bytes([LIST])], dict(keys=100, few=50, more=200)),
+    ):
+        tell(f"instructions {what}", {name: instructions(start, messages, **more) for name, start in starts.items()}, "")
+
+
+def refusals(agents, null):
+    """What a reply costs that the agent gives at once, and what quiet clients add to it."""
+    for clients in (1, 16, 100):
+        compare(f"a refusal, {clients} clients", dict(agents, null=null), clients, [b"\xc8"])
+    quiet = [agent.peer() for agent in agents.values() for _ in range(100)]
+    compare("a refusal, 1 client beside 100 quiet ones", agents, 1, [b"\xc8"])
+    for peer in quiet:
+        peer.close()
+
+
+def calls(agents, null):
+    if PERF is None:
+        print("serve: no system calls: perf isn't there")
+        return
+    for clients in (1, 16, 100):
+        found = {name: system_calls(agent, clients) for name, agent in dict(agents, null=null).items()}
+        tell(f"system calls a refusal, {clients} clients", found, "calls")
+
+
+def keys(agents, null):
+    """Lists, additions and removals, and memory, by the number of keys held."""
+    tell("memory with no keys", {name: memory(agent) for name, agent in agents.items()}, "kB")
+    fields, comment, blob = plain_key(b"\xff" * 32)
+    pair = [bytes([ADD]) + fields + comment, bytes([REMOVE]) + string(blob)]
+    compare("an addition or a removal, no keys", agents, 1, pair)
+    held = 0
+    for count in (1, 100, 1000):
+        for agent in agents.values():
+            fill(agent, range(held, count))
+        held = count
+        compare(f"a list of {count} keys", agents, 1, [bytes([LIST])])
+    compare("an addition or a removal, 1000 keys", agents, 1, pair)
+    tell("memory with 1000 keys", {name: memory(agent) for name, agent in agents.items()}, "kB")
+    for agent in agents.values():
+        with agent.peer() as peer:
+            peer.ask(REMOVE_ALL)
+
+
+def signatures(agents, null):
+    """Signatures over one key at a time, agent and helper together."""
+    if not (rig.BUILT / "mortarleek-helper").exists():
+        print("serve: no signatures: bin/mortarleek-helper isn't built")
+        return
+    for kind, bits, flags in (("ed25519", "256", 0), ("rsa", "2048", 4), ("ecdsa", "256", 0)):
+        key = openssh.generate(WORK, kind, bits)
+        request = bytes([SIGN]) + string(key.blob) + string(bytes(200)) + flags.to_bytes(4, "big")
+        for agent in agents.values():
+            with agent.peer() as peer:
+                assert peer.ask(ADD, key.private, string(b""))[0] == SUCCESS
+                assert peer.ask(SIGN, request[1:])[0] == SIGNATURE
+        for clients in (1, 16):
+            compare(f"a signature of {kind} {bits}, {clients} clients", agents, clients, [request])
+
+
+def waits(agents, null):
+    others_wait(agents)
+
+
+def instruction_counts(agents, null):
+    if VALGRIND is None or rig.is_stand_in(PROGRAM):
+        print("serve: no instructions: valgrind or the agent isn't there")
+        return
+    tell_instructions()
+
+
+PARTS = {
+    "refusals": refusals,
+    "calls": calls,
+    "keys": keys,
+    "waits": waits,
+    "signatures": signatures,
+    "instructions": instruction_counts,
+}
 
 
 def main():
-    program = rig.agent_program()
-    if program is None:
+    if PROGRAM is None:
         print("serve: skipped: agent_prog doesn't serve yet")
         return
-    quiet = dict(stderr=subprocess.DEVNULL)
-    ours, theirs = our_agent(program, WORK, **quiet), openssh_agent(WORK, **quiet)
-    agents = {"ours": ours, "ssh-agent": theirs}
-    with ours, theirs, null_agent() as null:
-        for clients in (1, 16, 100):
-            compare(f"a refusal, {clients} clients", dict(agents, null=null), clients, [b"\xc8"])
-        if PERF:
-            for clients in (1, 16, 100):
-                found = {name: system_calls(agent, clients) for name, agent in dict(agents, null=null).items()}
-                tell(f"system calls a refusal, {clients} clients", found, "calls")
-        tell("memory with no keys", {name: memory(agent) for name, agent in agents.items()}, "kB")
-        fields, comment, blob = plain_key(b"\xff" * 32)
-        pair = [bytes([ADD]) + fields + comment, bytes([REMOVE]) + string(blob)]
-        compare("an addition or a removal, no keys", agents, 1, pair)
-        held = 0
-        for count in (1, 100, 1000):
-            for agent in agents.values():
-                with agent.peer() as peer:
-                    for number in range(held, count):
-                        fields, comment, _ = plain_key(number.to_bytes(2, "big") * 16, b"key %d" % number)
-                        assert peer.ask(ADD, fields, comment)[0] == 6
-            held = count
-            compare(f"a list of {count} keys", agents, 1, [bytes([LIST])])
-        compare("an addition or a removal, 1000 keys", agents, 1, pair)
-        tell("memory with 1000 keys", {name: memory(agent) for name, agent in agents.items()}, "kB")
-        for agent in agents.values():
-            with agent.peer() as peer:
-                peer.ask(19)
-        others_wait(program, agents)
-        if (rig.BUILT / "mortarleek-helper").exists():
-            for kind, bits, flags in (("ed25519", "256", 0), ("rsa", "2048", 4), ("ecdsa", "256", 0)):
-                key = openssh.generate(WORK, kind, bits)
-                request = bytes([SIGN]) + string(key.blob) + string(bytes(200)) + flags.to_bytes(4, "big")
-                for agent in agents.values():
-                    with agent.peer() as peer:
-                        assert peer.ask(ADD, key.private, string(b""))[0] == 6
-                        assert peer.ask(SIGN, request[1:])[0] == 14
-                for clients in (1, 16):
-                    compare(f"a signature of {kind} {bits}, {clients} clients", agents, clients, [request])
-        else:
-            print("serve: no signatures: bin/mortarleek-helper isn't built")
-    if VALGRIND and not rig.is_stand_in(program):
-        # valgrind runs no program with its group's rights
-        shutil.copy(shutil.which("ssh-agent"), WORK / "ssh-agent")
-
-        def start_theirs(before):
-            path = WORK / "t.sock"
-            process = subprocess.Popen(
-                [*before, WORK / "ssh-agent", "-D", "-a", path], stdout=subprocess.DEVNULL, **quiet
-            )
-            until(path.exists, 60, "ssh-agent under valgrind")
-            return Agent(process, path)
-
-        found = {
-            "ours": instructions(lambda before: our_agent(program, WORK, name="v", limits=before, **quiet)),
-            "ssh-agent": instructions(start_theirs),
-        }
-        tell("instructions a refusal, 1 client", found, "")
+    if set(CHOSEN) - set(PARTS):
+        sys.exit(f"serve: the parts are {' '.join(PARTS)}")
+    for name in CHOSEN or PARTS:
+        silent = dict(stderr=subprocess.DEVNULL)
+        with our_agent(PROGRAM, WORK, **silent) as ours, openssh_agent(WORK, **silent) as theirs, null_agent() as null:
+            PARTS[name]({"ours": ours, "ssh-agent": theirs}, null)
+        for socket in WORK.glob("*.sock*"):
+            socket.unlink()
     if "PLOTS" in os.environ:
         plots.draw(os.environ["PLOTS"], FOUND)
 
