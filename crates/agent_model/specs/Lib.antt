@@ -23,3 +23,4 @@ pub mod Askable
 pub mod Bindings
 pub mod Bindable
 pub mod Unseen
+pub mod BindRows
