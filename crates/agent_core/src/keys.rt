@@ -4,6 +4,7 @@ ghost use Rattle.std.specs.Prelude.{◌≡◌, ◌≤◌, [], IfOk, OnOk, length
 ghost use Rattle.identity_table.specs.Identities.{IsSound, next_death};
 ghost use Rattle.agent_model.specs.KeyStates.{expired, no_keys};
 ghost use Rattle.agent_model.specs.Limits.{longest_body};
+ghost use Rattle.agent_model.specs.Step.{attempts};
 ghost use Rattle.agent_model.specs.Verdicts.{verdict_text, verdict_waits};
 ghost use Rattle.agent_core.specs.Served.{served_body};
 ghost use Rattle.agent_core.specs.Slots.{waits_of};
@@ -13,6 +14,7 @@ use crate::asker::Asker;
 use crate::owed::Owed;
 use crate::requests::answer;
 use crate::waits::Waits;
+use agent_msg::names_bind;
 use identity_table::{Lock, Table};
 use std::alloc::Global;
 use std::marker::Model;
@@ -81,6 +83,14 @@ impl Keys {
         ensures { self.new ≡ expired now self.old }
     {
         self.table.expire(now);
+    }
+
+    /// Whether a body with which the client asks makes its connection count as one that tried to bind itself: a
+    /// locked agent doesn't look.
+    pub fn is_attempt(&self, body: &[u8]) -> bool
+        ensures { result ≡ attempts self.now.lock body.now }
+    {
+        !self.lock.is_locked() && names_bind(body)
     }
 
     /// Does what the request of this body asks: owes the reply, or tells what the asker waits for.
