@@ -3,6 +3,7 @@ pub mod SetLemmas
 pub mod IdleLemmas
 pub mod TurningLemmas
 pub mod CallLemmas
+pub mod OwingLemmas
 pub mod RoomLemmas
 pub mod ServingLemmas
 pub mod FairnessLemmas

@@ -90,7 +90,10 @@ impl Hub {
             let job = *job;
             return served(start(&mut self.queue, agent, world, job));
         }
-        match self.queue.first(agent) {
+        let Ok(first) = self.queue.next(agent) else {
+            return Err(HubFault::Memory);
+        };
+        match first {
             Some(Thing::Accept(door)) => served(accept(&mut self.queue, agent, world, door)),
             Some(Thing::Read(port)) => {
                 let Ok(()) = self.room.take() else {

@@ -8,6 +8,7 @@ mod laws;
 mod listeners;
 mod look;
 mod outcome;
+mod owing;
 mod queue;
 mod room;
 mod serving;

@@ -1,11 +1,12 @@
 // What is ready, in the order in which it is served.
-ghost use Rattle.std.specs.Prelude.{◌≡◌, ◌||◌, OnOk, [], false};
+ghost use Rattle.std.specs.Prelude.{◌≡◌, ◌||◌, IfOk, OnOk, [], false};
 ghost use Rattle.agent_model.specs.State.{is_client};
 ghost use Rattle.ready_hub.specs.declared.thing.Thing.TheVariants.{Accept};
 ghost use Rattle.ready_loop.specs.Queues.{dropped, dropped_port, first_servable, put_back, queued_all, queued_port};
 
 use crate::Core;
-use crate::things::{add_all, add_if, drop_thing, first_of, put_last};
+use crate::owing::list_owed;
+use crate::things::{add_all, add_if, drop_thing, first_by, first_of, put_last};
 use ready_hub::Thing;
 use std::alloc::{AllocError, Global};
 use std::marker::Model;
@@ -15,6 +16,8 @@ use world_ports::{Door, Ready};
 #[derive(Drop)]
 pub struct Queue {
     things: Vec<Thing>,
+    // The ports that were owed bytes at the last look; kept for its room.
+    owed: Vec<u64>,
     joined: bool,
 }
 
@@ -32,6 +35,7 @@ impl Queue {
     {
         Queue {
             things: Vec::new(alloc),
+            owed: Vec::new(alloc),
             joined: false,
         }
     }
@@ -43,7 +47,17 @@ impl Queue {
         self.joined
     }
 
-    // The first thing that can be served.
+    // The first thing that can be served. What is ready to be written to and owed nothing is passed over by its number,
+    // and the agent isn't asked of it.
+    pub fn next<A: Core>(&mut self, agent: &A) -> Result<Option<Thing>, AllocError>
+        ensures first { IfOk result (λ first. first ≡ first_servable (A.state agent.now) self.old.queue) }
+        ensures unchanged { self.new ≡ self.old }
+    {
+        list_owed(agent, &mut self.owed)?;
+        Ok(first_by(&self.things, agent, &self.owed))
+    }
+
+    // The first thing that can be served: the agent is asked of each before it.
     pub fn first<A: Core>(&self, agent: &A) -> Option<Thing>
         ensures { result ≡ first_servable (A.state agent.now) self.now.queue }
     {

@@ -2,9 +2,11 @@
 ghost use Rattle.std.specs.Prelude.{◌≡◌, OnOk};
 ghost use Rattle.ready_hub.specs.Servable.{is_servable};
 ghost use Rattle.ready_hub.specs.Things.{same_door, same_thing, set_of};
+ghost use Rattle.ready_loop.specs.Owing.{ListsOwed};
 ghost use Rattle.ready_loop.specs.Queues.{dropped, first_servable, put_back, queued, queued_all, queued_by, queued_if};
 
 use crate::Core;
+use crate::owing::has_number;
 use ready_hub::Thing;
 use std::alloc::AllocError;
 use world_ports::{Door, Ready, Spot};
@@ -110,12 +112,37 @@ fn can_serve<A: Core>(agent: &A, thing: Thing) -> bool
     }
 }
 
+// The same, where these ports are owed bytes: what is ready to be written to is found among them, and the agent isn't
+// asked.
+fn can_serve_by<A: Core>(agent: &A, owed: &[u64], thing: Thing) -> bool
+    requires { ListsOwed (A.state agent.now) owed.now }
+    ensures { result ≡ is_servable (A.state agent.now) thing }
+{
+    match thing {
+        Thing::Write(port) => has_number(owed, port),
+        _ => can_serve(agent, thing),
+    }
+}
+
 // The first thing that can be served.
 pub fn first_of<A: Core>(things: &[Thing], agent: &A) -> Option<Thing>
     ensures { result ≡ first_servable (A.state agent.now) things.now }
 {
     'things: for thing in things {
         if can_serve(agent, *thing) {
+            return Some(*thing);
+        }
+    }
+    None
+}
+
+// The same, where these ports are owed bytes.
+pub fn first_by<A: Core>(things: &[Thing], agent: &A, owed: &[u64]) -> Option<Thing>
+    requires { ListsOwed (A.state agent.now) owed.now }
+    ensures { result ≡ first_servable (A.state agent.now) things.now }
+{
+    'things: for thing in things {
+        if can_serve_by(agent, owed, *thing) {
             return Some(*thing);
         }
     }
