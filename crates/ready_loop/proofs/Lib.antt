@@ -4,6 +4,8 @@ pub mod IdleLemmas
 pub mod TurningLemmas
 pub mod CallLemmas
 pub mod OwingLemmas
+pub mod AsideLemmas
 pub mod RoomLemmas
 pub mod ServingLemmas
 pub mod FairnessLemmas
+pub mod LastLemmas
