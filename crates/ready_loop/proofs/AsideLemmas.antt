@@ -1,5 +1,5 @@
 -- A queue whose first things are set aside as the numbers of their ports.
-use Rattle.std.proofs.Common.{◌≡◌, ◌∙◌, ℕ, Bool, true, false, List, [], ◌∷◌, ◌++◌, drop, length, Option, Some, None, refl, sym, ap, cond, not, ◌&&◌, ◌||◌, ◌==◌, if◌then◌else◌, append_assoc, arith}
+use Rattle.std.proofs.Common.{◌≡◌, ◌∙◌, ℕ, suc, Bool, true, false, List, [], ◌∷◌, ◌++◌, drop, length, Option, Some, None, refl, sym, ap, cond, not, ◌&&◌, ◌||◌, ◌==◌, if◌then◌else◌, append_assoc, arith}
 use Rattle.std.specs.Prelude.{slice_get}
 use Rattle.std.proofs.lemmas.Bool.Decides.{nat_tests}
 use Rattle.std.proofs.lemmas.List.Elements.{filter-append}
@@ -44,6 +44,16 @@ set_of-append [] later thing = refl
 set_of-append (other ∷ first) later thing =
     ap (λ (b : Bool). same_thing other thing || b) (set_of-append first later thing)
     ∙ sym (or_assoc (same_thing other thing) (set_of first thing) (set_of later thing))
+
+-- the thing is in the first part
+pub in_first : (first later : List Thing) (thing : Thing) (has : Bool) → has ≡ set_of first thing → has ≡ true → has ≡ set_of (first ++ later) thing
+in_first first later thing has is there =
+    there ∙ sym (set_of-append first later thing ∙ ap (λ (b : Bool). b || set_of later thing) (sym is ∙ there))
+
+-- it isn't, so the other part decides
+pub not_in_first : (first later : List Thing) (thing : Thing) (has other : Bool) → has ≡ set_of first thing → has ≡ false → other ≡ set_of later thing → other ≡ set_of (first ++ later) thing
+not_in_first first later thing has other is absent decides =
+    decides ∙ sym (set_of-append first later thing ∙ ap (λ (b : Bool). b || set_of later thing) (sym is ∙ absent))
 
 -- ---- without a thing
 
@@ -110,6 +120,11 @@ none_aside state [] lists = refl
 none_aside state (port ∷ ports) lists =
     ap (λ (b : Bool). if b then Some (Write port) else first_servable state (writes_of ports)) (sym (lists port))
     ∙ none_aside state ports lists
+
+-- the same of an empty list
+pub none_listed : (state : State) (owed ports : List ℕ) → (length owed == 0) ≡ true → ListsOwed state owed → None ≡ first_servable state (writes_of ports)
+none_listed state [] ports none lists = sym (none_aside state ports lists)
+none_listed state (port ∷ owed) ports none lists = let some : (suc (length owed) == 0) ≡ true = none in absurd (grind (arith, nat_tests))
 
 -- ---- what is set aside
 

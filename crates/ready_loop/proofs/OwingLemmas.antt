@@ -4,7 +4,7 @@ use Rattle.std.proofs.lemmas.Bool.Decides.{nat_tests}
 use Rattle.agent_model.specs.NumberLists.{has}
 use Rattle.agent_model.specs.Sound.{IsRising}
 use Rattle.agent_model.specs.State.{Port, State, UnderWay, find_port, is_some_bytes, next_owed, next_owed_in, owed_by, owed_by_port, owed_of}
-use Rattle.agent_model.proofs.PortsLemmas.{find_port-below}
+use Rattle.agent_model.proofs.PortsLemmas.{find_port-below, rising_bound}
 use Rattle.ready_loop.specs.Owing.{ListsOwed}
 
 -- ---- where there is no next one
@@ -25,12 +25,13 @@ none_owed after port (first ∷ ports) u beyond none =
 
 -- ---- where there is one
 
--- it is above both bounds and owed bytes, and none between is
-record IsNext (low after next : ℕ) (ports : List Port) (u : UnderWay) : Type 0 where
-  lower : low < next
-  above : after < next
-  owes : is_some_bytes (owed_by (find_port next ports) u) ≡ true
-  between : (port : ℕ) → after < port → port < next → is_some_bytes (owed_by (find_port port ports) u) ≡ false
+-- it is above both bounds, no higher than the last and owed bytes, and none between is
+pub record IsNext (low high after next : ℕ) (ports : List Port) (u : UnderWay) : Type 0 where
+  pub lower : low < next
+  pub above : after < next
+  pub most : next ≤ high
+  pub owes : is_some_bytes (owed_by (find_port next ports) u) ≡ true
+  pub between : (port : ℕ) → after < port → port < next → is_some_bytes (owed_by (find_port port ports) u) ≡ false
 
 between_here : (here : Bool) (low high port : ℕ) (first : Port) (ports : List Port) (u : UnderWay) → (port == first.number) ≡ here → port < first.number → IsRising first.number high ports → is_some_bytes (owed_by (if here then Some first else find_port port ports) u) ≡ false
 between_here true low high port first ports u same less rising = absurd (grind (arith, nat_tests))
@@ -43,13 +44,14 @@ between_later true true false after port first ports u same over is not beyond r
 between_later true false owes after port first ports u same over is not beyond rest = absurd (grind (arith, nat_tests))
 between_later false above owes after port first ports u same over is not beyond rest = rest
 
-some_by : (test : Bool) (low high after next : ℕ) (first : Port) (ports : List Port) (u : UnderWay) → (nat_lt after first.number && is_some_bytes (owed_by_port first u)) ≡ test → low < first.number → IsRising first.number high ports → (if test then Some first.number else next_owed_in after ports u) ≡ Some next → (next_owed_in after ports u ≡ Some next → IsNext first.number after next ports u) → IsNext low after next (first ∷ ports) u
+some_by : (test : Bool) (low high after next : ℕ) (first : Port) (ports : List Port) (u : UnderWay) → (nat_lt after first.number && is_some_bytes (owed_by_port first u)) ≡ test → low < first.number → IsRising first.number high ports → (if test then Some first.number else next_owed_in after ports u) ≡ Some next → (next_owed_in after ports u ≡ Some next → IsNext first.number high after next ports u) → IsNext low high after next (first ∷ ports) u
 some_by true low high after next first ports u is lower rising found rest =
     let same : first.number ≡ next = cc in
     let both = and_both (nat_lt after first.number) (is_some_bytes (owed_by_port first u)) is in
     let own : (next == first.number) ≡ true = grind (arith, nat_tests) in
     record {
       lower = omega (arith, same, lower);
+      most = omega (arith, same, rising_bound first.number high ports rising);
       above = let less : nat_lt after first.number ≡ true = both.0 in grind (arith, nat_tests);
       owes = ap (λ (b : Bool). is_some_bytes (owed_by (if b then Some first else find_port next ports) u)) own ∙ both.1;
       between = λ port beyond less. between_here (port == first.number) low high port first ports u refl (omega (arith, same, less)) rising;
@@ -65,20 +67,21 @@ some_by false low high after next first ports u is lower rising found rest =
     record {
       lower = omega (arith, lower, lower_than);
       above = later.above;
+      most = later.most;
       owes = ap (λ (b : Bool). is_some_bytes (owed_by (if b then Some first else find_port next ports) u)) other ∙ later.owes;
       between = λ port beyond less. between_later (port == first.number) (nat_lt after first.number) (is_some_bytes (owed_by_port first u))
           after port first ports u refl refl refl is beyond (later.between port beyond less);
     }
 
-some_owed : (low high after next : ℕ) (ports : List Port) (u : UnderWay) → IsRising low high ports → next_owed_in after ports u ≡ Some next → IsNext low after next ports u
+some_owed : (low high after next : ℕ) (ports : List Port) (u : UnderWay) → IsRising low high ports → next_owed_in after ports u ≡ Some next → IsNext low high after next ports u
 some_owed low high after next [] u rising found = absurd (cc)
 some_owed low high after next (first ∷ ports) u rising found =
     some_by (nat_lt after first.number && is_some_bytes (owed_by_port first u)) low high after next first ports u refl rising.0 rising.1 found
     (some_owed first.number high after next ports u rising.1)
 
--- the next one is above
-pub next-above : (after next : ℕ) (state : State) → IsRising 0 state.last_port state.ports → next_owed after state ≡ Some next → after < next
-next-above after next state rising found = (some_owed 0 state.last_port after next state.ports state.under_way rising found).above
+-- the next port of a state
+pub next_owed-is : (after next : ℕ) (state : State) → IsRising 0 state.last_port state.ports → next_owed after state ≡ Some next → IsNext 0 state.last_port after next state.ports state.under_way
+next_owed-is after next state rising found = some_owed 0 state.last_port after next state.ports state.under_way rising found
 
 -- ---- the list
 
@@ -104,7 +107,7 @@ pub none_listed : (state : State) → IsListedUpTo 0 state []
 none_listed state = record { zero = refl; listed = λ port some most. absurd (omega (arith, some, most)); later = λ port beyond. refl }
 
 module _ (after next : ℕ) (state : State) (owed : List ℕ) where
-  listed_by : IsListedUpTo after state owed → IsNext 0 after next state.ports state.under_way → (last beyond : Bool) (port : ℕ) → (port == next) ≡ last → nat_lt after port ≡ beyond → 0 < port → port ≤ next → (has port owed || last) ≡ is_some_bytes (owed_of port state)
+  listed_by : IsListedUpTo after state owed → IsNext 0 state.last_port after next state.ports state.under_way → (last beyond : Bool) (port : ℕ) → (port == next) ≡ last → nat_lt after port ≡ beyond → 0 < port → port ≤ next → (has port owed || last) ≡ is_some_bytes (owed_of port state)
   listed_by before one true beyond port is over some most =
       let here : port ≡ next = grind (arith, nat_tests) in
       let above : after < next = one.above in

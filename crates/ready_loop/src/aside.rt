@@ -7,11 +7,12 @@ ghost use Rattle.ready_loop.specs.Queues.{dropped, first_servable};
 
 use crate::Core;
 use crate::owing::has_number;
+use crate::things::{first_by, first_of, has_thing};
 use ready_hub::Thing;
 use std::alloc::AllocError;
 
 // The first of these ports that is owed bytes, as the agent says.
-pub fn first_aside<A: Core>(ports: &[u64], agent: &A) -> Option<Thing>
+fn first_aside<A: Core>(ports: &[u64], agent: &A) -> Option<Thing>
     ensures { result ≡ first_servable (A.state agent.now) (writes_of ports.now) }
 {
     'ports: for port in ports {
@@ -23,7 +24,7 @@ pub fn first_aside<A: Core>(ports: &[u64], agent: &A) -> Option<Thing>
 }
 
 // The same, where these ports are owed bytes: they aren't looked through where none is.
-pub fn first_aside_by<A: Core>(ports: &[u64], agent: &A, owed: &[u64]) -> Option<Thing>
+fn first_aside_by<A: Core>(ports: &[u64], agent: &A, owed: &[u64]) -> Option<Thing>
     requires { ListsOwed (A.state agent.now) owed.now }
     ensures { result ≡ first_servable (A.state agent.now) (writes_of ports.now) }
 {
@@ -38,14 +39,48 @@ pub fn first_aside_by<A: Core>(ports: &[u64], agent: &A, owed: &[u64]) -> Option
     None
 }
 
+// The first of these ports and things that can be served, as the agent says of each before it.
+pub fn first_of_both<A: Core>(ports: &[u64], things: &[Thing], agent: &A) -> Option<Thing>
+    ensures { result ≡ first_servable (A.state agent.now) (writes_of ports.now ++ things.now) }
+{
+    match first_aside(ports, agent) {
+        Some(thing) => Some(thing),
+        None => first_of(things, agent),
+    }
+}
+
+// The same, where these ports are owed bytes.
+pub fn first_of_both_by<A: Core>(
+    ports: &[u64],
+    things: &[Thing],
+    agent: &A,
+    owed: &[u64],
+) -> Option<Thing>
+    requires { ListsOwed (A.state agent.now) owed.now }
+    ensures { result ≡ first_servable (A.state agent.now) (writes_of ports.now ++ things.now) }
+{
+    match first_aside_by(ports, agent, owed) {
+        Some(thing) => Some(thing),
+        None => first_by(things, agent, owed),
+    }
+}
+
 // Whether the thing is among these ports.
-pub fn has_aside(ports: &[u64], thing: Thing) -> bool
+fn has_aside(ports: &[u64], thing: Thing) -> bool
     ensures { result ≡ set_of (writes_of ports.now) thing }
 {
     match thing {
         Thing::Write(port) => has_number(ports, port),
-        _ => false,
+        Thing::Read(_) => false,
+        Thing::Accept(_) => false,
     }
+}
+
+// Whether the thing is among these ports and things.
+pub fn has_either(ports: &[u64], things: &[Thing], thing: Thing) -> bool
+    ensures { result ≡ set_of (writes_of ports.now ++ things.now) thing }
+{
+    has_aside(ports, thing) || has_thing(things, thing)
 }
 
 // Takes the port out.
@@ -61,7 +96,8 @@ pub fn drop_aside(ports: &mut Vec<u64>, thing: Thing)
 {
     match thing {
         Thing::Write(port) => drop_number(ports, port),
-        _ => {}
+        Thing::Read(_) => {}
+        Thing::Accept(_) => {}
     }
 }
 

@@ -6,9 +6,9 @@ ghost use Rattle.ready_hub.specs.declared.thing.Thing.TheVariants.{Accept};
 ghost use Rattle.ready_loop.specs.Queues.{dropped, dropped_port, first_servable, put_back, queued_all, queued_by, queued_if, queued_port};
 
 use crate::Core;
-use crate::aside::{drop_aside, first_aside, first_aside_by, has_aside, set_aside};
+use crate::aside::{drop_aside, first_of_both, first_of_both_by, has_either, set_aside};
 use crate::owing::list_owed;
-use crate::things::{drop_thing, first_by, first_of, has_thing};
+use crate::things::drop_thing;
 use ready_hub::Thing;
 use std::alloc::{AllocError, Global};
 use std::marker::Model;
@@ -62,10 +62,7 @@ impl Queue {
         ensures unchanged { self.new ≡ self.old }
     {
         list_owed(agent, &mut self.owed)?;
-        let first = match first_aside_by(&self.aside, agent, &self.owed) {
-            Some(thing) => Some(thing),
-            None => first_by(&self.things, agent, &self.owed),
-        };
+        let first = first_of_both_by(&self.aside, &self.things, agent, &self.owed);
         set_aside(&mut self.aside, &mut self.things, &self.owed)?;
         Ok(first)
     }
@@ -74,17 +71,14 @@ impl Queue {
     pub fn first<A: Core>(&self, agent: &A) -> Option<Thing>
         ensures { result ≡ first_servable (A.state agent.now) self.now.queue }
     {
-        match first_aside(&self.aside, agent) {
-            Some(thing) => Some(thing),
-            None => first_of(&self.things, agent),
-        }
+        first_of_both(&self.aside, &self.things, agent)
     }
 
     // Whether the thing is ready.
     fn has(&self, thing: Thing) -> bool
         ensures { result ≡ set_of self.now.queue thing }
     {
-        has_aside(&self.aside, thing) || has_thing(&self.things, thing)
+        has_either(&self.aside, &self.things, thing)
     }
 
     // The thing isn't ready any more.
