@@ -94,7 +94,7 @@ tied-quiet {event = event} {old = old} (names job number port found door) tied =
     record {
       rising = leads-rising 0 old.last_port old.ports follows.ports tied.rising;
       order = tied.order;
-      tied = tied-fewer old.ports _ _ (fewer-changed number unheard old.ports record { number = λ p. refl; door = λ p. refl; waits = λ p. refl; owed = λ p none. none }) tied.tied;
+      tied = tied-fewer old.ports _ _ (fewer-changed number unheard old.ports record { number = λ p. refl; door = λ p. refl; waits = λ p. refl; owed = λ p none. none; chain = λ p. refl }) tied.tied;
       askers = tied.askers;
       helper = λ n q linked there.
           let before = leads-found n 0 old.last_port old.ports q follows.ports tied.rising there in
@@ -301,7 +301,7 @@ module _ (piece : List ℕ) (state : State) (tied : IsTied state) where
   there true ask one is = absurd (cc)
   there false ask one is = tied.askers ask one is
 
-  tied_mid : IsTied mid
+  pub tied_mid : IsTied mid
   tied_mid =
       assemble state mid record { last = refl; ports = leads-answers state.ports told.settled before same } tied
       (lead_rise told.settled state.under_way.link.asks told.link.asks 0 state.under_way.link.last leads tied.order)
@@ -442,7 +442,7 @@ fated-makes (first quiet rest) tied =
     record { tied = later.tied; told = λ number ask open_yet told. later.told number ask open_yet (waits-quiet number ask quiet open_yet told) }
 fated-makes {event = event} (serves body_len port state found door nothing owed) tied =
     let body : List ℕ = front_body body_len port.heard in
-    fated-served event body (take_frame body_len (attempts state.held.lock body)) record { number = λ p. refl; door = λ p. refl; waits = λ p. refl; owed = λ p none. none } port state found door nothing owed tied
+    fated-served event body (take_frame body_len (attempts state.held.lock body)) record { number = λ p. refl; door = λ p. refl; waits = λ p. refl; owed = λ p none. none; chain = λ p. refl } port state found door nothing owed tied
     (serve-ends (asker_at state.moment port) state.held state.under_way body)
 fated-makes {event = event} (tells piece state) tied = fated-tells piece state tied event
 fated-makes (loses state) tied = record { tied = lose-tied state tied; told = λ number ask open_yet told. told-loss state tied number ask Unanswered told }

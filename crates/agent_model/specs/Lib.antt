@@ -21,3 +21,6 @@ pub mod Asking
 pub mod Sound
 pub mod Fates
 pub mod Askable
+pub mod Bindings
+pub mod Bindable
+pub mod Unseen
