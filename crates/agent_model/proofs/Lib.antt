@@ -22,6 +22,7 @@ pub mod TieLemmas
 pub mod FateLemmas
 pub mod RaisedLemmas
 pub mod FatedLemmas
+pub mod AttendedLemmas
 pub mod OnceLemmas
 pub mod SignLemmas
 pub mod AnswerLemmas
