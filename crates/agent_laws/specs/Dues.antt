@@ -121,7 +121,7 @@ abbrev pub met_by : Option Claim → Option ℕ → Moment → List Stamped → 
 met_by None life moment past = None
 met_by (Some claim) life moment past =
     if is_met (held_by (last_addition claim.signing.blob past) life moment.mono) claim (proved_of claim.port past)
-        moment.wall (open_asks past) (was_locked past)
+    moment.wall (open_asks past) (was_locked past)
     then Some claim else None
 
 -- the signature that is to be put to the helper directly behind the newest action, if any, where additions without a
