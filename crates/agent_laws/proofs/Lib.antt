@@ -1,0 +1,6 @@
+pub mod PastLemmas
+pub mod HoldsLemmas
+pub mod DueLemmas
+pub mod StepLemmas
+pub mod MadeLemmas
+pub mod HistoryLemmas
