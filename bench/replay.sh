@@ -114,7 +114,7 @@ PYTHON
 
 # The least of three times of a command that reads the file, in seconds.
 least() {
-    local file=$1 best= start took
+    local file=$1 best='' start took
     shift
     for _ in 1 2 3; do
         start=$EPOCHREALTIME

@@ -395,12 +395,14 @@ class Checks:
         return case
 
     def run(self, words):
-        """Runs all checks, or those of which a word is the part or a part of the name. The process ends with 1 where
-        one failed."""
+        """Runs all checks, or those of the parts that the words name, and those that have another word in their names.
+        The process ends with 1 where one failed."""
         passed = failed = skipped = 0
+        parts = {part for part, _ in self.cases}
         for part, case in self.cases:
             what = case.__name__.replace("_", " ")
-            if words and not any(word == part or word.replace("_", " ") in what for word in words):
+            chosen = lambda word: word == part if word in parts else word.replace("_", " ") in what
+            if words and not any(map(chosen, words)):
                 continue
             folder = tempfile.mkdtemp(prefix="mk-")
             begin = time.monotonic()
