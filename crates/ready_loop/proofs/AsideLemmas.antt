@@ -1,18 +1,17 @@
 -- A queue whose first things are set aside as the numbers of their ports.
-use Rattle.std.proofs.Common.{◌≡◌, ◌∙◌, ℕ, suc, Bool, true, false, List, [], ◌∷◌, ◌++◌, drop, length, Option, Some, None, refl, sym, ap, cond, not, ◌&&◌, ◌||◌, ◌==◌, if◌then◌else◌, append_assoc, arith}
+use Rattle.std.proofs.Common.{◌≡◌, ◌∙◌, ℕ, suc, Bool, true, false, List, [], ◌∷◌, ◌++◌, drop, length, Some, None, refl, sym, ap, cond, not, ◌||◌, ◌==◌, if◌then◌else◌, append_assoc, arith}
 use Rattle.std.specs.Prelude.{slice_get}
 use Rattle.std.proofs.lemmas.Bool.Decides.{nat_tests}
 use Rattle.std.proofs.lemmas.List.Elements.{filter-append}
 use Rattle.world_ports.specs.declared.events.Door.{Door}
 use Rattle.agent_model.specs.NumberLists.{has}
-use Rattle.agent_model.specs.State.{State, is_some_bytes, owed_of}
+use Rattle.agent_model.specs.State.{State}
 use Rattle.ready_hub.specs.Servable.{is_servable}
 use Rattle.ready_hub.specs.Things.{same_thing, set_of}
 use Rattle.ready_hub.specs.declared.thing.Thing.{Thing}
 use Rattle.ready_hub.specs.declared.thing.Thing.TheVariants.{Accept, Read, Write}
-use Rattle.ready_loop.specs.InTurn.{Line}
 use Rattle.ready_loop.specs.Owing.{ListsOwed, dropped_number, writes_of}
-use Rattle.ready_loop.specs.Queues.{dropped, first_servable, queued, queued_if}
+use Rattle.ready_loop.specs.Queues.{dropped, first_servable, queued}
 
 -- ---- the set
 

@@ -1,4 +1,4 @@
-use Rattle.std.proofs.Common.{refl, inl, ◌≡◌, ◌∙◌, Ok, Result, Some, List, ℕ, Bool, true, false, not, length, [], ◌==◌, ap, sym, arith}
+use Rattle.std.proofs.Common.{refl, inl, ◌≡◌, ◌∙◌, Ok, Result, Some, List, ℕ, true, false, length, [], ◌==◌, ap, sym, arith}
 use Rattle.std.specs.declared.alloc.AllocError.{AllocError}
 use Rattle.world_ports.specs.declared.events.Moment.{Moment}
 use Rattle.std.specs.Prelude.{is_err}

@@ -1,4 +1,4 @@
-use Rattle.std.proofs.Common.{◌≡◌, ◌<◌, ◌-◌, List, ℕ, arith, subst, sym}
+use Rattle.std.proofs.Common.{◌<◌, ◌-◌, List, ℕ, arith, subst, sym}
 use Rattle.ready_loop.proofs.OwingLemmas.{IsListedUpTo, all_listed, next_listed, next_owed-is}
 use Rattle.ready_loop.proofs.owing.list_owed.Goals as goal
 
