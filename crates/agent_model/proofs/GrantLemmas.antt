@@ -15,15 +15,15 @@ use Rattle.agent_model.specs.Verdicts.{Cause, NoLongerAllowed, Refuses}
 
 -- the ends of a grant
 pub data IsGranted (chain : List Binding) (confirmation : Confirmation) (wall : ℕ) (held : KeyState) (under_way : UnderWay) : Work → Type 0 where
-  disallowed : ((key : HeldKey) → IsGrantable key chain confirmation wall held → ⊥) → IsGranted chain confirmation wall held under_way (settles (Refuses NoLongerAllowed) under_way)
-  unasked : (cause : Cause) (key : HeldKey) → IsGrantable key chain confirmation wall held → ask_fault under_way ≡ Some cause → IsGranted chain confirmation wall held under_way (settles (Refuses cause) under_way)
-  allowed : (key : HeldKey) → IsGrantable key chain confirmation wall held → ask_fault under_way ≡ None → IsGranted chain confirmation wall held under_way (put_unless None (Signs key (signing_of key confirmation)) confirmation.asker under_way)
+  disallowed : ((key : HeldKey) → IsGrantable key chain confirmation.addition confirmation.message wall held → ⊥) → IsGranted chain confirmation wall held under_way (settles (Refuses NoLongerAllowed) under_way)
+  unasked : (cause : Cause) (key : HeldKey) → IsGrantable key chain confirmation.addition confirmation.message wall held → ask_fault under_way ≡ Some cause → IsGranted chain confirmation wall held under_way (settles (Refuses cause) under_way)
+  allowed : (key : HeldKey) → IsGrantable key chain confirmation.addition confirmation.message wall held → ask_fault under_way ≡ None → IsGranted chain confirmation wall held under_way (put_unless None (Signs key (signing_of key confirmation)) confirmation.asker under_way)
 
 module _ (chain : List Binding) (confirmation : Confirmation) (wall : ℕ) (held : KeyState) (under_way : UnderWay) where
   abbrev Ends : Work → Type 0
   Ends work = IsGranted chain confirmation wall held under_way work
 
-  ends-put : (fault : Option Cause) (key : HeldKey) → IsGrantable key chain confirmation wall held → ask_fault under_way ≡ fault → Ends (put_unless fault (Signs key (signing_of key confirmation)) confirmation.asker under_way)
+  ends-put : (fault : Option Cause) (key : HeldKey) → IsGrantable key chain confirmation.addition confirmation.message wall held → ask_fault under_way ≡ fault → Ends (put_unless fault (Signs key (signing_of key confirmation)) confirmation.asker under_way)
   ends-put (Some cause) key may is = unasked cause key may is
   ends-put None key may is = allowed key may is
 
