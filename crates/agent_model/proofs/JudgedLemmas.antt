@@ -49,7 +49,7 @@ judged-by old new keeps judged = record {
   chains = chains-keep old.ports new.ports keeps.ports judged.chains;
 }
 
-keeps-quiet : {event : Happening} {old new : State} → Quiet event old new → IsRising 0 old.last_port old.ports → Keeps old new
+pub keeps-quiet : {event : Happening} {old new : State} → Quiet event old new → IsRising 0 old.last_port old.ports → Keeps old new
 keeps-quiet {old = old} (alters number f mild) rising = record { ports = keeps-changed number f old.ports mild.number mild.chain; asks = refl; last = refl; verifications = refl }
 keeps-quiet {old = old} (closes number may) rising = record { ports = keeps-removed number 0 old.last_port old.ports rising; asks = refl; last = refl; verifications = refl }
 keeps-quiet {old = old} (goes_on new asks) rising = record { ports = keeps-same old.ports; asks = asks.asks; last = asks.last; verifications = asks.verifications }

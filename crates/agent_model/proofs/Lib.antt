@@ -27,6 +27,7 @@ pub mod ConsentCutLemmas
 pub mod KeyLemmas
 pub mod OnceLemmas
 pub mod TraceLemmas
+pub mod PutLemmas
 pub mod SignLemmas
 pub mod AnswerLemmas
 pub mod JudgeLemmas

@@ -21,7 +21,7 @@ use Rattle.agent_model.specs.Dispatch.{Asker, Served}
 use Rattle.agent_model.specs.Errands.{held_for, last_job_for}
 use Rattle.agent_model.specs.Events.{Happening, Timed}
 use Rattle.agent_model.specs.Fates.{actions_of}
-use Rattle.agent_model.specs.Grants.{IsAmong, ends_by, pending_after, pending_by, raises_by, times_ended, times_raised}
+use Rattle.agent_model.specs.Grants.{IsAmong, Wanted, ends_by, noted, pending_after, pending_by, raises_by, times_ended, times_raised, wanted, wanted_of}
 use Rattle.agent_model.specs.KeyStates.{KeyState}
 use Rattle.agent_model.specs.Runs.{run}
 use Rattle.agent_model.specs.Sound.{IsTied}
@@ -113,22 +113,6 @@ pending-append job [] more before = refl
 pending-append job (action ∷ some) more before = pending-append job some more (pending_by job action before)
 
 -- ---- what is noted of a confirmation
-
--- for whom, of which addition, and what is to be signed
-pub record Wanted : Type 0 where
-  pub port : ℕ
-  pub addition : ℕ
-  pub message : List ℕ
-  pub flags : ℕ
-
-abbrev pub wanted : Raising → Wanted
-wanted raising = record { port = raising.port; addition = raising.addition; message = raising.signing.message; flags = raising.signing.flags }
-
-abbrev pub wanted_of : Confirmation → Wanted
-wanted_of one = record { port = one.asker; addition = one.addition; message = one.message; flags = one.flags }
-
-abbrev pub noted : ℕ → List Confirmation → Option Wanted
-noted job confirmations = option_map wanted_of (find_job job confirmations)
 
 wanted-is : (f : Confirmation → Confirmation) → IsFaint f → (c : Confirmation) → wanted_of (f c) ≡ wanted_of c
 wanted-is f faint c = rw (faint.asker c, faint.addition c, faint.message c, faint.flags c) refl
@@ -312,7 +296,7 @@ traces-in_turn {job} {old} {mid} rises same later =
     }
 
 -- a quiet change leaves it
-quiet-noted : (job : ℕ) {event : Happening} {old new : State} → Quiet event old new → (old.under_way.last_job ≤ new.under_way.last_job) × (noted job new.under_way.confirmations ≡ noted job old.under_way.confirmations)
+pub quiet-noted : (job : ℕ) {event : Happening} {old new : State} → Quiet event old new → (old.under_way.last_job ≤ new.under_way.last_job) × (noted job new.under_way.confirmations ≡ noted job old.under_way.confirmations)
 quiet-noted job (alters number f mild) = (omega arith, refl)
 quiet-noted job (closes number may) = (omega arith, refl)
 quiet-noted job (goes_on new asks) = (omega (arith, asks.jobs), noted-kept job asks.kept)

@@ -1,6 +1,8 @@
 -- What the actions so far tell of a confirmation, without a state (ours).
 use Rattle.std.specs.Prelude.{◌≡◌, ◌⊎◌, ℕ, List, [], ◌∷◌, Option, Some, None, Ok, false, ◌==◌, if◌then◌else◌}
 use Rattle.std.specs.List.{sum_by}
+use Rattle.std.specs.Option.{option_map}
+use Rattle.confirm_desk.specs.Confirmations.{Confirmation, find_job}
 use Rattle.identity_table.specs.Identities.{HaveOwnBlobs, HaveOwnNumbers, HeldKey, TableState, find_identity}
 use Rattle.agent_msg.specs.Requests.{Sign, Signing}
 use Rattle.agent_model.specs.Actions.{Action, Answered, Asked, Asking, Granted, Lost, Over, Proved, Raised, Raising, Requested, Requesting}
@@ -29,6 +31,32 @@ pending_after job (action ∷ later) before = pending_after job later (pending_b
 -- where nothing was before
 abbrev pub pending : List Action → ℕ → Option Raising
 pending actions job = pending_after job actions None
+
+-- ---- what is noted of it
+
+-- for whom, of which addition, and what is to be signed
+pub record Wanted : Type 0 where
+  pub port : ℕ
+  pub addition : ℕ
+  pub message : List ℕ
+  pub flags : ℕ
+
+-- as it was raised
+abbrev pub wanted : Raising → Wanted
+wanted raising = record {
+  port = raising.port;
+  addition = raising.addition;
+  message = raising.signing.message;
+  flags = raising.signing.flags;
+}
+
+-- as it waits
+abbrev pub wanted_of : Confirmation → Wanted
+wanted_of one = record { port = one.asker; addition = one.addition; message = one.message; flags = one.flags }
+
+-- that of this job
+abbrev pub noted : ℕ → List Confirmation → Option Wanted
+noted job confirmations = option_map wanted_of (find_job job confirmations)
 
 -- ---- how often
 
