@@ -26,3 +26,4 @@ pub mod Grants
 pub mod Bindings
 pub mod Bindable
 pub mod Unseen
+pub mod BindRows

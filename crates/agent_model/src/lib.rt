@@ -4,6 +4,7 @@
 #![tactic(auto)]
 
 mod asks;
+mod bind_rows;
 mod bindings;
 mod child_rows;
 mod consent_rows;
@@ -14,6 +15,11 @@ mod rows;
 pub use asks::{
     a_client_gets_its_own_answer, a_piece_of_the_helper_in_two_parts,
     a_signature_is_asked_for_exactly_where_it_may_be, an_ask_is_answered_at_most_once,
+};
+pub use bind_rows::{
+    a_binding_is_its_connections_own, a_binding_is_refused_for_its_cause,
+    a_binding_waits_for_the_helper, a_certificate_counts_while_it_is_valid,
+    a_key_is_seen_where_its_constraints_lead, a_key_signs_where_its_constraints_permit,
 };
 pub use bindings::{
     a_binding_is_added_where_it_is_right, a_binding_is_verified_exactly_where_it_may_be,
