@@ -1,12 +1,12 @@
 -- Identities have blobs and numbers of their own, and no number is given to another one later.
-use Rattle.std.proofs.Common.{◌≡◌, ◌≢◌, ℕ, ◌+◌, ◌≤◌, List, [], ◌∷◌, refl, ap, arith, sym, ◌∙◌, ◌==◌, nat_lt, eqb, cond, max, Option, Some, None, Bool, true, false, Result, Ok, Err}
+use Rattle.std.proofs.Common.{◌≡◌, ℕ, ◌+◌, ◌≤◌, List, [], ◌∷◌, refl, arith, sym, ◌∙◌, ◌==◌, nat_lt, eqb, cond, max, Option, Some, None, Bool, true, false, Result, Ok, Err}
 use Rattle.std.specs.Str.{bytes_eq}
 use Rattle.std.proofs.lemmas.Bool.{eqb-true}
 use Rattle.world_ports.specs.declared.Moment.{Moment}
 use Rattle.agent_msg.specs.declared.fault.MsgFault.{MsgFault}
-use Rattle.agent_msg.specs.Requests.{Addition, BindRequest, ClientRequest, Signing, ListIdentities, Sign, Add, Remove, RemoveAll, Lock, Unlock, Bind, OtherExtension, Unsupported}
+use Rattle.agent_msg.specs.Requests.{Addition, ClientRequest, ListIdentities, Sign, Add, Remove, RemoveAll, Lock, Unlock, Bind, OtherExtension, Unsupported}
 use Rattle.identity_table.specs.Deaths.{lives_at}
-use Rattle.identity_table.specs.Identities.{HaveOwnBlobs, HaveOwnNumbers, HeldKey, TableState, alive_at, find_identity, find_number, max_answer, new_identity, put_identity, remove_identity}
+use Rattle.identity_table.specs.Identities.{HaveOwnBlobs, HaveOwnNumbers, HeldKey, TableState, alive_at, find_identity, find_number, max_answer, new_identity, remove_identity}
 use Rattle.identity_table.proofs.FindLemmas.{if_alive, own_blobs-alive, own_blobs-put, own_blobs-remove}
 use Rattle.identity_table.proofs.NumberLaws.{find_number-alive, find_number-put, find_number-remove, unless_blob}
 use Rattle.identity_table.proofs.NumberLemmas.{own_numbers-alive, own_numbers-put, own_numbers-remove}
@@ -19,13 +19,13 @@ use Rattle.agent_model.specs.Binds.{agent_request_of}
 use Rattle.agent_model.specs.Dispatch.{Asker, add_by, add_fault, add_seen, add_unless, length_with, lock_by, remove_by, remove_seen, sees, serve, serve_by, serve_locked, serve_unlocked, unlock_by, with_addition}
 use Rattle.agent_model.specs.Events.{Happening, Timed}
 use Rattle.agent_model.specs.Grants.{HaveOwnParts}
-use Rattle.agent_model.specs.KeyStates.{KeyState, expired}
+use Rattle.agent_model.specs.KeyStates.{KeyState}
 use Rattle.agent_model.specs.Limits.{last_number}
 use Rattle.agent_model.specs.Runs.{run}
 use Rattle.agent_model.specs.State.{State, UnderWay, first_state}
 use Rattle.agent_model.specs.Step.{asker_at, at_moment, handle, step}
 use Rattle.agent_model.specs.Verdicts.{Cause}
-use Rattle.agent_model.proofs.MakeLemmas.{Makes, Quiet, alters, by_event, closes, first, goes_on, grants, links, loses, names, overs, serves, stays, tells}
+use Rattle.agent_model.proofs.MakeLemmas.{Makes, alters, by_event, closes, first, goes_on, grants, links, loses, names, overs, serves, stays, tells}
 
 -- the numbers that were given find what they found, or nothing; and identities have parts of their own yet
 pub record KeysKept (old new : TableState) : Type 0 where

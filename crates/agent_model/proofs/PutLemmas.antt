@@ -1,5 +1,5 @@
 -- Why a signature is put to the helper: the client asked for it at once, or the user agreed to what it asked for.
-use Rattle.std.proofs.Common.{◌≡◌, ◌≢◌, ℕ, ◌+◌, ◌≤◌, List, [], ◌∷◌, ◌++◌, refl, ap, arith, sym, subst, ◌∙◌, ◌==◌, ◌⊎◌, nat_lt, Option, Some, None, IsSome, Bool, true, false, cond, if◌then◌else◌, inl, inr, Result, Ok, Err}
+use Rattle.std.proofs.Common.{◌≡◌, ℕ, ◌+◌, ◌≤◌, List, [], ◌∷◌, ◌++◌, refl, ap, arith, sym, subst, ◌∙◌, ◌==◌, ◌⊎◌, nat_lt, Option, Some, None, IsSome, Bool, true, false, cond, inl, inr, Result, Ok, Err}
 use Rattle.std.specs.Option.{option_map}
 use Rattle.std.specs.Str.{bytes_eq}
 use Rattle.world_ports.specs.declared.Moment.{Moment}
@@ -19,7 +19,7 @@ use Rattle.helper_link.specs.declared.fault.LinkFault.{LinkFault}
 use Rattle.identity_table.specs.Identities.{HeldKey, find_identity, find_number, max_answer}
 use Rattle.identity_table.proofs.FindLemmas.{found_has}
 use Rattle.identity_table.proofs.NumberLaws.{number_of_found}
-use Rattle.agent_model.specs.Actions.{Action, Answered, Asked, Asking, ForBinding, ForSignature, Granted, Lost, Outcome, Over, Proved, Purpose, Raised, Raising, Requested, Requesting, Work}
+use Rattle.agent_model.specs.Actions.{Action, Answered, Asked, Asking, ForBinding, ForSignature, Granted, Lost, Outcome, Over, Proved, Raised, Raising, Requested, Work}
 use Rattle.agent_model.specs.Answers.{Answering, answer_all, answer_by, answer_true, answers_in, find_verification, lose_if, proved_at, with_answers}
 use Rattle.agent_model.specs.Askable.{IsGrantable}
 use Rattle.agent_model.specs.Binds.{agent_request_of}
@@ -36,9 +36,9 @@ use Rattle.agent_model.specs.Sound.{IsTied}
 use Rattle.agent_model.specs.State.{Port, State, UnderWay, Verification, find_port, first_state}
 use Rattle.agent_model.specs.Step.{asker_at, at_moment, handle, step}
 use Rattle.agent_model.specs.Verdicts.{Cause}
-use Rattle.agent_model.proofs.FatedLemmas.{first-tied, run-tied, step-fated, tied-opened, tied-quiet}
+use Rattle.agent_model.proofs.FatedLemmas.{first-tied, run-tied, tied-opened, tied-quiet}
 use Rattle.agent_model.proofs.GrantLemmas.{IsGranted, allowed, disallowed, grant-ends, unasked}
-use Rattle.agent_model.proofs.JobLemmas.{IsIn, in-found}
+use Rattle.agent_model.proofs.JobLemmas.{in-found}
 use Rattle.agent_model.proofs.JudgedLemmas.{keeps-quiet}
 use Rattle.agent_model.proofs.JudgeLemmas.{KeepsChains}
 use Rattle.agent_model.proofs.KeyLemmas.{KeysKept, first-own, kept-event, kept-opened, run-kept}
@@ -285,12 +285,14 @@ named-event event waiting state named = by_event (λ outcome. KeysKept state.hel
     by_case outcome makes kept job raising (inl was) = (named-kept waiting state outcome.state kept named).named job raising was
     by_case outcome makes kept job raising (inr there) =
         let key = raised-makes raising makes there in
-        let own = number_of_found raising.signing.blob state.held.table.last state.held.table.identities key.0 named.own.numbers key.1 in
-        (omega (arith, own.0, key.2, kept.last), λ later found.
-            let was : find_number raising.addition state.held.table.identities ≡ Some later = kept.found raising.addition later (omega (arith, own.0, key.2)) found in
-            let same : Some later ≡ Some key.0 = sym was ∙ ap (λ n. find_number n state.held.table.identities) key.2 ∙ own.1 in
-            let equal : later ≡ key.0 = cc in
-            ap (λ (k : HeldKey). k.blob) equal ∙ found_has raising.signing.blob state.held.table.identities key.0 key.1)
+        let own = number_of_found raising.signing.blob state.held.table.last state.held.table.identities key.0 named.own.numbers key.1 in (
+          omega (arith, own.0, key.2, kept.last),
+          λ later found.
+              let was : find_number raising.addition state.held.table.identities ≡ Some later = kept.found raising.addition later (omega (arith, own.0, key.2)) found in
+              let same : Some later ≡ Some key.0 = sym was ∙ ap (λ n. find_number n state.held.table.identities) key.2 ∙ own.1 in
+              let equal : later ≡ key.0 = cc in
+              ap (λ (k : HeldKey). k.blob) equal ∙ found_has raising.signing.blob state.held.table.identities key.0 key.1,
+        )
 
 pub step-named : (waiting : ℕ → Option Raising) (state : State) (moment : Moment) (event : Happening) → IsNamed waiting state → IsNamed (λ job. pending_after job (step state moment event).actions (waiting job)) (step state moment event).state
 step-named waiting state moment event named =

@@ -1,5 +1,5 @@
 -- What the actions tell of a confirmation is what is waited for, and each ends once.
-use Rattle.std.proofs.Common.{◌≡◌, ◌≢◌, ℕ, ◌+◌, ◌<◌, ◌≤◌, List, [], ◌∷◌, ◌++◌, refl, ap, arith, sym, subst, ◌∙◌, ◌==◌, ◌⊎◌, nat_lt, Option, Some, None, IsSome, Bool, true, false, cond, if◌then◌else◌, inl, inr}
+use Rattle.std.proofs.Common.{◌≡◌, ℕ, ◌+◌, ◌≤◌, List, [], ◌∷◌, ◌++◌, refl, ap, arith, sym, subst, ◌∙◌, ◌==◌, ◌⊎◌, nat_lt, Option, Some, None, IsSome, Bool, true, false, cond, if◌then◌else◌, inl, inr}
 use Rattle.std.specs.Option.{option_map}
 use Rattle.std.proofs.lemmas.Bool.Decides.{nat_tests}
 use Rattle.std.proofs.lemmas.List.Sums.{sum_by-append, sum_by-cons}
@@ -15,10 +15,10 @@ use Rattle.helper_link.specs.declared.answer.Settled.{Settled}
 use Rattle.helper_link.specs.declared.fault.LinkFault.{LinkFault}
 use Rattle.agent_model.specs.Actions.{Action, Answered, Asked, Granted, Lost, Outcome, Over, Proved, Raised, Raising, Requested, Requesting, Work}
 use Rattle.agent_model.specs.Answers.{Answering, answer_all, answer_by, answer_true, answers_in, find_verification, lose_if, proved_at, with_answers}
-use Rattle.agent_model.specs.Asking.{AreRaised, JobsRise}
+use Rattle.agent_model.specs.Asking.{JobsRise}
 use Rattle.agent_model.specs.Consents.{without_confirmation}
 use Rattle.agent_model.specs.Dispatch.{Asker, Served}
-use Rattle.agent_model.specs.Errands.{held_for, last_job_for}
+use Rattle.agent_model.specs.Errands.{held_for}
 use Rattle.agent_model.specs.Events.{Happening, Timed}
 use Rattle.agent_model.specs.Fates.{actions_of}
 use Rattle.agent_model.specs.Grants.{IsAmong, Wanted, ends_by, noted, pending_after, pending_by, raises_by, times_ended, times_raised, wanted, wanted_of}
@@ -30,7 +30,7 @@ use Rattle.agent_model.specs.Step.{asker_at, at_moment, step}
 use Rattle.agent_model.proofs.FatedLemmas.{step-fated, tied-opened, tied-quiet}
 use Rattle.agent_model.proofs.GrantLemmas.{IsGranted, allowed, disallowed, grant-ends, unasked}
 use Rattle.agent_model.proofs.GrowLemmas.{jobs-for}
-use Rattle.agent_model.proofs.JobLemmas.{IsIn, change-apart, changed_back, changed_forth, find_job-push, find_job-remove, in-found, job_within}
+use Rattle.agent_model.proofs.JobLemmas.{find_job-push, find_job-remove, in-found, job_within}
 use Rattle.agent_model.proofs.MakeLemmas.{IsFaint, Kept, Makes, Quiet, altered, alters, by_event, closes, first, goes_on, grants, links, loses, names, overs, serves, stays, tells, unchanged}
 use Rattle.agent_model.proofs.OnceLemmas.{unused}
 use Rattle.agent_model.proofs.ServeLemmas.{IsServed, answered, asked, raised, refused, serve-ends}
@@ -271,8 +271,14 @@ traces-ended job old new end actions one leaves ends raises whose rise there ris
         let within = job_within one.job 0 old.confirmations old.last_job one rise there in
         let old_low : nat_lt old.last_job job ≡ false = grind (arith, nat_tests, within.1) in
         let new_low : nat_lt new.last_job job ≡ false = grind (arith, nat_tests, within.1) in
-        omega (arith, ap {B = ℕ} (λ b. if b then 1 else noted_by (noted job new.confirmations)) new_low, ap {B = ℕ} (λ b. if b then 1 else noted_by (noted job old.confirmations)) old_low,
-        ap noted_by found, ap (λ b. noted_by (option_map wanted_of (cond b None (find_job job old.confirmations)))) is, ap noted_by (is_noted same))
+        omega (
+          arith,
+          ap {B = ℕ} (λ b. if b then 1 else noted_by (noted job new.confirmations)) new_low,
+          ap {B = ℕ} (λ b. if b then 1 else noted_by (noted job old.confirmations)) old_low,
+          ap noted_by found,
+          ap (λ b. noted_by (option_map wanted_of (cond b None (find_job job old.confirmations)))) is,
+          ap noted_by (is_noted same),
+        )
     by_ends false is = by_tests (nat_lt old.last_job job) (nat_lt new.last_job job) refl refl
       where
         by_tests : (above later : Bool) → nat_lt old.last_job job ≡ above → nat_lt new.last_job job ≡ later → 0 + (if later then 1 else noted_by (noted job new.confirmations)) ≤ (if above then 1 else noted_by (noted job old.confirmations))
