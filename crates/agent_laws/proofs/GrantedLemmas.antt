@@ -26,11 +26,11 @@ use Rattle.agent_model.proofs.GrantLemmas.{IsGranted, allowed, disallowed, unask
 use Rattle.agent_model.proofs.JobLemmas.{IsIn, in-found}
 use Rattle.agent_model.proofs.RoomLemmas.{RoomFor, free, full, no_ask, no_job, room-of}
 use Rattle.agent_laws.specs.Dues.{Claim, claim_of_raising, due_signing, is_consented, is_met, is_permitted, met_by, open_asks, proved_of, raised_at}
-use Rattle.agent_laws.specs.History.{IsLawful}
+use Rattle.agent_laws.specs.History.{IsLawful, onto}
 use Rattle.agent_laws.specs.Past.{PastAddition, held_by}
 use Rattle.agent_laws.proofs.DueLemmas.{all_pass, met_with, third_fails}
 use Rattle.agent_laws.proofs.HoldsLemmas.{Facts, Holds, facts_of, key_of}
-use Rattle.agent_laws.proofs.PastLemmas.{onto, stamp, stamps}
+use Rattle.agent_laws.proofs.PastLemmas.{stamp, stamps}
 use Rattle.agent_laws.proofs.RaisedLemmas.{AllRaised, IsRaised, all_raised-more, all_raised-over}
 use Rattle.agent_laws.proofs.StepLemmas.{Agrees, Goes, Opened, due_as, numbers-append, numbers_of}
 
@@ -52,14 +52,14 @@ over-agrees life past confirmation state order opened =
 
 -- ---- consent
 
-all_parts : (a b c d : Bool) → (a && (b && (c && d))) ≡ true → (a ≡ true) × (b ≡ true) × (c ≡ true) × (d ≡ true)
+pub all_parts : (a b c d : Bool) → (a && (b && (c && d))) ≡ true → (a ≡ true) × (b ≡ true) × (c ≡ true) × (d ≡ true)
 all_parts true true true true is = (refl, refl, refl, refl)
 all_parts true true true false is = absurd (cc)
 all_parts true true false d is = absurd (cc)
 all_parts true false c d is = absurd (cc)
 all_parts false b c d is = absurd (cc)
 
-none_if_permitted : (result : Option Denial) → is_permitted result ≡ true → result ≡ None
+pub none_if_permitted : (result : Option Denial) → is_permitted result ≡ true → result ≡ None
 none_if_permitted None is = refl
 none_if_permitted (Some denial) is = absurd (cc)
 

@@ -18,11 +18,11 @@ use Rattle.agent_model.proofs.MakeLemmas.{by_event}
 use Rattle.agent_model.proofs.NumberLemmas.{run-grows, step-grows}
 use Rattle.agent_model.proofs.RunLemmas.{step-rises, step-unused}
 use Rattle.agent_laws.specs.Dues.{proved_of}
-use Rattle.agent_laws.specs.History.{HasNumbers, IsLawful}
+use Rattle.agent_laws.specs.History.{HasNumbers, IsLawful, onto}
 use Rattle.agent_laws.proofs.HoldsLemmas.{fresh-expired, holds-expired, holds-first, numbers-expired}
 use Rattle.agent_laws.proofs.RaisedLemmas.{all_raised-kept}
 use Rattle.agent_laws.proofs.MadeLemmas.{goes-makes}
-use Rattle.agent_laws.proofs.PastLemmas.{lawful-append, onto, onto-append, stamp, stamps}
+use Rattle.agent_laws.proofs.PastLemmas.{lawful-append, onto-append, stamp, stamps}
 use Rattle.agent_laws.proofs.StepLemmas.{Agrees, Goes, Opened}
 
 -- the past tells what a state holds, what its connections are bound to, and nothing of ports that haven't joined

@@ -6,3 +6,5 @@ pub mod StepLemmas
 pub mod GrantedLemmas
 pub mod MadeLemmas
 pub mod HistoryLemmas
+pub mod ConsequenceLemmas
+pub mod ConsentLemmas

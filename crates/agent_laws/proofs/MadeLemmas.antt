@@ -26,9 +26,9 @@ use Rattle.agent_model.proofs.GrantLemmas.{grant-ends}
 use Rattle.agent_laws.proofs.GrantedLemmas.{goes-granted, over-agrees}
 use Rattle.agent_laws.proofs.RaisedLemmas.{all_raised-more}
 use Rattle.agent_laws.specs.Dues.{due_signing, open_asks, without_number}
-use Rattle.agent_laws.specs.History.{IsLawful}
+use Rattle.agent_laws.specs.History.{IsLawful, onto}
 use Rattle.agent_laws.proofs.HoldsLemmas.{Holds, facts_of}
-use Rattle.agent_laws.proofs.PastLemmas.{lawful-append, onto, onto-append, stamp, stamps, stamps-append}
+use Rattle.agent_laws.proofs.PastLemmas.{lawful-append, onto-append, stamp, stamps, stamps-append}
 use Rattle.agent_laws.proofs.StepLemmas.{Agrees, Calm, Goes, Opened, calm-quiet, numbers_of, opened-quiet, served-agrees, served-lawful}
 
 -- the numbers of the asks that are left

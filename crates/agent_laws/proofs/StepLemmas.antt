@@ -24,12 +24,12 @@ use Rattle.agent_model.specs.Verdicts.{Verdict}
 use Rattle.agent_model.proofs.JudgedLemmas.{Keeps}
 use Rattle.agent_model.proofs.MakeLemmas.{Quiet, alters, closes, goes_on, links, names}
 use Rattle.agent_laws.specs.Dues.{Claim, claim_of_request, due_signing, met_by, open_asks, proved_of, without_number}
-use Rattle.agent_laws.specs.History.{IsDue, IsLawful}
+use Rattle.agent_laws.specs.History.{IsDue, IsLawful, onto}
 use Rattle.agent_laws.specs.Past.{done_of_request}
 use Rattle.agent_laws.proofs.DueLemmas.{Acts, acts-served, asks, due_read, met_with, raises_it, silent}
 use Rattle.agent_laws.proofs.HoldsLemmas.{Facts, Holds, HoldsAfter, NumbersKept, facts_after, facts_of, holds-served}
 use Rattle.agent_laws.proofs.RaisedLemmas.{AllRaised, Stays, as_it_is, lightly, stays-kept, all_raised-kept, all_raised-more, all_raised-push, all_raised-same}
-use Rattle.agent_laws.proofs.PastLemmas.{lawful-append, nothing_due, onto, onto-append, stamp, stamps, stamps-append}
+use Rattle.agent_laws.proofs.PastLemmas.{lawful-append, nothing_due, onto-append, stamp, stamps, stamps-append}
 
 abbrev pub numbers_of : List Ask → List ℕ
 numbers_of all = map (λ (one : Ask). one.number) all

@@ -2,6 +2,11 @@
 //! done before, without a state. It stands on agent_model, whose definitions it checks by other words.
 #![tactic(auto)]
 
+mod consequences;
 mod laws;
 
+pub use consequences::{
+    a_confirmed_key_signs_with_consent, a_constrained_key_signs_where_permitted,
+    nothing_is_signed_while_locked, only_what_was_added_signs,
+};
 pub use laws::history;
