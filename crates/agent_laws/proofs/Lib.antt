@@ -8,3 +8,4 @@ pub mod MadeLemmas
 pub mod HistoryLemmas
 pub mod ConsequenceLemmas
 pub mod ConsentLemmas
+pub mod HostLemmas

@@ -1,7 +1,12 @@
 -- Signatures are put to the helper exactly where the actions before say so (ours).
-use Rattle.std.specs.Prelude.{◌≡◌, ◌≢◌, ℕ, ◌<◌, ◌-◌, ◌^◌, List, [], ◌∷◌, ◌++◌, ◌⊎◌, Option, None, Some, IsSomeAnd}
+use Rattle.std.specs.Prelude.{◌≡◌, ◌≢◌, ℕ, ◌<◌, ◌-◌, ◌^◌, List, [], ◌∷◌, ◌++◌, ◌⊎◌, Option, None, Some, Ok, true, IsSomeAnd}
 use Rattle.world_ports.specs.declared.Moment.{Moment}
 use Rattle.agent_msg.specs.Requests.{Addition, Signing}
+use Rattle.constraint_rec.specs.declared.constraint.Constraint.{Constraint}
+use Rattle.userauth_blob.specs.Reading.{auth_of}
+use Rattle.userauth_blob.specs.UserAuths.{Login}
+use Rattle.dest_rule.specs.Rules.{is_hop}
+use Rattle.dest_rule.specs.declared.binding.Binding.{Binding}
 use Rattle.agent_model.specs.Events.{Timed}
 use Rattle.agent_laws.specs.Past.{DidAdd, DidRemove, DidRemoveAll, DidUnlock, done_of}
 use Rattle.agent_model.specs.Actions.{Action, Answered, Asked, Asking, ForBinding, ForSignature, Granted, Lost, Over, Proved, Purpose, Raised, Raising, Requested}
@@ -80,3 +85,12 @@ pub record IsConsented (past : List Stamped) (port number : ℕ) (signing : Sign
   pub asker : raising.port ≡ port
   pub addition : raising.addition ≡ number
   pub what : raising.signing ≡ signing
+
+-- the message is a login to the session of the one binding, and the constraint's hop is its host at this second
+pub record IsLoginTo (rule : Constraint) (chain : List Binding) (signing : Signing) (wall : ℕ) : Type 0 where
+  pub binding : Binding
+  pub only : chain ≡ binding ∷ []
+  pub login : Login
+  pub names : auth_of signing.message signing.blob ≡ Ok login
+  pub session : login.session ≡ binding.session
+  pub host : is_hop rule.to binding.host_key wall ≡ true

@@ -1,3 +1,4 @@
 pub mod Past
 pub mod Dues
 pub mod History
+pub mod PastRows

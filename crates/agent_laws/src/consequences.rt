@@ -2,12 +2,13 @@
 
 ghost use Rattle.std.specs.Prelude.{◌≡◌, ◌++◌, ◌∷◌, ◌<◌, ℕ, List, [], length, Option, None, Some, true, false};
 ghost use Rattle.agent_msg.specs.Requests.{Signing};
+ghost use Rattle.constraint_rec.specs.declared.constraint.Constraint.{Constraint};
 ghost use Rattle.dest_rule.specs.Rules.{denial_under};
 ghost use Rattle.agent_model.specs.Events.{Timed};
 ghost use Rattle.agent_model.specs.Runs.{Stamped, run};
 ghost use Rattle.agent_model.specs.State.{first_state};
 ghost use Rattle.agent_laws.specs.Dues.{open_asks, proved_of};
-ghost use Rattle.agent_laws.specs.History.{HasNumbers, IsConsented, IsPutBehind, NoneAdds, NoneUnlocks, Removes, onto};
+ghost use Rattle.agent_laws.specs.History.{HasNumbers, IsConsented, IsLoginTo, IsPutBehind, NoneAdds, NoneUnlocks, Removes, onto};
 ghost use Rattle.agent_laws.specs.Past.{DidLock, PastAddition, done_of, last_addition, was_locked};
 
 /// After a lock succeeded and until an unlock does, no signature is put to the helper, also none that the user consents
@@ -59,4 +60,16 @@ pub fn a_constrained_key_signs_where_permitted()
     ensures few { (before : List Stamped) (port : ℕ) (signing : Signing) (life : Option ℕ) (events : List Timed)
         → HasNumbers (run (first_state life) events) → IsPutBehind before port signing life events
         → length (open_asks (onto [] before)) < 256 }
+{}
+
+/// With a key whose only constraint leads from the agent's own host to one host, each message that is put to the helper
+/// is a login to the session of the one binding that was proved on that connection, and that constraint's host has its
+/// host key at this moment.
+pub fn a_key_for_one_host_signs_for_it()
+    ensures { (before rest : List Stamped) (newest : Stamped) (port : ℕ) (signing : Signing) (life : Option ℕ)
+        (events : List Timed) (past : PastAddition) (rule : Constraint)
+        → HasNumbers (run (first_state life) events) → IsPutBehind before port signing life events
+        → onto [] before ≡ newest ∷ rest → last_addition signing.blob (onto [] before) ≡ Some past
+        → past.addition.terms.rules ≡ rule ∷ [] → rule.from.keys ≡ []
+        → IsLoginTo rule (proved_of port (onto [] before)) signing newest.moment.wall }
 {}
