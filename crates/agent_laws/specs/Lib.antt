@@ -2,3 +2,4 @@ pub mod Past
 pub mod Dues
 pub mod History
 pub mod PastRows
+pub mod Deciding

@@ -5,6 +5,7 @@
 mod consequences;
 mod laws;
 mod rows;
+mod runs;
 
 pub use consequences::{
     a_confirmed_key_signs_with_consent, a_constrained_key_signs_where_permitted,
@@ -14,3 +15,4 @@ pub use laws::history;
 pub use rows::{
     the_past_tells_of_keys, the_past_tells_of_what_is_open, what_is_due_is_what_was_asked,
 };
+pub use runs::these_runs_are_lawful;
