@@ -1,3 +1,5 @@
+pub mod CutLemmas
+pub mod EndLemmas
 pub mod OwedLemmas
 pub mod PlaceLemmas
 pub mod PromptLemmas

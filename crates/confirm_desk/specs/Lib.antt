@@ -1,6 +1,8 @@
 pub mod Answers
 pub mod Calls
 pub mod Confirmations
+pub mod Cuts
 pub mod Places
 pub mod Prompt
+pub mod Samples
 pub mod Sound
