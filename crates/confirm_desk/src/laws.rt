@@ -1,9 +1,11 @@
 //! What stands of a desk over many calls.
 
-ghost use Rattle.std.specs.Prelude.{◌≡◌, ◌≢◌, ◌<◌, ℕ, List, [], None, Some, length};
+ghost use Rattle.std.specs.Prelude.{◌≡◌, ◌≢◌, ◌^◌, ◌<◌, ℕ, List, [], None, Some, length};
+ghost use Rattle.wire_text.specs.Wire.{IsBytes};
 ghost use Rattle.confirm_desk.specs.Calls.{telling, took_at};
-ghost use Rattle.confirm_desk.specs.Confirmations.{Confirmation, Held, change_job, find_asker, find_job, find_linked, leave, linked, lose, most_confirmations, raise, told, took};
+ghost use Rattle.confirm_desk.specs.Confirmations.{Confirmation, Held, Yes, consent, find_asker, find_job, find_linked, leave, linked, lose, most_confirmations, raise, told, took};
 ghost use Rattle.confirm_desk.specs.Cuts.{joined, told_in_turn};
+ghost use Rattle.confirm_desk.specs.Grants.{StartsWithGrant};
 ghost use Rattle.confirm_desk.specs.Sound.{IsSound, RiseTo};
 ghost use Rattle.confirm_desk.specs.declared.held.Verdict.TheVariants as verdicts;
 
@@ -56,4 +58,10 @@ pub fn a_decision_is_taken_once()
     ensures others { (port other : ℕ) (piece : List ℕ) (desk : List Confirmation) (one : Confirmation)
         → find_linked port desk ≡ Some one → (telling port piece desk).verdict ≢ verdicts.NotYet → other ≢ one.job
         → find_job other (telling port piece desk).desk ≡ find_job other desk }
+{}
+
+/// The user says yes exactly where the bytes begin with the frame of GRANTED for the job itself.
+pub fn a_yes_is_the_grant_of_the_job()
+    ensures yes { (job : ℕ) (heard : List ℕ) → IsBytes heard → consent job heard ≡ Yes → StartsWithGrant job heard }
+    ensures grant { (job : ℕ) (heard : List ℕ) → job < 2 ^ 64 → StartsWithGrant job heard → consent job heard ≡ Yes }
 {}
