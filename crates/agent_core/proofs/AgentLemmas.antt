@@ -5,7 +5,7 @@ use Rattle.world_ports.specs.declared.Door.{Door}
 use Rattle.world_ports.specs.declared.Moment.{Moment}
 use Rattle.agent_model.specs.NumberLists.{without}
 use Rattle.wire_text.specs.Frames.{Bad, More, Whole, front_body}
-use Rattle.agent_msg.specs.Reading.{request_of}
+use Rattle.agent_model.specs.Binds.{agent_request_of}
 use Rattle.world_ports.specs.declared.Job.{Job}
 use Rattle.world_ports.specs.declared.JobKind.TheVariants as kinds
 use Rattle.helper_link.specs.HelperLink.{IsStarting, askers, sent}
@@ -14,45 +14,31 @@ use Rattle.agent_model.specs.Actions.{Outcome}
 use Rattle.agent_model.specs.Answers.{link_lost, lose, tell_each}
 use Rattle.agent_model.specs.Children.{changed, closed, failed_by, failed_if, heard_more, job_left, remove_to_start, started_if, unnamed_heard}
 use Rattle.agent_model.specs.Sound.{IsRising}
-use Rattle.agent_model.specs.Dispatch.{Asker, Served, serve}
+use Rattle.agent_model.specs.Dispatch.{Served}
 use Rattle.agent_model.specs.Events.{Ended, Happening, Heard, Joined, StartFailed, Started, Took}
 use Rattle.agent_model.specs.KeyStates.{KeyState, expired}
 use Rattle.agent_model.specs.Looks.{due, due_by}
 use Rattle.agent_model.specs.State.{Client, Helper, Port, State, UnderWay, Unnamed, change_port, find_port, find_to_start, numbers, remove_port, role_of}
-use Rattle.agent_model.specs.Step.{admitted, asker_at, at_moment, closed_between, ended_by_role, gone, handle, has_room, looked, step, take_frame, took_some}
+use Rattle.agent_model.specs.Step.{admitted, asker_at, attempts, at_moment, closed_between, ended_by_role, gone, handle, has_room, looked, step, take_frame, took_some}
 use Rattle.agent_model.specs.Verdicts.{HelperLost, Refuses, tell}
-use Rattle.agent_model.proofs.ClientLemmas.{looked-bad, looked-stays, looked-whole, served_at}
+use Rattle.agent_model.proofs.ClientLemmas.{looked-bad, looked-stays, looked-whole}
 use Rattle.agent_model.proofs.ClosesLemmas.{gone-none}
 use Rattle.agent_model.proofs.PortsLemmas.{found_number, numbers-change_port}
 use Rattle.agent_model.proofs.SecondLemmas.{second-serve}
 use Rattle.agent_core.specs.Parts.{state_of, with_closes}
-use Rattle.agent_core.specs.Plain.{ArePlain, IsPlain}
 use Rattle.agent_core.specs.Rising.{inserted}
 use Rattle.agent_core.specs.Roles.{role_by}
-use Rattle.agent_core.specs.Served.{asker_of, served_body}
+use Rattle.agent_core.specs.Served.{served_at}
 use Rattle.agent_core.specs.Slots.{OpenPorts}
-use Rattle.agent_core.proofs.HelperLemmas.{lose-closed, lost_state, starting_closes, with_link}
+use Rattle.agent_core.proofs.HelperLemmas.{lose-closed, lost_state, starting_closes, with_left, with_link}
 use Rattle.agent_core.proofs.RoleLemmas.{ended-as, heard-as, linked-as, port_of_role, took-as}
 
--- who asks at a plain port
-asker-plain : (number wall : ℕ) (keys : KeyState) (port : Port) → port.number ≡ number → IsPlain port → asker_at (record { mono = keys.table.greatest; wall = wall }) port ≡ asker_of number wall keys
-asker-plain number wall keys port same plain =
-    ap (λ n. let a : Asker = record { port = n; chain = port.chain; attempted = port.attempted; mono = keys.table.greatest; wall = wall } in a) same
-    ∙ ap (λ chain. let a : Asker = record { port = number; chain = chain; attempted = port.attempted; mono = keys.table.greatest; wall = wall } in a) plain.chain
-    ∙ ap (λ attempted. let a : Asker = record { port = number; chain = []; attempted = attempted; mono = keys.table.greatest; wall = wall } in a) plain.attempted
-
 -- a client is told what comes of its request
-pub agent_served : (wall : ℕ) (keys kept : KeyState) (going left : UnderWay) (old new : OpenPorts) (closes : List ℕ) (number body_len : ℕ) (port : Port) → ArePlain old.ports → find_port number old.ports ≡ Some port → due port ≡ Whole body_len → kept ≡ (served_body number wall (front_body body_len port.heard) keys going).held → left ≡ (served_body number wall (front_body body_len port.heard) keys going).work.under_way → new ≡ record old { ports = change_port number (λ p. tell (served_body number wall (front_body body_len port.heard) keys going).work.verdict (take_frame body_len false p)) old.ports } → state_of wall kept left new closes ≡ (looked number (state_of wall keys going old closes)).state
-agent_served wall keys kept going left old new closes number body_len port plain found whole kept_is left_is new_is =
+pub agent_served : (wall : ℕ) (keys kept : KeyState) (going left : UnderWay) (old new : OpenPorts) (closes : List ℕ) (number body_len : ℕ) (port : Port) → find_port number old.ports ≡ Some port → due port ≡ Whole body_len → kept ≡ (served_at body_len wall port keys going).held → left ≡ (served_at body_len wall port keys going).work.under_way → new ≡ record old { ports = change_port number (λ p. tell (served_at body_len wall port keys going).work.verdict (take_frame body_len (attempts keys.lock (front_body body_len port.heard)) p)) old.ports } → state_of wall kept left new closes ≡ (looked number (state_of wall keys going old closes)).state
+agent_served wall keys kept going left old new closes number body_len port found whole kept_is left_is new_is =
     let state : State = state_of wall keys going old closes in
-    let asked : Served = served_body number wall (front_body body_len port.heard) keys going in
-    let same : served_at body_len port state ≡ asked =
-    ap (λ asker. serve (request_of (front_body body_len port.heard)) asker keys going) (asker-plain number wall keys port (found_number number old.ports port found) (plain number port found)) in
-    let to : Served → State = λ served. record state {
-      held = served.held;
-      under_way = served.work.under_way;
-      ports = change_port number (λ p. tell served.work.verdict (take_frame body_len false p)) old.ports;
-    } in
+    let asked : Served = served_at body_len wall port keys going in
+    let moment : Moment = record { mono = keys.table.greatest; wall = wall } in
     let at : KeyState → UnderWay → List Port → ℕ → ℕ → State = λ held under_way ports last mono. record {
       held = held;
       under_way = under_way;
@@ -61,12 +47,11 @@ agent_served wall keys kept going left old new closes number body_len port plain
       moment = record { mono = mono; wall = wall };
       closes = closes;
     } in
-    let told : List Port = change_port number (λ p. tell asked.work.verdict (take_frame body_len false p)) old.ports in
+    let told : List Port = change_port number (λ p. tell asked.work.verdict (take_frame body_len (attempts keys.lock (front_body body_len port.heard)) p)) old.ports in
     ap (λ (held : KeyState). at held left new.ports new.last held.table.greatest) kept_is
     ∙ ap (λ under_way. at asked.held under_way new.ports new.last asked.held.table.greatest) left_is
     ∙ ap (λ (v : OpenPorts). at asked.held asked.work.under_way v.ports v.last asked.held.table.greatest) new_is
-    ∙ ap (λ mono. at asked.held asked.work.under_way told old.last mono) (second-serve (request_of (front_body body_len port.heard)) (asker_of number wall keys) keys going refl)
-    ∙ ap to (sym same)
+    ∙ ap (λ mono. at asked.held asked.work.under_way told old.last mono) (second-serve (front_body body_len port.heard) (asker_at moment port) keys going refl)
     ∙ sym (looked-whole number body_len port state found whole)
 
 -- a client is closed
@@ -153,9 +138,9 @@ failed_helper job (Some one) state some helper =
     ap (λ k. failed_by k one.number (job_left one.number state)) (helper one refl).0
     ∙ ap (λ n. lose (job_left n state)) (helper one refl).1
 
-pub agent_fails : (wall : ℕ) (keys : KeyState) (going mid left : UnderWay) (ports after : OpenPorts) (closes : List ℕ) (job : ℕ) → IsSome (find_to_start job going.to_start) → ((one : Job) → find_to_start job going.to_start ≡ Some one → (one.kind ≡ kinds.Helper) × (one.number ≡ job)) → mid ≡ record going { to_start = remove_to_start job going.to_start } → mid.verifications ≡ [] → IsStarting mid.link.state → left ≡ with_link (link_lost mid.link) mid → after ≡ record ports { ports = tell_each (Refuses HelperLost) (askers mid.link.asks) ports.ports } → state_of wall keys left after closes ≡ (handle (StartFailed job) (state_of wall keys going ports closes)).state
-agent_fails wall keys going mid left ports after closes job some helper mid_is none starting left_is after_is =
-    lost_state wall keys mid left ports ports after closes none (starting_closes mid.link.state ports.ports starting) refl left_is after_is
+pub agent_fails : (wall : ℕ) (keys : KeyState) (going mid left : UnderWay) (ports after : OpenPorts) (closes : List ℕ) (job : ℕ) → IsSome (find_to_start job going.to_start) → ((one : Job) → find_to_start job going.to_start ≡ Some one → (one.kind ≡ kinds.Helper) × (one.number ≡ job)) → mid ≡ record going { to_start = remove_to_start job going.to_start } → IsStarting mid.link.state → left ≡ with_left [] (with_link (link_lost mid.link) mid) → after ≡ record ports { ports = tell_each (Refuses HelperLost) (askers mid.link.asks) ports.ports } → state_of wall keys left after closes ≡ (handle (StartFailed job) (state_of wall keys going ports closes)).state
+agent_fails wall keys going mid left ports after closes job some helper mid_is starting left_is after_is =
+    lost_state wall keys mid left ports ports after closes (starting_closes mid.link.state ports.ports starting) refl left_is after_is
     ∙ ap (λ (u : UnderWay). (lose (state_of wall keys u ports closes)).state) mid_is
     ∙ sym (ap (λ (o : Outcome). o.state) (failed_helper job (find_to_start job going.to_start) (state_of wall keys going ports closes) some helper))
 

@@ -1,12 +1,14 @@
 pub mod RisingLemmas
 pub mod PlaceLemmas
 pub mod HeldLemmas
+pub mod SeenLemmas
 pub mod LookLemmas
 pub mod OwingLemmas
 pub mod CountLemmas
 pub mod KeptLemmas
 pub mod RoleLemmas
 pub mod HelperLemmas
+pub mod JudgedLemmas
 pub mod AgentLemmas
 pub mod ChildLemmas
 pub mod NextLemmas

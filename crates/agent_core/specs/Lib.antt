@@ -3,8 +3,8 @@ pub mod Rising
 pub mod Slots
 pub mod Places
 pub mod Roles
+pub mod Seen
 pub mod Served
 pub mod Settlings
-pub mod Plain
 pub mod Parts
 pub mod Bound

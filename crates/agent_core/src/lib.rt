@@ -4,6 +4,9 @@
 #![tactic(auto)]
 
 mod agent;
+mod asker;
+#[cfg(test)]
+mod bind_tests;
 mod children;
 mod counting;
 mod event;
@@ -19,6 +22,7 @@ mod ports;
 mod requests;
 mod rising;
 mod role;
+mod seen;
 mod slot;
 #[cfg(test)]
 mod tests;

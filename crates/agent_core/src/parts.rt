@@ -256,7 +256,7 @@ impl Parts {
         match self.ports.due(port) {
             Look::Whole { body } => self
                 .ports
-                .serve(&mut self.keys, &mut self.under_way, port, body),
+                .serve(&mut self.keys, &mut self.under_way, self.wall, port, body),
             Look::Bad { .. } => {
                 self.ports.close(port);
                 Ok(())

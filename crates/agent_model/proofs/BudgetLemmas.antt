@@ -17,7 +17,6 @@ use Rattle.agent_model.specs.Looks.{due, due_at, due_by}
 use Rattle.agent_model.specs.State.{Nothing, OnAsk, OnConfirmation, Port, State, UnderWay, Waits, change_port, find_port, is_some_bytes, owed_as, owed_by, owed_by_port, owed_of, remove_port, role_of}
 use Rattle.agent_model.specs.Step.{asker_at, at_moment, attempts, looked, step, take_frame, took_at, took_by_role, took_some}
 use Rattle.agent_model.specs.Verdicts.{tell}
-use Rattle.agent_msg.specs.Reading.{request_of}
 use Rattle.agent_model.proofs.ClientLemmas.{handle-took, looked-bad, looked-stays, looked-whole, served_at}
 use Rattle.agent_model.proofs.GrowLemmas.{AsksMore, asks_more}
 use Rattle.agent_model.proofs.NumberLemmas.{step-grows}
@@ -176,7 +175,7 @@ look_lowers : (number : ℕ) (port : Port) (state : State) (at : Front) → IsRi
 look_lowers number port state (Whole body_len) rising door found is =
     let served : Served = served_at body_len port state in
     let f : Port → Port = λ p. tell served.work.verdict (take_frame body_len (attempts state.held.lock (front_body body_len port.heard)) p) in
-    let more = asks_more (serve-ends (asker_at state.moment port) state.held state.under_way (request_of (front_body body_len port.heard))) in
+    let more = asks_more (serve-ends (asker_at state.moment port) state.held state.under_way (front_body body_len port.heard)) in
     let after : budget (looked number state).state ≡ ports_budget served.work.under_way (change_port number f state.ports) = ap budget (looked-whole number body_len port state found is) in
     let changed_rising = rising-change_port number 0 state.last_port f state.ports (λ p. refl) rising in
     let added = adds_helpers (change_port number f state.ports) state.under_way served.work.under_way more in

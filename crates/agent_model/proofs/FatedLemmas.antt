@@ -18,7 +18,6 @@ use Rattle.helper_link.specs.declared.state.LinkState.TheVariants as states
 use Rattle.helper_link.proofs.AnswerLemmas.{lead_others, lead_rise, settling_leads}
 use Rattle.helper_link.proofs.OrderLemmas.{find-push, push_rises}
 use Rattle.child_msg.specs.Messages.{ToChildMessage}
-use Rattle.agent_msg.specs.Reading.{request_of}
 use Rattle.agent_model.specs.Actions.{Action, Asked, Lost, Outcome, Requested, acted, and_then, stay}
 use Rattle.agent_model.specs.Answers.{Answering, answer_all, close_helper, helper_tells, lose, lose_if, with_answers}
 use Rattle.agent_model.specs.Children.{changed, unheard}
@@ -103,7 +102,7 @@ tied-quiet {event = event} {old = old} (names job number port found door) tied =
     record {
       rising = leads-rising 0 old.last_port old.ports follows.ports tied.rising;
       order = tied.order;
-      tied = tied-fewer old.ports _ _ (fewer-changed number unheard old.ports record { number = λ p. refl; door = λ p. refl; waits = λ p. refl; owed = λ p none. none }) tied.tied;
+      tied = tied-fewer old.ports _ _ (fewer-changed number unheard old.ports record { number = λ p. refl; door = λ p. refl; waits = λ p. refl; owed = λ p none. none; chain = λ p. refl }) tied.tied;
       askers = tied.askers;
       helper = λ n q linked there.
           let before = leads-found n 0 old.last_port old.ports q follows.ports tied.rising there in
@@ -215,7 +214,7 @@ module _ (event : Happening) (body : List ℕ) (take : Port → Port) (mild : Is
   fated-served : {served : Served} → IsServed (asker_at state.moment port) state.held state.under_way served → Fated event state (concluded port.number body served (changed port.number take state))
   fated-served (answered reply kept keeps) = silent kept state.under_way (Replies reply) _ _ refl tied.alone (λ ask is. absurd (cc)) (λ ask. refl)
   fated-served (refused cause) = silent state.held state.under_way (Refuses cause) _ _ refl tied.alone (λ ask is. absurd (cc)) (λ ask. refl)
-  fated-served (asked errand free) = puts state.held errand
+  fated-served (asked errand free right) = puts state.held errand
   fated-served (raised key signing free) = silent state.held _ (Awaits (OnConfirmation (state.under_way.last_job + 1))) _ _ refl ((asks_more {asker = asker_at state.moment port} {held = state.held} {under_way = state.under_way} (raised key signing free)).alone tied.alone) (λ ask is. absurd (cc)) (λ ask. refl)
 
 -- ---- the helper answers, or is lost
@@ -274,7 +273,7 @@ module _ (piece : List ℕ) (state : State) (tied : IsTied state) where
   there true ask one is = absurd (cc)
   there false ask one is = tied.askers ask one is
 
-  tied_mid : IsTied mid
+  pub tied_mid : IsTied mid
   tied_mid =
       assemble state mid record { last = refl; ports = leads-answers state.ports told.settled before same } tied
       (lead_rise told.settled state.under_way.link.asks told.link.asks 0 state.under_way.link.last leads tied.order)
@@ -307,8 +306,8 @@ fated-makes (first quiet rest) tied =
     record { tied = later.tied; told = λ number ask open_yet told. later.told number ask open_yet (waits-quiet number ask quiet open_yet told) }
 fated-makes {event = event} (serves body_len port state found door nothing owed) tied =
     let body : List ℕ = front_body body_len port.heard in
-    fated-served event body (take_frame body_len (attempts state.held.lock body)) record { number = λ p. refl; door = λ p. refl; waits = λ p. refl; owed = λ p none. none } port state found door nothing owed tied
-    (serve-ends (asker_at state.moment port) state.held state.under_way (request_of body))
+    fated-served event body (take_frame body_len (attempts state.held.lock body)) record { number = λ p. refl; door = λ p. refl; waits = λ p. refl; owed = λ p none. none; chain = λ p. refl } port state found door nothing owed tied
+    (serve-ends (asker_at state.moment port) state.held state.under_way body)
 fated-makes {event = event} (tells piece state) tied = fated-tells piece state tied event
 fated-makes (loses state) tied = record { tied = lose-tied state tied; told = λ number ask open_yet told. told-loss state tied number ask Unanswered told }
 fated-makes (overs confirmation state some) tied = absurd (some tied.alone)

@@ -60,7 +60,7 @@ none-raised under_way none =
 pub asks_more : {asker : Asker} {held : KeyState} {under_way : UnderWay} {served : Served} → IsServed asker held under_way served → AsksMore under_way served.work.under_way
 asks_more {under_way = under_way} (answered reply kept same) = nothing_more under_way
 asks_more {under_way = under_way} (refused cause) = nothing_more under_way
-asks_more {asker = asker} {under_way = under_way} (asked errand free) = more-put None errand asker.port under_way
+asks_more {asker = asker} {under_way = under_way} (asked errand free right) = more-put None errand asker.port under_way
 asks_more {asker = asker} {under_way = under_way} (raised key signing free) = record {
   helper = λ number. refl;
   confirmers = λ number. linked-behind number (confirmation_of (under_way.last_job + 1) (held_for asker.port key signing) (prompt_for key.comment key.blob)) under_way.confirmations refl;

@@ -22,3 +22,13 @@ pub mod FatedLemmas
 pub mod OnceLemmas
 pub mod SignLemmas
 pub mod AnswerLemmas
+pub mod JudgeLemmas
+pub mod BindLemmas
+pub mod AskedLemmas
+pub mod JudgedLemmas
+pub mod JudgedRunLemmas
+pub mod RoomLemmas
+pub mod BindableLemmas
+pub mod BoundOneLemmas
+pub mod UnseenLemmas
+pub mod UnseenEventLemmas

@@ -26,12 +26,13 @@ use Rattle.agent_model.proofs.PortsLemmas.{find_port-change_port, found_number}
 
 -- ---- small changes
 
--- a change of a port that leaves who is there, what it waits for, and that nothing is owed to it
+-- a change of a port that leaves who is there, what it waits for, its bindings, and that nothing is owed to it
 pub record IsMild (f : Port → Port) : Type 0 where
   pub number : (p : Port) → (f p).number ≡ p.number
   pub door : (p : Port) → (f p).door ≡ p.door
   pub waits : (p : Port) → (f p).waits ≡ p.waits
   pub owed : (p : Port) → p.owed ≡ [] → (f p).owed ≡ []
+  pub chain : (p : Port) → (f p).chain ≡ p.chain
 
 -- the same is unanswered, and no number was given
 pub record SameAsks (old new : UnderWay) : Type 0 where
@@ -39,6 +40,7 @@ pub record SameAsks (old new : UnderWay) : Type 0 where
   pub asks : new.link.asks ≡ old.link.asks
   pub last : new.link.last ≡ old.link.last
   pub jobs : new.last_job ≡ old.last_job
+  pub verifications : new.verifications ≡ old.verifications
   pub alone : old.confirmations ≡ [] → new.confirmations ≡ []
 
 -- why an event closes a port: it's a client that waits for nothing, or a child process, or it ended
@@ -69,13 +71,13 @@ pub data Makes (event : Happening) : State → Outcome → Type 0 where
   grants : (confirmation : Confirmation) (port : Port) (state : State) → IsAwaited state → Makes event state (grant_concluded (grant_work port.chain confirmation state) confirmation state)
 
 mild-heard : (piece : List ℕ) → IsMild (heard_more piece)
-mild-heard piece = record { number = λ p. refl; door = λ p. refl; waits = λ p. refl; owed = λ p none. none }
+mild-heard piece = record { number = λ p. refl; door = λ p. refl; waits = λ p. refl; owed = λ p none. none; chain = λ p. refl }
 
 pub mild-unheard : IsMild unheard
-mild-unheard = record { number = λ p. refl; door = λ p. refl; waits = λ p. refl; owed = λ p none. none }
+mild-unheard = record { number = λ p. refl; door = λ p. refl; waits = λ p. refl; owed = λ p none. none; chain = λ p. refl }
 
 mild-took : (count : ℕ) → IsMild (took_some count)
-mild-took count = record { number = λ p. refl; door = λ p. refl; waits = λ p. refl; owed = λ p none. ap (drop count) none ∙ drop_all count [] (omega arith) }
+mild-took count = record { number = λ p. refl; door = λ p. refl; waits = λ p. refl; owed = λ p none. ap (drop count) none ∙ drop_all count [] (omega arith); chain = λ p. refl }
 
 -- a confirmation that is changed isn't a new one
 no_job : (job : ℕ) (f : Confirmation → Confirmation) (confirmations : List Confirmation) → confirmations ≡ [] → change_job job f confirmations ≡ []
@@ -154,7 +156,7 @@ module _ (event : Happening) where
 
   makes-consent : (said : Consent) (confirmation : Confirmation) (piece : List ℕ) (state : State) → IsAwaited state → Makes event state (consent_by said confirmation piece state)
   makes-consent NotYet confirmation piece state some =
-      first (goes_on (with_heard confirmation.job piece state).under_way record { state = refl; asks = refl; last = refl; jobs = refl; alone = λ none. absurd (some none) })
+      first (goes_on (with_heard confirmation.job piece state).under_way record { state = refl; asks = refl; last = refl; jobs = refl; verifications = refl; alone = λ none. absurd (some none) })
       (stays (with_heard confirmation.job piece state))
   makes-consent Yes confirmation piece state some = makes-grant (find_port confirmation.asker state.ports) confirmation state some
   makes-consent No confirmation piece state some = overs confirmation state some
@@ -175,7 +177,7 @@ module _ (event : Happening) where
     makes-named kinds.Confirm job rest =
         let mid : State = confirmer_named job number state in
         first (alters number unheard mild-unheard)
-        (first (goes_on mid.under_way record { state = refl; asks = refl; last = refl; jobs = refl; alone = no_job job _ state.under_way.confirmations })
+        (first (goes_on mid.under_way record { state = refl; asks = refl; last = refl; jobs = refl; verifications = refl; alone = no_job job _ state.under_way.confirmations })
         (makes-goes_on (find_job job mid.under_way.confirmations) rest mid (λ none. ap (find_job job) none)))
 
     makes-ticket : (same : Bool) (job : Job) (rest : List ℕ) → Makes event state (ticket_by same job number rest state)
@@ -225,9 +227,9 @@ module _ (event : Happening) where
       (makes-look port.number _ (changed port.number (took_some count) state) refl (client_after port.number (took_some count) port state.ports (mild-took count) found (role-client port.door port.number state.under_way is)))
   makes-took_role Unnamed port count state found is = stays state
   makes-took_role Helper port count state found is =
-      first (goes_on (helper_took count state).under_way record { state = refl; asks = refl; last = refl; jobs = refl; alone = λ none. none }) (stays (helper_took count state))
+      first (goes_on (helper_took count state).under_way record { state = refl; asks = refl; last = refl; jobs = refl; verifications = refl; alone = λ none. none }) (stays (helper_took count state))
   makes-took_role (Confirmer confirmation) port count state found is =
-      first (goes_on (confirmer_took confirmation.job count state).under_way record { state = refl; asks = refl; last = refl; jobs = refl; alone = no_job confirmation.job _ state.under_way.confirmations })
+      first (goes_on (confirmer_took confirmation.job count state).under_way record { state = refl; asks = refl; last = refl; jobs = refl; verifications = refl; alone = no_job confirmation.job _ state.under_way.confirmations })
       (stays (confirmer_took confirmation.job count state))
 
   makes-took : (number : ℕ) (found : Option Port) (count : ℕ) (state : State) → find_port number state.ports ≡ found → Makes event state (took_at found count state)
@@ -253,7 +255,7 @@ module _ (event : Happening) where
   makes-failed : (found : Option Job) (state : State) → Makes event state (failed_if found state)
   makes-failed None state = stays state
   makes-failed (Some job) state =
-      first (goes_on (job_left job.number state).under_way record { state = refl; asks = refl; last = refl; jobs = refl; alone = λ none. none }) (makes-failed_by job.kind job.number (job_left job.number state))
+      first (goes_on (job_left job.number state).under_way record { state = refl; asks = refl; last = refl; jobs = refl; verifications = refl; alone = λ none. none }) (makes-failed_by job.kind job.number (job_left job.number state))
 
 -- every event but a joining
 pub makes-handle : (event : Happening) (state : State) → ((door : Door) → event ≡ Joined door → ⊥) → Makes event state (handle event state)
@@ -262,7 +264,7 @@ makes-handle (Heard port piece) state other = makes-heard (Heard port piece) por
 makes-handle (Took port count) state other = makes-took (Took port count) port _ count state refl
 makes-handle (Ended port) state other = makes-ended (Ended port) port _ state refl refl
 makes-handle (Started job ticket) state other =
-    first (goes_on (job_started job ticket state).under_way record { state = refl; asks = refl; last = refl; jobs = refl; alone = λ none. none }) (stays (job_started job ticket state))
+    first (goes_on (job_started job ticket state).under_way record { state = refl; asks = refl; last = refl; jobs = refl; verifications = refl; alone = λ none. none }) (stays (job_started job ticket state))
 makes-handle (StartFailed job) state other = makes-failed (StartFailed job) (find_to_start job state.under_way.to_start) state
 makes-handle Tick state other = stays state
 

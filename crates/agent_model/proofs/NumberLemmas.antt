@@ -9,7 +9,6 @@ use Rattle.dest_rule.specs.declared.denial.Denial.{Denial}
 use Rattle.helper_link.specs.Telling.{telling}
 use Rattle.helper_link.specs.declared.fault.LinkFault.{LinkFault}
 use Rattle.identity_table.specs.Identities.{HeldKey, find_number}
-use Rattle.agent_msg.specs.Reading.{request_of}
 use Rattle.agent_model.specs.Actions.{Outcome}
 use Rattle.agent_model.specs.Answers.{answers_in, lose_if, with_answers}
 use Rattle.agent_model.specs.Consents.{grant_by, grant_unless, grant_with, signing_of, without_confirmation}
@@ -70,7 +69,7 @@ grows-makes : {event : Happening} {old : State} {outcome : Outcome} → Makes ev
 grows-makes (stays state) = same state.under_way
 grows-makes (first quiet rest) = behind (grows-quiet quiet) (grows-makes rest)
 grows-makes (serves body_len port state found door waits owed) =
-    by_more (asks_more (serve-ends (asker_at state.moment port) state.held state.under_way (request_of (front_body body_len port.heard))))
+    by_more (asks_more (serve-ends (asker_at state.moment port) state.held state.under_way (front_body body_len port.heard)))
 grows-makes (tells piece state) =
     let told = telling piece state.under_way.link in
     let answered = grows-lose_if told.fault (with_answers told.link (answers_in told.settled state) state) in

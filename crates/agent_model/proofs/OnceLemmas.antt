@@ -15,7 +15,6 @@ use Rattle.helper_link.specs.declared.ask.Ask.{Ask}
 use Rattle.helper_link.specs.declared.fault.LinkFault.{LinkFault}
 use Rattle.helper_link.proofs.AnswerLemmas.{settling_leads}
 use Rattle.helper_link.proofs.OrderLemmas.{find-push, find-remove, remove_rises}
-use Rattle.agent_msg.specs.Reading.{request_of}
 use Rattle.agent_model.specs.Actions.{Action, Answered, Lost, Outcome, Requested, acted, and_then}
 use Rattle.agent_model.specs.Answers.{Answering, answer_all, answer_by, lose_if, with_answers}
 use Rattle.agent_model.specs.Dispatch.{Asker, Served}
@@ -166,7 +165,7 @@ module _ (ask : ℕ) where
   spent_served : {asker : Asker} {held : KeyState} {under_way : UnderWay} {served : Served} (first_action : Action) → answers_by ask first_action ≡ 0 → asks_by ask first_action ≡ 0 → RiseTo 0 under_way.link.asks under_way.link.last → IsServed asker held under_way served → Spends ask under_way.link (first_action ∷ served.work.actions) served.work.under_way.link
   spent_served first_action answers asks rise (answered reply kept same) = record { answered = omega (arith, answers); asked = omega (arith, asks) }
   spent_served first_action answers asks rise (refused cause) = record { answered = omega (arith, answers); asked = omega (arith, asks) }
-  spent_served {asker = asker} {under_way = under_way} first_action answers asks rise (asked errand free) =
+  spent_served {asker = asker} {under_way = under_way} first_action answers asks rise (asked errand free right) =
       let put = spent_put under_way.link (with_ask errand asker.port under_way).link (ask_of (under_way.link.last + 1) asker.port (kind_of errand)) rise refl refl refl in
       record { answered = omega (arith, answers, put.0); asked = omega (arith, asks, put.1) }
   spent_served first_action answers asks rise (raised key signing free) = record { answered = omega (arith, answers); asked = omega (arith, asks) }
@@ -175,7 +174,7 @@ module _ (ask : ℕ) where
   spent_makes (stays state) tied = nothing_spent ask state.under_way.link state.under_way.link refl refl
   spent_makes (first quiet rest) tied = spent_in_turn (spent_quiet quiet) (spent_makes rest (tied-quiet quiet tied))
   spent_makes (serves body_len port state found door nothing owed) tied =
-      spent_served (Requested _) refl refl tied.order (serve-ends (asker_at state.moment port) state.held state.under_way (request_of (front_body body_len port.heard)))
+      spent_served (Requested _) refl refl tied.order (serve-ends (asker_at state.moment port) state.held state.under_way (front_body body_len port.heard))
   spent_makes (tells piece state) tied =
       let told = telling piece state.under_way.link in
       spent_fault state told.settled told.link told.fault (settling_leads (state.under_way.link.heard ++ piece) state.under_way.link.asks) tied.order refl
@@ -212,7 +211,7 @@ module _ (ask : ℕ) where
   served_fails : {asker : Asker} {held : KeyState} {under_way : UnderWay} {served : Served} → IsServed asker held under_way served → fate_of ask served.work.actions ≡ Unanswered
   served_fails (answered reply kept same) = refl
   served_fails (refused cause) = refl
-  served_fails (asked errand free) = refl
+  served_fails (asked errand free right) = refl
   served_fails (raised key signing free) = refl
 
   -- nothing is unanswered
@@ -220,7 +219,7 @@ module _ (ask : ℕ) where
   lost_makes (stays state) tied is = absurd (cc)
   lost_makes (first quiet rest) tied is = lost_makes rest (tied-quiet quiet tied) is
   lost_makes (serves body_len port state found door nothing owed) tied is =
-      let silent = served_fails (serve-ends (asker_at state.moment port) state.held state.under_way (request_of (front_body body_len port.heard))) in
+      let silent = served_fails (serve-ends (asker_at state.moment port) state.held state.under_way (front_body body_len port.heard)) in
       let no_loss : Unanswered ≡ Fails = sym silent ∙ is in
       absurd (cc)
   lost_makes (tells piece state) tied is =

@@ -76,7 +76,7 @@ module _ (ports : List Port) (asks : List Ask) (tied : AreTied ports asks) where
       other (sym told.waits ∙ tied.asks ask one told.port found (ap (λ n. find_port n ports) (sym same) ∙ told.found))
 
   -- a client waits for one ask alone
-  one_ask : (a b : ℕ) (one other : Ask) (port : Port) → find_ask a asks ≡ Some one → find_ask b asks ≡ Some other → one.asker ≡ other.asker → find_port one.asker ports ≡ Some port → a ≡ b
+  pub one_ask : (a b : ℕ) (one other : Ask) (port : Port) → find_ask a asks ≡ Some one → find_ask b asks ≡ Some other → one.asker ≡ other.asker → find_port one.asker ports ≡ Some port → a ≡ b
   one_ask a b one other port this that same found =
       let first : port.waits ≡ OnAsk a = tied.asks a one port this found in
       let second : port.waits ≡ OnAsk b = tied.asks b other port that (ap (λ n. find_port n ports) (sym same) ∙ found) in

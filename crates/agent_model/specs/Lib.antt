@@ -2,6 +2,7 @@ pub mod Events
 pub mod Limits
 pub mod NumberLists
 pub mod KeyStates
+pub mod Binds
 pub mod State
 pub mod Verdicts
 pub mod Actions
@@ -19,3 +20,6 @@ pub mod ChildRows
 pub mod Sound
 pub mod Fates
 pub mod Askable
+pub mod Bindings
+pub mod Bindable
+pub mod Unseen

@@ -60,19 +60,20 @@ pub fn an_ask_is_answered_at_most_once()
 {}
 
 /// A request for a signature is put to the helper exactly where the agent is unlocked, the key is held and asks for no
-/// confirmation, fewer than 256 asks are unanswered and the numbers are not spent; and it is refused for a cause
-/// exactly where that cause holds.
+/// confirmation, its destination constraints permit the signature for the asker's chain at the wall clock of this
+/// event, fewer than 256 asks are unanswered and the numbers are not spent; and it is refused for a cause exactly where
+/// that cause holds.
 pub fn a_signature_is_asked_for_exactly_where_it_may_be()
     ensures put { (ask : ℕ) (signing : Signing) (asker : Asker) (held : KeyState) (under_way : UnderWay)
         → ((serve (Ok (Sign signing)) asker held under_way).work.verdict ≡ Awaits (OnAsk ask))
-        ↔ (IsUsable signing false held × HasRoom under_way × (ask ≡ under_way.link.last + 1)) }
+        ↔ (IsUsable signing false asker held × HasRoom under_way × (ask ≡ under_way.link.last + 1)) }
     ensures message { (signing : Signing) (asker : Asker) (held : KeyState) (under_way : UnderWay)
-        (usable : IsUsable signing false held) → HasRoom under_way
+        (usable : IsUsable signing false asker held) → HasRoom under_way
         → (serve (Ok (Sign signing)) asker held under_way).work
-        ≡ put_unless None (Signs usable.key signing) asker.port under_way }
+        ≡ put_unless None (Signs usable.permitted.key signing) asker.port under_way }
     ensures refused { (cause : Cause) (signing : Signing) (asker : Asker) (held : KeyState) (under_way : UnderWay)
         → ((serve (Ok (Sign signing)) asker held under_way).work.verdict ≡ Refuses cause)
-        ↔ IsRefusedFor cause signing held under_way }
+        ↔ IsRefusedFor cause signing asker held under_way }
 {}
 
 /// Where the helper's bytes are cut does not matter: a piece in two parts leads to the state of the whole piece, as the

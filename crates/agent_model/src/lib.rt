@@ -4,6 +4,7 @@
 #![tactic(auto)]
 
 mod asks;
+mod bindings;
 mod child_rows;
 mod laws;
 mod rows;
@@ -11,6 +12,10 @@ mod rows;
 pub use asks::{
     a_client_gets_its_own_answer, a_piece_of_the_helper_in_two_parts,
     a_signature_is_asked_for_exactly_where_it_may_be, an_ask_is_answered_at_most_once,
+};
+pub use bindings::{
+    a_binding_is_added_where_it_is_right, a_binding_is_verified_exactly_where_it_may_be,
+    bindings_are_those_that_were_proved, what_is_not_seen_changes_no_reply,
 };
 pub use child_rows::{
     a_lost_helper_fails_its_asks, a_signature_goes_through_the_helper, a_ticket_names_a_job_once,

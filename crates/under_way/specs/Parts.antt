@@ -9,15 +9,17 @@ use Rattle.helper_link.specs.declared.state.LinkState.TheVariants as states
 use Rattle.agent_model.specs.State.{Nothing, OnAsk, StartedJob, UnderWay}
 use Rattle.agent_model.specs.Verdicts.{Awaits, Verdict, verdict_text, verdict_waits}
 use Rattle.under_way.specs.Jobs.{all_started}
+use Rattle.under_way.specs.Verifications.{all_verifications}
 use Rattle.under_way.specs.declared.jobs.Started.{Started}
+use Rattle.under_way.specs.declared.verification.Verification.{Verification}
 
--- no verification and no confirmation is waited for
-abbrev pub under_way_of : HelperLink → List Job → List Started → ℕ → UnderWay
-under_way_of link to_start started last_job = record {
+-- no confirmation is waited for
+abbrev pub under_way_of : HelperLink → List Job → List Started → List Verification → ℕ → UnderWay
+under_way_of link to_start started verifications last_job = record {
   link = link;
   to_start = to_start;
   started = all_started started;
-  verifications = [];
+  verifications = all_verifications verifications;
   confirmations = [];
   last_job = last_job;
 }
@@ -42,9 +44,8 @@ pub record IsKept (state : LinkState) (to_start : List Job) (started : List Star
   pub jobs : AreJobs state to_start started
   pub room : length to_start + length started ≤ places
 
--- no verification and no confirmation is waited for
+-- no confirmation is waited for
 pub record IsAlone (under_way : UnderWay) : Type 0 where
-  pub verifications : under_way.verifications ≡ []
   pub confirmations : under_way.confirmations ≡ []
 
 -- this started job is the helper's, under its number, and the helper is being started

@@ -1,19 +1,24 @@
 //! What is under way.
 
-ghost use Rattle.std.specs.Prelude.{◌≡◌, ◌≢◌, ◌↔◌, ◌+◌, ◌-◌, ◌^◌, ◌<◌, ◌≤◌, [], ◌++◌, ◌∷◌, IfOk, IsSome, IsTrue, MatchOption, OnOk, length, slice_get, Some, None};
+ghost use Rattle.std.specs.Prelude.{◌≡◌, ◌≢◌, ◌↔◌, ◌+◌, ◌-◌, ◌^◌, ◌<◌, ◌≤◌, [], ◌++◌, ◌∷◌, ◌⊎◌, IfOk, IsFalse, IsSome, IsTrue, MatchOption, OnOk, length, slice_get, Some, None};
 ghost use Rattle.helper_link.specs.HelperLink.{IsLinked, IsStarting, handed_out, linked_to, lost, sendable, sent};
+ghost use Rattle.helper_link.specs.Sound.{IsSound};
 ghost use Rattle.helper_link.specs.Telling.{telling};
+ghost use Rattle.agent_model.specs.Answers.{find_verification, remove_verification};
 ghost use Rattle.agent_model.specs.Children.{remove_to_start, started_if};
 ghost use Rattle.agent_model.specs.Consents.{find_started, remove_started};
-ghost use Rattle.agent_model.specs.Errands.{Signs, job_of, link_begun, put_ask};
+ghost use Rattle.agent_model.specs.Errands.{Signs, Verifies, job_of, link_begun, put_ask};
 ghost use Rattle.world_ports.specs.declared.Job.{Job as AJob};
 ghost use Rattle.under_way.specs.Jobs.{started_job};
 ghost use Rattle.agent_model.specs.State.{StartedJob as AStartedJob, find_to_start, nothing_under_way};
 ghost use Rattle.under_way.specs.Parts.{IsAlone, IsHelpers, TellsOf};
+ghost use Rattle.under_way.specs.Verifications.{bind_of, verification_of};
 
 use crate::jobs::{Started, place_of, place_of_started};
+use crate::verification::{Verification, place_of_verification};
 use helper_link::{AskFault, Link, LinkState, Told};
 use identity_table::Identity;
+use plain_lists::Bytes;
 use std::alloc::{AllocError, AllocFailed, Global};
 use std::marker::Model;
 use world_ports::{Job, JobKind};
@@ -38,12 +43,14 @@ impl<T: Drop> From<AllocFailed<T>> for JobMemory {
     }
 }
 
-/// The link to the helper, the jobs to start, and those that were started and that no child process has named.
+/// The link to the helper, what it is to verify, the jobs to start, and those that were started and that no child
+/// process has named.
 #[derive(Drop)]
 pub struct UnderWay {
     link: Link,
     to_start: Vec<Job>,
     started: Vec<Started>,
+    verifications: Vec<Verification>,
     last_job: u64,
 }
 
@@ -54,7 +61,8 @@ impl Model for UnderWay {
 
     ghost Value = { State };
 
-    ghost view = { λ u. under_way_of u.link u.to_start.items u.started.items u.last_job };
+    ghost view = { λ u. under_way_of u.link u.to_start.items u.started.items u.verifications.items
+        u.last_job };
 
     ghost invariant = { λ u. IsKept u.link.state u.to_start.items u.started.items (vec_capacity u.started) };
 }
@@ -68,6 +76,7 @@ impl UnderWay {
             link: Link::new(alloc),
             to_start: Vec::new(alloc),
             started: Vec::new(alloc),
+            verifications: Vec::new(alloc),
             last_job: 0,
         }
     }
@@ -127,8 +136,8 @@ impl UnderWay {
             record { blob = key.now.blob; message = message.now; flags = flags }) asker self.old).verdict) }
         ensures failed { OnOk result (self.new.link.failed ≡ []) }
     {
-        if self.link.state() == LinkState::None {
-            if self.link.spent() || self.last_job == u64::MAX {
+        if self.lacks_helper() {
+            if self.is_spent() {
                 return Ok(None);
             }
             self.begin_helper()?;
@@ -141,6 +150,57 @@ impl UnderWay {
             Err(AskFault::Memory) => Err(JobMemory),
             Err(AskFault::Full | AskFault::NumbersSpent) => Ok(None),
         }
+    }
+
+    /// Puts the verification of a host key's signature over a session identifier to the helper, for the client of
+    /// port `asker`, and gives the number of the ask: `None` where it is refused. The binding is kept until
+    /// `take_verification` takes it out. Where no helper is there or coming, the job that starts one is begun.
+    pub fn put_verify(
+        &mut self,
+        asker: u64,
+        host_key: &[u8],
+        session: &[u8],
+        signature: &[u8],
+        forwarding: bool,
+        is_new: bool,
+    ) -> Result<Option<u64>, JobMemory>
+        requires failed { self.old.link.failed ≡ [] }
+        requires short { 21 + length host_key.now + length signature.now + length session.now ≤ 1048576 }
+
+        ensures work { OnOk result (self.new ≡ (put_ask
+            (Verifies (bind_of host_key.now session.now signature.now forwarding) is_new) asker self.old).under_way) }
+        ensures told { IfOk result (TellsOf (put_ask
+            (Verifies (bind_of host_key.now session.now signature.now forwarding) is_new) asker self.old).verdict) }
+        ensures failed { OnOk result (self.new.link.failed ≡ []) }
+    {
+        if self.lacks_helper() {
+            if self.is_spent() {
+                return Ok(None);
+            }
+            self.begin_helper()?;
+        }
+        let mut one = self.prepare(host_key, session, forwarding, is_new)?;
+        match self.link.ask_verify(asker, host_key, signature, session) {
+            Ok(ask) => {
+                one.ask = ask;
+                self.note(one)?;
+                Ok(Some(ask))
+            }
+            Err(AskFault::Memory) => Err(JobMemory),
+            Err(AskFault::Full | AskFault::NumbersSpent) => Ok(None),
+        }
+    }
+
+    /// Takes out what the ask of this number was to verify. Takes no memory.
+    pub fn take_verification(&mut self, ask: u64) -> Option<Verification>
+        ensures found { MatchOption result (find_verification ask self.old.verifications ≡ None)
+            (λ one. find_verification ask self.old.verifications ≡ Some (verification_of one)) }
+        ensures left { self.new ≡ record self.old {
+          verifications = remove_verification ask self.old.verifications;
+        } }
+    {
+        let place = place_of_verification(&self.verifications, ask)?;
+        Some(self.verifications.remove(place))
     }
 
     /// The job of this number was started, and its child process is to name itself by this ticket. Takes no memory.
@@ -231,14 +291,16 @@ impl UnderWay {
         Ok(self.link.told(piece)?)
     }
 
-    /// The helper is gone, or failed to start: `next_failed` gives the askers of what was unanswered. Takes no memory.
+    /// The helper is gone, or failed to start: `next_failed` gives the askers of what was unanswered, and nothing is to
+    /// be verified any more. Takes no memory.
     pub fn lose(&mut self)
         requires some { self.old.link.state ≢ LinkState.None }
         requires jobs { IsStarting self.old.link.state → (self.old.to_start ≡ []) × (self.old.started ≡ []) }
-        ensures link { self.new ≡ record self.old { link = lost self.old.link } }
+        ensures link { self.new ≡ record self.old { link = lost self.old.link; verifications = [] } }
         ensures alone { IsAlone self.old }
     {
         self.link.lose();
+        self.verifications.clear();
     }
 
     /// Hands out the asker of the first ask that failed. Takes no memory.
@@ -251,6 +313,22 @@ impl UnderWay {
 }
 
 impl UnderWay {
+    // Whether no helper is there or coming.
+    fn lacks_helper(&self) -> bool
+        ensures value { IsTrue result ↔ (self.now.link.state ≡ LinkState.None) }
+        ensures sound { IsSound self.now.link }
+    {
+        self.link.state() == LinkState::None
+    }
+
+    // Whether no number is left for an ask, or none for a job.
+    fn is_spent(&self) -> bool
+        ensures value { IsTrue result ↔ ((self.now.link.last ≡ 2 ^ 64 - 1) ⊎ (self.now.last_job ≡ 2 ^ 64 - 1)) }
+        ensures left { IsFalse result → self.now.last_job < 2 ^ 64 - 1 }
+    {
+        self.link.spent() || self.last_job == u64::MAX
+    }
+
     // A helper is to be started; room is taken for its ticket.
     fn begin_helper(&mut self) -> Result<(), JobMemory>
         requires none { self.old.link.state ≡ LinkState.None }
@@ -271,6 +349,46 @@ impl UnderWay {
         self.to_start.push(job)?;
         self.last_job += 1;
         self.link.begin(self.last_job);
+        Ok(())
+    }
+
+    // What is to be kept of these parts, and room for it.
+    fn prepare(
+        &mut self,
+        host_key: &[u8],
+        session: &[u8],
+        forwarding: bool,
+        is_new: bool,
+    ) -> Result<Verification, JobMemory>
+        ensures value { IfOk result (λ one. one ≡ record {
+          ask = 0;
+          host_key = host_key.now;
+          session = session.now;
+          forwarding = forwarding;
+          is_new = is_new;
+        }) }
+        ensures kept { OnOk result (self.new ≡ self.old) }
+    {
+        self.verifications.reserve(1)?;
+        let alloc = *self.verifications.allocator();
+        let host_key = Vec::from_slice(alloc, host_key)?;
+        let session = Vec::from_slice(alloc, session)?;
+        Ok(Verification {
+            ask: 0,
+            host_key: Bytes::from_vec(host_key),
+            session: Bytes::from_vec(session),
+            forwarding,
+            is_new,
+        })
+    }
+
+    // Keeps what an ask is to verify.
+    fn note(&mut self, one: Verification) -> Result<(), JobMemory>
+        ensures { OnOk result (self.new ≡ record self.old {
+          verifications = self.old.verifications ++ verification_of one ∷ [];
+        }) }
+    {
+        self.verifications.push(one)?;
         Ok(())
     }
 }

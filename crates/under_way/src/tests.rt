@@ -77,3 +77,30 @@ fn the_first_ask_starts_a_helper(rt: HostRuntime) -> Result<(), Fail> {
     assert!(rt; under_way.owed().is_empty());
     Ok(())
 }
+
+// An ask of the client of port 7 for the verification of a signature of two bytes by that key, which is a host's here.
+fn verify(under_way: &mut UnderWay) -> Option<u64>
+    requires { under_way.old.link.failed ≡ [] }
+{
+    match under_way.put_verify(7, BLOB, &[1, 2, 3], &[4, 5], true, true) {
+        Ok(ask) => ask,
+        Err(JobMemory) => None,
+    }
+}
+
+#[test]
+fn a_binding_is_kept_until_it_is_taken_out(rt: HostRuntime) -> Result<(), Fail> {
+    let mut under_way = UnderWay::new(rt.alloc());
+    assert_eq!(rt; verify(&mut under_way), Some(1));
+    assert!(rt; under_way.take_verification(2).is_none());
+    let one = under_way.take_verification(1);
+    assert!(rt; one.is_some());
+    let Some(one) = one else {
+        return Ok(());
+    };
+    assert_eq!(rt; one.host_key.as_slice(), BLOB);
+    assert_eq!(rt; one.session.as_slice(), [1, 2, 3].as_slice());
+    assert!(rt; one.forwarding && one.is_new);
+    assert!(rt; under_way.take_verification(1).is_none());
+    Ok(())
+}

@@ -12,10 +12,10 @@ returns-in-Whole-clause-state c =
     let there = whole_port (find_port c.args.port c.self.inside.ports.ports) c.in-Whole.body (sym c.in-Whole.ensures) in
     rw (← c.self.view_is) (λ (closes : List ℕ).
     all_ok c.serve.result (λ kept left told.
-    agent_served c.self.inside.wall c.self.inside.keys c.serve.new.keys c.self.inside.under_way c.serve.new.under_way c.self.inside.ports c.serve.new.self closes c.args.port c.in-Whole.body there.0 c.serve.ensures.plain there.1 there.2 kept left told)
-    (c.serve.ensures.keys c.self.inside.wall there.0 there.1)
-    (c.serve.ensures.under_way c.self.inside.wall there.0 there.1)
-    (c.serve.ensures.ports c.self.inside.wall there.0 there.1))
+    agent_served c.self.inside.wall c.self.inside.keys c.serve.new.keys c.self.inside.under_way c.serve.new.under_way c.self.inside.ports c.serve.new.self closes c.args.port c.in-Whole.body there.0 there.1 there.2 kept left told)
+    (c.serve.ensures.keys there.0 there.1)
+    (c.serve.ensures.under_way there.0 there.1)
+    (c.serve.ensures.ports there.0 there.1))
 
 pub returns-in-Whole-clause-closes : goal.returns-in-Whole-clause-closes
 returns-in-Whole-clause-closes c =
@@ -23,7 +23,7 @@ returns-in-Whole-clause-closes c =
     let none : c.self.inside.ports.closed ≡ [] = ap (λ (s : State). s.closes) c.self.view_is ∙ c.requires.closes in
     rw (← c.self.view_is) (after_ok c.serve.result (λ told.
     closes_same c.self.inside.ports c.serve.new.self _ none told (numbers-change_port c.args.port _ c.self.inside.ports.ports (λ p. refl)))
-    (c.serve.ensures.ports c.self.inside.wall there.0 there.1))
+    (c.serve.ensures.ports there.0 there.1))
 
 pub returns-in-Bad-clause-state : goal.returns-in-Bad-clause-state
 returns-in-Bad-clause-state c =
