@@ -54,7 +54,8 @@ fn main(rt: HostRuntime) -> ExitCode {
         // Words that can't be read are none of the tool's, and `add_main` had no say.
         Err(_) => AddStatus::Failed(AddFault::Usage),
     };
-    if let Some(trouble) = Trouble::of(status, files.last(), files.files().reason()) {
+    let reason = files.files().reason();
+    if let Some(trouble) = Trouble::of(status, files.take_last(), reason) {
         let _ = eprintln!(rt; "ssh-add: {trouble}");
     }
     ExitCode::from(code(status))

@@ -16,11 +16,8 @@ impl<F: Files> Named<F> {
     }
 
     /// The path that was read last. `None` too where no memory was left to keep it.
-    pub fn last(&self) -> Option<&str> {
-        match &self.last {
-            Some(path) => Some(path.as_str()),
-            None => None,
-        }
+    pub fn take_last(&mut self) -> Option<String> {
+        self.last.take()
     }
 
     pub fn files(&self) -> &F {

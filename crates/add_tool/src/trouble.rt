@@ -6,22 +6,22 @@ use std::fmt;
 use std::io::ErrorKind;
 
 /// Why the program ended with a status other than 0, in words.
-#[derive(Clone, Copy, Debug)]
-pub struct Trouble<'a> {
+#[derive(Debug, Drop)]
+pub struct Trouble {
     status: AddStatus,
     /// The file that was read last.
-    file: Option<&'a str>,
+    file: Option<String>,
     /// Why the last file that couldn't be read couldn't.
     reason: Option<ErrorKind>,
 }
 
-impl<'a> Trouble<'a> {
+impl Trouble {
     /// The words for a status other than `Done`; none for an agent without identities.
     pub fn of(
         status: AddStatus,
-        file: Option<&'a str>,
+        file: Option<String>,
         reason: Option<ErrorKind>,
-    ) -> Option<Trouble<'a>> {
+    ) -> Option<Trouble> {
         match status {
             AddStatus::Done | AddStatus::Failed(AddFault::NoIdentities) => None,
             other => Some(Trouble {
@@ -33,11 +33,13 @@ impl<'a> Trouble<'a> {
     }
 }
 
-impl fmt::Display for Trouble<'_> {
+impl fmt::Display for Trouble {
     fn fmt<W: fmt::Write>(&self, f: &mut fmt::Formatter<W>) -> fmt::Result {
-        if let (Some(file), true) = (self.file, is_of_a_file(self.status)) {
-            f.write_str(file)?;
-            f.write_str(": ")?;
+        if is_of_a_file(self.status) {
+            if let Some(file) = &self.file {
+                f.write_str(file.as_str())?;
+                f.write_str(": ")?;
+            }
         }
         f.write_str(words(self.status, self.reason))
     }
