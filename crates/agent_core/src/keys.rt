@@ -1,11 +1,12 @@
 //! What the agent holds.
 
-ghost use Rattle.std.specs.Prelude.{◌≡◌, ◌≤◌, [], IfOk, OnOk, length};
+ghost use Rattle.std.specs.Prelude.{◌≡◌, ◌≤◌, [], None, IfOk, OnOk, length};
 ghost use Rattle.identity_table.specs.Identities.{IsSound, next_death};
 ghost use Rattle.agent_model.specs.KeyStates.{expired, no_keys};
 ghost use Rattle.agent_model.specs.Limits.{longest_body};
 ghost use Rattle.agent_model.specs.Step.{attempts};
 ghost use Rattle.agent_model.specs.Verdicts.{verdict_text, verdict_waits};
+ghost use Rattle.confirm_desk.specs.Confirmations.{find_asker};
 ghost use Rattle.agent_core.specs.Served.{served_body};
 ghost use Rattle.agent_core.specs.Slots.{waits_of};
 
@@ -104,6 +105,7 @@ impl Keys {
         requires nothing { owed.old ≡ [] }
         requires short { length body.now ≤ longest_body }
         requires failed { under_way.old.link.failed ≡ [] }
+        requires alone { find_asker asker.now.port under_way.old.confirmations ≡ None }
 
         ensures keys { OnOk result (self.new ≡ (served_body asker.now body.now self.old under_way.old).held) }
         ensures under_way { OnOk result

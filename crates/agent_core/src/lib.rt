@@ -5,14 +5,10 @@
 
 mod agent;
 mod asker;
-#[cfg(test)]
-mod bind_tests;
 mod children;
 mod counting;
 mod event;
 mod helper;
-#[cfg(test)]
-mod helper_tests;
 mod keys;
 mod listed;
 mod owed;
@@ -24,8 +20,6 @@ mod rising;
 mod role;
 mod seen;
 mod slot;
-#[cfg(test)]
-mod tests;
 mod waits;
 
 pub use agent::Agent;

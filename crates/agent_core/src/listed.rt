@@ -1,12 +1,13 @@
 //! One open port, and its place in the list of those that are owed bytes.
 
-ghost use Rattle.std.specs.Prelude.{◌≡◌, ◌≤◌, [], OnOk, length, vec_capacity};
+ghost use Rattle.std.specs.Prelude.{◌≡◌, ◌≤◌, [], None, OnOk, length, vec_capacity};
 ghost use Rattle.wire_text.specs.Frames.{Whole, front_body};
 ghost use Rattle.agent_model.specs.Answers.{prove};
 ghost use Rattle.agent_model.specs.Looks.{due};
 ghost use Rattle.agent_model.specs.Step.{attempts, take_frame, took_some};
 ghost use Rattle.agent_model.specs.Verdicts.{HelperLost, Refuses, tell};
 ghost use Rattle.agent_core.specs.Rising.{IsRisingNumbers, inserted, noted};
+ghost use Rattle.confirm_desk.specs.Confirmations.{find_asker};
 ghost use Rattle.agent_core.specs.Served.{served_at};
 ghost use Rattle.agent_core.specs.Settlings.{IsShortAnswer, verdict_of};
 ghost use Rattle.agent_model.specs.Sound.{IsRight};
@@ -62,6 +63,7 @@ pub fn serve_at(
 ) -> Result<(), CoreMemory>
     requires due { due (port_of slot.old) ≡ Whole body_len }
     requires failed { under_way.old.link.failed ≡ [] }
+    requires alone { find_asker slot.old.number under_way.old.confirmations ≡ None }
     requires rising { IsRisingNumbers 0 owing.old.items }
     requires room { length (inserted slot.old.number owing.old.items) ≤ vec_capacity owing.old }
 

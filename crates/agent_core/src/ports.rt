@@ -12,6 +12,7 @@ ghost use Rattle.agent_model.specs.Step.{admitted, attempts, gone, take_frame, t
 ghost use Rattle.agent_model.specs.Verdicts.{HelperLost, Refuses, tell};
 ghost use Rattle.agent_core.specs.Rising.{first_above, inserted};
 ghost use Rattle.agent_core.specs.Roles.{door_by};
+ghost use Rattle.confirm_desk.specs.Confirmations.{find_asker};
 ghost use Rattle.agent_core.specs.Served.{served_at};
 ghost use Rattle.agent_core.specs.Settlings.{IsProvable, IsShortAnswer, verdict_of};
 ghost use Rattle.agent_core.specs.Slots.{heard_in, owed_in, owing_of, port_of};
@@ -242,6 +243,7 @@ impl Ports {
     ) -> Result<(), CoreMemory>
         requires due { due_by (find_port number self.old.ports) ≡ Whole body_len }
         requires failed { under_way.old.link.failed ≡ [] }
+        requires alone { find_asker number under_way.old.confirmations ≡ None }
 
         ensures ports { (port : Port) → find_port number self.old.ports ≡ Some port
             → OnOk result (self.new ≡ record self.old {
