@@ -79,7 +79,7 @@ pub fn answer(
             let asked = bind(
                 asker, lock, under_way, host_key, session, signature, forwarding,
             )?;
-            Ok(wait(asked, owed))
+            Ok(wait(on_ask(asked), owed))
         }
         Ok(request) => {
             let done = take(alloc, asker, table, lock, request)?;
@@ -200,7 +200,7 @@ fn permits(asker: &Asker<'_>, rules: &[Constraint], blob: &[u8], message: &[u8])
     rules.is_empty() || may_sign(rules, blob, asker.chain, message, asker.wall).is_ok()
 }
 
-// Puts the verification of a binding to the helper, where the chain doesn't refuse it, and gives what the client waits for.
+// Puts the verification of a binding to the helper, where the chain doesn't refuse it, and gives the ask's number.
 fn bind(
     asker: &Asker<'_>,
     lock: &Lock,
@@ -209,7 +209,7 @@ fn bind(
     session: &[u8],
     signature: &[u8],
     forwarding: bool,
-) -> Result<Option<Waits>, CoreMemory>
+) -> Result<Option<u64>, CoreMemory>
     requires short { length host_key.now + length session.now + length signature.now ≤ longest_body }
     requires failed { under_way.old.link.failed ≡ [] }
 
@@ -218,7 +218,7 @@ fn bind(
     ensures under_way { (table : TableState) → OnOk result (under_way.new ≡ (served_by asker.now
         (binds host_key.now session.now signature.now forwarding)
         (keys_of table lock.now) under_way.old).work.under_way) }
-    ensures told { (table : TableState) → IfOk result (TellsWait (served_by asker.now
+    ensures told { (table : TableState) → IfOk result (TellsOf (served_by asker.now
         (binds host_key.now session.now signature.now forwarding)
         (keys_of table lock.now) under_way.old).work.verdict) }
     ensures failed { OnOk result (under_way.new.link.failed ≡ []) }
@@ -231,8 +231,7 @@ fn bind(
         Next::Same => false,
         Next::New => true,
     };
-    let ask = under_way.put_verify(asker.port, host_key, session, signature, forwarding, is_new)?;
-    Ok(on_ask(ask))
+    Ok(under_way.put_verify(asker.port, host_key, session, signature, forwarding, is_new)?)
 }
 
 // Whether an identity of this blob is held that the asker doesn't see.
