@@ -17,6 +17,7 @@ pub mod Looks
 pub mod Budget
 pub mod Rows
 pub mod ChildRows
+pub mod Asking
 pub mod Sound
 pub mod Fates
 pub mod Askable
