@@ -2,6 +2,7 @@ pub mod RisingLemmas
 pub mod PlaceLemmas
 pub mod HeldLemmas
 pub mod SeenLemmas
+pub mod ClosedLemmas
 pub mod LookLemmas
 pub mod OwingLemmas
 pub mod CountLemmas

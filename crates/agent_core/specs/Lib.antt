@@ -1,3 +1,4 @@
+pub mod Closed
 pub mod Happenings
 pub mod Rising
 pub mod Slots
