@@ -340,7 +340,7 @@ served_pays : (port : Port) (job count : ℕ) (under_way : UnderWay) → port_bu
 served_pays port job count under_way = omega (arith, served_by port.door port job count under_way)
 
 -- who is at the port of a confirmer
-confirmer_role : (port : Port) (under_way : UnderWay) (confirmation : Confirmation) → port.door ≡ Children → is_linked_to port.number under_way.link.state ≡ false → find_linked port.number under_way.confirmations ≡ Some confirmation → role_of port.door port.number under_way ≡ Confirmer confirmation
+pub confirmer_role : (port : Port) (under_way : UnderWay) (confirmation : Confirmation) → port.door ≡ Children → is_linked_to port.number under_way.link.state ≡ false → find_linked port.number under_way.confirmations ≡ Some confirmation → role_of port.door port.number under_way ≡ Confirmer confirmation
 confirmer_role port under_way confirmation door linked found =
     ap (λ d. role_of d port.number under_way) door ∙ role-children port.number under_way
     ∙ ap (λ b. by_helper b (find_linked port.number under_way.confirmations)) linked ∙ ap (by_helper false) found

@@ -89,8 +89,8 @@ tied-quiet {event = event} {old = old} (closes number may) tied =
     assemble old _ (follows-quiet event old (closes number may) record { last = refl; ports = same }) tied tied.order (tied-fewer old.ports _ _ (fewer-removed number 0 old.last_port old.ports tied.rising) tied.tied) tied.askers (λ n is. is) (raised-fewer old.ports _ (fewer-removed number 0 old.last_port old.ports tied.rising) tied.raised)
 tied-quiet {event = event} {old = old} (goes_on new asks) tied =
     assemble old _ (follows-quiet event old (goes_on new asks) record { last = refl; ports = same }) tied (rw (asks.asks, asks.last) tied.order) (rw asks.asks tied.tied) (λ ask one found. tied.askers ask one (ap (find_ask ask) (sym asks.asks) ∙ found)) (λ n is. sym asks.state ∙ is) (rw asks.jobs (raised-kept old.ports asks.kept tied.raised))
-tied-quiet {event = event} {old = old} (names job number port found door) tied =
-    let follows = follows-quiet event old {old = old} (names job number port found door) record { last = refl; ports = same } in
+tied-quiet {event = event} {old = old} (names job number port found door free) tied =
+    let follows = follows-quiet event old {old = old} (names job number port found door free) record { last = refl; ports = same } in
     record {
       rising = leads-rising 0 old.last_port old.ports follows.ports tied.rising;
       order = tied.order;
@@ -105,14 +105,14 @@ tied-quiet {event = event} {old = old} (names job number port found door) tied =
       known = λ n linked. rw (← linked_number number n linked) (found_within number 0 old.last_port old.ports port tied.rising found);
       raised = raised-fewer old.ports _ (fewer-changed number unheard old.ports mild-unheard) tied.raised;
     }
-tied-quiet {event = event} {old = old} (links job number port found door) tied =
+tied-quiet {event = event} {old = old} (links job number port found door free other) tied =
     let fewer = fewer-changed number unheard old.ports mild-unheard in
     let child : (q : Port) → find_port number (change_port number unheard old.ports) ≡ Some q → q.door ≡ Children = λ q there.
     let was = fewer number q there in
     let is : Some was.0 ≡ Some port = sym was.1 ∙ found in
     let equal : was.0 ≡ port = cc in
     was.4 ∙ ap (λ (p : Port). p.door) equal ∙ door in
-    assemble old _ (follows-quiet event old {old = old} (links job number port found door) record { last = refl; ports = same }) tied tied.order (tied-fewer old.ports _ _ fewer tied.tied) tied.askers (λ n is. is)
+    assemble old _ (follows-quiet event old {old = old} (links job number port found door free other) record { last = refl; ports = same }) tied tied.order (tied-fewer old.ports _ _ fewer tied.tied) tied.askers (λ n is. is)
     (raised-linked _ job number child (found_within number 0 old.last_port old.ports port tied.rising found) (raised-fewer old.ports _ fewer tied.raised))
 
 -- who waits goes on waiting where a port is changed a little
@@ -132,22 +132,22 @@ waits-quiet {event = event} {old = old} number ask (closes at may) open_yet told
     is_port : (port : Port) → number ≡ at → find_port at old.ports ≡ Some port → told.port ≡ port
     is_port port equal found = let is : Some told.port ≡ Some port = sym told.found ∙ ap (λ n. find_port n old.ports) equal ∙ found in cc
 
-    other : MayClose event at old.ports → number ≢ at
-    other (idle port found nothing) equal =
+    other : MayClose event at old.ports old.under_way.confirmations → number ≢ at
+    other (idle port found nothing client) equal =
         let waits : OnAsk ask ≡ Nothing = sym told.waits ∙ ap (λ (p : Port). p.waits) (is_port port equal found) ∙ nothing in
         absurd (cc)
-    other (child port found door) equal =
+    other (child port found door free) equal =
         let doors : Clients ≡ Children = sym told.door ∙ ap (λ (p : Port). p.door) (is_port port equal found) ∙ door in
         absurd (cc)
     other (ended is) equal = open_yet (is ∙ ap Ended (sym equal))
 waits-quiet number ask (goes_on new asks) open_yet told = told
-waits-quiet {old = old} number ask (names job at port found door) open_yet told = told-mild number ask at unheard old.ports mild-unheard told
-waits-quiet {old = old} number ask (links job at port found door) open_yet told = told-mild number ask at unheard old.ports mild-unheard told
+waits-quiet {old = old} number ask (names job at port found door free) open_yet told = told-mild number ask at unheard old.ports mild-unheard told
+waits-quiet {old = old} number ask (links job at port found door free unhelped) open_yet told = told-mild number ask at unheard old.ports mild-unheard told
 
 -- ---- a client that is served
 
 -- a helper is there only where one was
-linked-begun : (link : LinkState) (job number : ℕ) → begun_by link job ≡ states.Linked number → link ≡ states.Linked number
+pub linked-begun : (link : LinkState) (job number : ℕ) → begun_by link job ≡ states.Linked number → link ≡ states.Linked number
 linked-begun states.None job number is = absurd (cc)
 linked-begun (states.Starting other) job number is = is
 linked-begun (states.Linked at) job number is = is
@@ -451,7 +451,7 @@ fated-makes {event = event} (grants confirmation port state there opened) tied =
     fated-grant event confirmation state there tied port opened (grant-ends port.chain confirmation state)
 
 -- one more port that is there makes no difference to those that are found
-found_still : (number : ℕ) (port : Port) (ports more : List Port) → find_port number ports ≡ Some port → find_port number (ports ++ more) ≡ Some port
+pub found_still : (number : ℕ) (port : Port) (ports more : List Port) → find_port number ports ≡ Some port → find_port number (ports ++ more) ≡ Some port
 found_still number port [] more found = absurd (cc)
 found_still number port (other ∷ ports) more found = by_test (number == other.number) (found_still number port ports more) found
   where

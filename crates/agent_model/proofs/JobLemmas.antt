@@ -1,5 +1,5 @@
 -- Confirmations in the order of their jobs, and which of them a job, a client or a port finds.
-use Rattle.std.proofs.Common.{◌≡◌, ℕ, ◌+◌, ◌<◌, ◌≤◌, List, [], ◌∷◌, ◌++◌, refl, ap, arith, sym, subst, ◌∙◌, ◌==◌, ◌⊎◌, Option, Some, None, Bool, true, false, cond, eqb, inl, inr}
+use Rattle.std.proofs.Common.{◌≡◌, ◌≢◌, ℕ, ◌+◌, ◌<◌, ◌≤◌, List, [], ◌∷◌, ◌++◌, refl, ap, arith, sym, subst, ◌∙◌, ◌==◌, ◌⊎◌, Option, Some, None, Bool, true, false, cond, eqb, inl, inr}
 use Rattle.std.specs.Option.{option_map}
 use Rattle.std.proofs.lemmas.Bool.{eqb-false, eqb-true}
 use Rattle.std.proofs.lemmas.Bool.Decides.{nat_tests}
@@ -141,12 +141,20 @@ changed_forth job at f (first ∷ others) was keeps found =
         let rest = later some in
         (rest.0, ap (λ b. cond b (Some first) (find_job job (change_job at f others))) test ∙ rest.1, rest.2)
 
+-- another job's is found as it was
+pub change-apart : (job at : ℕ) (f : Confirmation → Confirmation) (confirmations : List Confirmation) → ((c : Confirmation) → (f c).job ≡ c.job) → job ≢ at → find_job job (change_job at f confirmations) ≡ find_job job confirmations
+change-apart job at f [] keeps differs = refl
+change-apart job at f (first ∷ others) keeps differs =
+    let rest : find_job job (change_job at f others) ≡ find_job job others = change-apart job at f others keeps differs in
+    let same : (f first).job ≡ first.job = keeps first in
+    grind (arith, nat_tests)
+
 -- ---- which are there
 
 -- a confirmation is one of these
 pub data IsIn (one : Confirmation) : List Confirmation → Type 0 where
   here : (others : List Confirmation) → IsIn one (one ∷ others)
-  later : (other : Confirmation) (others : List Confirmation) → IsIn one others → IsIn one (other ∷ others)
+  behind : (other : Confirmation) (others : List Confirmation) → IsIn one others → IsIn one (other ∷ others)
 
 -- what is found is there
 pub in-by_job : (job : ℕ) (confirmations : List Confirmation) (one : Confirmation) → find_job job confirmations ≡ Some one → IsIn one confirmations
@@ -155,7 +163,7 @@ in-by_job job (first ∷ others) one found = by_test (first.job == job) found (i
   where
     by_test : (test : Bool) → cond test (Some first) (find_job job others) ≡ Some one → (find_job job others ≡ Some one → IsIn one others) → IsIn one (first ∷ others)
     by_test true some rest = let equal : first ≡ one = cc in subst (λ c. IsIn c (first ∷ others)) equal (here others)
-    by_test false some rest = later first others (rest some)
+    by_test false some rest = behind first others (rest some)
 
 pub in-by_asker : (asker : ℕ) (confirmations : List Confirmation) (one : Confirmation) → find_asker asker confirmations ≡ Some one → IsIn one confirmations
 in-by_asker asker [] one found = absurd (cc)
@@ -163,7 +171,7 @@ in-by_asker asker (first ∷ others) one found = by_test (first.asker == asker) 
   where
     by_test : (test : Bool) → cond test (Some first) (find_asker asker others) ≡ Some one → (find_asker asker others ≡ Some one → IsIn one others) → IsIn one (first ∷ others)
     by_test true some rest = let equal : first ≡ one = cc in subst (λ c. IsIn c (first ∷ others)) equal (here others)
-    by_test false some rest = later first others (rest some)
+    by_test false some rest = behind first others (rest some)
 
 pub in-by_port : (port : ℕ) (confirmations : List Confirmation) (one : Confirmation) → find_linked port confirmations ≡ Some one → IsIn one confirmations
 in-by_port port [] one found = absurd (cc)
@@ -171,17 +179,17 @@ in-by_port port (first ∷ others) one found = by_test (is_at port first.port) f
   where
     by_test : (test : Bool) → cond test (Some first) (find_linked port others) ≡ Some one → (find_linked port others ≡ Some one → IsIn one others) → IsIn one (first ∷ others)
     by_test true some rest = let equal : first ≡ one = cc in subst (λ c. IsIn c (first ∷ others)) equal (here others)
-    by_test false some rest = later first others (rest some)
+    by_test false some rest = behind first others (rest some)
 
 -- what is there has a job above the bound
 pub in-above : (one : Confirmation) (below last : ℕ) {confirmations : List Confirmation} → JobsRise below confirmations last → IsIn one confirmations → below < one.job
 in-above one below last rise (here others) = rise.0
-in-above one below last rise (later other others there) = omega (arith, rise.0, in-above one other.job last rise.1 there)
+in-above one below last rise (behind other others there) = omega (arith, rise.0, in-above one other.job last rise.1 there)
 
 -- and is found by its job
 pub in-found : (one : Confirmation) (below last : ℕ) {confirmations : List Confirmation} → JobsRise below confirmations last → IsIn one confirmations → find_job one.job confirmations ≡ Some one
 in-found one below last rise (here others) = grind (arith, nat_tests)
-in-found one below last rise (later other others there) =
+in-found one below last rise (behind other others there) =
     let above : other.job < one.job = in-above one other.job last rise.1 there in
     ap (λ b. cond b (Some other) (find_job one.job others)) (differ other.job one.job (λ is. omega arith)) ∙ in-found one other.job last rise.1 there
 
@@ -232,3 +240,12 @@ linked_port port (first ∷ others) one found = by_port first.port refl found (l
             let equal : first ≡ one = cc in
             ap (λ (c : Confirmation). c.port) (sym equal) ∙ is ∙ ap Some (eqb-true other port same)
         by_test false same one_is = rest one_is
+
+-- who is found for a client is its own
+pub asker_own : (asker : ℕ) (confirmations : List Confirmation) (one : Confirmation) → find_asker asker confirmations ≡ Some one → one.asker ≡ asker
+asker_own asker [] one found = absurd (cc)
+asker_own asker (first ∷ others) one found = by_test (first.asker == asker) refl found (asker_own asker others one)
+  where
+    by_test : (test : Bool) → (first.asker == asker) ≡ test → cond test (Some first) (find_asker asker others) ≡ Some one → (find_asker asker others ≡ Some one → one.asker ≡ asker) → one.asker ≡ asker
+    by_test true is some rest = let equal : first ≡ one = cc in ap (λ (c : Confirmation). c.asker) (sym equal) ∙ eqb-true first.asker asker is
+    by_test false is some rest = rest some

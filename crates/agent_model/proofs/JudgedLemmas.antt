@@ -53,8 +53,8 @@ keeps-quiet : {event : Happening} {old new : State} → Quiet event old new → 
 keeps-quiet {old = old} (alters number f mild) rising = record { ports = keeps-changed number f old.ports mild.number mild.chain; asks = refl; last = refl; verifications = refl }
 keeps-quiet {old = old} (closes number may) rising = record { ports = keeps-removed number 0 old.last_port old.ports rising; asks = refl; last = refl; verifications = refl }
 keeps-quiet {old = old} (goes_on new asks) rising = record { ports = keeps-same old.ports; asks = asks.asks; last = asks.last; verifications = asks.verifications }
-keeps-quiet {old = old} (names job number port found door) rising = record { ports = keeps-changed number unheard old.ports (λ p. refl) (λ p. refl); asks = refl; last = refl; verifications = refl }
-keeps-quiet {old = old} (links job number port found door) rising = record { ports = keeps-changed number unheard old.ports (λ p. refl) (λ p. refl); asks = refl; last = refl; verifications = refl }
+keeps-quiet {old = old} (names job number port found door free) rising = record { ports = keeps-changed number unheard old.ports (λ p. refl) (λ p. refl); asks = refl; last = refl; verifications = refl }
+keeps-quiet {old = old} (links job number port found door free other) rising = record { ports = keeps-changed number unheard old.ports (λ p. refl) (λ p. refl); asks = refl; last = refl; verifications = refl }
 
 -- ---- what each event does
 

@@ -64,9 +64,9 @@ module _ (event : Happening) (start : State) where
   follows-quiet {old} (alters number f mild) follows = record { last = follows.last; ports = changes number f old.ports mild.number mild.door follows.ports }
   follows-quiet {old} (closes number may) follows = record { last = follows.last; ports = removes number old.ports follows.ports }
   follows-quiet (goes_on new asks) follows = record { last = follows.last; ports = follows.ports }
-  follows-quiet {old} (names job number port found door) follows =
+  follows-quiet {old} (names job number port found door free) follows =
       record { last = follows.last; ports = changes number unheard old.ports (λ p. refl) (λ p. refl) follows.ports }
-  follows-quiet {old} (links job number port found door) follows =
+  follows-quiet {old} (links job number port found door free other) follows =
       record { last = follows.last; ports = changes number unheard old.ports (λ p. refl) (λ p. refl) follows.ports }
 
   -- what an event makes follows

@@ -22,6 +22,8 @@ pub mod TieLemmas
 pub mod FateLemmas
 pub mod RaisedLemmas
 pub mod FatedLemmas
+pub mod AttendedLemmas
+pub mod ConsentCutLemmas
 pub mod OnceLemmas
 pub mod SignLemmas
 pub mod AnswerLemmas

@@ -1,6 +1,9 @@
 -- What events are made of: a few small changes of the state, one after another.
-use Rattle.std.proofs.Common.{◌≡◌, ℕ, List, [], ◌∷◌, ◌++◌, arith, drop, refl, ap, sym, ◌∙◌, Bool, true, false, Option, Some, None, Result, Ok, Err}
+use Rattle.std.proofs.Common.{◌≡◌, ◌≢◌, ◌==◌, ℕ, List, [], ◌∷◌, ◌++◌, arith, drop, refl, ap, sym, ◌∙◌, Bool, true, false, Option, Some, None, Result, Ok, Err}
 use Rattle.std.proofs.lemmas.List.{drop_all}
+use Rattle.std.proofs.lemmas.Bool.Decides.{nat_tests}
+use Rattle.helper_link.specs.declared.state.LinkState.{LinkState}
+use Rattle.helper_link.specs.declared.state.LinkState.TheVariants as states
 use Rattle.std.specs.Option.{option_map}
 use Rattle.std.specs.Str.{bytes_eq}
 use Rattle.world_ports.specs.declared.Door.{Door}
@@ -59,20 +62,21 @@ pub record SameAsks (old new : UnderWay) : Type 0 where
   pub verifications : new.verifications ≡ old.verifications
   pub kept : Kept old.confirmations new.confirmations
 
--- why an event closes a port: it's a client that waits for nothing, or a child process, or it ended
-pub data MayClose (event : Happening) (number : ℕ) (ports : List Port) : Type 0 where
-  idle : (port : Port) → find_port number ports ≡ Some port → port.waits ≡ Nothing → MayClose event number ports
-  child : (port : Port) → find_port number ports ≡ Some port → port.door ≡ Children → MayClose event number ports
-  ended : event ≡ Ended number → MayClose event number ports
+-- why an event closes a port: it's a client that waits for nothing, or a child process that doesn't ask the user, or
+-- it ended
+pub data MayClose (event : Happening) (number : ℕ) (ports : List Port) (confirmations : List Confirmation) : Type 0 where
+  idle : (port : Port) → find_port number ports ≡ Some port → port.waits ≡ Nothing → port.door ≡ Clients → MayClose event number ports confirmations
+  child : (port : Port) → find_port number ports ≡ Some port → port.door ≡ Children → find_linked number confirmations ≡ None → MayClose event number ports confirmations
+  ended : event ≡ Ended number → MayClose event number ports confirmations
 
 -- a change that tells nobody anything: a port is changed or closed, jobs come and go, or the helper or a child process
 -- that asks the user names itself
 pub data Quiet (event : Happening) (old : State) : State → Type 0 where
   alters : (number : ℕ) (f : Port → Port) → IsMild f → Quiet event old (changed number f old)
-  closes : (number : ℕ) → MayClose event number old.ports → Quiet event old (closed number old)
+  closes : (number : ℕ) → MayClose event number old.ports old.under_way.confirmations → Quiet event old (closed number old)
   goes_on : (new : UnderWay) → SameAsks old.under_way new → Quiet event old (record old { under_way = new })
-  names : (job number : ℕ) (port : Port) → find_port number old.ports ≡ Some port → port.door ≡ Children → Quiet event old (helper_named job number old)
-  links : (job number : ℕ) (port : Port) → find_port number old.ports ≡ Some port → port.door ≡ Children → Quiet event old (confirmer_named job number old)
+  names : (job number : ℕ) (port : Port) → find_port number old.ports ≡ Some port → port.door ≡ Children → find_linked number old.under_way.confirmations ≡ None → Quiet event old (helper_named job number old)
+  links : (job number : ℕ) (port : Port) → find_port number old.ports ≡ Some port → port.door ≡ Children → find_linked number old.under_way.confirmations ≡ None → old.under_way.link.state ≢ states.Linked number → Quiet event old (confirmer_named job number old)
 
 -- what an event does in a state: quiet changes, and then at most one thing that is told
 pub data Makes (event : Happening) : State → Outcome → Type 0 where
@@ -102,12 +106,12 @@ faint-took count = record { job = λ c. refl; asker = λ c. refl; addition = λ 
 -- ---- who is at a port
 
 -- a client isn't a child process
-role-door : (door : Door) (number : ℕ) (under_way : UnderWay) (role : Role) → role_of door number under_way ≡ role → (role ≡ Client → ⊥) → door ≡ Children
+pub role-door : (door : Door) (number : ℕ) (under_way : UnderWay) (role : Role) → role_of door number under_way ≡ role → (role ≡ Client → ⊥) → door ≡ Children
 role-door Clients number under_way role is other = absurd (other (sym is))
 role-door Children number under_way role is other = refl
 
 -- and a client is one
-role-client : (door : Door) (number : ℕ) (under_way : UnderWay) → role_of door number under_way ≡ Client → door ≡ Clients
+pub role-client : (door : Door) (number : ℕ) (under_way : UnderWay) → role_of door number under_way ≡ Client → door ≡ Clients
 role-client Clients number under_way is = refl
 role-client Children number under_way is = by_test (is_linked_to number under_way.link.state) is
   where
@@ -139,6 +143,45 @@ role-confirmer Children number under_way confirmation is = by_test (is_linked_to
     by_test true helper = absurd (cc)
     by_test false other = by_link (find_linked number under_way.confirmations) other
 
+-- a child process that hasn't named itself is at no confirmation's port, and not at the helper's
+pub role-free : (door : Door) (number : ℕ) (under_way : UnderWay) → role_of door number under_way ≡ Unnamed → find_linked number under_way.confirmations ≡ None
+role-free Clients number under_way is = absurd (cc)
+role-free Children number under_way is = by_test (is_linked_to number under_way.link.state) is
+  where
+    by_link : (found : Option Confirmation) → role_by_link found ≡ Unnamed → found ≡ None
+    by_link None unnamed = refl
+    by_link (Some other) confirmer = absurd (cc)
+
+    by_test : (linked : Bool) → role_by_helper linked number under_way.confirmations ≡ Unnamed → find_linked number under_way.confirmations ≡ None
+    by_test true helper = absurd (cc)
+    by_test false other = by_link (find_linked number under_way.confirmations) other
+
+pub role-other : (door : Door) (number : ℕ) (under_way : UnderWay) → role_of door number under_way ≡ Unnamed → under_way.link.state ≢ states.Linked number
+role-other Clients number under_way is linked = absurd (cc)
+role-other Children number under_way is linked =
+    let same : (number == number) ≡ true = grind (arith, nat_tests) in
+    let helper : is_linked_to number under_way.link.state ≡ true = ap (is_linked_to number) linked ∙ same in
+    let no : Helper ≡ Unnamed = sym (ap (λ b. role_by_helper b number under_way.confirmations) helper) ∙ is in
+    absurd (cc)
+
+-- the helper is at the port of the link
+linked_at_it : (number : ℕ) (link : LinkState) → is_linked_to number link ≡ true → link ≡ states.Linked number
+linked_at_it number states.None is = absurd (cc)
+linked_at_it number (states.Starting job) is = absurd (cc)
+linked_at_it number (states.Linked at) is = let same : number ≡ at = grind (arith, nat_tests) in ap states.Linked (sym same)
+
+pub role-helper : (door : Door) (number : ℕ) (under_way : UnderWay) → role_of door number under_way ≡ Helper → under_way.link.state ≡ states.Linked number
+role-helper Clients number under_way is = absurd (cc)
+role-helper Children number under_way is = by_test (is_linked_to number under_way.link.state) refl is
+  where
+    by_link : (found : Option Confirmation) → role_by_link found ≡ Helper → ⊥
+    by_link None unnamed = absurd (cc)
+    by_link (Some other) confirmer = absurd (cc)
+
+    by_test : (linked : Bool) → is_linked_to number under_way.link.state ≡ linked → role_by_helper linked number under_way.confirmations ≡ Helper → under_way.link.state ≡ states.Linked number
+    by_test true at helper = linked_at_it number under_way.link.state at
+    by_test false at other = absurd (by_link (find_linked number under_way.confirmations) other)
+
 -- a port is found by its own number
 own_number : (number : ℕ) (port : Port) (ports : List Port) → find_port number ports ≡ Some port → find_port port.number ports ≡ Some port
 own_number number port ports found = ap (λ n. find_port n ports) (found_number number ports port found) ∙ found
@@ -148,7 +191,7 @@ own_number number port ports found = ap (λ n. find_port n ports) (found_number 
 module _ (event : Happening) where
   makes-front : (answer : Front) (port : Port) (state : State) → find_port port.number state.ports ≡ Some port → port.door ≡ Clients → port.waits ≡ Nothing → port.owed ≡ [] → Makes event state (look_front answer port state)
   makes-front (Whole body_len) port state found door waits owed = serves body_len port state found door waits owed
-  makes-front (Bad announced) port state found door waits owed = first (closes port.number (idle port found waits)) (stays (closed port.number state))
+  makes-front (Bad announced) port state found door waits owed = first (closes port.number (idle port found waits door)) (stays (closed port.number state))
   makes-front More port state found door waits owed = stays state
 
   makes-owed : (owed : List ℕ) (port : Port) (state : State) → find_port port.number state.ports ≡ Some port → port.door ≡ Clients → port.waits ≡ Nothing → port.owed ≡ owed → Makes event state (look_owed owed port state)
@@ -185,14 +228,14 @@ module _ (event : Happening) where
       makes-consent (consent confirmation.job (confirmation.heard ++ rest)) confirmation rest state (in-by_job job state.under_way.confirmations confirmation is)
 
   -- a child process that hasn't named itself
-  module _ (number : ℕ) (port : Port) (state : State) (found : find_port number state.ports ≡ Some port) (door : port.door ≡ Children) where
+  module _ (number : ℕ) (port : Port) (state : State) (found : find_port number state.ports ≡ Some port) (door : port.door ≡ Children) (free : find_linked number state.under_way.confirmations ≡ None) (other : state.under_way.link.state ≢ states.Linked number) where
     shut : Makes event state (stay (closed number state))
-    shut = first (closes number (child port found door)) (stays (closed number state))
+    shut = first (closes number (child port found door free)) (stays (closed number state))
 
     makes-named : (kind : JobKind) (job : ℕ) (rest : List ℕ) → Makes event state (named_by kind job number rest state)
-    makes-named kinds.Helper job rest = first (names job number port found door) (tells rest (helper_named job number state))
+    makes-named kinds.Helper job rest = first (names job number port found door free) (tells rest (helper_named job number state))
     makes-named kinds.Confirm job rest =
-        first (links job number port found door) (makes-goes_on job _ rest (confirmer_named job number state) refl)
+        first (links job number port found door free other) (makes-goes_on job _ rest (confirmer_named job number state) refl)
 
     makes-ticket : (same : Bool) (job : Job) (rest : List ℕ) → Makes event state (ticket_by same job number rest state)
     makes-ticket true job rest = makes-named job.kind job.number rest
@@ -226,6 +269,7 @@ module _ (event : Happening) where
       (makes-frame port.number (heard_more piece port) (changed port.number (heard_more piece) state)
       (find_port-change_port port.number (heard_more piece) state.ports (λ p. refl) ∙ ap (option_map (heard_more piece)) found)
       (role-door port.door port.number state.under_way Unnamed is (λ no. absurd (cc)))
+      (role-free port.door port.number state.under_way is) (role-other port.door port.number state.under_way is)
       (front 262144 (port.heard ++ piece)) (port.heard ++ piece))
   makes-heard_role Helper port piece state found is = tells piece state
   makes-heard_role (Confirmer confirmation) port piece state found is =

@@ -68,8 +68,8 @@ grows-quiet {old = old} (goes_on new asks) = record {
   asks = omega (arith, asks.last);
   order = λ rise. rw asks.jobs (order-kept old.under_way.last_job asks.kept rise);
 }
-grows-quiet (names job number port found door) = record { jobs = omega arith; asks = omega arith; order = λ rise. rise }
-grows-quiet {old = old} (links job number port found door) = record {
+grows-quiet (names job number port found door free) = record { jobs = omega arith; asks = omega arith; order = λ rise. rise }
+grows-quiet {old = old} (links job number port found door free other) = record {
   jobs = omega arith;
   asks = omega arith;
   order = jobs-change job 0 (linked_at number) old.under_way.confirmations old.under_way.last_job (λ c. refl);

@@ -164,8 +164,8 @@ module _ (ask : ℕ) where
   spent_quiet {old = old} (alters number f mild) = nothing_spent ask old.under_way.link old.under_way.link refl refl
   spent_quiet {old = old} (closes number may) = nothing_spent ask old.under_way.link old.under_way.link refl refl
   spent_quiet {old = old} (goes_on new asks) = nothing_spent ask old.under_way.link new.link asks.asks asks.last
-  spent_quiet {old = old} (names job number port found door) = nothing_spent ask old.under_way.link _ refl refl
-  spent_quiet {old = old} (links job number port found door) = nothing_spent ask old.under_way.link _ refl refl
+  spent_quiet {old = old} (names job number port found door free) = nothing_spent ask old.under_way.link _ refl refl
+  spent_quiet {old = old} (links job number port found door free other) = nothing_spent ask old.under_way.link _ refl refl
 
   spent_served : {asker : Asker} {held : KeyState} {under_way : UnderWay} {served : Served} (first_action : Action) → answers_by ask first_action ≡ 0 → asks_by ask first_action ≡ 0 → RiseTo 0 under_way.link.asks under_way.link.last → IsServed asker held under_way served → Spends ask under_way.link (first_action ∷ served.work.actions) served.work.under_way.link
   spent_served first_action answers asks rise (answered reply kept same) = record { answered = omega (arith, answers); asked = omega (arith, asks) }

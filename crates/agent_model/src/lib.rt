@@ -6,6 +6,7 @@
 mod asks;
 mod bindings;
 mod child_rows;
+mod consents;
 mod laws;
 mod rows;
 
@@ -21,6 +22,7 @@ pub use child_rows::{
     a_lost_helper_fails_its_asks, a_signature_goes_through_the_helper, a_ticket_names_a_job_once,
     an_answer_goes_to_its_ask, jobs_and_child_processes_are_bounded,
 };
+pub use consents::{a_piece_of_a_confirmer_in_two_parts, who_waits_for_the_user_is_open};
 pub use laws::{
     a_closed_port_brings_nothing, a_failure_has_a_cause, a_lost_helper_answers_nothing,
     a_moment_is_taken_in_once, a_piece_in_two_parts, answers_go_to_who_asked,
