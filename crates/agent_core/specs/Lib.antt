@@ -9,3 +9,4 @@ pub mod Served
 pub mod Settlings
 pub mod Parts
 pub mod Bound
+pub mod Confirmers
