@@ -1,6 +1,7 @@
 -- What is tested again when the user consents, and what comes of a confirmation (ours).
 use Rattle.std.specs.Prelude.{◌≡◌, ℕ, ◌+◌, ◌≤◌, List, [], Option, Some, None, IsSome, length}
-use Rattle.dest_rule.specs.Rules.{Denial, denial_under}
+use Rattle.dest_rule.specs.Rules.{denial_under}
+use Rattle.dest_rule.specs.declared.denial.Denial.{Denial}
 use Rattle.dest_rule.specs.declared.binding.Binding.{Binding}
 use Rattle.confirm_desk.specs.Confirmations.{Confirmation, find_job}
 use Rattle.confirm_desk.specs.Calls.{given_back}

@@ -408,9 +408,21 @@ impl Ports {
         ensures last { self.new.last ≡ self.old.last }
         ensures closed { (last : ℕ) (ports : List Port) → IsClosedSince last ports self.old
             → IsClosedSince last ports self.new }
+        ensures rising { IsRising 0 self.old.last self.old.ports }
     {
-        if self.is_open(number) {
+        if self.has(number) {
             self.close(number);
+        }
+    }
+
+    // Whether a port is open, among those that rise.
+    fn has(&self, number: u64) -> bool
+        ensures value { IsTrue result ↔ IsSome (find_port number self.now.ports) }
+        ensures rising { IsRising 0 self.now.last self.now.ports }
+    {
+        match place_of(&self.slots, number) {
+            Some(_) => true,
+            None => false,
         }
     }
 }

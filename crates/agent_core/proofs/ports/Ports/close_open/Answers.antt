@@ -5,11 +5,11 @@ use Rattle.agent_core.proofs.ClosedLemmas.{closed-more, is_absent}
 use Rattle.agent_core.proofs.HelperLemmas.{remove_port-absent}
 use Rattle.agent_core.proofs.ports.Ports.close_open.Goals as goal
 
-pub returns-then-is_open-clause-closed : goal.returns-then-is_open-clause-closed
-returns-then-is_open-clause-closed c = λ (last : ℕ) (ports : List Port).
-    closed-more last ports c.args.number c.args.self.now c.close.new.self c.close.ensures.rising (c.is_open.ensures.0 c.if-is_open.true)
+pub returns-then-has-clause-closed : goal.returns-then-has-clause-closed
+returns-then-has-clause-closed c = λ (last : ℕ) (ports : List Port).
+    closed-more last ports c.args.number c.args.self.now c.close.new.self c.close.ensures.rising (c.has.ensures.value.0 c.if-has.true)
     (ap (λ (v : OpenPorts). v.ports) c.close.ensures.ports) (ap (λ (v : OpenPorts). v.last) c.close.ensures.ports) (ap (λ (v : OpenPorts). v.closed) c.close.ensures.ports)
 
-pub returns-else-is_open-clause-ports : goal.returns-else-is_open-clause-ports
-returns-else-is_open-clause-ports c =
-    sym (remove_port-absent c.args.number c.args.self.now.ports (is_absent (find_port c.args.number c.args.self.now.ports) c.is_open.result c.is_open.ensures c.if-is_open.false))
+pub returns-else-has-clause-ports : goal.returns-else-has-clause-ports
+returns-else-has-clause-ports c =
+    sym (remove_port-absent c.args.number c.args.self.now.ports (is_absent (find_port c.args.number c.args.self.now.ports) c.has.result c.has.ensures.value c.if-has.false))
