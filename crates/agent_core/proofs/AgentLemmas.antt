@@ -5,7 +5,7 @@ use Rattle.world_ports.specs.declared.Door.{Door}
 use Rattle.world_ports.specs.declared.Moment.{Moment}
 use Rattle.agent_model.specs.NumberLists.{without}
 use Rattle.wire_text.specs.Frames.{Bad, More, Whole, front_body}
-use Rattle.agent_msg.specs.Reading.{request_of}
+use Rattle.agent_model.specs.Binds.{agent_request_of}
 use Rattle.world_ports.specs.declared.Job.{Job}
 use Rattle.world_ports.specs.declared.JobKind.TheVariants as kinds
 use Rattle.helper_link.specs.HelperLink.{IsStarting, askers, sent}
@@ -30,7 +30,7 @@ use Rattle.agent_core.specs.Rising.{inserted}
 use Rattle.agent_core.specs.Roles.{role_by}
 use Rattle.agent_core.specs.Served.{served_at}
 use Rattle.agent_core.specs.Slots.{OpenPorts}
-use Rattle.agent_core.proofs.HelperLemmas.{lose-closed, lost_state, starting_closes, with_link}
+use Rattle.agent_core.proofs.HelperLemmas.{lose-closed, lost_state, starting_closes, with_left, with_link}
 use Rattle.agent_core.proofs.RoleLemmas.{ended-as, heard-as, linked-as, port_of_role, took-as}
 
 -- a client is told what comes of its request
@@ -51,7 +51,7 @@ agent_served wall keys kept going left old new closes number body_len port found
     ap (λ (held : KeyState). at held left new.ports new.last held.table.greatest) kept_is
     ∙ ap (λ under_way. at asked.held under_way new.ports new.last asked.held.table.greatest) left_is
     ∙ ap (λ (v : OpenPorts). at asked.held asked.work.under_way v.ports v.last asked.held.table.greatest) new_is
-    ∙ ap (λ mono. at asked.held asked.work.under_way told old.last mono) (second-serve (request_of (front_body body_len port.heard)) (asker_at moment port) keys going refl)
+    ∙ ap (λ mono. at asked.held asked.work.under_way told old.last mono) (second-serve (front_body body_len port.heard) (asker_at moment port) keys going refl)
     ∙ sym (looked-whole number body_len port state found whole)
 
 -- a client is closed
@@ -138,9 +138,9 @@ failed_helper job (Some one) state some helper =
     ap (λ k. failed_by k one.number (job_left one.number state)) (helper one refl).0
     ∙ ap (λ n. lose (job_left n state)) (helper one refl).1
 
-pub agent_fails : (wall : ℕ) (keys : KeyState) (going mid left : UnderWay) (ports after : OpenPorts) (closes : List ℕ) (job : ℕ) → IsSome (find_to_start job going.to_start) → ((one : Job) → find_to_start job going.to_start ≡ Some one → (one.kind ≡ kinds.Helper) × (one.number ≡ job)) → mid ≡ record going { to_start = remove_to_start job going.to_start } → mid.verifications ≡ [] → IsStarting mid.link.state → left ≡ with_link (link_lost mid.link) mid → after ≡ record ports { ports = tell_each (Refuses HelperLost) (askers mid.link.asks) ports.ports } → state_of wall keys left after closes ≡ (handle (StartFailed job) (state_of wall keys going ports closes)).state
-agent_fails wall keys going mid left ports after closes job some helper mid_is none starting left_is after_is =
-    lost_state wall keys mid left ports ports after closes none (starting_closes mid.link.state ports.ports starting) refl left_is after_is
+pub agent_fails : (wall : ℕ) (keys : KeyState) (going mid left : UnderWay) (ports after : OpenPorts) (closes : List ℕ) (job : ℕ) → IsSome (find_to_start job going.to_start) → ((one : Job) → find_to_start job going.to_start ≡ Some one → (one.kind ≡ kinds.Helper) × (one.number ≡ job)) → mid ≡ record going { to_start = remove_to_start job going.to_start } → IsStarting mid.link.state → left ≡ with_left [] (with_link (link_lost mid.link) mid) → after ≡ record ports { ports = tell_each (Refuses HelperLost) (askers mid.link.asks) ports.ports } → state_of wall keys left after closes ≡ (handle (StartFailed job) (state_of wall keys going ports closes)).state
+agent_fails wall keys going mid left ports after closes job some helper mid_is starting left_is after_is =
+    lost_state wall keys mid left ports ports after closes (starting_closes mid.link.state ports.ports starting) refl left_is after_is
     ∙ ap (λ (u : UnderWay). (lose (state_of wall keys u ports closes)).state) mid_is
     ∙ sym (ap (λ (o : Outcome). o.state) (failed_helper job (find_to_start job going.to_start) (state_of wall keys going ports closes) some helper))
 

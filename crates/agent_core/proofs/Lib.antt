@@ -10,6 +10,7 @@ pub mod CountLemmas
 pub mod KeptLemmas
 pub mod RoleLemmas
 pub mod HelperLemmas
+pub mod JudgedLemmas
 pub mod AgentLemmas
 pub mod ChildLemmas
 pub mod NextLemmas

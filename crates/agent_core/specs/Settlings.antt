@@ -6,8 +6,10 @@ use Rattle.child_msg.specs.declared.fault.ChildFault.{ChildFault}
 use Rattle.helper_link.specs.declared.answer.Answer.{Answer}
 use Rattle.helper_link.specs.declared.answer.Answer.TheVariants as answer
 use Rattle.helper_link.specs.declared.answer.Settled.{Settled}
+use Rattle.agent_model.specs.Answers.{find_verification, prove, remove_verification}
 use Rattle.agent_model.specs.Consents.{find_started}
-use Rattle.agent_model.specs.State.{Port, StartedJob, UnderWay, change_port}
+use Rattle.agent_model.specs.Sound.{IsRight}
+use Rattle.agent_model.specs.State.{Port, StartedJob, UnderWay, Verification, change_port, find_port}
 use Rattle.under_way.specs.Parts.{IsHelpers}
 use Rattle.agent_model.specs.Verdicts.{HelperRefused, Refuses, Replies, Signature, SignatureWrong, Success, Verdict, tell}
 
@@ -18,10 +20,38 @@ verdict_of answer.Refused = Refuses HelperRefused
 verdict_of answer.True = Replies Success
 verdict_of answer.False = Refuses SignatureWrong
 
+-- what an asker's port becomes of an answer, by the verification that it asked for
+abbrev pub told_with : Answer → Option Verification → Port → Port
+told_with (answer.Signed signature) found port = tell (Replies (Signature signature)) port
+told_with answer.Refused found port = tell (Refuses HelperRefused) port
+told_with answer.True None port = tell (Replies Success) port
+told_with answer.True (Some verification) port = prove verification port
+told_with answer.False found port = tell (Refuses SignatureWrong) port
+
 -- the askers of these answers are told, one after another
-abbrev pub answered : List Settled → List Port → List Port
-answered [] ports = ports
-answered (one ∷ later) ports = answered later (change_port one.asker (tell (verdict_of one.answer)) ports)
+abbrev pub answered : List Settled → List Verification → List Port → List Port
+answered [] verifications ports = ports
+answered (one ∷ later) verifications ports = answered later (remove_verification one.ask verifications)
+    (change_port one.asker (told_with one.answer (find_verification one.ask verifications)) ports)
+
+-- the verifications that these answers leave
+abbrev pub unanswered : List Settled → List Verification → List Verification
+unanswered [] verifications = verifications
+unanswered (one ∷ later) verifications = unanswered later (remove_verification one.ask verifications)
+
+-- the binding of a verification is judged as it was when its ask was put, where its asker is open
+abbrev pub IsProvable : Option Verification → Option Port → Type 0
+IsProvable None port = Unit {0}
+IsProvable (Some verification) None = Unit {0}
+IsProvable (Some verification) (Some port) = IsRight verification port.chain
+
+-- and of each answer, once those before it were told
+abbrev pub AreProvable : List Settled → List Verification → List Port → Type 0
+AreProvable [] verifications ports = Unit {0}
+AreProvable (one ∷ later) verifications ports =
+    IsProvable (find_verification one.ask verifications) (find_port one.asker ports)
+    × AreProvable later (remove_verification one.ask verifications)
+    (change_port one.asker (told_with one.answer (find_verification one.ask verifications)) ports)
 
 -- the reply with a signature fits a message
 abbrev pub IsShortAnswer : Answer → Type 0

@@ -4,6 +4,7 @@ ghost use Rattle.std.specs.Prelude.{◌≡◌, ◌≤◌, [], IfOk, IfSome, OnOk
 ghost use Rattle.identity_table.specs.Identities.{IsSound, next_death};
 ghost use Rattle.agent_model.specs.KeyStates.{expired, no_keys};
 ghost use Rattle.agent_model.specs.Limits.{longest_body};
+ghost use Rattle.agent_model.specs.Step.{attempts};
 ghost use Rattle.agent_model.specs.Verdicts.{verdict_text, verdict_waits};
 ghost use Rattle.std.specs.Option.{option_copied};
 ghost use Rattle.agent_core.specs.Confirmers.{IsShortKey, granted_key};
@@ -16,6 +17,7 @@ use crate::granted::find_granted;
 use crate::owed::Owed;
 use crate::requests::answer;
 use crate::waits::Waits;
+use agent_msg::names_bind;
 use dest_rule::Chain;
 use identity_table::{Identity, Lock, Table};
 use std::alloc::Global;
@@ -85,6 +87,14 @@ impl Keys {
         ensures { self.new ≡ expired now self.old }
     {
         self.table.expire(now);
+    }
+
+    /// Whether a body with which the client asks makes its connection count as one that tried to bind itself: a
+    /// locked agent doesn't look.
+    pub fn is_attempt(&self, body: &[u8]) -> bool
+        ensures { result ≡ attempts self.now.lock body.now }
+    {
+        !self.lock.is_locked() && names_bind(body)
     }
 
     /// Does what the request of this body asks: owes the reply, or tells what the asker waits for.

@@ -5,6 +5,8 @@
 
 mod agent;
 mod asker;
+#[cfg(test)]
+mod bind_tests;
 mod children;
 mod counting;
 mod event;

@@ -2,6 +2,7 @@
 
 ghost use Rattle.std.specs.Prelude.{◌≡◌, ◌≤◌, [], OnOk, length, vec_capacity};
 ghost use Rattle.wire_text.specs.Frames.{Whole, front_body};
+ghost use Rattle.agent_model.specs.Answers.{prove};
 ghost use Rattle.agent_model.specs.Looks.{due};
 ghost use Rattle.agent_model.specs.Step.{attempts, take_frame, took_some};
 ghost use Rattle.agent_model.specs.Verdicts.{HelperLost, Refuses, Verdict, tell};
@@ -9,13 +10,15 @@ ghost use Rattle.under_way.specs.Parts.{TellsOf};
 ghost use Rattle.agent_core.specs.Rising.{IsRisingNumbers, inserted, noted};
 ghost use Rattle.agent_core.specs.Served.{served_at};
 ghost use Rattle.agent_core.specs.Settlings.{IsShortAnswer, verdict_of};
+ghost use Rattle.agent_model.specs.Sound.{IsRight};
 ghost use Rattle.agent_core.specs.Slots.{is_owing, port_of};
+ghost use Rattle.under_way.specs.Verifications.{verification_of};
 
 use crate::keys::Keys;
 use crate::slot::{self, Slot};
 use crate::{CoreMemory, rising};
 use helper_link::Answer;
-use under_way::UnderWay;
+use under_way::{UnderWay, Verification};
 use world_ports::Door;
 
 // Lists the port among the clients that are owed bytes where it is one.
@@ -78,6 +81,27 @@ pub fn serve_at(
     let served = slot::serve(slot, keys, under_way, wall, body_len);
     note_owed(slot, owing);
     served
+}
+
+/// Binds an asker's connection as it was verified, tells the asker so, and lists it.
+pub fn prove_at(
+    slot: &mut Slot,
+    owing: &mut Vec<u64>,
+    verification: &Verification,
+) -> Result<(), CoreMemory>
+    requires right { IsRight (verification_of verification.now) slot.old.chain.bindings }
+    requires rising { IsRisingNumbers 0 owing.old.items }
+    requires room { length (inserted slot.old.number owing.old.items) ≤ vec_capacity owing.old }
+
+    ensures port { OnOk result (port_of slot.new ≡ prove (verification_of verification.now) (port_of slot.old)) }
+    ensures number { slot.new.number ≡ slot.old.number }
+    ensures door { slot.new.door ≡ slot.old.door }
+    ensures items { owing.new.items ≡ noted (is_owing (port_of slot.new)) slot.old.number owing.old.items }
+    ensures room { vec_capacity owing.old ≤ vec_capacity owing.new }
+{
+    let proved = slot::prove(slot, verification);
+    note_owed(slot, owing);
+    proved
 }
 
 /// Tells an asker what the helper answered, and lists it.

@@ -3,6 +3,7 @@
 ghost use Rattle.std.specs.Prelude.{◌≡◌, ◌↔◌, ℕ, List, ◌-◌, ◌^◌, ◌<◌, ◌≤◌, [], ◌∷◌, true, if◌then◌else◌, suc, false, None, Some, IfOk, IsSome, IsTrue, MatchOption, OnOk, length};
 ghost use Rattle.wire_text.specs.Frames.{Whole, front_body};
 ghost use Rattle.frame_core.specs.Looks.{front_of};
+ghost use Rattle.agent_model.specs.Answers.{prove};
 ghost use Rattle.agent_model.specs.Children.{heard_more, unheard};
 ghost use Rattle.agent_model.specs.Looks.{due_by};
 ghost use Rattle.agent_model.specs.Sound.{IsRising};
@@ -14,11 +15,12 @@ ghost use Rattle.agent_core.specs.Closed.{IsClosedSince};
 ghost use Rattle.agent_core.specs.Rising.{first_above, inserted};
 ghost use Rattle.agent_core.specs.Roles.{door_by};
 ghost use Rattle.agent_core.specs.Served.{served_at};
-ghost use Rattle.agent_core.specs.Settlings.{IsShortAnswer, verdict_of};
+ghost use Rattle.agent_core.specs.Settlings.{IsProvable, IsShortAnswer, verdict_of};
 ghost use Rattle.agent_core.specs.Slots.{chain_of, heard_in, owed_in, owing_of, port_of};
+ghost use Rattle.under_way.specs.Verifications.{verification_of};
 
 use crate::keys::Keys;
-use crate::listed::{conclude_at, drop_sent_at, refuse_at, serve_at, tell_at};
+use crate::listed::{conclude_at, drop_sent_at, prove_at, refuse_at, serve_at, tell_at};
 use crate::owed::Owed;
 use crate::places::place_of;
 use crate::slot::{self, Slot};
@@ -30,7 +32,7 @@ use helper_link::{Answer, LinkState};
 use secret_buf::ScrubBuf;
 use std::alloc::{AllocFailed, Global};
 use std::marker::Model;
-use under_way::UnderWay;
+use under_way::{UnderWay, Verification};
 use world_ports::Door;
 
 /// The open ports in the order of their numbers.
@@ -266,6 +268,20 @@ impl Ports {
             wall,
             body_len,
         )
+    }
+
+    /// Binds an asker's connection as it was verified, and tells the asker so: nobody's, where it has left.
+    pub fn prove(&mut self, number: u64, verification: &Verification) -> Result<(), CoreMemory>
+        requires { IsProvable (Some (verification_of verification.now)) (find_port number self.old.ports) }
+
+        ensures { OnOk result (self.new ≡ record self.old {
+          ports = change_port number (prove (verification_of verification.now)) self.old.ports;
+        }) }
+    {
+        match place_of(&self.slots, number) {
+            Some(place) => prove_at(&mut self.slots[place], &mut self.owing, verification),
+            None => Ok(()),
+        }
     }
 
     /// Tells an asker what the helper answered: nobody, where it has left.

@@ -1,26 +1,28 @@
 //! What requests do to the identities and the lock, and what they are answered.
 
-ghost use Rattle.std.specs.Prelude.{◌≡◌, ◌+◌, ℕ, List, [], Option, IsSome, OnOk, IfOk, ◌≤◌, length};
+ghost use Rattle.std.specs.Prelude.{◌≡◌, ◌+◌, ℕ, List, [], true, Option, IsSome, is_none, OnOk, IfOk, ◌≤◌, length};
 ghost use Rattle.agent_model.specs.Limits.{longest_body};
-ghost use Rattle.agent_msg.specs.Requests.{ListIdentities, Sign, client_request};
+ghost use Rattle.agent_msg.specs.Requests.{Sign, client_request};
+ghost use Rattle.dest_rule.specs.Rules.{denial_under};
 ghost use Rattle.identity_table.specs.Identities.{TableState, find_identity};
-ghost use Rattle.agent_model.specs.Dispatch.{add_under, remove_by};
+ghost use Rattle.agent_model.specs.Dispatch.{add_by, add_seen, remove_by};
 ghost use Rattle.agent_model.specs.State.{UnderWay as AnUnderWay};
 ghost use Rattle.agent_model.specs.Verdicts.{Verdict, verdict_text, verdict_waits};
 ghost use Rattle.under_way.specs.Parts.{TellsOf};
-ghost use Rattle.agent_core.specs.Served.{IsPlainRequest, IsShortRequest, IsStatus, asker_of, keys_of, served_body, served_by};
+ghost use Rattle.agent_core.specs.Served.{IsPlainRequest, IsShortRequest, IsStatus, asker_of, binds, hides, keys_of, served_body, served_by};
 ghost use Rattle.agent_core.specs.Slots.{waits_of};
 ghost use Rattle.agent_core.specs.declared.asker.Asker.{Asker as AnAsker};
 
 use crate::CoreMemory;
 use crate::asker::Asker;
 use crate::owed::Owed;
-use crate::seen::list;
+use crate::seen::{list, sees};
 use crate::waits::Waits;
 use agent_msg::{MsgFault, Request, read_request};
-use constraint_rec::Terms;
+use constraint_rec::{Constraint, Terms};
+use dest_rule::{Next, may_sign};
 use identity_table::{AddFault, Lock, Table};
-use key_blob::AddedKey;
+use key_blob::{AddedKey, read_public};
 use secret_buf::SecretBytes;
 use std::alloc::Global;
 use under_way::UnderWay;
@@ -64,6 +66,19 @@ pub fn answer(
             let asked = sign(asker, table, lock, under_way, blob, message, flags)?;
             Ok(wait(asked, owed))
         }
+        Ok(
+            Request::Bind {
+                host_key,
+                session,
+                signature,
+                forwarding,
+            },
+        ) => {
+            let asked = bind(
+                asker, lock, under_way, host_key, session, signature, forwarding,
+            )?;
+            Ok(wait(asked, owed))
+        }
         Ok(request) => {
             let done = take(alloc, asker, table, lock, request)?;
             owed.put_status(done);
@@ -92,7 +107,8 @@ fn wait(asked: Option<u64>, owed: &mut Owed) -> Waits
     }
 }
 
-// Puts a signature to the helper, where the key is held and the user isn't to be asked, and gives the ask's number.
+// Puts a signature to the helper, where the key is held, its constraints permit it and the user isn't to be asked, and
+// gives the ask's number.
 fn sign(
     asker: &Asker<'_>,
     table: &Table,
@@ -120,8 +136,63 @@ fn sign(
     }
     match table.find(blob) {
         // The user can't be asked yet.
-        Some(key) if !key.confirm() => Ok(under_way.put_sign(asker.port, key, message, flags)?),
+        Some(key) if permits(asker, key.rules(), blob, message) && !key.confirm() => {
+            Ok(under_way.put_sign(asker.port, key, message, flags)?)
+        }
         _ => Ok(None),
+    }
+}
+
+// Whether these constraints of the key of this blob permit a signature of the message for the asker.
+fn permits(asker: &Asker<'_>, rules: &[Constraint], blob: &[u8], message: &[u8]) -> bool
+    ensures { result ≡ is_none
+        (denial_under rules.now blob.now asker.now.chain.now.bindings message.now asker.now.wall) }
+{
+    rules.is_empty() || may_sign(rules, blob, asker.chain, message, asker.wall).is_ok()
+}
+
+// Puts the verification of a binding to the helper, where the chain doesn't refuse it, and gives the ask's number.
+fn bind(
+    asker: &Asker<'_>,
+    lock: &Lock,
+    under_way: &mut UnderWay,
+    host_key: &[u8],
+    session: &[u8],
+    signature: &[u8],
+    forwarding: bool,
+) -> Result<Option<u64>, CoreMemory>
+    requires short { length host_key.now + length session.now + length signature.now ≤ longest_body }
+    requires failed { under_way.old.link.failed ≡ [] }
+
+    ensures keys { (table : TableState) → (served_by asker.now (binds host_key.now session.now signature.now forwarding)
+        (keys_of table lock.now) under_way.old).held ≡ keys_of table lock.now }
+    ensures under_way { (table : TableState) → OnOk result (under_way.new ≡ (served_by asker.now
+        (binds host_key.now session.now signature.now forwarding)
+        (keys_of table lock.now) under_way.old).work.under_way) }
+    ensures told { (table : TableState) → IfOk result (TellsOf (served_by asker.now
+        (binds host_key.now session.now signature.now forwarding)
+        (keys_of table lock.now) under_way.old).work.verdict) }
+    ensures failed { OnOk result (under_way.new.link.failed ≡ []) }
+{
+    if lock.is_locked() || read_public(host_key).is_err() {
+        return Ok(None);
+    }
+    let is_new = match asker.chain.judge(host_key, session) {
+        Next::Refuse(_) => return Ok(None),
+        Next::Same => false,
+        Next::New => true,
+    };
+    Ok(under_way.put_verify(asker.port, host_key, session, signature, forwarding, is_new)?)
+}
+
+// Whether an identity of this blob is held that the asker doesn't see.
+fn is_hidden(asker: &Asker<'_>, table: &Table, blob: &[u8]) -> bool
+    ensures { (lock : Option (List ℕ)) → result ≡ hides (find_identity blob.now table.now.identities)
+        (asker_of asker.now (keys_of table.now lock)) }
+{
+    match table.find(blob) {
+        Some(key) => !sees(asker, key),
+        None => false,
     }
 }
 
@@ -159,13 +230,12 @@ fn take(
             let passphrase = SecretBytes::from_slice(alloc, passphrase)?;
             Ok(lock.lock(passphrase))
         }
-        // The agent isn't locked, and no extension is served.
-        Request::Bind { .. }
-        | Request::Unlock { .. }
-        | Request::OtherExtension { .. }
-        | Request::Unsupported { .. } => Ok(false),
+        // The agent isn't locked, and no other extension is served.
+        Request::Unlock { .. } | Request::OtherExtension { .. } | Request::Unsupported { .. } => {
+            Ok(false)
+        }
         // `answer` takes these.
-        Request::List | Request::Sign { .. } => unreachable!(),
+        Request::List | Request::Sign { .. } | Request::Bind { .. } => unreachable!(),
     }
 }
 
@@ -185,7 +255,7 @@ fn take_locked(lock: &mut Lock, request: Request<'_>) -> bool
     }
 }
 
-// Removes the key of this blob, where it is held.
+// Removes the key of this blob, where it is held and the asker sees it.
 fn remove(asker: &Asker<'_>, table: &mut Table, blob: &[u8]) -> bool
     ensures keys { (lock : Option (List ℕ)) (under_way : AnUnderWay) → keys_of table.new lock
         ≡ (remove_by (find_identity blob.now table.old.identities) (asker_of asker.now (keys_of table.old lock))
@@ -194,10 +264,13 @@ fn remove(asker: &Asker<'_>, table: &mut Table, blob: &[u8]) -> bool
         (remove_by (find_identity blob.now table.old.identities) (asker_of asker.now (keys_of table.old lock))
         blob.now (keys_of table.old lock) under_way).work under_way }
 {
+    if is_hidden(asker, table, blob) {
+        return false;
+    }
     table.remove(blob)
 }
 
-// Adds a key, which may not have destination constraints.
+// Adds a key, where the asker sees the one that it replaces.
 fn add(
     asker: &Asker<'_>,
     table: &mut Table,
@@ -208,15 +281,29 @@ fn add(
     requires { length key.private ≤ longest_body }
 
     ensures keys { (lock : Option (List ℕ)) (under_way : AnUnderWay) → OnOk result
-        (keys_of table.new lock ≡ (add_under terms.rules (asker_of asker.now (keys_of table.old lock))
+        (keys_of table.new lock ≡ (add_by (find_identity key.blob table.old.identities) (asker_of asker.now (keys_of table.old lock))
         record { key = key; comment = comment.now; terms = terms } (keys_of table.old lock) under_way).held) }
     ensures work { (lock : Option (List ℕ)) (under_way : AnUnderWay) → IfOk result (λ done.
-        IsStatus done (add_under terms.rules (asker_of asker.now (keys_of table.old lock))
+        IsStatus done (add_by (find_identity key.blob table.old.identities) (asker_of asker.now (keys_of table.old lock))
         record { key = key; comment = comment.now; terms = terms } (keys_of table.old lock) under_way).work under_way) }
 {
-    if !terms.rules.is_empty() {
+    if is_hidden(asker, table, key.blob.as_slice()) {
         return Ok(false);
     }
+    put(table, key, comment, terms)
+}
+
+// Adds a key, in the place of the one that has its blob.
+fn put(table: &mut Table, key: AddedKey, comment: &[u8], terms: Terms) -> Result<bool, CoreMemory>
+    requires { length key.private ≤ longest_body }
+
+    ensures keys { (lock : Option (List ℕ)) (under_way : AnUnderWay) → OnOk result (keys_of table.new lock
+        ≡ (add_seen true record { key = key; comment = comment.now; terms = terms } table.old.greatest
+        (keys_of table.old lock) under_way).held) }
+    ensures work { (lock : Option (List ℕ)) (under_way : AnUnderWay) → IfOk result (λ done. IsStatus done
+        (add_seen true record { key = key; comment = comment.now; terms = terms } table.old.greatest
+        (keys_of table.old lock) under_way).work under_way) }
+{
     let now = table.greatest();
     match table.add(key, terms, comment, now) {
         Ok(_) => Ok(true),

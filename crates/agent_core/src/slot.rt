@@ -1,8 +1,9 @@
 //! One open port.
 
-ghost use Rattle.std.specs.Prelude.{◌≡◌, ◌+◌, ◌≤◌, [], IfOk, OnOk, length};
+ghost use Rattle.std.specs.Prelude.{◌≡◌, ◌+◌, ◌≤◌, ◌||◌, [], true, IfOk, OnOk, length};
 ghost use Rattle.wire_text.specs.Frames.{after_front, front, front_body, More, Whole};
 ghost use Rattle.frame_core.specs.Looks.{front_of};
+ghost use Rattle.agent_model.specs.Answers.{chain_with, prove};
 ghost use Rattle.agent_model.specs.Children.{heard_more, unheard};
 ghost use Rattle.agent_model.specs.Limits.{longest_body};
 ghost use Rattle.agent_model.specs.Looks.{due};
@@ -12,7 +13,9 @@ ghost use Rattle.agent_model.specs.Verdicts.{HelperLost, Refuses, Verdict, tell}
 ghost use Rattle.under_way.specs.Parts.{TellsOf};
 ghost use Rattle.agent_core.specs.Served.{served_at};
 ghost use Rattle.agent_core.specs.Settlings.{IsShortAnswer, verdict_of};
+ghost use Rattle.agent_model.specs.Sound.{IsRight};
 ghost use Rattle.agent_core.specs.Slots.{port_of};
+ghost use Rattle.under_way.specs.Verifications.{verification_of};
 
 use crate::CoreMemory;
 use crate::asker::Asker;
@@ -24,7 +27,7 @@ use frame_core::{Look, look};
 use helper_link::Answer;
 use secret_buf::ScrubBuf;
 use std::mem;
-use under_way::UnderWay;
+use under_way::{UnderWay, Verification};
 use world_ports::Door;
 
 /// The longest body of a client's message, in bytes.
@@ -139,8 +142,50 @@ pub fn serve(
         wall,
     };
     let body = first_body(slot.heard.live(), body_len);
+    let is_attempt = keys.is_attempt(body);
     slot.waits = keys.serve(under_way, &asker, body, &mut slot.owed)?;
+    mark(&mut slot.chain, is_attempt);
     drop_frame(&mut slot.heard, body_len);
+    Ok(())
+}
+
+// Marks the chain of a connection that tried to bind itself.
+fn mark(chain: &mut Chain, is_attempt: bool)
+    ensures { chain.new ≡ record chain.old { attempted = chain.old.attempted || is_attempt } }
+{
+    if is_attempt {
+        chain.attempt();
+    }
+}
+
+/// The binding of an asker's connection was verified: it is added where it is new, and the asker is told so.
+pub fn prove(slot: &mut Slot, verification: &Verification) -> Result<(), CoreMemory>
+    requires { IsRight (verification_of verification.now) slot.old.chain.bindings }
+    ensures port { OnOk result (port_of slot.new ≡ prove (verification_of verification.now) (port_of slot.old)) }
+    ensures number { slot.new.number ≡ slot.old.number }
+    ensures door { slot.new.door ≡ slot.old.door }
+{
+    if verification.is_new {
+        bind(&mut slot.chain, verification)?;
+    }
+    slot.owed.append_status(true)?;
+    slot.waits = Waits::Nothing;
+    Ok(())
+}
+
+// Adds a verified binding, which is new to the chain.
+fn bind(chain: &mut Chain, verification: &Verification) -> Result<(), CoreMemory>
+    requires right { IsRight (verification_of verification.now) chain.old.bindings }
+    requires new { verification.now.is_new ≡ true }
+    ensures { OnOk result (chain.new ≡ record chain.old {
+      bindings = chain_with verification.now.is_new (verification_of verification.now).binding chain.old.bindings;
+    }) }
+{
+    chain.bind(
+        verification.host_key.as_slice(),
+        verification.session.as_slice(),
+        verification.forwarding,
+    )?;
     Ok(())
 }
 

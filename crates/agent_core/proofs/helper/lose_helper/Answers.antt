@@ -21,7 +21,7 @@ pub returns-clause-state : goal.returns-clause-state
 returns-clause-state c = λ (wall : ℕ) (keys : KeyState) (closes : List ℕ).
     let old = c.args.ports.now in
     let closed = ap (λ l. close_helper l old.ports) c.requires.linked ∙ sym (ap (λ (v : OpenPorts). v.ports) c.close.ensures.ports) in
-    lost_state wall keys c.args.under_way.now c.lose_link.new.under_way old c.close.new.self c.lose_link.new.ports closes c.lose_link.ensures.alone.verifications closed (sym (ap (λ (v : OpenPorts). v.last) c.close.ensures.ports)) c.lose_link.ensures.under_way c.lose_link.ensures.ports
+    lost_state wall keys c.args.under_way.now c.lose_link.new.under_way old c.close.new.self c.lose_link.new.ports closes closed (sym (ap (λ (v : OpenPorts). v.last) c.close.ensures.ports)) c.lose_link.ensures.under_way c.lose_link.ensures.ports
 
 pub returns-clause-closes : goal.returns-clause-closes
 returns-clause-closes c = λ (none : c.args.ports.now.closed ≡ []).

@@ -20,7 +20,7 @@ pub returns-clause-state : goal.returns-clause-state
 returns-clause-state c =
     let fits = rw (← c.self.view_is) at c.requires.fits in
     rw (← c.self.view_is) (λ (closes : List ℕ).
-    agent_fails c.self.inside.wall c.self.inside.keys c.self.inside.under_way c.job_failed.new.self c.lose_link.new.under_way c.self.inside.ports c.lose_link.new.ports closes c.args.job fits c.job_failed.ensures.helper c.job_failed.ensures.left c.lose_link.ensures.alone.verifications c.job_failed.ensures.starting c.lose_link.ensures.under_way c.lose_link.ensures.ports)
+    agent_fails c.self.inside.wall c.self.inside.keys c.self.inside.under_way c.job_failed.new.self c.lose_link.new.under_way c.self.inside.ports c.lose_link.new.ports closes c.args.job fits c.job_failed.ensures.helper c.job_failed.ensures.left c.job_failed.ensures.starting c.lose_link.ensures.under_way c.lose_link.ensures.ports)
 
 pub returns-clause-closes : goal.returns-clause-closes
 returns-clause-closes c =
