@@ -2,6 +2,8 @@ pub mod RisingLemmas
 pub mod PlaceLemmas
 pub mod HeldLemmas
 pub mod SeenLemmas
+pub mod ClosedLemmas
+pub mod ConfirmerLemmas
 pub mod LookLemmas
 pub mod OwingLemmas
 pub mod CountLemmas

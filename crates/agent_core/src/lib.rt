@@ -8,6 +8,7 @@ mod asker;
 mod children;
 mod counting;
 mod event;
+mod granted;
 mod helper;
 mod keys;
 mod listed;
