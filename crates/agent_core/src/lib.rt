@@ -8,6 +8,7 @@ mod asker;
 #[cfg(test)]
 mod bind_tests;
 mod children;
+mod confirmer;
 mod counting;
 mod event;
 mod granted;
