@@ -1,12 +1,12 @@
 -- Jobs to start and started jobs: their numbers, and the confirmations that they are for.
-use Rattle.std.proofs.Common.{◌≡◌, ◌==◌, ℕ, ◌+◌, ◌<◌, ◌≤◌, Bool, true, false, cond, eqb, List, [], ◌∷◌, ◌++◌, length, map, Option, Some, None, refl, sym, ap, ◌∙◌, subst, arith}
+use Rattle.std.proofs.Common.{◌≡◌, ℕ, ◌+◌, ◌<◌, ◌≤◌, Bool, true, false, cond, eqb, List, [], ◌∷◌, ◌++◌, length, Option, Some, None, refl, sym, ap, ◌∙◌, subst, arith}
 use Rattle.std.specs.Option.{option_map}
 use Rattle.std.proofs.lemmas.Bool.{eqb-true, eq-eqb, false_from_ne_true}
 use Rattle.std.proofs.lemmas.Option.{none-some, same_Some}
 use Rattle.world_ports.specs.declared.Job.{Job}
 use Rattle.world_ports.specs.declared.JobKind.{JobKind}
 use Rattle.world_ports.specs.declared.JobKind.TheVariants as kinds
-use Rattle.confirm_desk.specs.Confirmations.{Confirmation, change_job, find_job, find_linked, linked, linked_at, remove_job}
+use Rattle.confirm_desk.specs.Confirmations.{Confirmation, change_job, find_job, linked, linked_at, remove_job}
 use Rattle.agent_model.specs.Asking.{JobsRise}
 use Rattle.agent_model.specs.Limits.{longest_body}
 use Rattle.agent_model.specs.Children.{remove_to_start}
@@ -15,7 +15,7 @@ use Rattle.agent_model.specs.State.{StartedJob, find_to_start}
 use Rattle.agent_model.proofs.JobLemmas.{find_job-push, find_job-remove, jobs-change, jobs-higher, jobs-push, jobs-remove, job_within}
 use Rattle.under_way.specs.Jobs.{all_started}
 use Rattle.under_way.specs.declared.jobs.Started.{Started}
-use Rattle.under_way.specs.Parts.{AreGiven, AreKept, AreShort, FitsStarted, FitsToStart, IsAwaited, IsUnlinked, helpers, is_helper, jobs_of}
+use Rattle.under_way.specs.Parts.{AreGiven, AreKept, AreShort, FitsStarted, FitsToStart, IsUnlinked, helpers, is_helper, jobs_of}
 
 -- ---- numbers
 
@@ -120,9 +120,11 @@ given_at Fits last number desk (first ∷ jobs) job given found = by (eqb first.
         (number ≤ last) × (job.number ≡ number) × Fits job.kind (find_job number desk)
     by true is some later =
         let same : first ≡ job = same_Some first job some in
-        let at : first.number ≡ number = eqb-true first.number number is in
-        (subst (λ (n : ℕ). n ≤ last) at given.0, ap (λ (j : Job). j.number) (sym same) ∙ at,
-        subst (λ (j : Job). Fits j.kind (find_job number desk)) same (subst (λ (n : ℕ). Fits first.kind (find_job n desk)) at given.2))
+        let at : first.number ≡ number = eqb-true first.number number is in (
+          subst (λ (n : ℕ). n ≤ last) at given.0,
+          ap (λ (j : Job). j.number) (sym same) ∙ at,
+          subst (λ (j : Job). Fits j.kind (find_job number desk)) same (subst (λ (n : ℕ). Fits first.kind (find_job n desk)) at given.2),
+        )
     by false is some later = later some
 
 -- a number above the last has none
@@ -155,9 +157,12 @@ pub given-push : (Fits : JobKind → Option Confirmation → Type 0) (last : ℕ
     new.number ≤ last → find_to_start new.number jobs ≡ None → Fits new.kind (find_job new.number desk) → AreGiven Fits last desk (jobs ++ new ∷ [])
 given-push Fits last desk [] new given below none fits = (below, refl, fits, tt)
 given-push Fits last desk (job ∷ jobs) new given below none fits =
-    let both = not_first (eqb job.number new.number) job (find_to_start new.number jobs) none in
-    (given.0, none-push job.number jobs new (differs_back job.number new.number both.0) given.1, given.2,
-    given-push Fits last desk jobs new given.3 below both.1 fits)
+    let both = not_first (eqb job.number new.number) job (find_to_start new.number jobs) none in (
+      given.0,
+      none-push job.number jobs new (differs_back job.number new.number both.0) given.1,
+      given.2,
+      given-push Fits last desk jobs new given.3 below both.1 fits,
+    )
 
 -- confirmations that change for another number alone
 pub given-others : (Fits : JobKind → Option Confirmation → Type 0) (number last more : ℕ) (desk other : List Confirmation) (jobs : List Job) → last ≤ more →
@@ -166,9 +171,12 @@ pub given-others : (Fits : JobKind → Option Confirmation → Type 0) (number l
     AreGiven Fits last desk jobs → AreGiven Fits more other jobs
 given-others Fits number last more desk other [] up none keeps given = tt
 given-others Fits number last more desk other (job ∷ jobs) up none keeps given =
-    let both = not_first (eqb job.number number) job (find_to_start number jobs) none in
-    (omega (arith, given.0, up), given.1, keeps job.number job.kind both.0 given.0 given.2,
-    given-others Fits number last more desk other jobs up both.1 keeps given.3)
+    let both = not_first (eqb job.number number) job (find_to_start number jobs) none in (
+      omega (arith, given.0, up),
+      given.1,
+      keeps job.number job.kind both.0 given.0 given.2,
+      given-others Fits number last more desk other jobs up both.1 keeps given.3,
+    )
 
 -- ---- confirmations
 
@@ -249,11 +257,11 @@ kept-more last desk other due begun new kept number order same fits =
     record {
       order = order;
       to_start = given-push FitsToStart (last + 1) other due new
-      (given-others FitsToStart new.number last (last + 1) desk other due (omega arith) none
-      (λ n kind is below. subst (FitsToStart kind) (sym (same n below))) kept.to_start)
-      (omega (arith, number)) none fits;
+          (given-others FitsToStart new.number last (last + 1) desk other due (omega arith) none
+          (λ n kind is below. subst (FitsToStart kind) (sym (same n below))) kept.to_start)
+          (omega (arith, number)) none fits;
       started = given-others FitsStarted new.number last (last + 1) desk other begun (omega arith) unbegun
-      (λ n kind is below. subst (FitsStarted kind) (sym (same n below))) kept.started;
+          (λ n kind is below. subst (FitsStarted kind) (sym (same n below))) kept.started;
       apart = λ n job found. apart_push due begun new n job kept.apart unbegun found;
     }
 
@@ -313,10 +321,10 @@ kept-moved last number desk due begun job kept found wanted =
       order = kept.order;
       to_start = given-remove FitsToStart last number desk due kept.to_start;
       started = given-push FitsStarted last desk begun job kept.started (omega (arith, at.0, same)) none
-      (wanted_fits job.kind (find_job job.number desk) wanted (subst (λ (n : ℕ). FitsToStart job.kind (find_job n desk)) (sym same) at.2));
+          (wanted_fits job.kind (find_job job.number desk) wanted (subst (λ (n : ℕ). FitsToStart job.kind (find_job n desk)) (sym same) at.2));
       apart = λ n other there. none-push n begun job (false_from_ne_true (eqb job.number n) (λ e.
-      none-some other (sym (ap (λ (m : ℕ). find_to_start m (remove_to_start number due)) (sym (eqb-true job.number n e) ∙ same)
-      ∙ given-gone FitsToStart last number desk due kept.to_start) ∙ there))) (apart_left due begun number n other kept.apart there);
+          none-some other (sym (ap (λ (m : ℕ). find_to_start m (remove_to_start number due)) (sym (eqb-true job.number n e) ∙ same)
+          ∙ given-gone FitsToStart last number desk due kept.to_start) ∙ there))) (apart_left due begun number n other kept.apart there);
     }
 
 -- one that its child process named
@@ -340,9 +348,9 @@ pub kept-changed : (last job : ℕ) (f : Confirmation → Confirmation) (desk : 
 kept-changed last job f desk due begun keeps not_due not_begun kept = record {
   order = jobs-change job 0 f desk last keeps kept.order;
   to_start = given-others FitsToStart job last last desk (change_job job f desk) due (omega arith) not_due
-  (λ n kind is below. subst (FitsToStart kind) (sym (find_job-other n job f desk is keeps))) kept.to_start;
+      (λ n kind is below. subst (FitsToStart kind) (sym (find_job-other n job f desk is keeps))) kept.to_start;
   started = given-others FitsStarted job last last desk (change_job job f desk) begun (omega arith) not_begun
-  (λ n kind is below. subst (FitsStarted kind) (sym (find_job-other n job f desk is keeps))) kept.started;
+      (λ n kind is below. subst (FitsStarted kind) (sym (find_job-other n job f desk is keeps))) kept.started;
   apart = kept.apart;
 }
 
@@ -365,13 +373,13 @@ kept-lost last job desk due begun kept =
     record {
       order = jobs-remove job 0 desk last kept.order;
       to_start = given-others FitsToStart (last + 1) last last desk (remove_job job desk) due (omega arith)
-      (given-none FitsToStart last (last + 1) desk due (omega arith) kept.to_start)
-      (λ n kind is below fits. subst (FitsToStart kind) (sym (find_job-remove n job 0 desk last kept.order)) (fits_lost kind (eqb job n) (find_job n desk) fits))
-      kept.to_start;
+          (given-none FitsToStart last (last + 1) desk due (omega arith) kept.to_start)
+          (λ n kind is below fits. subst (FitsToStart kind) (sym (find_job-remove n job 0 desk last kept.order)) (fits_lost kind (eqb job n) (find_job n desk) fits))
+          kept.to_start;
       started = given-others FitsStarted job last last desk (remove_job job desk) (remove_to_start job begun) (omega arith)
-      (given-gone FitsStarted last job desk begun kept.started)
-      (λ n kind is below fits. subst (FitsStarted kind) (sym (find_job-remove n job 0 desk last kept.order
-      ∙ ap (λ (here : Bool). cond here None (find_job n desk)) (differs_back n job is))) fits) named.started;
+          (given-gone FitsStarted last job desk begun kept.started)
+          (λ n kind is below fits. subst (FitsStarted kind) (sym (find_job-remove n job 0 desk last kept.order
+          ∙ ap (λ (here : Bool). cond here None (find_job n desk)) (differs_back n job is))) fits) named.started;
       apart = named.apart;
     }
 

@@ -32,10 +32,14 @@ fn first_of(jobs: &[Job], number: u64) -> Option<usize>
 }
 
 /// Whether there is a job of this number.
+#[tactic(auto, using(crate::proofs::PlaceLemmas::is_there))]
 pub fn is_among(jobs: &[Job], number: u64) -> bool
     ensures { IsTrue result ↔ IsSome (find_to_start number jobs.now) }
 {
-    place_of(jobs, number).is_some()
+    match place_of(jobs, number) {
+        Some(_) => true,
+        None => false,
+    }
 }
 
 /// Where the started job of this number stands.

@@ -231,10 +231,9 @@ impl UnderWay {
         };
         let job = self.to_start.remove(place);
         if is_wanted(&self.desk, job) {
-            let pushed = self.started.push(Started { job, ticket });
-            if pushed.is_err() {
+            let Ok(()) = self.started.push(Started { job, ticket }) else {
                 unreachable!()
-            }
+            };
         }
     }
 
@@ -520,7 +519,13 @@ impl UnderWay {
     }
 
     // What is to be signed, for the client that waits.
-    fn hold(&self, asker: u64, key: &Identity, message: &[u8], flags: u32) -> Result<Held, JobMemory>
+    fn hold(
+        &self,
+        asker: u64,
+        key: &Identity,
+        message: &[u8],
+        flags: u32,
+    ) -> Result<Held, JobMemory>
         ensures { IfOk result (λ held. held ≡ record {
           asker = asker;
           addition = key.now.number;
@@ -558,9 +563,9 @@ impl UnderWay {
             kind: JobKind::Confirm,
         };
         self.to_start.reserve(1)?;
-        if self.desk.raise(job.number, held, text).is_err() {
+        let Ok(()) = self.desk.raise(job.number, held, text) else {
             return Err(JobMemory);
-        }
+        };
         self.to_start.push(job)?;
         self.last_job += 1;
         Ok(())
