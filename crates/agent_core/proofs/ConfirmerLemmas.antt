@@ -1,19 +1,27 @@
 -- What a user's consent is in the agent's parts.
 use Rattle.std.proofs.Common.{◌≡◌, ℕ, ◌+◌, ◌≤◌, ◌==◌, List, [], ◌∷◌, length, refl, ap, arith, sym, subst, ◌∙◌, Option, Some, None, Bool, true, false, if◌then◌else◌}
+use Rattle.std.proofs.lemmas.Bool.Decides.{nat_tests}
 use Rattle.dest_rule.specs.Rules.{denial_under}
 use Rattle.dest_rule.specs.declared.binding.Binding.{Binding}
 use Rattle.dest_rule.specs.declared.denial.Denial.{Denial}
-use Rattle.confirm_desk.specs.Confirmations.{Confirmation}
-use Rattle.confirm_desk.specs.Calls.{given_back}
+use Rattle.helper_link.specs.declared.state.LinkState.{LinkState}
+use Rattle.confirm_desk.specs.Confirmations.{Confirmation, Consent, No, NotYet, Yes, find_asker, find_job, find_linked}
+use Rattle.confirm_desk.specs.Calls.{given_back, telling_by}
+use Rattle.confirm_desk.specs.declared.held.Verdict.TheVariants as verdicts
 use Rattle.confirm_desk.specs.declared.held.Held.{Held as CodeHeld}
 use Rattle.identity_table.specs.Identities.{AreShort, HeldKey, answer_len, entries_len, entry_len, find_number, longest_private, max_answer}
-use Rattle.agent_model.specs.Consents.{grant_by, grant_unless, grant_with, signing_of}
+use Rattle.agent_model.specs.Actions.{Work}
+use Rattle.agent_model.specs.Asking.{AreAsking, AreAttended, JobsRise}
+use Rattle.agent_model.specs.Consents.{close_confirmer, consent_by, grant_by, grant_concluded, grant_unless, grant_with, over, signing_of, without_confirmation}
 use Rattle.agent_model.specs.Errands.{Signs, put_ask}
 use Rattle.agent_model.specs.KeyStates.{KeyState}
-use Rattle.agent_model.specs.State.{OnAsk, UnderWay}
-use Rattle.agent_model.specs.Verdicts.{Awaits, NotConfirmed, Refuses, Verdict}
-use Rattle.under_way.specs.Parts.{TellsOf}
-use Rattle.agent_core.specs.Confirmers.{IsGrant, IsShortKey, grant_of, granted_by, granted_key, granted_unless, granted_with}
+use Rattle.agent_model.specs.State.{OnAsk, Port, State, UnderWay, change_port}
+use Rattle.agent_model.specs.Verdicts.{Awaits, NotConfirmed, Refuses, Verdict, tell}
+use Rattle.agent_model.proofs.JobLemmas.{in-by_asker, in-by_port, in-found}
+use Rattle.under_way.specs.Parts.{TellsOf, told_by}
+use Rattle.agent_core.specs.Parts.{state_of}
+use Rattle.agent_core.specs.Slots.{OpenPorts}
+use Rattle.agent_core.specs.Confirmers.{AreQuiet, IsGrant, IsHeldFor, IsShortKey, grant_of, granted_by, granted_key, granted_unless, granted_with}
 
 -- ---- the second test
 
@@ -81,3 +89,85 @@ short_key number keys key found short fits =
 pub told_so : (asked : Option ℕ) → (verdict : Verdict) × TellsOf verdict asked
 told_so (Some ask) = (Awaits (OnAsk ask), refl)
 told_so None = (Refuses NotConfirmed, (refl, refl))
+
+-- ---- what a decision is
+
+-- nothing yet
+pub told_nothing : (k : Consent) (one : Confirmation) (piece : List ℕ) (wall : ℕ) (keys : KeyState) (going : UnderWay) (ports : OpenPorts) (closes : List ℕ) → (telling_by k one piece going.confirmations).verdict ≡ verdicts.NotYet → state_of wall keys (told_by (telling_by k one piece going.confirmations).verdict one.job (telling_by k one piece going.confirmations).desk going) ports closes ≡ (consent_by k one piece (state_of wall keys going ports closes)).state
+told_nothing NotYet one piece wall keys going ports closes is = refl
+told_nothing Yes one piece wall keys going ports closes is = absurd (cc)
+told_nothing No one piece wall keys going ports closes is = absurd (cc)
+
+-- a yes, to what the confirmation held
+pub told_yes : (k : Consent) (one : Confirmation) (piece : List ℕ) (confirmations : List Confirmation) (held : CodeHeld) → (telling_by k one piece confirmations).verdict ≡ verdicts.Granted held → (k ≡ Yes) × (given_back one ≡ held)
+told_yes NotYet one piece confirmations held is = absurd (cc)
+told_yes Yes one piece confirmations held is = (refl, cc)
+told_yes No one piece confirmations held is = absurd (cc)
+
+-- a no
+pub told_no : (k : Consent) (one : Confirmation) (piece : List ℕ) (confirmations : List Confirmation) (held : CodeHeld) → (telling_by k one piece confirmations).verdict ≡ verdicts.Denied held → (k ≡ No) × (given_back one ≡ held)
+told_no NotYet one piece confirmations held is = absurd (cc)
+told_no Yes one piece confirmations held is = absurd (cc)
+told_no No one piece confirmations held is = (refl, cc)
+
+-- ---- what a decision does to the state
+
+-- the client gets what comes of a consent
+pub concluded_state : (wall : ℕ) (keys : KeyState) (going left : UnderWay) (old new : OpenPorts) (closes : List ℕ) (work : Work) (one : Confirmation) (confirmer : Option ℕ) (asker : ℕ) → left ≡ work.under_way → new.ports ≡ change_port asker (tell work.verdict) (close_confirmer confirmer old.ports) → new.last ≡ old.last → one.asker ≡ asker → one.port ≡ confirmer → state_of wall keys left new closes ≡ (grant_concluded work one (state_of wall keys going old closes)).state
+concluded_state wall keys going left old new closes work one confirmer asker left_is ports_is last_is asker_is port_is =
+    let to : UnderWay → List Port → ℕ → State = λ u ps l. state_of wall keys u (record old { ports = ps; last = l }) closes in
+    ap (λ u. to u new.ports new.last) left_is
+    ∙ ap (λ ps. to work.under_way ps new.last) ports_is
+    ∙ ap (λ l. to work.under_way (change_port asker (tell work.verdict) (close_confirmer confirmer old.ports)) l) last_is
+    ∙ ap (λ a. to work.under_way (change_port a (tell work.verdict) (close_confirmer confirmer old.ports)) old.last) (sym asker_is)
+    ∙ ap (λ p. to work.under_way (change_port one.asker (tell work.verdict) (close_confirmer p old.ports)) old.last) (sym port_is)
+
+-- the client is told that there is none
+pub over_state : (wall : ℕ) (keys : KeyState) (going left : UnderWay) (old new : OpenPorts) (closes : List ℕ) (one : Confirmation) (confirmer : Option ℕ) (asker : ℕ) → left ≡ without_confirmation one.job going → new.ports ≡ change_port asker (tell (Refuses NotConfirmed)) (close_confirmer confirmer old.ports) → new.last ≡ old.last → one.asker ≡ asker → one.port ≡ confirmer → state_of wall keys left new closes ≡ (over one (state_of wall keys going old closes)).state
+over_state wall keys going left old new closes one confirmer asker left_is ports_is last_is asker_is port_is =
+    let to : UnderWay → List Port → ℕ → State = λ u ps l. state_of wall keys u (record old { ports = ps; last = l }) closes in
+    let without : UnderWay = without_confirmation one.job going in
+    ap (λ u. to u new.ports new.last) left_is
+    ∙ ap (λ ps. to without ps new.last) ports_is
+    ∙ ap (λ l. to without (change_port asker (tell (Refuses NotConfirmed)) (close_confirmer confirmer old.ports)) l) last_is
+    ∙ ap (λ a. to without (change_port a (tell (Refuses NotConfirmed)) (close_confirmer confirmer old.ports)) old.last) (sym asker_is)
+    ∙ ap (λ p. to without (change_port one.asker (tell (Refuses NotConfirmed)) (close_confirmer p old.ports)) old.last) (sym port_is)
+
+-- ---- confirmations that are found
+
+-- by its job
+pub job_own : (job : ℕ) (confirmations : List Confirmation) (one : Confirmation) → find_job job confirmations ≡ Some one → one.job ≡ job
+job_own job [] one found = absurd (cc)
+job_own job (other ∷ confirmations) one found = by_test (job_own job confirmations one) (other.job == job) refl found
+  where
+    by_test : (find_job job confirmations ≡ Some one → one.job ≡ job) → (test : Bool) → (other.job == job) ≡ test → (if test then Some other else find_job job confirmations) ≡ Some one → one.job ≡ job
+    by_test rest true same is =
+        let here : other ≡ one = cc in
+        ap (λ (c : Confirmation). c.job) (sym here) ∙ (grind (arith, nat_tests))
+    by_test rest false same is = rest is
+
+-- by its port, in the order of the jobs
+pub found_linked : (number last : ℕ) (confirmations : List Confirmation) (one : Confirmation) → JobsRise 0 confirmations last → find_linked number confirmations ≡ Some one → find_job one.job confirmations ≡ Some one
+found_linked number last confirmations one order found =
+    in-found one 0 last order (in-by_port number confirmations one found)
+
+-- by its client
+pub found_asker : (number last : ℕ) (confirmations : List Confirmation) (one : Confirmation) → JobsRise 0 confirmations last → find_asker number confirmations ≡ Some one → find_job one.job confirmations ≡ Some one
+found_asker number last confirmations one order found =
+    in-found one 0 last order (in-by_asker number confirmations one found)
+
+-- ---- who waits
+
+-- between two events whoever a confirmation is for is owed nothing
+pub quiet-asking : (ports : List Port) (confirmations : List Confirmation) → AreAsking ports confirmations → AreQuiet confirmations ports
+quiet-asking ports confirmations asking = λ job one port found there.
+    (asking.waits one.asker job port there (asking.asks job one port found there)).owed
+
+-- and is open
+pub held_for : (number last : ℕ) (link : LinkState) (ports : List Port) (confirmations : List Confirmation) (one : Confirmation) → JobsRise 0 confirmations last → AreAsking ports confirmations → AreAttended confirmations link ports → find_linked number confirmations ≡ Some one → IsHeldFor one ports
+held_for number last link ports confirmations one order asking attended found =
+    let there = found_linked number last confirmations one order found in
+    record {
+      is_open = attended.askers one.job one there;
+      silent = λ port at. quiet-asking ports confirmations asking one.job one port there at;
+    }

@@ -56,3 +56,8 @@ pub record IsGrant (asked : Option ℕ) (new : UnderWay) (work : Work) : Type 0 
 abbrev pub AreQuiet : List Confirmation → List Port → Type 0
 AreQuiet confirmations ports = (job : ℕ) (one : Confirmation) (port : Port) → find_job job confirmations ≡ Some one
     → find_port one.asker ports ≡ Some port → port.owed ≡ []
+
+-- the client that this confirmation is for is open, and owed nothing
+pub record IsHeldFor (one : Confirmation) (ports : List Port) : Type 0 where
+  pub is_open : IsSome (find_port one.asker ports)
+  pub silent : (port : Port) → find_port one.asker ports ≡ Some port → port.owed ≡ []

@@ -6,6 +6,7 @@
 mod agent;
 mod asker;
 mod children;
+mod confirmer;
 mod counting;
 mod event;
 mod granted;
