@@ -14,5 +14,7 @@ pub mod JudgedLemmas
 pub mod AgentLemmas
 pub mod ChildLemmas
 pub mod NextLemmas
+pub mod LeastLemmas
+pub mod NextConfirmerLemmas
 pub mod ShortLemmas
 pub mod BoundLemmas

@@ -154,3 +154,19 @@ pub fn lose_confirmer(ports: &mut Ports, under_way: &mut UnderWay, number: u64)
     let job = one.job();
     end_confirmation(ports, under_way, job);
 }
+
+/// The confirmation of this job is over, where there is one: its child process could not be started. Takes no memory.
+pub fn end_if(ports: &mut Ports, under_way: &mut UnderWay, job: u64)
+    requires quiet { AreQuiet under_way.old.confirmations ports.old.ports }
+
+    ensures state { (wall : ℕ) (keys : KeyState) (c : List ℕ) → state_of wall keys under_way.new ports.new c
+        ≡ (over_if (find_job job under_way.old.confirmations) (state_of wall keys under_way.old ports.old c)).state }
+    ensures closed { (last : ℕ) (began : List Port) → IsClosedSince last began ports.old
+        → IsClosedSince last began ports.new }
+    ensures link { under_way.new.link ≡ under_way.old.link }
+{
+    match under_way.find_confirmation(job) {
+        Some(_) => end_confirmation(ports, under_way, job),
+        None => {}
+    }
+}

@@ -10,6 +10,7 @@ ghost use Rattle.agent_model.specs.Step.{gone};
 ghost use Rattle.agent_model.specs.Verdicts.{HelperLost, Refuses};
 ghost use Rattle.agent_core.specs.Bound.{AreSilent, IsBound};
 ghost use Rattle.agent_core.specs.Parts.{state_of};
+ghost use Rattle.under_way.specs.Parts.{HasNoHelper};
 ghost use Rattle.agent_core.specs.Settlings.{AreProvable, AreShortAnswers, IsProvable, IsShortAnswer, answered, told_with, unanswered};
 
 use crate::CoreMemory;
@@ -68,8 +69,7 @@ pub fn lose_helper(ports: &mut Ports, under_way: &mut UnderWay, helper: u64)
 /// No helper is there or coming any more: each client that waits for an answer of it is told. Takes no memory.
 pub fn lose_link(ports: &mut Ports, under_way: &mut UnderWay)
     requires some { under_way.old.link.state ≢ LinkState.None }
-    requires jobs { IsStarting under_way.old.link.state
-        → (under_way.old.to_start ≡ []) × (under_way.old.started ≡ []) }
+    requires jobs { IsStarting under_way.old.link.state → HasNoHelper under_way.old }
     requires silent { AreSilent (askers under_way.old.link.asks) ports.old.ports }
     requires failed { under_way.old.link.failed ≡ [] }
 

@@ -7,7 +7,7 @@ ghost use Rattle.agent_model.specs.Answers.{prove};
 ghost use Rattle.agent_model.specs.Children.{heard_more, unheard};
 ghost use Rattle.agent_model.specs.Looks.{due_by};
 ghost use Rattle.agent_model.specs.Sound.{IsRising};
-ghost use Rattle.agent_model.specs.State.{Port, UnderWay as AnUnderWay, change_port, client_count, find_port, remove_port, unnamed_count, wants_by};
+ghost use Rattle.agent_model.specs.State.{Port, change_port, client_count, find_port, remove_port, unnamed_count, wants_by};
 ghost use Rattle.agent_model.specs.Step.{admitted, attempts, gone, take_frame, took_some};
 ghost use Rattle.agent_model.specs.Verdicts.{HelperLost, Refuses, Verdict, tell};
 ghost use Rattle.under_way.specs.Parts.{TellsOf};
@@ -29,7 +29,7 @@ use crate::waits::Waits;
 use crate::{CoreMemory, counting, rising};
 use dest_rule::Chain;
 use frame_core::Look;
-use helper_link::{Answer, LinkState};
+use helper_link::Answer;
 use secret_buf::ScrubBuf;
 use std::alloc::{AllocFailed, Global};
 use std::marker::Model;
@@ -79,12 +79,11 @@ impl Ports {
     }
 
     /// How many child processes are open that haven't named themselves.
-    pub fn unnamed(&self, link: LinkState) -> usize
-        ensures value { (going : AnUnderWay) → going.link.state ≡ link → going.confirmations ≡ []
-            → result ≡ unnamed_count going self.now.ports }
+    pub fn unnamed(&self, under_way: &UnderWay) -> usize
+        ensures value { result ≡ unnamed_count under_way.now self.now.ports }
         ensures few { result ≤ length self.now.ports }
     {
-        counting::unnamed(&self.slots, link)
+        counting::unnamed(&self.slots, under_way)
     }
 
     /// The door through which an open port came.
