@@ -164,3 +164,8 @@ closed-same last ports old new same last_is closed_is was = record {
       ∙ sym (gone-same_last last ports new.ports)
       ∙ ap (λ l. gone last ports l new.ports) (sym (last_is ∙ was.stays));
 }
+
+-- the same of ports that are changed under their numbers
+pub closed-changed : (last : ℕ) (began : List Port) (old new : OpenPorts) (ports : List Port) → new ≡ record old { ports = ports } → numbers ports ≡ numbers old.ports → IsClosedSince last began old → IsClosedSince last began new
+closed-changed last began old new ports new_is same was =
+    closed-same last began old new (ap (λ (v : OpenPorts). numbers v.ports) new_is ∙ same) (ap (λ (v : OpenPorts). v.last) new_is) (ap (λ (v : OpenPorts). v.closed) new_is) was

@@ -1,24 +1,29 @@
 -- What a user's consent is in the agent's parts.
-use Rattle.std.proofs.Common.{◌≡◌, ℕ, ◌+◌, ◌≤◌, ◌==◌, List, [], ◌∷◌, length, refl, ap, arith, sym, subst, ◌∙◌, Option, Some, None, Bool, true, false, if◌then◌else◌}
+use Rattle.std.proofs.Common.{◌≡◌, ℕ, ◌+◌, ◌≤◌, ◌==◌, List, [], ◌∷◌, ◌++◌, length, refl, ap, arith, sym, subst, ◌∙◌, Option, Some, None, Bool, true, false, if◌then◌else◌}
+use Rattle.std.specs.Option.{IsSomeAnd, option_map}
 use Rattle.std.proofs.lemmas.Bool.Decides.{nat_tests}
 use Rattle.dest_rule.specs.Rules.{denial_under}
 use Rattle.dest_rule.specs.declared.binding.Binding.{Binding}
 use Rattle.dest_rule.specs.declared.denial.Denial.{Denial}
 use Rattle.helper_link.specs.declared.state.LinkState.{LinkState}
-use Rattle.confirm_desk.specs.Confirmations.{Confirmation, Consent, No, NotYet, Yes, find_asker, find_job, find_linked}
-use Rattle.confirm_desk.specs.Calls.{given_back, telling_by}
+use Rattle.confirm_desk.specs.Confirmations.{Confirmation, Consent, No, NotYet, Yes, consent, find_asker, find_job, find_linked}
+use Rattle.confirm_desk.specs.Calls.{Telling, given_back, job_of, telling, telling_by, telling_if}
+use Rattle.confirm_desk.specs.declared.held.Verdict.{Verdict as DeskVerdict}
 use Rattle.confirm_desk.specs.declared.held.Verdict.TheVariants as verdicts
 use Rattle.confirm_desk.specs.declared.held.Held.{Held as CodeHeld}
 use Rattle.identity_table.specs.Identities.{AreShort, HeldKey, answer_len, entries_len, entry_len, find_number, longest_private, max_answer}
 use Rattle.agent_model.specs.Actions.{Work}
 use Rattle.agent_model.specs.Asking.{AreAsking, AreAttended, JobsRise}
-use Rattle.agent_model.specs.Consents.{close_confirmer, consent_by, grant_by, grant_concluded, grant_unless, grant_with, over, signing_of, without_confirmation}
+use Rattle.agent_model.specs.Consents.{close_confirmer, confirmer_heard, consent_by, grant_by, grant_concluded, grant_to, grant_unless, grant_with, over, signing_of, without_confirmation}
 use Rattle.agent_model.specs.Errands.{Signs, put_ask}
 use Rattle.agent_model.specs.KeyStates.{KeyState}
-use Rattle.agent_model.specs.State.{OnAsk, Port, State, UnderWay, change_port}
+use Rattle.agent_model.specs.Children.{closed}
+use Rattle.agent_model.specs.Sound.{IsRising}
+use Rattle.agent_model.specs.State.{OnAsk, Port, State, UnderWay, change_port, find_port, remove_port}
 use Rattle.agent_model.specs.Verdicts.{Awaits, NotConfirmed, Refuses, Verdict, tell}
+use Rattle.agent_model.proofs.PortsLemmas.{find_port-left, find_port-remove_port}
 use Rattle.agent_model.proofs.JobLemmas.{in-by_asker, in-by_port, in-found}
-use Rattle.under_way.specs.Parts.{TellsOf, told_by}
+use Rattle.under_way.specs.Parts.{TellsOf, confirmer_told, told_by, told_if}
 use Rattle.agent_core.specs.Parts.{state_of}
 use Rattle.agent_core.specs.Slots.{OpenPorts}
 use Rattle.agent_core.specs.Confirmers.{AreQuiet, IsGrant, IsHeldFor, IsShortKey, grant_of, granted_by, granted_key, granted_unless, granted_with}
@@ -171,3 +176,63 @@ held_for number last link ports confirmations one order asking attended found =
       is_open = attended.askers one.job one there;
       silent = λ port at. quiet-asking ports confirmations asking one.job one port there at;
     }
+
+-- ---- what is handed back
+
+-- the client of a confirmation
+pub given_asker : (found : Option Confirmation) (one : Confirmation) (held : CodeHeld) → found ≡ Some one → Some held ≡ option_map given_back found → one.asker ≡ held.asker
+given_asker found one held there is =
+    let both : Some held ≡ Some (given_back one) = is ∙ ap (option_map given_back) there in
+    let same : held ≡ given_back one = cc in
+    ap (λ (h : CodeHeld). h.asker) (sym same)
+
+-- the job of the one that is found
+pub given_job : (found : Option Confirmation) (job : ℕ) → Some job ≡ option_map job_of found → (one : Confirmation) × (found ≡ Some one) × (one.job ≡ job)
+given_job None job is = absurd (cc)
+given_job (Some one) job is =
+    let same : job ≡ one.job = cc in
+    (one, refl, sym same)
+
+-- ---- a port that was closed before
+
+-- the state without it
+pub closed_state : (wall : ℕ) (keys : KeyState) (going : UnderWay) (old new : OpenPorts) (closes : List ℕ) (number : ℕ) → new.ports ≡ remove_port number old.ports → new.last ≡ old.last → state_of wall keys going new closes ≡ closed number (state_of wall keys going old closes)
+closed_state wall keys going old new closes number ports_is last_is =
+    let to : List Port → ℕ → State = λ ps l. state_of wall keys going (record old { ports = ps; last = l }) closes in
+    ap (λ ps. to ps new.last) ports_is ∙ ap (λ l. to (remove_port number old.ports) l) last_is
+
+-- the client that has left is told nothing
+pub silent-left : (job number last : ℕ) (confirmations : List Confirmation) (ports left : List Port) (one : Confirmation) → find_job job confirmations ≡ Some one → one.asker ≡ number → IsRising 0 last ports → left ≡ remove_port number ports → IsSomeAnd (find_job job confirmations) (λ c. (port : Port) → find_port c.asker left ≡ Some port → port.owed ≡ [])
+silent-left job number last confirmations ports left one found asker rising left_is =
+    let none : find_port number (remove_port number ports) ≡ None = find_port-remove_port number 0 last ports rising in
+    let P : Option Confirmation → Type 0 = λ f. IsSomeAnd f (λ c. (port : Port) → find_port c.asker left ≡ Some port → port.owed ≡ []) in
+    subst P (sym found) (λ (port : Port) there.
+    let gone : Some port ≡ None = sym there ∙ ap (λ a. find_port a left) asker ∙ ap (find_port number) left_is ∙ none in
+    absurd (cc))
+
+-- so is another one that is owed nothing
+pub silent-kept : (job number last : ℕ) (confirmations : List Confirmation) (ports left : List Port) (one : Confirmation) → find_job job confirmations ≡ Some one → AreQuiet confirmations ports → IsRising 0 last ports → left ≡ remove_port number ports → IsSomeAnd (find_job job confirmations) (λ c. (port : Port) → find_port c.asker left ≡ Some port → port.owed ≡ [])
+silent-kept job number last confirmations ports left one found quiet rising left_is =
+    let P : Option Confirmation → Type 0 = λ f. IsSomeAnd f (λ c. (port : Port) → find_port c.asker left ≡ Some port → port.owed ≡ []) in
+    subst P (sym found) (λ (port : Port) there.
+    quiet job one port found (find_port-left one.asker number 0 last ports port rising (subst (λ ps. find_port one.asker ps ≡ Some port) left_is there)))
+
+-- ---- what the child process sent
+
+-- the desk's telling, of the confirmation that is found at the port
+pub told_of : (number : ℕ) (piece : List ℕ) (confirmations : List Confirmation) (one : Confirmation) → find_linked number confirmations ≡ Some one → telling number piece confirmations ≡ telling_by (consent one.job (one.heard ++ piece)) one piece confirmations
+told_of number piece confirmations one found = ap (λ f. telling_if f piece confirmations) found
+
+-- a decision ends the confirmation
+pub ended_by : (number : ℕ) (piece : List ℕ) (going : UnderWay) (one : Confirmation) (verdict : DeskVerdict) → find_linked number going.confirmations ≡ Some one → verdict ≡ (telling number piece going.confirmations).verdict → confirmer_told number piece going ≡ told_by verdict one.job (telling number piece going.confirmations).desk going
+ended_by number piece going one verdict found is =
+    let told : Telling = telling number piece going.confirmations in
+    ap (λ f. told_if f told going) found ∙ ap (λ v. told_by v one.job told.desk going) (sym is)
+
+-- a yes is a grant
+pub granted_state : (piece : List ℕ) (wall : ℕ) (keys : KeyState) (going mid : UnderWay) (ports : OpenPorts) (closes : List ℕ) (one : Confirmation) (port : Port) → consent one.job (one.heard ++ piece) ≡ Yes → find_port one.asker ports.ports ≡ Some port → mid ≡ without_confirmation one.job going → (grant_concluded (grant_of port.chain one wall keys mid) one (state_of wall keys going ports closes)).state ≡ (confirmer_heard one piece (state_of wall keys going ports closes)).state
+granted_state piece wall keys going mid ports closes one port agreed found mid_is =
+    let state : State = state_of wall keys going ports closes in
+    ap (λ u. (grant_concluded (grant_of port.chain one wall keys u) one state).state) mid_is
+    ∙ ap (λ f. (grant_to f one state).state) (sym found)
+    ∙ ap (λ k. (consent_by k one piece state).state) (sym agreed)
