@@ -5,12 +5,18 @@
 
 mod agent;
 mod asker;
+#[cfg(test)]
+mod bind_tests;
 mod children;
+#[cfg(test)]
+mod confirm_tests;
 mod confirmer;
 mod counting;
 mod event;
 mod granted;
 mod helper;
+#[cfg(test)]
+mod helper_tests;
 mod keys;
 mod listed;
 mod owed;
@@ -22,6 +28,8 @@ mod rising;
 mod role;
 mod seen;
 mod slot;
+#[cfg(test)]
+mod tests;
 mod waits;
 
 pub use agent::Agent;
