@@ -18,7 +18,7 @@ from pathlib import Path
 from agent import STAGES
 from generate import Case, Schedule, goals
 from replay import LONGEST_LINE, LONGEST_SCHEDULE, replay
-from rows_rules import EVERY_ROW
+from rows_logins import EVERY_ROW
 
 HERE = Path(__file__).parent
 Result = tuple[bytes, int]

@@ -2,6 +2,8 @@ pub mod RisingLemmas
 pub mod PlaceLemmas
 pub mod HeldLemmas
 pub mod SeenLemmas
+pub mod ClosedLemmas
+pub mod ConfirmerLemmas
 pub mod LookLemmas
 pub mod OwingLemmas
 pub mod CountLemmas
@@ -12,5 +14,8 @@ pub mod JudgedLemmas
 pub mod AgentLemmas
 pub mod ChildLemmas
 pub mod NextLemmas
+pub mod LeastLemmas
+pub mod NextConfirmerLemmas
 pub mod ShortLemmas
 pub mod BoundLemmas
+pub mod FailLemmas

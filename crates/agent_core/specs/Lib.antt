@@ -1,3 +1,4 @@
+pub mod Closed
 pub mod Happenings
 pub mod Rising
 pub mod Slots
@@ -8,3 +9,4 @@ pub mod Served
 pub mod Settlings
 pub mod Parts
 pub mod Bound
+pub mod Confirmers

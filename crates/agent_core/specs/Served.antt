@@ -1,5 +1,5 @@
 -- What the code tells of requests (ours).
-use Rattle.std.specs.Prelude.{◌≡◌, ℕ, ◌+◌, ◌≤◌, Bool, false, not, List, Option, None, Some, length}
+use Rattle.std.specs.Prelude.{◌≡◌, ℕ, ◌+◌, ◌≤◌, Bool, true, false, not, List, Option, None, Some, length}
 use Rattle.identity_table.specs.Identities.{HeldKey, TableState}
 use Rattle.agent_msg.specs.Requests.{ClientRequest, ListIdentities, Sign, Add, Remove, RemoveAll, Lock, Unlock, Bind, OtherExtension, Unsupported}
 use Rattle.agent_model.specs.Limits.{longest_body}
@@ -9,8 +9,11 @@ use Rattle.agent_model.specs.KeyStates.{KeyState}
 use Rattle.agent_model.specs.Actions.{Work}
 use Rattle.agent_model.specs.State.{Nothing, Port, UnderWay}
 use Rattle.agent_model.specs.Step.{asker_at}
-use Rattle.agent_model.specs.Verdicts.{verdict_text, verdict_waits}
-use Rattle.agent_msg.specs.Replies.{status}
+use Rattle.agent_model.specs.Errands.{Signs, ask_user, put_ask}
+use Rattle.agent_model.specs.Verdicts.{Awaits, Verdict, verdict_text, verdict_waits}
+use Rattle.agent_core.specs.declared.waits.Waits.{Waits as CoreWaits}
+use Rattle.agent_core.specs.Slots.{waits_of}
+use Rattle.agent_msg.specs.Replies.{failure, status}
 use Rattle.wire_text.specs.Frames.{front_body}
 use Rattle.agent_core.specs.declared.asker.Asker.{Asker as CoreAsker}
 
@@ -50,6 +53,18 @@ hides (Some key) asker = not (sees asker key)
 abbrev pub binds : List ℕ → List ℕ → List ℕ → Bool → ClientRequest
 binds host_key session signature forwarding =
     Bind record { host_key = host_key; session = session; signature = signature; forwarding = forwarding }
+
+-- what comes of a signature with this key for the client of this port, by whether the user is to be asked
+abbrev pub sign_work : Bool → ℕ → HeldKey → List ℕ → ℕ → UnderWay → Work
+sign_work true port key message flags under_way =
+    ask_user key (record { blob = key.blob; message = message; flags = flags }) port under_way
+sign_work false port key message flags under_way =
+    put_ask (Signs key (record { blob = key.blob; message = message; flags = flags })) port under_way
+
+-- what is told of a verdict: what is waited for, or nothing where it is a refusal
+abbrev pub TellsWait : Verdict → Option CoreWaits → Type 0
+TellsWait verdict (Some waits) = verdict ≡ Awaits (waits_of waits)
+TellsWait verdict None = (verdict_text verdict ≡ failure) × (verdict_waits verdict ≡ Nothing)
 
 -- a status reply is all that comes of a request: nothing is put to the helper, and nothing waited for
 pub record IsStatus (done : Bool) (work : Work) (before : UnderWay) : Type 0 where

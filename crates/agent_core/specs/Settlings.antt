@@ -10,7 +10,8 @@ use Rattle.agent_model.specs.Answers.{find_verification, prove, remove_verificat
 use Rattle.agent_model.specs.Consents.{find_started}
 use Rattle.agent_model.specs.Sound.{IsRight}
 use Rattle.agent_model.specs.State.{Port, StartedJob, UnderWay, Verification, change_port, find_port}
-use Rattle.under_way.specs.Parts.{IsHelpers}
+use Rattle.under_way.specs.Parts.{IsFor}
+use Rattle.world_ports.specs.declared.Job.{Job}
 use Rattle.agent_model.specs.Verdicts.{HelperRefused, Refuses, Replies, Signature, SignatureWrong, Success, Verdict, tell}
 
 -- what an asker is told
@@ -67,20 +68,22 @@ AreShortAnswers (one ∷ later) = IsShortAnswer one.answer × AreShortAnswers la
 
 -- ---- how a child process names itself
 
--- a started job of this number is the helper's, which is being started
-pub record IsNamed (job : ℕ) (going : UnderWay) : Type 0 where
+-- this job was started, and is the helper's, which is being started, or that of a confirmation that no child process came
+-- for
+pub record IsNamed (job : Job) (going : UnderWay) : Type 0 where
   pub one : StartedJob
-  pub found : find_started job going.started ≡ Some one
-  pub helpers : IsHelpers job one going.link.state
+  pub found : find_started job.number going.started ≡ Some one
+  pub same : one.job ≡ job
+  pub is_for : IsFor job.kind job.number going
 
 -- the job whose ticket it is
-abbrev pub ticket_of : Option StartedJob → ℕ → List ℕ → Option ℕ
-ticket_of None job ticket = None
-ticket_of (Some one) job ticket = if bytes_eq one.ticket ticket then Some job else None
+abbrev pub ticket_of : Option StartedJob → List ℕ → Option Job
+ticket_of None ticket = None
+ticket_of (Some one) ticket = if bytes_eq one.ticket ticket then Some one.job else None
 
 -- the started job that a first message names by its ticket
-abbrev pub named_job : Result FromChildMessage ChildFault → UnderWay → Option ℕ
-named_job (Ok (Hello job ticket)) under_way = ticket_of (find_started job under_way.started) job ticket
+abbrev pub named_job : Result FromChildMessage ChildFault → UnderWay → Option Job
+named_job (Ok (Hello job ticket)) under_way = ticket_of (find_started job under_way.started) ticket
 named_job (Ok (Signed ask signature)) under_way = None
 named_job (Ok (Refused ask)) under_way = None
 named_job (Ok (True ask)) under_way = None

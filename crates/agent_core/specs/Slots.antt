@@ -1,5 +1,6 @@
 -- The storage of the open ports as the abstract agent sees it.
 use Rattle.std.specs.Prelude.{◌≡◌, ℕ, ◌+◌, ◌^◌, ◌<◌, ◌≤◌, List, [], ◌∷◌, length, map, Option, Some, None, Bool, ◌&&◌, if◌then◌else◌}
+use Rattle.dest_rule.specs.Chains.{ChainState}
 use Rattle.agent_core.specs.declared.slot.Slot.{Slot}
 use Rattle.agent_core.specs.declared.waits.Waits.{Waits as CoreWaits}
 use Rattle.agent_core.specs.declared.waits.Waits.TheVariants as waits
@@ -24,6 +25,10 @@ port_of slot = record {
   attempted = slot.chain.attempted;
   waits = waits_of slot.waits;
 }
+
+-- the bindings of a port's connection, and whether it tried to bind
+abbrev pub chain_of : Port → ChainState
+chain_of port = record { bindings = port.chain; attempted = port.attempted }
 
 -- the ports, in the order in which they are kept
 abbrev pub ports_of : List Slot → List Port

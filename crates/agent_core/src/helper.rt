@@ -5,11 +5,13 @@ ghost use Rattle.helper_link.specs.HelperLink.{IsStarting, askers};
 ghost use Rattle.agent_model.specs.Answers.{find_verification, helper_heard, link_lost, lose, remove_verification, tell_each};
 ghost use Rattle.agent_model.specs.KeyStates.{KeyState};
 ghost use Rattle.agent_model.specs.Sound.{IsRising};
-ghost use Rattle.agent_model.specs.State.{change_port, find_port};
+ghost use Rattle.agent_model.specs.State.{Port, change_port, find_port};
 ghost use Rattle.agent_model.specs.Step.{gone};
 ghost use Rattle.agent_model.specs.Verdicts.{HelperLost, Refuses};
 ghost use Rattle.agent_core.specs.Bound.{AreSilent, IsBound};
+ghost use Rattle.agent_core.specs.Closed.{IsClosedSince};
 ghost use Rattle.agent_core.specs.Parts.{state_of};
+ghost use Rattle.under_way.specs.Parts.{HasNoHelper};
 ghost use Rattle.agent_core.specs.Settlings.{AreProvable, AreShortAnswers, IsProvable, IsShortAnswer, answered, told_with, unanswered};
 
 use crate::CoreMemory;
@@ -34,6 +36,8 @@ pub fn hear_helper(
         ≡ (helper_heard piece.now (state_of wall keys under_way.old ports.old c)).state) }
     ensures closes { ports.old.closed ≡ [] → OnOk result
         (ports.new.closed ≡ gone ports.old.last ports.old.ports ports.new.last ports.new.ports) }
+    ensures closed { (last : ℕ) (began : List Port) → IsClosedSince last began ports.old
+        → OnOk result (IsClosedSince last began ports.new) }
     ensures failed { OnOk result (under_way.new.link.failed ≡ []) }
 {
     let told = under_way.helper_told(piece)?;
@@ -59,6 +63,8 @@ pub fn lose_helper(ports: &mut Ports, under_way: &mut UnderWay, helper: u64)
     ensures rising { IsRising 0 ports.old.last ports.old.ports }
     ensures closes { ports.old.closed ≡ []
         → ports.new.closed ≡ gone ports.old.last ports.old.ports ports.new.last ports.new.ports }
+    ensures closed { (last : ℕ) (began : List Port) → IsClosedSince last began ports.old
+        → IsClosedSince last began ports.new }
     ensures failed { under_way.new.link.failed ≡ [] }
 {
     ports.close(helper);
@@ -68,8 +74,7 @@ pub fn lose_helper(ports: &mut Ports, under_way: &mut UnderWay, helper: u64)
 /// No helper is there or coming any more: each client that waits for an answer of it is told. Takes no memory.
 pub fn lose_link(ports: &mut Ports, under_way: &mut UnderWay)
     requires some { under_way.old.link.state ≢ LinkState.None }
-    requires jobs { IsStarting under_way.old.link.state
-        → (under_way.old.to_start ≡ []) × (under_way.old.started ≡ []) }
+    requires jobs { IsStarting under_way.old.link.state → HasNoHelper under_way.old }
     requires silent { AreSilent (askers under_way.old.link.asks) ports.old.ports }
     requires failed { under_way.old.link.failed ≡ [] }
 

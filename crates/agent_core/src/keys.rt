@@ -1,21 +1,26 @@
 //! What the agent holds.
 
-ghost use Rattle.std.specs.Prelude.{◌≡◌, ◌≤◌, [], IfOk, OnOk, length};
+ghost use Rattle.std.specs.Prelude.{◌≡◌, ◌≤◌, [], None, IfOk, IfSome, OnOk, length};
 ghost use Rattle.identity_table.specs.Identities.{IsSound, next_death};
 ghost use Rattle.agent_model.specs.KeyStates.{expired, no_keys};
 ghost use Rattle.agent_model.specs.Limits.{longest_body};
 ghost use Rattle.agent_model.specs.Step.{attempts};
 ghost use Rattle.agent_model.specs.Verdicts.{verdict_text, verdict_waits};
+ghost use Rattle.confirm_desk.specs.Confirmations.{find_asker};
+ghost use Rattle.std.specs.Option.{option_copied};
+ghost use Rattle.agent_core.specs.Confirmers.{IsShortKey, granted_key};
 ghost use Rattle.agent_core.specs.Served.{served_body};
 ghost use Rattle.agent_core.specs.Slots.{waits_of};
 
 use crate::CoreMemory;
 use crate::asker::Asker;
+use crate::granted::find_granted;
 use crate::owed::Owed;
 use crate::requests::answer;
 use crate::waits::Waits;
 use agent_msg::names_bind;
-use identity_table::{Lock, Table};
+use dest_rule::Chain;
+use identity_table::{Identity, Lock, Table};
 use std::alloc::Global;
 use std::marker::Model;
 use under_way::UnderWay;
@@ -104,6 +109,7 @@ impl Keys {
         requires nothing { owed.old ≡ [] }
         requires short { length body.now ≤ longest_body }
         requires failed { under_way.old.link.failed ≡ [] }
+        requires alone { find_asker asker.now.port under_way.old.confirmations ≡ None }
 
         ensures keys { OnOk result (self.new ≡ (served_body asker.now body.now self.old under_way.old).held) }
         ensures under_way { OnOk result
@@ -123,5 +129,21 @@ impl Keys {
             body,
             owed,
         )
+    }
+}
+
+impl Keys {
+    /// The key of an addition, where it is held yet, the agent isn't locked and the key may sign the message now.
+    pub fn find_granted(
+        &self,
+        addition: u64,
+        chain: &Chain,
+        message: &[u8],
+        wall: u64,
+    ) -> Option<&Identity>
+        ensures value { option_copied result ≡ granted_key addition chain.now.bindings message.now wall self.now }
+        ensures short { IfSome result (λ key. IsShortKey key.now) }
+    {
+        find_granted(&self.table, &self.lock, addition, chain, message, wall)
     }
 }

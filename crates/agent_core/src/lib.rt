@@ -8,8 +8,12 @@ mod asker;
 #[cfg(test)]
 mod bind_tests;
 mod children;
+#[cfg(test)]
+mod confirm_tests;
+mod confirmer;
 mod counting;
 mod event;
+mod granted;
 mod helper;
 #[cfg(test)]
 mod helper_tests;

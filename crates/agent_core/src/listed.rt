@@ -1,12 +1,14 @@
 //! One open port, and its place in the list of those that are owed bytes.
 
-ghost use Rattle.std.specs.Prelude.{◌≡◌, ◌≤◌, [], OnOk, length, vec_capacity};
+ghost use Rattle.std.specs.Prelude.{◌≡◌, ◌≤◌, [], None, OnOk, length, vec_capacity};
 ghost use Rattle.wire_text.specs.Frames.{Whole, front_body};
 ghost use Rattle.agent_model.specs.Answers.{prove};
 ghost use Rattle.agent_model.specs.Looks.{due};
 ghost use Rattle.agent_model.specs.Step.{attempts, take_frame, took_some};
-ghost use Rattle.agent_model.specs.Verdicts.{HelperLost, Refuses, tell};
+ghost use Rattle.agent_model.specs.Verdicts.{HelperLost, Refuses, Verdict, tell};
+ghost use Rattle.under_way.specs.Parts.{TellsOf};
 ghost use Rattle.agent_core.specs.Rising.{IsRisingNumbers, inserted, noted};
+ghost use Rattle.confirm_desk.specs.Confirmations.{find_asker};
 ghost use Rattle.agent_core.specs.Served.{served_at};
 ghost use Rattle.agent_core.specs.Settlings.{IsShortAnswer, verdict_of};
 ghost use Rattle.agent_model.specs.Sound.{IsRight};
@@ -62,6 +64,7 @@ pub fn serve_at(
 ) -> Result<(), CoreMemory>
     requires due { due (port_of slot.old) ≡ Whole body_len }
     requires failed { under_way.old.link.failed ≡ [] }
+    requires alone { find_asker slot.old.number under_way.old.confirmations ≡ None }
     requires rising { IsRisingNumbers 0 owing.old.items }
     requires room { length (inserted slot.old.number owing.old.items) ≤ vec_capacity owing.old }
 
@@ -133,5 +136,22 @@ pub fn refuse_at(slot: &mut Slot, owing: &mut Vec<u64>)
     ensures room { vec_capacity owing.old ≤ vec_capacity owing.new }
 {
     slot::refuse(slot);
+    note_owed(slot, owing);
+}
+
+/// Lets an asker wait for an ask, or tells it that there is none, and lists it. Takes no memory.
+pub fn conclude_at(slot: &mut Slot, owing: &mut Vec<u64>, asked: Option<u64>)
+    requires silent { slot.old.owed ≡ [] }
+    requires rising { IsRisingNumbers 0 owing.old.items }
+    requires room { length (inserted slot.old.number owing.old.items) ≤ vec_capacity owing.old }
+
+    ensures port { (verdict : Verdict) → TellsOf verdict asked
+        → port_of slot.new ≡ tell verdict (port_of slot.old) }
+    ensures number { slot.new.number ≡ slot.old.number }
+    ensures door { slot.new.door ≡ slot.old.door }
+    ensures items { owing.new.items ≡ noted (is_owing (port_of slot.new)) slot.old.number owing.old.items }
+    ensures room { vec_capacity owing.old ≤ vec_capacity owing.new }
+{
+    slot::conclude(slot, asked);
     note_owed(slot, owing);
 }

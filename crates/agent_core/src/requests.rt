@@ -1,6 +1,6 @@
 //! What requests do to the identities and the lock, and what they are answered.
 
-ghost use Rattle.std.specs.Prelude.{◌≡◌, ◌+◌, ℕ, List, [], true, Option, IsSome, is_none, OnOk, IfOk, ◌≤◌, length};
+ghost use Rattle.std.specs.Prelude.{◌≡◌, ◌+◌, ℕ, List, [], true, None, Option, IsSome, is_none, OnOk, IfOk, ◌≤◌, length};
 ghost use Rattle.agent_model.specs.Limits.{longest_body};
 ghost use Rattle.agent_msg.specs.Requests.{Sign, client_request};
 ghost use Rattle.dest_rule.specs.Rules.{denial_under};
@@ -8,8 +8,9 @@ ghost use Rattle.identity_table.specs.Identities.{TableState, find_identity};
 ghost use Rattle.agent_model.specs.Dispatch.{add_by, add_seen, remove_by};
 ghost use Rattle.agent_model.specs.State.{UnderWay as AnUnderWay};
 ghost use Rattle.agent_model.specs.Verdicts.{Verdict, verdict_text, verdict_waits};
-ghost use Rattle.under_way.specs.Parts.{TellsOf};
-ghost use Rattle.agent_core.specs.Served.{IsPlainRequest, IsShortRequest, IsStatus, asker_of, binds, hides, keys_of, served_body, served_by};
+ghost use Rattle.under_way.specs.Parts.{TellsOf, TellsOfUser};
+ghost use Rattle.confirm_desk.specs.Confirmations.{find_asker};
+ghost use Rattle.agent_core.specs.Served.{TellsWait, sign_work, IsPlainRequest, IsShortRequest, IsStatus, asker_of, binds, hides, keys_of, served_body, served_by};
 ghost use Rattle.agent_core.specs.Slots.{waits_of};
 ghost use Rattle.agent_core.specs.declared.asker.Asker.{Asker as AnAsker};
 
@@ -21,7 +22,7 @@ use crate::waits::Waits;
 use agent_msg::{MsgFault, Request, read_request};
 use constraint_rec::{Constraint, Terms};
 use dest_rule::{Next, may_sign};
-use identity_table::{AddFault, Lock, Table};
+use identity_table::{AddFault, Identity, Lock, Table};
 use key_blob::{AddedKey, read_public};
 use secret_buf::SecretBytes;
 use std::alloc::Global;
@@ -40,6 +41,7 @@ pub fn answer(
     requires nothing { owed.old ≡ [] }
     requires short { length body.now ≤ longest_body }
     requires failed { under_way.old.link.failed ≡ [] }
+    requires alone { find_asker asker.now.port under_way.old.confirmations ≡ None }
 
     ensures keys { OnOk result (keys_of table.new lock.new
         ≡ (served_body asker.now body.now (keys_of table.old lock.old) under_way.old).held) }
@@ -77,7 +79,7 @@ pub fn answer(
             let asked = bind(
                 asker, lock, under_way, host_key, session, signature, forwarding,
             )?;
-            Ok(wait(asked, owed))
+            Ok(wait(on_ask(asked), owed))
         }
         Ok(request) => {
             let done = take(alloc, asker, table, lock, request)?;
@@ -92,14 +94,14 @@ pub fn answer(
     }
 }
 
-// The client waits for the ask of this number, or is refused where there is none.
-fn wait(asked: Option<u64>, owed: &mut Owed) -> Waits
+// The client waits for this, or is refused where it is for nothing.
+fn wait(asked: Option<Waits>, owed: &mut Owed) -> Waits
     requires { owed.old ≡ [] }
-    ensures { (verdict : Verdict) → TellsOf verdict asked
+    ensures { (verdict : Verdict) → TellsWait verdict asked
         → (owed.new ≡ verdict_text verdict) × (waits_of result ≡ verdict_waits verdict) }
 {
     match asked {
-        Some(ask) => Waits::OnAsk { ask },
+        Some(waits) => waits,
         None => {
             owed.put_status(false);
             Waits::Nothing
@@ -107,8 +109,7 @@ fn wait(asked: Option<u64>, owed: &mut Owed) -> Waits
     }
 }
 
-// Puts a signature to the helper, where the key is held, its constraints permit it and the user isn't to be asked, and
-// gives the ask's number.
+// Has a signature made, where the key is held and its constraints permit it, and gives what the client waits for.
 fn sign(
     asker: &Asker<'_>,
     table: &Table,
@@ -117,16 +118,17 @@ fn sign(
     blob: &[u8],
     message: &[u8],
     flags: u32,
-) -> Result<Option<u64>, CoreMemory>
+) -> Result<Option<Waits>, CoreMemory>
     requires short { length blob.now + length message.now ≤ longest_body }
     requires failed { under_way.old.link.failed ≡ [] }
+    requires alone { find_asker asker.now.port under_way.old.confirmations ≡ None }
 
     ensures keys { (served_by asker.now (Sign record { blob = blob.now; message = message.now; flags = flags })
         (keys_of table.now lock.now) under_way.old).held ≡ keys_of table.now lock.now }
     ensures under_way { OnOk result (under_way.new ≡ (served_by asker.now
         (Sign record { blob = blob.now; message = message.now; flags = flags })
         (keys_of table.now lock.now) under_way.old).work.under_way) }
-    ensures told { IfOk result (TellsOf (served_by asker.now
+    ensures told { IfOk result (TellsWait (served_by asker.now
         (Sign record { blob = blob.now; message = message.now; flags = flags })
         (keys_of table.now lock.now) under_way.old).work.verdict) }
     ensures failed { OnOk result (under_way.new.link.failed ≡ []) }
@@ -135,11 +137,58 @@ fn sign(
         return Ok(None);
     }
     match table.find(blob) {
-        // The user can't be asked yet.
-        Some(key) if permits(asker, key.rules(), blob, message) && !key.confirm() => {
-            Ok(under_way.put_sign(asker.port, key, message, flags)?)
+        Some(key) if permits(asker, key.rules(), blob, message) => {
+            sign_with(asker.port, under_way, key, message, flags)
         }
         _ => Ok(None),
+    }
+}
+
+// Puts a signature with this key to the helper, or asks the user first where its uses are to be confirmed.
+fn sign_with(
+    port: u64,
+    under_way: &mut UnderWay,
+    key: &Identity,
+    message: &[u8],
+    flags: u32,
+) -> Result<Option<Waits>, CoreMemory>
+    requires short { 25 + length key.now.private + length key.now.blob + length message.now ≤ 1048576 }
+    requires message { length message.now ≤ longest_body }
+    requires failed { under_way.old.link.failed ≡ [] }
+    requires alone { find_asker port under_way.old.confirmations ≡ None }
+
+    ensures under_way { OnOk result (under_way.new ≡ (sign_work key.now.confirm port key.now message.now flags
+        under_way.old).under_way) }
+    ensures told { IfOk result (TellsWait
+        (sign_work key.now.confirm port key.now message.now flags under_way.old).verdict) }
+    ensures failed { OnOk result (under_way.new.link.failed ≡ []) }
+{
+    if key.confirm() {
+        let job = under_way.ask_user(port, key, message, flags)?;
+        Ok(on_confirmation(job))
+    } else {
+        let ask = under_way.put_sign(port, key, message, flags)?;
+        Ok(on_ask(ask))
+    }
+}
+
+// The answer to this ask is waited for.
+fn on_ask(ask: Option<u64>) -> Option<Waits>
+    ensures { (verdict : Verdict) → TellsOf verdict ask → TellsWait verdict result }
+{
+    match ask {
+        Some(ask) => Some(Waits::OnAsk { ask }),
+        None => None,
+    }
+}
+
+// The user's consent is waited for, which this job asks for.
+fn on_confirmation(job: Option<u64>) -> Option<Waits>
+    ensures { (verdict : Verdict) → TellsOfUser verdict job → TellsWait verdict result }
+{
+    match job {
+        Some(job) => Some(Waits::OnConfirmation { job }),
+        None => None,
     }
 }
 

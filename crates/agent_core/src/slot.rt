@@ -1,6 +1,6 @@
 //! One open port.
 
-ghost use Rattle.std.specs.Prelude.{◌≡◌, ◌+◌, ◌≤◌, ◌||◌, [], true, IfOk, OnOk, length};
+ghost use Rattle.std.specs.Prelude.{◌≡◌, ◌+◌, ◌≤◌, ◌||◌, [], true, None, IfOk, OnOk, length};
 ghost use Rattle.wire_text.specs.Frames.{after_front, front, front_body, More, Whole};
 ghost use Rattle.frame_core.specs.Looks.{front_of};
 ghost use Rattle.agent_model.specs.Answers.{chain_with, prove};
@@ -9,7 +9,9 @@ ghost use Rattle.agent_model.specs.Limits.{longest_body};
 ghost use Rattle.agent_model.specs.Looks.{due};
 ghost use Rattle.agent_model.specs.State.{wants_at};
 ghost use Rattle.agent_model.specs.Step.{attempts, take_frame, took_some};
-ghost use Rattle.agent_model.specs.Verdicts.{HelperLost, Refuses, tell};
+ghost use Rattle.confirm_desk.specs.Confirmations.{find_asker};
+ghost use Rattle.agent_model.specs.Verdicts.{HelperLost, Refuses, Verdict, tell};
+ghost use Rattle.under_way.specs.Parts.{TellsOf};
 ghost use Rattle.agent_core.specs.Served.{served_at};
 ghost use Rattle.agent_core.specs.Settlings.{IsShortAnswer, verdict_of};
 ghost use Rattle.agent_model.specs.Sound.{IsRight};
@@ -124,6 +126,7 @@ pub fn serve(
 ) -> Result<(), CoreMemory>
     requires due { due (port_of slot.old) ≡ Whole body_len }
     requires failed { under_way.old.link.failed ≡ [] }
+    requires alone { find_asker slot.old.number under_way.old.confirmations ≡ None }
 
     ensures port { OnOk result (port_of slot.new ≡ tell
         (served_at body_len wall (port_of slot.old) keys.old under_way.old).work.verdict
@@ -235,5 +238,22 @@ fn drop_frame(heard: &mut ScrubBuf, body_len: u32)
     heard.consume(4 + body_len as usize);
     if body_len > LONG && heard.live().is_empty() {
         heard.wipe();
+    }
+}
+
+/// Waits for the ask of this number, or owes a failure where there is none, and waits no more. Takes no memory.
+pub fn conclude(slot: &mut Slot, asked: Option<u64>)
+    requires { slot.old.owed ≡ [] }
+    ensures port { (verdict : Verdict) → TellsOf verdict asked
+        → port_of slot.new ≡ tell verdict (port_of slot.old) }
+    ensures number { slot.new.number ≡ slot.old.number }
+    ensures door { slot.new.door ≡ slot.old.door }
+{
+    match asked {
+        Some(ask) => slot.waits = Waits::OnAsk { ask },
+        None => {
+            slot.owed.put_status(false);
+            slot.waits = Waits::Nothing;
+        }
     }
 }

@@ -1,8 +1,7 @@
 -- Bindings that are verified, where one more ask is put.
-use Rattle.std.proofs.Common.{◌≡◌, ℕ, ◌+◌, ◌≤◌, List, [], ◌∷◌, ◌++◌, refl, ap, arith, sym, subst, ◌∙◌, ◌==◌, ◌⊎◌, Option, Some, None, IsSome, Bool, true, false, cond, inl, inr}
+use Rattle.std.proofs.Common.{◌≡◌, ℕ, ◌+◌, List, [], ◌∷◌, ◌++◌, refl, ap, arith, sym, subst, ◌∙◌, ◌==◌, ◌⊎◌, Option, Some, None, IsSome, Bool, true, false, cond, inl, inr}
 use Rattle.std.proofs.lemmas.Bool.Decides.{nat_tests}
 use Rattle.agent_msg.specs.Requests.{BindRequest}
-use Rattle.dest_rule.specs.declared.binding.Binding.{Binding}
 use Rattle.helper_link.specs.HelperLink.{ask_of}
 use Rattle.helper_link.specs.Settling.{find_ask}
 use Rattle.helper_link.specs.Sound.{RiseTo}

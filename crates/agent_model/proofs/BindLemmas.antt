@@ -1,9 +1,9 @@
 -- What the helper's answers make of the bindings of connections.
-use Rattle.std.proofs.Common.{◌≡◌, ◌≢◌, ℕ, ◌≤◌, List, [], ◌∷◌, ◌++◌, refl, ap, arith, sym, subst, ◌∙◌, ◌==◌, Option, Some, None, IsSome, Bool, true, false, inl, inr, if◌then◌else◌}
+use Rattle.std.proofs.Common.{◌≡◌, ◌≢◌, ℕ, ◌≤◌, List, [], ◌∷◌, ◌++◌, refl, ap, arith, sym, subst, ◌∙◌, ◌==◌, Option, Some, None, IsSome, true, false, inl, inr, if◌then◌else◌}
 use Rattle.std.specs.Option.{option_map}
 use Rattle.std.proofs.lemmas.Bool.{cases_eq}
 use Rattle.std.proofs.lemmas.Bool.Decides.{nat_tests}
-use Rattle.dest_rule.specs.Chains.{IsChain, bound}
+use Rattle.dest_rule.specs.Chains.{IsChain}
 use Rattle.dest_rule.specs.declared.binding.Binding.{Binding}
 use Rattle.helper_link.specs.Answered.{LeadTo, kind_answered}
 use Rattle.helper_link.specs.HelperLink.{ask_of}

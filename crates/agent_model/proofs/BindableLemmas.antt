@@ -1,12 +1,11 @@
 -- A request to bind is put to the helper exactly where it may be, and is refused exactly for its cause.
-use Rattle.std.proofs.Common.{◌≡◌, ◌≢◌, ℕ, ◌+◌, List, refl, ap, sym, subst, ◌∙◌, Option, Some, None, IsSome, IsOk, Bool, true, false, Result, Ok, Err, ◌↔◌}
+use Rattle.std.proofs.Common.{◌≡◌, ℕ, ◌+◌, List, refl, ap, sym, subst, ◌∙◌, Option, Some, None, IsSome, Bool, true, false, Ok, Err, ◌↔◌}
 use Rattle.key_blob.specs.PublicKeys.{KeyParts, public_key_of}
 use Rattle.key_blob.specs.declared.fault.KeyFault.{KeyFault}
 use Rattle.key_blob.specs.declared.fault.KeyFault.TheVariants as of_key
 use Rattle.agent_msg.specs.Faults.{key_fault}
 use Rattle.agent_msg.specs.Reading.{request_of}
 use Rattle.agent_msg.specs.Requests.{Bind, BindRequest}
-use Rattle.agent_msg.specs.declared.fault.MsgFault.{MsgFault}
 use Rattle.dest_rule.specs.Chains.{judge}
 use Rattle.dest_rule.specs.declared.fault.Next.{Next as Judgement}
 use Rattle.dest_rule.specs.declared.fault.Next.TheVariants.{New, Refuse, Same}

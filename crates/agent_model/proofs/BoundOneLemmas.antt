@@ -1,5 +1,5 @@
 -- One answer of the helper, and the bindings of its asker.
-use Rattle.std.proofs.Common.{◌≡◌, ◌≢◌, ℕ, List, [], ◌++◌, refl, ap, sym, ◌∙◌, Option, Some, None}
+use Rattle.std.proofs.Common.{◌≡◌, ◌≢◌, ℕ, [], ◌++◌, refl, ap, sym, ◌∙◌, Option, Some, None}
 use Rattle.std.specs.Option.{option_map}
 use Rattle.agent_msg.specs.Replies.{failure, success}
 use Rattle.helper_link.specs.declared.answer.Answer.{Answer}

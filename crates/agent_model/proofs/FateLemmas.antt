@@ -206,7 +206,7 @@ first_ask : (one : Ask) (asks : List Ask) → (find_ask one.number (one ∷ asks
 first_ask one asks = (grind (arith, nat_tests), grind (arith, nat_tests))
 
 -- one ask less
-one_lost : (low last : ℕ) (one : Ask) (asks : List Ask) (ports : List Port) → RiseTo low (one ∷ asks) last → AreTied ports (one ∷ asks) → AreTied (change_port one.asker (tell (Refuses HelperLost)) ports) asks
+pub one_lost : (low last : ℕ) (one : Ask) (asks : List Ask) (ports : List Port) → RiseTo low (one ∷ asks) last → AreTied ports (one ∷ asks) → AreTied (change_port one.asker (tell (Refuses HelperLost)) ports) asks
 one_lost low last one asks ports rise tied =
     subst (AreTied (change_port one.asker (tell (Refuses HelperLost)) ports)) (first_ask one asks).1
     (tied-told ports (one ∷ asks) tied one.number one.asker one.kind (tell (Refuses HelperLost)) low last rise (first_ask one asks).0 (λ p. refl) (λ p ask is. absurd (cc)))

@@ -1,22 +1,21 @@
 -- Bindings that are verified, where ports change and asks are answered.
-use Rattle.std.proofs.Common.{◌≡◌, ◌≢◌, ℕ, ◌≤◌, List, [], ◌∷◌, ◌++◌, refl, ap, arith, sym, subst, ◌∙◌, ◌==◌, Option, Some, None, IsSome, IsOk, Bool, true, false, cond, is_some, inl, inr}
+use Rattle.std.proofs.Common.{◌≡◌, ◌≢◌, ℕ, List, [], ◌∷◌, ◌++◌, refl, ap, arith, sym, subst, ◌∙◌, ◌==◌, Option, Some, None, IsSome, IsOk, Bool, true, false, cond, is_some, inl, inr}
 use Rattle.std.specs.Str.{bytes_eq}
 use Rattle.std.proofs.lemmas.Bool.{cases_eq}
 use Rattle.std.proofs.lemmas.Bool.Decides.{nat_tests}
 use Rattle.std.proofs.lemmas.List.Elements.{All-nil}
 use Rattle.std.proofs.lemmas.Slice.Eq.{bytes_eq-Decides}
 use Rattle.key_blob.specs.PublicKeys.{public_key_of}
-use Rattle.dest_rule.specs.Chains.{IsChain, bound, find_session, is_open, is_session, judge, judge_known, judge_open, judge_room, newest}
+use Rattle.dest_rule.specs.Chains.{IsChain, bound, find_session, is_open, judge, judge_known, judge_open, newest}
 use Rattle.dest_rule.specs.declared.binding.Binding.{Binding}
 use Rattle.dest_rule.specs.declared.fault.Next.TheVariants.{New, Refuse, Same}
-use Rattle.dest_rule.specs.declared.fault.ChainFault.TheVariants.{ChainFull, OtherKey, SessionLength}
+use Rattle.dest_rule.specs.declared.fault.ChainFault.TheVariants.{ChainFull, SessionLength}
 use Rattle.dest_rule.proofs.ChainLemmas.{IsChain-bound, known_judged}
 use Rattle.helper_link.specs.HelperLink.{ask_of}
 use Rattle.helper_link.specs.Settling.{find_ask, remove_ask}
 use Rattle.helper_link.specs.Sound.{RiseTo}
 use Rattle.helper_link.specs.declared.ask.Ask.{Ask}
 use Rattle.helper_link.specs.declared.ask.AskKind.{AskKind}
-use Rattle.helper_link.specs.declared.ask.AskKind.TheVariants as kinds
 use Rattle.helper_link.proofs.OrderLemmas.{differ, find-remove}
 use Rattle.agent_model.specs.Answers.{chain_with, find_verification, remove_verification}
 use Rattle.agent_model.specs.Bindings.{bound_once}

@@ -1,5 +1,5 @@
 -- What was judged of a binding stands until its signature is verified, and connections are bound to what was proved.
-use Rattle.std.proofs.Common.{◌≡◌, ℕ, ◌+◌, ◌≤◌, List, [], ◌∷◌, ◌++◌, refl, ap, sym, ◌∙◌, Option, Some, None}
+use Rattle.std.proofs.Common.{◌≡◌, ℕ, ◌+◌, List, [], ◌∷◌, ◌++◌, refl, ap, sym, ◌∙◌, Option, Some, None}
 use Rattle.std.proofs.lemmas.List.{append-nil}
 use Rattle.wire_text.specs.Frames.{front_body}
 use Rattle.dest_rule.specs.declared.binding.Binding.{Binding}
@@ -10,23 +10,27 @@ use Rattle.helper_link.specs.declared.fault.LinkFault.{LinkFault}
 use Rattle.helper_link.specs.declared.state.LinkState.{LinkState}
 use Rattle.helper_link.specs.declared.state.LinkState.TheVariants as states
 use Rattle.helper_link.proofs.AnswerLemmas.{settling_leads}
-use Rattle.agent_model.specs.Actions.{Lost, Outcome, acted, and_then, stay}
+use Rattle.confirm_desk.specs.Confirmations.{Confirmation}
+use Rattle.agent_model.specs.Actions.{Lost, Outcome, Work, acted, and_then, settles, stay}
 use Rattle.agent_model.specs.Answers.{Answering, answer_all, close_helper, lose, lose_if, tell_each, with_answers}
 use Rattle.agent_model.specs.Bindings.{bound_after}
 use Rattle.agent_model.specs.Children.{changed, unheard}
+use Rattle.agent_model.specs.Consents.{close_confirmer, grant_concluded, over, signing_of, without_confirmation}
 use Rattle.agent_model.specs.Dispatch.{Asker, Served}
+use Rattle.agent_model.specs.Errands.{Errand, Signs}
 use Rattle.agent_model.specs.Events.{Happening}
 use Rattle.agent_model.specs.KeyStates.{KeyState}
 use Rattle.agent_model.specs.Sound.{AreChains, IsJudged, IsRising, IsTied}
 use Rattle.agent_model.specs.State.{OnAsk, OnConfirmation, Port, State, UnderWay, change_port, find_port}
 use Rattle.agent_model.specs.Step.{asker_at, attempts, concluded, take_frame}
-use Rattle.agent_model.specs.Verdicts.{Awaits, HelperLost, Refuses, Replies, Verdict, tell}
+use Rattle.agent_model.specs.Verdicts.{Awaits, Cause, HelperLost, NoLongerAllowed, NotConfirmed, Refuses, Replies, Verdict, tell}
 use Rattle.agent_model.proofs.AskedLemmas.{given-asked, judged-asked, noted-asked}
 use Rattle.agent_model.proofs.BindLemmas.{HoldsAt, bound_after-append, bound_answers, chain_in, holds_answers}
 use Rattle.agent_model.proofs.FatedLemmas.{tied-quiet, tied_mid}
+use Rattle.agent_model.proofs.GrantLemmas.{IsGranted, allowed, disallowed, grant-ends, unasked}
 use Rattle.agent_model.proofs.JudgeLemmas.{KeepsChains, chains-keep, judged-keeps, keeps-absent, keeps-changed, keeps-in_turn, keeps-removed, keeps-same}
 use Rattle.agent_model.proofs.LeadLemmas.{leads-answers, same}
-use Rattle.agent_model.proofs.MakeLemmas.{Makes, Quiet, alters, closes, first, goes_on, grants, loses, names, overs, serves, stays, tells}
+use Rattle.agent_model.proofs.MakeLemmas.{Makes, Quiet, alters, closes, first, goes_on, grants, links, loses, names, overs, serves, stays, tells}
 use Rattle.agent_model.proofs.RunLemmas.{leads-absent}
 use Rattle.agent_model.proofs.ServeLemmas.{IsServed, answered, asked, raised, refused, serve-ends}
 
@@ -45,11 +49,12 @@ judged-by old new keeps judged = record {
   chains = chains-keep old.ports new.ports keeps.ports judged.chains;
 }
 
-keeps-quiet : {event : Happening} {old new : State} → Quiet event old new → IsRising 0 old.last_port old.ports → Keeps old new
+pub keeps-quiet : {event : Happening} {old new : State} → Quiet event old new → IsRising 0 old.last_port old.ports → Keeps old new
 keeps-quiet {old = old} (alters number f mild) rising = record { ports = keeps-changed number f old.ports mild.number mild.chain; asks = refl; last = refl; verifications = refl }
 keeps-quiet {old = old} (closes number may) rising = record { ports = keeps-removed number 0 old.last_port old.ports rising; asks = refl; last = refl; verifications = refl }
 keeps-quiet {old = old} (goes_on new asks) rising = record { ports = keeps-same old.ports; asks = asks.asks; last = asks.last; verifications = asks.verifications }
-keeps-quiet {old = old} (names job number port found door) rising = record { ports = keeps-changed number unheard old.ports (λ p. refl) (λ p. refl); asks = refl; last = refl; verifications = refl }
+keeps-quiet {old = old} (names job number port found door free) rising = record { ports = keeps-changed number unheard old.ports (λ p. refl) (λ p. refl); asks = refl; last = refl; verifications = refl }
+keeps-quiet {old = old} (links job number port found door free other) rising = record { ports = keeps-changed number unheard old.ports (λ p. refl) (λ p. refl); asks = refl; last = refl; verifications = refl }
 
 -- ---- what each event does
 
@@ -196,6 +201,45 @@ module _ (piece : List ℕ) (state : State) (tied : IsTied state) (judged : IsJu
         };
       }
 
+-- ---- a confirmation ends
+
+module _ (confirmation : Confirmation) (state : State) (tied : IsTied state) where
+  keeps-close_confirmer : (at : Option ℕ) → KeepsChains state.ports (close_confirmer at state.ports)
+  keeps-close_confirmer None = keeps-same state.ports
+  keeps-close_confirmer (Some at) = keeps-removed at 0 state.last_port state.ports tied.rising
+
+  keeps-over : (f : Port → Port) → ((p : Port) → (f p).number ≡ p.number) → ((p : Port) → (f p).chain ≡ p.chain) → KeepsChains state.ports (change_port confirmation.asker f (close_confirmer confirmation.port state.ports))
+  keeps-over f number chain =
+      keeps-in_turn state.ports (close_confirmer confirmation.port state.ports) _ (keeps-close_confirmer confirmation.port)
+      (keeps-changed confirmation.asker f (close_confirmer confirmation.port state.ports) number chain)
+
+  module _ (judged : IsJudged state) (port : Port) (found : find_port confirmation.asker state.ports ≡ Some port) where
+    -- it is the client that asks
+    abbrev asking : Asker
+    asking = record { port = confirmation.asker; chain = port.chain; attempted = port.attempted; mono = state.moment.mono; wall = state.moment.wall }
+
+    refused_so : (cause : Cause) → Judges state (grant_concluded (settles (Refuses cause) (without_confirmation confirmation.job state.under_way)) confirmation state)
+    refused_so cause =
+        let kept_over = keeps-over (tell (Refuses cause)) (λ p. refl) (λ p. refl) in
+        by_keeping state _ kept_over (λ number chain. refl)
+        (judged-by state _ record { ports = kept_over; asks = refl; last = refl; verifications = refl } judged)
+
+    -- no binding is verified by a signature
+    judges-granted : {work : Work} → IsGranted port.chain confirmation state.moment.wall state.held (without_confirmation confirmation.job state.under_way) work → Judges state (grant_concluded work confirmation state)
+    judges-granted (disallowed never) = refused_so NoLongerAllowed
+    judges-granted (unasked cause key may fault) = refused_so cause
+    judges-granted (allowed key may free) =
+        let link = state.under_way.link in
+        let errand : Errand = Signs key (signing_of key confirmation) in
+        let verdict : Verdict = Awaits (OnAsk (link.last + 1)) in
+        let kept_over = keeps-over (tell verdict) (λ p. refl) (λ p. refl) in
+        by_keeping state _ kept_over (λ number chain. refl) record {
+          verified = judged-asked asking errand link.last link.asks state.under_way.verifications tied.order state.ports _ port kept_over judged.verified judged.given tt found refl;
+          noted = noted-asked asking errand link.last link.asks state.under_way.verifications tied.order judged.noted;
+          given = given-asked asking errand link.last link.asks state.under_way.verifications tied.order tt judged.given;
+          chains = chains-keep state.ports _ kept_over judged.chains;
+        }
+
 -- ---- events
 
 pub judges-makes : {event : Happening} {old : State} {outcome : Outcome} → Makes event old outcome → IsTied old → IsJudged old → Judges old outcome
@@ -222,5 +266,9 @@ judges-makes (serves body_len port state found door nothing owed) tied judged =
 judges-makes (tells piece state) tied judged = judges-fault piece state tied judged (telling piece state.under_way.link).fault
 judges-makes (loses state) tied judged =
     by_keeping state (lose state) (keeps-lose state tied.rising) (λ number chain. refl) (judged-lost state tied.rising judged.chains)
-judges-makes (overs confirmation state some) tied judged = absurd (some tied.alone)
-judges-makes (grants confirmation port state some) tied judged = absurd (some tied.alone)
+judges-makes (overs confirmation state there) tied judged =
+    let kept_over = keeps-over confirmation state tied (tell (Refuses NotConfirmed)) (λ p. refl) (λ p. refl) in
+    by_keeping state (over confirmation state) kept_over (λ number chain. refl)
+    (judged-by state (over confirmation state).state record { ports = kept_over; asks = refl; last = refl; verifications = refl } judged)
+judges-makes (grants confirmation port state there opened) tied judged =
+    judges-granted confirmation state tied judged port opened (grant-ends port.chain confirmation state)

@@ -16,7 +16,7 @@ use Rattle.agent_model.specs.Looks.{due}
 use Rattle.agent_model.specs.Runs.{run}
 use Rattle.agent_model.specs.Sound.{AreApart, IsJudged, IsRising, IsTied}
 use Rattle.agent_model.specs.State.{Port, State, find_port, first_state, new_port}
-use Rattle.agent_model.specs.Step.{admitted, asker_at, at_moment, handle, has_room, look_front, look_port, looked, step}
+use Rattle.agent_model.specs.Step.{admitted, asker_at, at_moment, has_room, look_front, look_port, looked, step}
 use Rattle.agent_model.proofs.BindLemmas.{bound_after-append}
 use Rattle.agent_model.proofs.ClientLemmas.{handle-heard, looked-found}
 use Rattle.agent_model.proofs.FatedLemmas.{step-fated, tied-opened}

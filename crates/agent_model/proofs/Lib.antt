@@ -1,6 +1,7 @@
 pub mod PortsLemmas
 pub mod ClosesLemmas
 pub mod HeldLemmas
+pub mod JobLemmas
 pub mod ServeLemmas
 pub mod MakeLemmas
 pub mod SecondLemmas
@@ -9,6 +10,7 @@ pub mod ClientLemmas
 pub mod LeadLemmas
 pub mod RunLemmas
 pub mod GrowLemmas
+pub mod GrantLemmas
 pub mod NumberLemmas
 pub mod BudgetLemmas
 pub mod VerdictLemmas
@@ -18,8 +20,15 @@ pub mod PartsLemmas
 pub mod CutLemmas
 pub mod TieLemmas
 pub mod FateLemmas
+pub mod RaisedLemmas
 pub mod FatedLemmas
+pub mod AttendedLemmas
+pub mod ConsentCutLemmas
+pub mod KeyLemmas
 pub mod OnceLemmas
+pub mod TraceLemmas
+pub mod PutLemmas
+pub mod AgreedLemmas
 pub mod SignLemmas
 pub mod AnswerLemmas
 pub mod JudgeLemmas

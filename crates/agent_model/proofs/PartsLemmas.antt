@@ -33,7 +33,7 @@ whole_within heard body_len whole =
     let says = front_says longest_body heard (Whole body_len) whole in
     omega (arith, says.0.follows, says.1)
 
-same_body : (heard piece : List ℕ) (body_len : ℕ) → front longest_body heard ≡ Whole body_len → front_body body_len (heard ++ piece) ≡ front_body body_len heard
+pub same_body : (heard piece : List ℕ) (body_len : ℕ) → front longest_body heard ≡ Whole body_len → front_body body_len (heard ++ piece) ≡ front_body body_len heard
 same_body heard piece body_len whole =
     let within : 4 + body_len ≤ length heard = whole_within heard body_len whole in
     let four : drop 4 (heard ++ piece) ≡ drop 4 heard ++ piece = drop-append-le 4 heard piece (omega arith) in

@@ -1,5 +1,5 @@
 -- A key that the asker doesn't see makes no difference to what comes of what it sends.
-use Rattle.std.proofs.Common.{◌≡◌, ◌≢◌, ℕ, max, ◌==◌, List, [], ◌∷◌, ◌++◌, filter, refl, ap, sym, subst, ◌∙◌, Option, Some, None, Bool, true, false, cond, Result, Ok, Err}
+use Rattle.std.proofs.Common.{◌≡◌, ◌≢◌, ℕ, ◌==◌, List, [], ◌∷◌, ◌++◌, refl, ap, sym, subst, ◌∙◌, Option, Some, None, Bool, true, false, cond, Result, Ok, Err}
 use Rattle.std.specs.Str.{bytes_eq}
 use Rattle.std.proofs.lemmas.List.Elements.{filter-append}
 use Rattle.std.specs.Option.{option_map}
@@ -11,7 +11,7 @@ use Rattle.identity_table.specs.Deaths.{lives_at}
 use Rattle.agent_msg.specs.declared.fault.MsgFault.{MsgFault}
 use Rattle.agent_msg.specs.Requests.{Add, Addition, ClientRequest}
 use Rattle.dest_rule.specs.Rules.{visible}
-use Rattle.agent_model.specs.Actions.{Outcome, Work}
+use Rattle.agent_model.specs.Actions.{Work}
 use Rattle.agent_model.specs.Binds.{agent_request_of}
 use Rattle.agent_model.specs.Children.{changed, heard_more}
 use Rattle.agent_model.specs.Dispatch.{Asker, sees, serve, with_identities}
@@ -23,8 +23,8 @@ use Rattle.agent_model.specs.Step.{asker_at, at_moment, attempts, handle, look_f
 use Rattle.agent_model.specs.Unseen.{IsSameFor, IsSameReply, holding}
 use Rattle.agent_model.specs.Verdicts.{Verdict, tell, verdict_text, verdict_waits}
 use Rattle.agent_model.proofs.ClientLemmas.{handle-heard, handle-took, looked-found}
-use Rattle.agent_model.proofs.PortsLemmas.{change_port-by, find_port-change_port, found_number}
-use Rattle.agent_model.proofs.UnseenLemmas.{either, find_identity-append, find_identity-cons, same_work, unseen-reply}
+use Rattle.agent_model.proofs.PortsLemmas.{change_port-by, find_port-change_port}
+use Rattle.agent_model.proofs.UnseenLemmas.{same_work, unseen-reply}
 
 -- ---- a client is looked at
 

@@ -10,11 +10,11 @@ use Rattle.dest_rule.specs.declared.binding.Binding.{Binding}
 use Rattle.dest_rule.specs.declared.denial.Denial.{Denial}
 use Rattle.dest_rule.proofs.LawLemmas.{signed_is_visible}
 use Rattle.agent_model.specs.Actions.{Work, settles}
-use Rattle.agent_model.specs.Dispatch.{Asker, Served, lock_by, remove_by, remove_seen, seen_by, sees, serve, serve_by, serve_locked, serve_unlocked, sign_by, sign_unless, unlock_by, with_identities}
+use Rattle.agent_model.specs.Dispatch.{Asker, lock_by, remove_by, remove_seen, seen_by, sees, serve, serve_by, serve_locked, serve_unlocked, sign_by, sign_unless, unlock_by, with_identities}
 use Rattle.agent_model.specs.KeyStates.{KeyState, shown}
 use Rattle.agent_model.specs.State.{UnderWay}
 use Rattle.agent_model.specs.Unseen.{IsSameReply}
-use Rattle.agent_model.specs.Verdicts.{Cause, Identities, Refuses, Replies, Verdict, verdict_text, verdict_waits}
+use Rattle.agent_model.specs.Verdicts.{Cause, Identities, Refuses, Replies, verdict_text}
 
 -- ---- lists of keys
 

@@ -1,5 +1,5 @@
 -- The bindings of a connection by what was done: those whose signatures the helper found right (ours).
-use Rattle.std.specs.Prelude.{◌≡◌, ℕ, List, [], ◌∷◌, Option, Some, None, is_some, ◌==◌, if◌then◌else◌}
+use Rattle.std.specs.Prelude.{ℕ, List, [], ◌∷◌, Option, Some, None, is_some, ◌==◌, if◌then◌else◌}
 use Rattle.dest_rule.specs.Chains.{bound, find_session}
 use Rattle.dest_rule.specs.declared.binding.Binding.{Binding}
 use Rattle.agent_model.specs.Actions.{Action, Answered, Asked, Granted, Lost, Over, Proved, Raised, Requested}

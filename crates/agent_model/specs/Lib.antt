@@ -17,9 +17,13 @@ pub mod Looks
 pub mod Budget
 pub mod Rows
 pub mod ChildRows
+pub mod ConsentRows
+pub mod Asking
 pub mod Sound
 pub mod Fates
 pub mod Askable
+pub mod Grants
 pub mod Bindings
 pub mod Bindable
 pub mod Unseen
+pub mod BindRows

@@ -16,6 +16,7 @@ use Rattle.dest_rule.specs.declared.binding.Binding.{Binding}
 use Rattle.dest_rule.specs.Chains.{IsChain, find_session, judge}
 use Rattle.key_blob.specs.PublicKeys.{public_key_of}
 use Rattle.agent_model.specs.Answers.{find_verification}
+use Rattle.agent_model.specs.Asking.{AreRaised, JobsRise}
 use Rattle.agent_model.specs.State.{OnAsk, Port, State, Verification, client_count, find_port}
 
 -- the numbers rise, each above `low` and none above `high`; so they are distinct, and the last one bounds them
@@ -32,10 +33,10 @@ pub record IsSound (state : State) : Type 0 where
   pub rising : IsRising 0 state.last_port state.ports
   pub few : client_count state.ports ≤ 128
 
--- the numbers of the open ports rise up to the last one, and no confirmation is waited for
+-- the numbers of the open ports and the jobs of the confirmations rise up to the last ones
 pub record IsSteady (state : State) : Type 0 where
   pub rising : IsRising 0 state.last_port state.ports
-  pub alone : state.under_way.confirmations ≡ []
+  pub order : JobsRise 0 state.under_way.confirmations state.under_way.last_job
 
 -- ---- bindings that are verified
 
@@ -93,8 +94,8 @@ pub record AreTied (ports : List Port) (pending : List Ask) : Type 0 where
   pub asks : (ask : ℕ) (one : Ask) (port : Port) → find_ask ask pending ≡ Some one → find_port one.asker ports ≡ Some port → port.waits ≡ OnAsk ask
 
 -- the numbers of the open ports and of the unanswered asks rise up to the last ones, and who waits is tied to the asks;
--- no ask is for a port that hasn't joined, the helper joined through the door of child processes, and no confirmation
--- is waited for
+-- no ask is for a port that hasn't joined, the helper joined through the door of child processes, and what is to be
+-- confirmed was raised for who waits for it
 pub record IsTied (state : State) : Type 0 where
   pub rising : IsRising 0 state.last_port state.ports
   pub order : RiseTo 0 state.under_way.link.asks state.under_way.link.last
@@ -102,4 +103,4 @@ pub record IsTied (state : State) : Type 0 where
   pub askers : (ask : ℕ) (one : Ask) → find_ask ask state.under_way.link.asks ≡ Some one → one.asker ≤ state.last_port
   pub helper : (number : ℕ) (port : Port) → state.under_way.link.state ≡ states.Linked number → find_port number state.ports ≡ Some port → port.door ≡ Children
   pub known : (number : ℕ) → state.under_way.link.state ≡ states.Linked number → number ≤ state.last_port
-  pub alone : state.under_way.confirmations ≡ []
+  pub raised : AreRaised state.under_way.confirmations state.under_way.last_job state.ports state.last_port

@@ -1,5 +1,5 @@
 -- What a client can tell from what comes of its request (ours).
-use Rattle.std.specs.Prelude.{◌≡◌, ℕ, List, ◌∷◌, ◌++◌}
+use Rattle.std.specs.Prelude.{◌≡◌, List}
 use Rattle.identity_table.specs.Identities.{HeldKey}
 use Rattle.agent_model.specs.Actions.{Outcome, Work}
 use Rattle.agent_model.specs.Dispatch.{with_identities}

@@ -26,7 +26,6 @@ pub fn additions_are_listed()
 pub fn refusals_are_failures()
     ensures not_held { replies (now (add 17) ∷ now (sign 18) ∷ now (remove 18) ∷ [])
         ≡ done ∷ failed ∷ failed ∷ [] }
-    ensures no_confirmation { replies (now (add_asking 17) ∷ now (sign 17) ∷ []) ≡ done ∷ failed ∷ [] }
     ensures constraint { replies (now (add_unknown 17) ∷ now list ∷ []) ≡ failed ∷ none_listed ∷ [] }
     ensures extension { replies (now extension ∷ []) ≡ failed ∷ [] }
     ensures unknown { replies (now (0 ∷ 0 ∷ 0 ∷ 1 ∷ 200 ∷ []) ∷ []) ≡ failed ∷ [] }

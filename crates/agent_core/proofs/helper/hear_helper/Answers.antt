@@ -1,9 +1,10 @@
 use Rattle.std.proofs.Common.{◌≡◌, ◌∙◌, ℕ, List, [], None, Some, ap, sym, subst}
 use Rattle.agent_model.specs.KeyStates.{KeyState}
-use Rattle.agent_model.specs.State.{UnderWay}
+use Rattle.agent_model.specs.State.{Port, UnderWay}
 use Rattle.helper_link.specs.declared.answer.Settled.{Settled}
 use Rattle.agent_core.specs.Settlings.{AreProvable, AreShortAnswers}
 use Rattle.agent_core.specs.Slots.{OpenPorts}
+use Rattle.agent_core.proofs.ClosedLemmas.{closed-changed}
 use Rattle.agent_core.proofs.BoundLemmas.{bound-answered, provable-answers}
 use Rattle.agent_core.proofs.HelperLemmas.{closes_same, closes_since, heard_state, numbers-answered, open-answered}
 use Rattle.agent_core.proofs.ShortLemmas.{told_short}
@@ -44,3 +45,12 @@ returns-clause-state c = λ (wall : ℕ) (keys : KeyState) (closes : List ℕ).
 pub returns-clause-closes : goal.returns-clause-closes
 returns-clause-closes c = λ (none : c.args.ports.now.closed ≡ []).
     closes_same c.args.ports.now c.answer_all.new.ports _ none c.in_ok-answer_all.ensures.ports (numbers-answered c.as_slice.result.now c.helper_told.new.self.verifications c.args.ports.now.ports)
+
+pub returns-in-Some-clause-closed : goal.returns-in-Some-clause-closed
+returns-in-Some-clause-closed c = λ (last : ℕ) (began : List Port) was.
+    c.lose_helper.ensures.closed last began
+    (closed-changed last began c.args.ports.now c.answer_all.new.ports _ c.in_ok-answer_all.ensures.ports (numbers-answered c.as_slice.result.now c.helper_told.new.self.verifications c.args.ports.now.ports) was)
+
+pub returns-clause-closed : goal.returns-clause-closed
+returns-clause-closed c = λ (last : ℕ) (began : List Port) was.
+    closed-changed last began c.args.ports.now c.answer_all.new.ports _ c.in_ok-answer_all.ensures.ports (numbers-answered c.as_slice.result.now c.helper_told.new.self.verifications c.args.ports.now.ports) was

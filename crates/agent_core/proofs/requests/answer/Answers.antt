@@ -44,7 +44,7 @@ returns-in_ok-asked-in-Ok-Bind-clause-reply c =
     let request : ClientRequest = binds c.in-Ok-Bind.host_key.now c.in-Ok-Bind.session.now c.in-Ok-Bind.signature.now c.in-Ok-Bind.forwarding in
     let keys : KeyState = keys_of c.args.table.now c.args.lock.now in
     let read : request_of c.args.body.now ≡ Ok request = c.in-Ok-Bind.ensures.exact ∙ ap (λ r. Ok (client_request r)) c.in-Ok-Bind.field-0-is in
-    (c.wait-in-Ok-Bind.ensures (served_by c.args.asker.now request keys c.args.under_way.now).work.verdict (c.in_ok-asked-in-Ok-Bind.ensures.told c.args.table.now)).0
+    (c.wait-in-Ok-Bind.ensures (served_by c.args.asker.now request keys c.args.under_way.now).work.verdict (c.on_ask.ensures (served_by c.args.asker.now request keys c.args.under_way.now).work.verdict (c.in_ok-asked-in-Ok-Bind.ensures.told c.args.table.now))).0
     ∙ ap (λ (s : Served). verdict_text s.work.verdict) (served-body c.args.asker.now c.args.body.now request keys c.args.under_way.now read)
 
 pub returns-in_ok-asked-in-Ok-Bind-clause-waits : goal.returns-in_ok-asked-in-Ok-Bind-clause-waits
@@ -52,5 +52,5 @@ returns-in_ok-asked-in-Ok-Bind-clause-waits c =
     let request : ClientRequest = binds c.in-Ok-Bind.host_key.now c.in-Ok-Bind.session.now c.in-Ok-Bind.signature.now c.in-Ok-Bind.forwarding in
     let keys : KeyState = keys_of c.args.table.now c.args.lock.now in
     let read : request_of c.args.body.now ≡ Ok request = c.in-Ok-Bind.ensures.exact ∙ ap (λ r. Ok (client_request r)) c.in-Ok-Bind.field-0-is in
-    (c.wait-in-Ok-Bind.ensures (served_by c.args.asker.now request keys c.args.under_way.now).work.verdict (c.in_ok-asked-in-Ok-Bind.ensures.told c.args.table.now)).1
+    (c.wait-in-Ok-Bind.ensures (served_by c.args.asker.now request keys c.args.under_way.now).work.verdict (c.on_ask.ensures (served_by c.args.asker.now request keys c.args.under_way.now).work.verdict (c.in_ok-asked-in-Ok-Bind.ensures.told c.args.table.now))).1
     ∙ ap (λ (s : Served). verdict_waits s.work.verdict) (served-body c.args.asker.now c.args.body.now request keys c.args.under_way.now read)
