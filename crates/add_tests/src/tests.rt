@@ -256,16 +256,14 @@ fn a_request_of_many_destinations_is_too_long(rt: HostRuntime) -> Result<(), Fai
 
 // A list of so many identities of the first key.
 fn list(alloc: Global, count: u16) -> Result<Vec<u8>, Fail> {
+    let mut body = vec![in alloc; 12]?;
+    body.extend_from_slice(&u32::from(count).to_be_bytes())?;
     let entry = hex::decode(alloc, ENTRY)?;
-    let count = usize::from(count);
-    let body = 5usize.saturating_add(count.saturating_mul(entry.len()));
-    let mut reply = Vec::new(alloc);
-    reply.extend_from_slice(&(body as u32).to_be_bytes())?;
-    reply.push(12)?;
-    reply.extend_from_slice(&(count as u32).to_be_bytes())?;
     for _ in 0..count {
-        reply.extend_from_slice(&entry)?;
+        body.extend_from_slice(&entry)?;
     }
+    let mut reply = Vec::from_slice(alloc, &u32::try_from(body.len())?.to_be_bytes())?;
+    reply.extend_from_slice(&body)?;
     Ok(reply)
 }
 
