@@ -18,15 +18,16 @@ use Rattle.agent_model.proofs.MakeLemmas.{by_event}
 use Rattle.agent_model.proofs.NumberLemmas.{run-grows, step-grows}
 use Rattle.agent_model.proofs.RunLemmas.{step-rises, step-unused}
 use Rattle.agent_laws.specs.Dues.{proved_of}
-use Rattle.agent_laws.specs.History.{HasNumbers, IsLawful}
-use Rattle.agent_laws.proofs.HoldsLemmas.{fresh-expired, holds-expired, holds-first}
+use Rattle.agent_laws.specs.History.{HasNumbers, IsLawful, onto}
+use Rattle.agent_laws.proofs.HoldsLemmas.{fresh-expired, holds-expired, holds-first, numbers-expired}
+use Rattle.agent_laws.proofs.RaisedLemmas.{all_raised-kept}
 use Rattle.agent_laws.proofs.MadeLemmas.{goes-makes}
-use Rattle.agent_laws.proofs.PastLemmas.{lawful-append, onto, onto-append, stamp, stamps}
+use Rattle.agent_laws.proofs.PastLemmas.{lawful-append, onto-append, stamp, stamps}
 use Rattle.agent_laws.proofs.StepLemmas.{Agrees, Goes, Opened}
 
 -- the past tells what a state holds, what its connections are bound to, and nothing of ports that haven't joined
 pub record Tells (life : Option ℕ) (past : List Stamped) (state : State) : Type 0 where
-  pub agrees : Agrees life state.moment.mono past state.held state.under_way.link.asks
+  pub agrees : Agrees life state.moment.mono past state.held state.under_way.link.asks state.under_way.confirmations
   pub chains : (number : ℕ) (port : Port) → find_port number state.ports ≡ Some port → proved_of number past ≡ port.chain
   pub unborn : (number : ℕ) → state.last_port < number → proved_of number past ≡ []
 
@@ -47,6 +48,7 @@ module _ (life : Option ℕ) (past : List Stamped) (state : State) (moment : Mom
     agrees = record {
       holds = holds-expired life state.moment.mono opened.moment.mono _ state.held (le-max_left state.moment.mono moment.mono) tells.agrees.holds;
       opens = tells.agrees.opens;
+      raised = all_raised-kept past state.held opened.held state.under_way.confirmations (numbers-expired life state.moment.mono opened.moment.mono _ state.held tells.agrees.holds) tells.agrees.raised;
       idle = tells.agrees.idle;
     };
     fresh = λ blob. fresh-expired opened.moment.mono state.held blob tells.agrees.holds.own;
@@ -102,7 +104,7 @@ module _ (life : Option ℕ) (past : List Stamped) (state : State) (moment : Mom
 
   step-tells : Tells life (onto past (stamped after)) after.state
   step-tells = subst (λ all. Tells life (onto past all) after.state) (sym same_stamps) record {
-    agrees = subst (λ (m : Moment). Agrees life m.mono told_then after.state.held after.state.under_way.link.asks) (sym goes.moment) goes.agrees;
+    agrees = subst (λ (m : Moment). Agrees life m.mono told_then after.state.held after.state.under_way.link.asks after.state.under_way.confirmations) (sym goes.moment) goes.agrees;
     chains = chain_then;
     unborn = unborn_then;
   }
@@ -128,7 +130,7 @@ pub first-lawful : (life : Option ℕ) (events : List Timed) → HasNumbers (run
 first-lawful life events numbers =
     run-lawful life [] (first_state life) events (first-tied life) (first-judged life)
     record {
-      agrees = record { holds = holds-first life; opens = refl; idle = refl };
+      agrees = record { holds = holds-first life; opens = refl; raised = λ job one found. absurd (cc); idle = refl };
       chains = λ number port found. absurd (cc);
       unborn = λ number above. refl;
     } numbers

@@ -6,8 +6,10 @@ use Rattle.std.proofs.lemmas.Bool.Decides.{nat_tests}
 use Rattle.agent_msg.specs.declared.fault.MsgFault.{MsgFault}
 use Rattle.agent_msg.specs.Requests.{Addition, ClientRequest, ListIdentities, Sign, Add, Remove, RemoveAll, Lock, Unlock, Bind, OtherExtension, Unsupported}
 use Rattle.identity_table.specs.Deaths.{death_of, lives_at}
-use Rattle.identity_table.specs.Identities.{HaveOwnBlobs, HeldKey, alive_at, find_identity, identity_of, max_answer, new_identity, put_identity, remove_identity}
+use Rattle.identity_table.specs.Identities.{HaveOwnBlobs, HaveOwnNumbers, HeldKey, TableState, alive_at, find_identity, find_number, identity_of, max_answer, new_identity, put_identity, remove_identity}
 use Rattle.identity_table.proofs.FindLemmas.{find-alive, find-put, find-remove, if_alive, own_blobs-alive, own_blobs-put, own_blobs-remove}
+use Rattle.identity_table.proofs.NumberLaws.{find_number-alive, find_number-put, find_number-remove, unless_blob}
+use Rattle.identity_table.proofs.NumberLemmas.{own_numbers-alive, own_numbers-put, own_numbers-remove}
 use Rattle.agent_model.specs.Dispatch.{Asker, Served, add_by, add_fault, add_seen, add_unless, length_with, lock_by, remove_by, remove_seen, sees, serve, serve_by, serve_locked, serve_unlocked, unlock_by, with_addition, with_identities}
 use Rattle.agent_model.specs.KeyStates.{KeyState, expired, no_keys}
 use Rattle.agent_model.specs.Limits.{last_number}
@@ -43,6 +45,7 @@ pub record Holds (life : Option ℕ) (second : ℕ) (facts : Facts) (held : KeyS
   pub count : facts.count ≡ held.table.last
   pub default : held.table.life ≡ life
   pub own : HaveOwnBlobs held.table.identities
+  pub numbers : HaveOwnNumbers held.table.last held.table.identities
   pub found : (blob : List ℕ) (later : ℕ) → second ≤ later → if_alive later (find_identity blob held.table.identities) ≡ option_map (key_of life) (held_by (facts.last blob) life later)
 
 -- ---- time passes
@@ -68,6 +71,7 @@ holds-expired life old new facts held before holds = record {
   count = holds.count;
   default = holds.default;
   own = own_blobs-alive new held.table.identities holds.own;
+  numbers = own_numbers-alive held.table.last new held.table.identities holds.numbers;
   found = λ blob later after.
       ap (if_alive later) (find-alive blob new held.table.identities holds.own)
       ∙ alive_twice new later (find_identity blob held.table.identities) after
@@ -86,31 +90,81 @@ own_none : HaveOwnBlobs []
 unfolding HaveOwnBlobs
 own_none = tt
 
+no_numbers : (last : ℕ) → HaveOwnNumbers last []
+unfolding HaveOwnNumbers
+no_numbers last = tt
+
 found_none : (blob : List ℕ) (later : ℕ) → if_alive later (find_identity blob []) ≡ None
 unfolding find_identity
 found_none blob later = refl
 
+none_numbered : (number : ℕ) (key : HeldKey) → find_number number [] ≡ Some key → ⊥
+unfolding find_number
+none_numbered number key found = absurd (cc)
+
 pub holds-first : (life : Option ℕ) → Holds life 0 (facts_of []) (no_keys life)
-holds-first life = record { locked = refl; count = refl; default = refl; own = own_none; found = λ blob later after. found_none blob later }
+holds-first life = record { locked = refl; count = refl; default = refl; own = own_none; numbers = no_numbers 0; found = λ blob later after. found_none blob later }
 
 -- ---- requests
 
-module _ (life : Option ℕ) (asker : Asker) (facts : Facts) (held : KeyState) (under_way : UnderWay) (holds : Holds life asker.mono facts held) where
-  -- the agent holds what is told behind this
-  abbrev HoldsAfter : Done → KeyState → Type 0
-  HoldsAfter done after = Holds life asker.mono (facts_after done asker.mono facts) after
+-- a number that was given finds what it found, or nothing
+pub record NumbersKept (old new : KeyState) : Type 0 where
+  pub last : old.table.last ≤ new.table.last
+  pub found : (number : ℕ) (key : HeldKey) → number ≤ old.table.last → find_number number new.table.identities ≡ Some key → find_number number old.table.identities ≡ Some key
 
-  nothing_done : HoldsAfter DidNothing held
-  nothing_done = record { locked = holds.locked; count = holds.count; default = holds.default; own = holds.own; found = holds.found }
+same_numbers : (old new : KeyState) → new.table ≡ old.table → NumbersKept old new
+same_numbers old new same = record { last = rw same (omega arith); found = λ number key within found. sym (ap (λ (t : TableState). find_number number t.identities) same) ∙ found }
+
+of_alive : (second : ℕ) (found : Option HeldKey) (key : HeldKey) → if_alive second found ≡ Some key → found ≡ Some key
+of_alive second None key is = absurd (cc)
+of_alive second (Some first) key is = by_test (lives_at second first.death) is
+  where
+    by_test : (lives : Bool) → cond lives (Some first) None ≡ Some key → Some first ≡ Some key
+    by_test true some = some
+    by_test false some = absurd (cc)
+
+of_unless : (blob : List ℕ) (found : Option HeldKey) (key : HeldKey) → unless_blob blob found ≡ Some key → found ≡ Some key
+of_unless blob None key is = absurd (cc)
+of_unless blob (Some first) key is = by_test (bytes_eq first.blob blob) is
+  where
+    by_test : (same : Bool) → cond same None (Some first) ≡ Some key → Some first ≡ Some key
+    by_test true some = absurd (cc)
+    by_test false some = some
+
+pub numbers-expired : (life : Option ℕ) (old new : ℕ) (facts : Facts) (held : KeyState) → Holds life old facts held → NumbersKept held (expired new held)
+numbers-expired life old new facts held holds = record {
+  last = omega arith;
+  found = λ number key within found.
+      of_alive new (find_number number held.table.identities) key (sym (find_number-alive number held.table.last new held.table.identities holds.numbers) ∙ found);
+}
+
+-- what is held behind a request is what the past and it tell, and numbers are kept
+pub record HoldsAfter (life : Option ℕ) (asker : Asker) (facts : Facts) (held : KeyState) (done : Done) (after : KeyState) : Type 0 where
+  pub holds : Holds life asker.mono (facts_after done asker.mono facts) after
+  pub kept : NumbersKept held after
+
+module _ (life : Option ℕ) (asker : Asker) (facts : Facts) (held : KeyState) (under_way : UnderWay) (holds : Holds life asker.mono facts held) where
+  abbrev After : Done → KeyState → Type 0
+  After done after = HoldsAfter life asker facts held done after
+
+  nothing_done : After DidNothing held
+  nothing_done = record {
+    holds = record { locked = holds.locked; count = holds.count; default = holds.default; own = holds.own; numbers = holds.numbers; found = holds.found };
+    kept = same_numbers held held refl;
+  }
+
+  abbrev Told : Done → KeyState → Type 0
+  Told done after = Holds life asker.mono (facts_after done asker.mono facts) after
 
   -- ---- additions
 
-  added_done : (addition : Addition) → HoldsAfter (DidAdd addition) (record held { table = with_addition addition asker.mono held.table })
-  added_done addition = record {
+  added_holds : (addition : Addition) → Told (DidAdd addition) (record held { table = with_addition addition asker.mono held.table })
+  added_holds addition = record {
     locked = holds.locked;
     count = ap (λ n. n + 1) holds.count;
     default = holds.default;
     own = own_blobs-put new held.table.identities holds.own;
+    numbers = own_numbers-put held.table.last new held.table.identities refl holds.numbers;
     found = λ blob later after.
         ap (if_alive later) (find-put blob new held.table.identities) ∙ by_test blob later after (bytes_eq addition.key.blob blob);
   }
@@ -140,12 +194,13 @@ module _ (life : Option ℕ) (asker : Asker) (facts : Facts) (held : KeyState) (
 
   -- ---- removals
 
-  removed_done : (removed : List ℕ) → HoldsAfter (DidRemove removed) (with_identities (remove_identity removed held.table.identities) held)
-  removed_done removed = record {
+  removed_holds : (removed : List ℕ) → Told (DidRemove removed) (with_identities (remove_identity removed held.table.identities) held)
+  removed_holds removed = record {
     locked = holds.locked;
     count = holds.count;
     default = holds.default;
     own = own_blobs-remove removed held.table.identities holds.own;
+    numbers = own_numbers-remove held.table.last removed held.table.identities holds.numbers;
     found = λ blob later after.
         ap (if_alive later) (find-remove blob removed held.table.identities holds.own) ∙ by_test blob later after (bytes_eq removed blob);
   }
@@ -154,14 +209,42 @@ module _ (life : Option ℕ) (asker : Asker) (facts : Facts) (held : KeyState) (
       by_test blob later after true = refl
       by_test blob later after false = holds.found blob later after
 
-  all_removed : HoldsAfter DidRemoveAll (with_identities [] held)
-  all_removed = record { locked = holds.locked; count = holds.count; default = holds.default; own = own_none; found = λ blob later after. found_none blob later }
+  all_holds : Told DidRemoveAll (with_identities [] held)
+  all_holds = record { locked = holds.locked; count = holds.count; default = holds.default; own = own_none; numbers = no_numbers held.table.last; found = λ blob later after. found_none blob later }
+
+  -- numbers are kept by an addition and by removals
+  added_done : (addition : Addition) → After (DidAdd addition) (record held { table = with_addition addition asker.mono held.table })
+  added_done addition = record {
+    holds = added_holds addition;
+    kept = record {
+      last = omega arith;
+      found = λ number key within found.
+          let new : HeldKey = new_identity held.table addition.key addition.terms addition.comment asker.mono in
+          let other : (held.table.last + 1 == number) ≡ false = grind (arith, nat_tests, within) in
+          of_unless new.blob (find_number number held.table.identities) key
+          (ap (λ b. cond b (Some new) (unless_blob new.blob (find_number number held.table.identities))) (sym other)
+          ∙ sym (find_number-put number held.table.last new held.table.identities holds.own holds.numbers refl) ∙ found);
+    };
+  }
+
+  removed_done : (removed : List ℕ) → After (DidRemove removed) (with_identities (remove_identity removed held.table.identities) held)
+  removed_done removed = record {
+    holds = removed_holds removed;
+    kept = record {
+      last = omega arith;
+      found = λ number key within found.
+          of_unless removed (find_number number held.table.identities) key (sym (find_number-remove number held.table.last removed held.table.identities holds.own holds.numbers) ∙ found);
+    };
+  }
+
+  all_removed : After DidRemoveAll (with_identities [] held)
+  all_removed = record { holds = all_holds; kept = record { last = omega arith; found = λ number key within found. absurd (none_numbered number key found) } }
 
   -- ---- the table of requests
 
   -- what is held behind what was done
   abbrev IsDoneBy : (Served → Done) → Served → Type 0
-  IsDoneBy done served = HoldsAfter (done served) served.held
+  IsDoneBy done served = After (done served) served.held
 
   done-unless : (fault : Option Cause) (addition : Addition) → IsDoneBy (λ served. done_of_request (Ok (Add addition)) served.work.verdict) (add_unless fault addition asker.mono held under_way)
   done-unless (Some cause) addition = nothing_done
@@ -186,10 +269,16 @@ module _ (life : Option ℕ) (asker : Asker) (facts : Facts) (held : KeyState) (
 
   done-lock : (passphrase : List ℕ) → IsDoneBy (λ served. done_of_request (Ok (Lock passphrase)) served.work.verdict) (lock_by passphrase held under_way)
   done-lock [] = nothing_done
-  done-lock (byte ∷ bytes) = record { locked = refl; count = holds.count; default = holds.default; own = holds.own; found = holds.found }
+  done-lock (byte ∷ bytes) = record {
+    holds = record { locked = refl; count = holds.count; default = holds.default; own = holds.own; numbers = holds.numbers; found = holds.found };
+    kept = same_numbers held _ refl;
+  }
 
   done-unlock : (same : Bool) (passphrase : List ℕ) → IsDoneBy (λ served. done_of_request (Ok (Unlock passphrase)) served.work.verdict) (unlock_by same held under_way)
-  done-unlock true passphrase = record { locked = refl; count = holds.count; default = holds.default; own = holds.own; found = holds.found }
+  done-unlock true passphrase = record {
+    holds = record { locked = refl; count = holds.count; default = holds.default; own = holds.own; numbers = holds.numbers; found = holds.found };
+    kept = same_numbers held _ refl;
+  }
   done-unlock false passphrase = nothing_done
 
   done-unlocked : (request : ClientRequest) → IsDoneBy (λ served. done_of_request (Ok request) served.work.verdict) (serve_unlocked request asker held under_way)
@@ -221,6 +310,6 @@ module _ (life : Option ℕ) (asker : Asker) (facts : Facts) (held : KeyState) (
   done-by (Some passphrase) request = done-locked passphrase request
 
   -- whatever is asked, what is held behind it is what the past and it tell
-  pub holds-served : (read : Result ClientRequest MsgFault) → HoldsAfter (done_of_request read (serve read asker held under_way).work.verdict) (serve read asker held under_way).held
+  pub holds-served : (read : Result ClientRequest MsgFault) → After (done_of_request read (serve read asker held under_way).work.verdict) (serve read asker held under_way).held
   holds-served (Ok request) = done-by held.lock request
   holds-served (Err fault) = nothing_done

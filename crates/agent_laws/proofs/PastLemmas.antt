@@ -4,12 +4,7 @@ use Rattle.world_ports.specs.declared.Moment.{Moment}
 use Rattle.agent_model.specs.Actions.{Action}
 use Rattle.agent_model.specs.Runs.{Stamped}
 use Rattle.agent_laws.specs.Dues.{due_signing}
-use Rattle.agent_laws.specs.History.{IsLawful, StandsAt}
-
--- these actions behind the past: the newest stands first
-abbrev pub onto : List Stamped → List Stamped → List Stamped
-onto past [] = past
-onto past (one ∷ later) = onto (one ∷ past) later
+use Rattle.agent_laws.specs.History.{IsLawful, StandsAt, onto}
 
 -- actions at a moment
 abbrev pub stamp : Moment → Action → Stamped

@@ -24,7 +24,10 @@ pub mod RaisedLemmas
 pub mod FatedLemmas
 pub mod AttendedLemmas
 pub mod ConsentCutLemmas
+pub mod KeyLemmas
 pub mod OnceLemmas
+pub mod TraceLemmas
+pub mod PutLemmas
 pub mod SignLemmas
 pub mod AnswerLemmas
 pub mod JudgeLemmas

@@ -11,7 +11,7 @@ use Rattle.dest_rule.specs.declared.denial.Denial.{Denial}
 use Rattle.agent_model.specs.Dispatch.{Asker}
 use Rattle.agent_model.specs.KeyStates.{KeyState}
 use Rattle.agent_model.specs.State.{UnderWay}
-use Rattle.agent_model.specs.Verdicts.{AsksSpent, Cause, DestinationDenied, JobsSpent, Locked, NotHeld, TooManyAsks, TooManyConfirmations}
+use Rattle.agent_model.specs.Verdicts.{AsksSpent, Cause, DestinationDenied, JobsSpent, Locked, NoLongerAllowed, NotHeld, TooManyAsks, TooManyConfirmations}
 
 -- the agent is unlocked and holds the key, whose destination constraints say this of the signature for this asker
 pub record IsJudgedAs (result : Option Denial) (signing : Signing) (asker : Asker) (held : KeyState) : Type 0 where
@@ -57,9 +57,25 @@ IsRefusedFor other signing asker held under_way = ⊥
 
 -- ---- the user's consent
 
--- the agent is unlocked, the very addition that was asked for is held as this key, and its destination constraints
--- permit the signature for this chain at this second of the wall clock
-pub record IsGrantable (key : HeldKey) (chain : List Binding) (confirmation : Confirmation) (wall : ℕ) (held : KeyState) : Type 0 where
+-- the agent is unlocked, the addition of this number is held, as this key, and its destination constraints permit the
+-- signature of the message for this chain at this second of the wall clock
+pub record IsGrantable (key : HeldKey) (chain : List Binding) (addition : ℕ) (message : List ℕ) (wall : ℕ) (held : KeyState) : Type 0 where
   pub unlocked : held.lock ≡ None
-  pub found : find_number confirmation.addition held.table.identities ≡ Some key
-  pub permitted : denial_under key.rules key.blob chain confirmation.message wall ≡ None
+  pub found : find_number addition held.table.identities ≡ Some key
+  pub permitted : denial_under key.rules key.blob chain message wall ≡ None
+
+-- consent comes to nothing for this cause: no such key may be used, or one may, and its ask can't be put
+abbrev pub IsRefusedAtGrant : Cause → List Binding → Confirmation → ℕ → KeyState → UnderWay → Type 0
+IsRefusedAtGrant NoLongerAllowed chain confirmation wall held under_way =
+    (key : HeldKey) → IsGrantable key chain confirmation.addition confirmation.message wall held → ⊥
+IsRefusedAtGrant TooManyAsks chain confirmation wall held under_way =
+    (key : HeldKey) × IsGrantable key chain confirmation.addition confirmation.message wall held
+    × (256 ≤ length under_way.link.asks)
+IsRefusedAtGrant AsksSpent chain confirmation wall held under_way =
+    (key : HeldKey) × IsGrantable key chain confirmation.addition confirmation.message wall held
+    × (length under_way.link.asks < 256) × (under_way.link.last ≡ 2 ^ 64 - 1)
+IsRefusedAtGrant JobsSpent chain confirmation wall held under_way =
+    (key : HeldKey) × IsGrantable key chain confirmation.addition confirmation.message wall held
+    × (length under_way.link.asks < 256) × (under_way.link.last ≢ 2 ^ 64 - 1)
+    × (under_way.link.state ≡ states.None) × (under_way.last_job ≡ 2 ^ 64 - 1)
+IsRefusedAtGrant other chain confirmation wall held under_way = ⊥

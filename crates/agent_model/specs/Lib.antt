@@ -22,6 +22,7 @@ pub mod Asking
 pub mod Sound
 pub mod Fates
 pub mod Askable
+pub mod Grants
 pub mod Bindings
 pub mod Bindable
 pub mod Unseen

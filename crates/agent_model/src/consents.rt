@@ -1,14 +1,26 @@
 //! Laws of the user's consent: who waits for it, and where what a child process sends is cut.
 
-ghost use Rattle.std.specs.Prelude.{◌≡◌, ◌++◌, ℕ, List, Option, Some};
+ghost use Rattle.std.specs.Prelude.{◌≡◌, ◌↔◌, ◌+◌, ◌++◌, ◌≤◌, ℕ, List, Option, None, Some, IsSome};
+ghost use Rattle.std.specs.Option.{option_map};
 ghost use Rattle.world_ports.specs.declared.Moment.{Moment};
 ghost use Rattle.confirm_desk.specs.Confirmations.{Confirmation};
+ghost use Rattle.dest_rule.specs.declared.binding.Binding.{Binding};
+ghost use Rattle.identity_table.specs.Identities.{HeldKey, find_number};
+ghost use Rattle.agent_msg.specs.Requests.{Signing};
+ghost use Rattle.agent_model.specs.Actions.{Asked, Asking, ForSignature, Granted, Over, Raising};
+ghost use Rattle.agent_model.specs.Askable.{HasRoom, IsGrantable, IsRefusedAtGrant};
 ghost use Rattle.agent_model.specs.Asking.{IsAsking, IsAttended};
+ghost use Rattle.agent_model.specs.Consents.{grant_by, signing_of};
+ghost use Rattle.agent_model.specs.Errands.{Signs, put_unless};
 ghost use Rattle.agent_model.specs.Events.{Happening, Heard, Timed};
+ghost use Rattle.agent_model.specs.Fates.{actions_of};
+ghost use Rattle.agent_model.specs.Grants.{HaveOwnParts, IsAmong, IsPut, noted, pending, times_ended, times_raised, wanted};
+ghost use Rattle.agent_model.specs.KeyStates.{KeyState};
 ghost use Rattle.agent_model.specs.Runs.{forget_closes, run};
 ghost use Rattle.agent_model.specs.Sound.{IsTied};
-ghost use Rattle.agent_model.specs.State.{Confirmer, OnConfirmation, Port, State, find_port, first_state, role_of};
+ghost use Rattle.agent_model.specs.State.{Confirmer, OnAsk, OnConfirmation, Port, State, UnderWay, find_port, first_state, role_of};
 ghost use Rattle.agent_model.specs.Step.{at_moment, step};
+ghost use Rattle.agent_model.specs.Verdicts.{Awaits, Cause, Refuses};
 
 /// Whatever happened before: at most 16 confirmations are waited for, whoever waits for one is open and owed nothing,
 /// each child process that came to ask is open, and no two of these, nor the helper, share a port. A client that waits
@@ -44,4 +56,67 @@ pub fn a_piece_of_a_confirmer_in_two_parts()
         → (step state moment (Heard number (a ++ b))).put
         ≡ (step state moment (Heard number a)).put
         ++ (step (step state moment (Heard number a)).state moment (Heard number b)).put }
+{}
+
+/// Consent leads to an ask exactly where the agent is unlocked, the very addition that the client asked for is held,
+/// its destination constraints permit the signature for the client's chain at the wall clock of this event, fewer than
+/// 256 asks are unanswered and the numbers are not spent; and it comes to nothing for a cause exactly where that cause
+/// holds.
+pub fn consent_counts_exactly_where_it_may()
+    ensures put { (ask : ℕ) (held : KeyState) (chain : List Binding) (confirmation : Confirmation) (wall : ℕ)
+        (under_way : UnderWay)
+        → ((grant_by held.lock held chain confirmation wall under_way).verdict ≡ Awaits (OnAsk ask))
+        ↔ ((key : HeldKey) × IsGrantable key chain confirmation.addition confirmation.message wall held
+        × HasRoom under_way × (ask ≡ under_way.link.last + 1)) }
+    ensures message { (key : HeldKey) (held : KeyState) (chain : List Binding) (confirmation : Confirmation)
+        (wall : ℕ) (under_way : UnderWay)
+        → IsGrantable key chain confirmation.addition confirmation.message wall held → HasRoom under_way
+        → grant_by held.lock held chain confirmation wall under_way
+        ≡ put_unless None (Signs key (signing_of key confirmation)) confirmation.asker under_way }
+    ensures refused { (cause : Cause) (held : KeyState) (chain : List Binding) (confirmation : Confirmation)
+        (wall : ℕ) (under_way : UnderWay)
+        → ((grant_by held.lock held chain confirmation wall under_way).verdict ≡ Refuses cause)
+        ↔ IsRefusedAtGrant cause chain confirmation wall held under_way }
+{}
+
+/// Over all events: each signature that is put to the helper was asked for in that very event, with a key that asks for
+/// no confirmation; or the user agreed in that event to this very request of this very client, of an addition that may
+/// be used by then. A confirmation is raised at most once under its job, and ends at most once: after it was granted, or
+/// ended otherwise, it is never granted again. What waits is what the actions so far tell.
+pub fn a_signature_has_a_consent_of_its_own()
+    ensures put { (life : Option ℕ) (events : List Timed) (moment : Moment) (event : Happening) (asking : Asking)
+        (signing : Signing) → asking.purpose ≡ ForSignature signing
+        → IsAmong (Asked asking) (step (run (first_state life) events) moment event).actions
+        → IsPut asking signing (pending (actions_of (first_state life) events))
+        (at_moment moment (run (first_state life) events)) (step (run (first_state life) events) moment event).actions }
+    ensures granted { (life : Option ℕ) (events : List Timed) (moment : Moment) (event : Happening) (job : ℕ)
+        → IsAmong (Granted job) (step (run (first_state life) events) moment event).actions
+        → IsSome (pending (actions_of (first_state life) events) job) }
+    ensures over { (life : Option ℕ) (events : List Timed) (moment : Moment) (event : Happening) (job : ℕ)
+        → IsAmong (Over job) (step (run (first_state life) events) moment event).actions
+        → IsSome (pending (actions_of (first_state life) events) job) }
+    ensures ended { (life : Option ℕ) (events : List Timed) (job : ℕ)
+        → times_ended job (actions_of (first_state life) events) ≤ 1 }
+    ensures raised { (life : Option ℕ) (events : List Timed) (job : ℕ)
+        → times_raised job (actions_of (first_state life) events) ≤ 1 }
+    ensures waits { (life : Option ℕ) (events : List Timed) (job : ℕ)
+        → noted job (run (first_state life) events).under_way.confirmations
+        ≡ option_map wanted (pending (actions_of (first_state life) events) job) }
+{}
+
+/// Over all events: no two identities have one number or one blob, and an addition that was replaced, removed or has run
+/// out is never found by its number again; so no consent that was asked for before leads to an ask.
+pub fn an_addition_that_left_is_never_used()
+    ensures own { (life : Option ℕ) (events : List Timed)
+        → HaveOwnParts (run (first_state life) events).held.table }
+    ensures found { (state : State) (events : List Timed) (number : ℕ) (key : HeldKey)
+        → HaveOwnParts state.held.table → number ≤ state.held.table.last
+        → find_number number (run state events).held.table.identities ≡ Some key
+        → find_number number state.held.table.identities ≡ Some key }
+    ensures gone { (state : State) (events : List Timed) (number : ℕ) → HaveOwnParts state.held.table
+        → number ≤ state.held.table.last → find_number number state.held.table.identities ≡ None
+        → find_number number (run state events).held.table.identities ≡ None }
+    ensures given { (life : Option ℕ) (events : List Timed) (job : ℕ) (raising : Raising)
+        → pending (actions_of (first_state life) events) job ≡ Some raising
+        → raising.addition ≤ (run (first_state life) events).held.table.last }
 {}

@@ -33,7 +33,11 @@ pub use consent_rows::{
     a_client_that_leaves_ends_its_confirmation, a_confirmation_ends_without_consent,
     a_signature_waits_for_the_user, confirmations_are_bounded, consent_is_tested_again,
 };
-pub use consents::{a_piece_of_a_confirmer_in_two_parts, who_waits_for_the_user_is_open};
+pub use consents::{
+    a_piece_of_a_confirmer_in_two_parts, a_signature_has_a_consent_of_its_own,
+    an_addition_that_left_is_never_used, consent_counts_exactly_where_it_may,
+    who_waits_for_the_user_is_open,
+};
 pub use laws::{
     a_closed_port_brings_nothing, a_failure_has_a_cause, a_lost_helper_answers_nothing,
     a_moment_is_taken_in_once, a_piece_in_two_parts, answers_go_to_who_asked,

@@ -1,3 +1,6 @@
+pub mod CutLemmas
+pub mod EndLemmas
+pub mod GrantLemmas
 pub mod OwedLemmas
 pub mod PlaceLemmas
 pub mod PromptLemmas

@@ -27,7 +27,7 @@ pub record IsSound (confirmations : List Confirmation) : Type 0 where
   -- each has a job, a client and a port of its own, and no whole frame was heard of it
   pub apart : AreApart confirmations
 
--- each job is above the one before it, and the first is above `below`
-abbrev pub RiseFrom : ℕ → List Confirmation → Type 0
-RiseFrom below [] = Unit {0}
-RiseFrom below (one ∷ others) = (below < one.job) × RiseFrom one.job others
+-- each job is above the one before it, the first is above `below`, and none is above `last`
+abbrev pub RiseTo : ℕ → List Confirmation → ℕ → Type 0
+RiseTo below [] last = below ≤ last
+RiseTo below (one ∷ others) last = (below < one.job) × RiseTo one.job others last

@@ -1,5 +1,5 @@
 -- Verifications in storage, and where that of an ask stands (ours).
-use Rattle.std.specs.Prelude.{◌≡◌, ℕ, ◌<◌, Bool, List, Option, Some, None, length, map, slice_index_or}
+use Rattle.std.specs.Prelude.{◌≡◌, ℕ, ◌<◌, Bool, List, Some, None, length, map, slice_index_or}
 use Rattle.std.specs.List.{remove}
 use Rattle.agent_msg.specs.Requests.{BindRequest}
 use Rattle.agent_model.specs.Answers.{find_verification, remove_verification}
