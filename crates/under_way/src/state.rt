@@ -556,8 +556,8 @@ impl UnderWay {
           last_job = self.old.last_job + 1;
         }) }
     {
-        let room = self.to_start.len() + 1;
-        self.started.reserve(room)?;
+        let places = self.to_start.len() + 1;
+        self.started.reserve(places)?;
         let job = Job {
             number: self.last_job + 1,
             kind: JobKind::Confirm,

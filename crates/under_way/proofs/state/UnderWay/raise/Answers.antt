@@ -16,5 +16,5 @@ invariant_of-self-2 c =
     let u : State = under_way_of inside.link inside.to_start.items inside.started.items inside.verifications.items inside.desk inside.last_job in (
       rw (c.in_ok-push.ensures.items, c.in_ok-reserve-2.ensures.items, c.in_ok-reserve.ensures.items, c.in-Ok.ensures.ok)
           (keeps-raised u (held_of c.args.held) c.args.text.now c.self.invariant.0 c.requires.short),
-      omega (arith, c.in_ok-push.ensures.len, c.in_ok-reserve-2.ensures.len, c.in_ok-reserve.ensures.len, c.in_ok-reserve.ensures.ok, c.len-room.ensures),
+      omega (arith, c.in_ok-push.ensures.len, c.in_ok-reserve-2.ensures.len, c.in_ok-reserve.ensures.len, c.in_ok-reserve.ensures.ok, c.len-places.ensures),
     )
