@@ -5,7 +5,7 @@
 # word is the number of rounds, 7 where there is none; behind it may stand the parts that are to be measured, of refusals,
 # calls, keys, waits, signatures and instructions. Needs python3, gcc and OpenSSH; perf and valgrind where they are.
 # With the environment variable AGENT another program is taken for the agent; with PLOTS=bench/plots the plots there are
-# drawn anew, by gnuplot.
+# drawn anew, by gnuplot; with TABLE=FILE a table is written there.
 set -eu
 cd "$(dirname "$0")/.."
 work=$(mktemp -d)

@@ -264,7 +264,7 @@ def main() -> int:
     print(f"seed {words.seed}")
     if words.wrong:
         return int(not try_wrong(words.count, words.seed))
-    stages = [stage for stage in STAGES if getattr(words, stage)]
+    stages = [stage for stage in STAGES if getattr(words, stage)] or list(STAGES)
     good = (
         try_rows(words.program, stages)
         and try_longest(words.program)

@@ -48,10 +48,11 @@ def cost(agent, clients, messages):
     """Processor microseconds a reply."""
     pids = family(agent)
     before = sum(map(spent, pids))
-    replies = 0
-    # on a busy machine one time may be too short for any
+    replies, seconds = 0, SECONDS
+    # on a busy machine the first time may be too short
     while replies < 100:
-        replies += load(agent, clients, messages)
+        replies += load(agent, clients, messages, seconds)
+        seconds *= 4
     return (sum(map(spent, pids)) - before) / replies / 1000
 
 
@@ -89,14 +90,40 @@ def compare(what, agents, clients, messages, unit="us"):
     )
 
 
-FOUND = {}
+# What is aimed at: of the ratio to ssh-agent's, or of our own number.
+GOALS = {
+    "a refusal, 1 clients": ("ratio", 0.6),
+    "a refusal, 16 clients": ("ratio", 0.6),
+    "a refusal, 100 clients": ("ratio", 0.6),
+    "system calls a refusal, 16 clients": ("ours", 3),
+    "instructions a refusal, 1 client": ("ours", 5000),
+    "instructions a list of 100 keys": ("ratio", 0.05),
+    "a signature of ed25519 256, 1 clients": ("ratio", 0.4),
+    "a signature of ed25519 256, 16 clients": ("ratio", 0.4),
+}
+FOUND, RATIOS = {}, {}
 
 
 def tell(what, found, unit, ratio=None):
-    FOUND[what] = found
+    """Prints a line of what was found, and whether the goal is met where there is one."""
     ratio = found["ours"] / found["ssh-agent"] if ratio is None else ratio
-    others = ", ".join(f"{name} {value:.4g} {unit}" for name, value in found.items())
-    print(f"{what}: {others}; ours beside ssh-agent {ratio:.2f}", flush=True)
+    FOUND[what], RATIOS[what] = found, ratio
+    others = ", ".join(f"{name} {value:.4g} {unit}".rstrip() for name, value in found.items())
+    of, most = GOALS.get(what, (None, 0))
+    is_met = (ratio if of == "ratio" else found["ours"]) <= most
+    goal = f"; goal {of} at most {most}: {'met' if is_met else 'not met'}" if of else ""
+    print(f"{what}: {others}; ours beside ssh-agent {ratio:.2g}{goal}", flush=True)
+
+
+def table(path):
+    """Writes what was found as a table, a row for each measurement."""
+    lines = ["| What | Ours | ssh-agent | Null agent | Ratio | Goal |", "|---|---|---|---|---|---|"]
+    for what, found in FOUND.items():
+        of, most = GOALS.get(what, (None, 0))
+        goal = f"{of} at most {most}" if of else ""
+        cells = [f"{found[name]:.4g}" if name in found else "" for name in ("ours", "ssh-agent", "null")]
+        lines.append(f"| {what} | {' | '.join(cells)} | {RATIOS[what]:.2g} | {goal} |")
+    pathlib.Path(path).write_text("\n".join(lines) + "\n")
 
 
 def system_calls(agent, clients):
@@ -214,6 +241,8 @@ def refusals(agents, null):
     compare("a refusal, 1 client beside 100 quiet ones", agents, 1, [b"\xc8"])
     for peer in quiet:
         peer.close()
+    beside, alone = FOUND["a refusal, 1 client beside 100 quiet ones"], FOUND["a refusal, 1 clients"]
+    print(f"quiet clients: ours takes {beside['ours'] / alone['ours']:.2f} of its time without them")
 
 
 def calls(agents, null):
@@ -295,6 +324,8 @@ def main():
             socket.unlink()
     if "PLOTS" in os.environ:
         plots.draw(os.environ["PLOTS"], FOUND)
+    if "TABLE" in os.environ:
+        table(os.environ["TABLE"])
 
 
 main()

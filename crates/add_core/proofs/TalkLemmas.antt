@@ -1,5 +1,5 @@
 -- The end of the tool: its last step, and then the last line.
-use Rattle.std.proofs.Common.{◌≡◌, ◌⊎◌, inl, inr, ◌<◌, ◌≤◌, ◌^◌, ◌-◌, ℕ, Bool, true, false, List, [], ◌++◌, Option, None, Some, Result, Ok, Err, refl, sym, ap, subst, ◌∙◌, arith}
+use Rattle.std.proofs.Common.{◌≡◌, ◌⊎◌, inl, inr, ◌≤◌, ℕ, Bool, true, false, List, [], ◌++◌, Option, None, Some, Result, Ok, Err, refl, sym, ap, subst, arith}
 use Rattle.std.specs.Io.KnownBytes.{Appends}
 use Rattle.std.proofs.KnownBytes.{Appends-nil, Appends-trans}
 use Rattle.std.proofs.lemmas.Bool.{cases_lt}
@@ -13,7 +13,7 @@ use Rattle.add_core.specs.declared.fault.Stop.{Stop}
 use Rattle.add_core.specs.declared.fault.Stop.TheVariants.{Fault, Memory}
 use Rattle.add_words.specs.Words.{words_of}
 use Rattle.add_core.specs.Steps.{Step, IsMade, IsCut}
-use Rattle.add_core.specs.Talk.{Transcript, told_by, talk, talk_for, only_ends, status_of, last_line, ended, Runs, WritesAllOrFails, IsDone, IsCutOff, IsEnd, Ends}
+use Rattle.add_core.specs.Talk.{Transcript, told_by, talk, talk_for, only_ends, status_of, last_line, ended, Runs, WritesAllOrFails, IsCutOff, IsEnd, Ends}
 use Rattle.add_core.proofs.StepLemmas.{later_front, no_front}
 
 -- ---- counts

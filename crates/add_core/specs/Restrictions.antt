@@ -1,12 +1,12 @@
 -- The constraints of keys that are added (ssh-add(1), options -t, -c, -h and -H).
-use Rattle.std.specs.Prelude.{◌≡◌, ℕ, ◌+◌, List, [], ◌∷◌, Option, Result, Ok, Err}
+use Rattle.std.specs.Prelude.{ℕ, ◌+◌, List, [], ◌∷◌, Option, Result, Ok, Err}
 use Rattle.constraint_rec.specs.declared.constraint.Constraint.{Constraint}
 use Rattle.constraint_rec.specs.declared.terms.Terms.{Terms}
 use Rattle.add_rules.specs.declared.fault.DestFault.{DestFault}
 use Rattle.add_rules.specs.Rules.{rules_of}
 use Rattle.add_words.specs.Words.{PlainWords}
 use Rattle.add_core.specs.declared.fault.AddFault.{AddFault}
-use Rattle.add_core.specs.declared.fault.AddFault.TheVariants.{File, PeerFault, InputFault, OutputFault, Destination}
+use Rattle.add_core.specs.declared.fault.AddFault.TheVariants.{PeerFault, InputFault, OutputFault, Destination}
 use Rattle.add_core.specs.declared.fault.Stop.{Stop}
 use Rattle.add_core.specs.declared.fault.Stop.TheVariants.{Fault, Memory}
 use Rattle.add_core.specs.Sendings.{place_of, text_held}

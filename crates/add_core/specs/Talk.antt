@@ -1,6 +1,6 @@
 -- The tool as a whole: one function of the words, of whether there is an agent, of what the files hold,
 -- of the input and of the agent's bytes (ssh-add(1); the texts and the last line on the errors are ours).
-use Rattle.std.specs.Prelude.{◌≡◌, ◌⊎◌, ℕ, Bool, true, false, List, [], ◌∷◌, ◌++◌, codes, Option, None, Some, Result, Ok, Err}
+use Rattle.std.specs.Prelude.{◌≡◌, ◌⊎◌, ℕ, Bool, true, false, List, [], ◌++◌, codes, Option, None, Some, Result, Ok, Err}
 use Rattle.std.specs.Io.KnownBytes.{Appends}
 use Rattle.world_ports.specs.Causes.{Rose}
 use Rattle.world_ports.specs.Streams.{StreamView, WritesPart, reading_view}

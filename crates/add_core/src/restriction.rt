@@ -19,11 +19,7 @@ use world_ports::Files;
 const LONGEST_HOSTS: u64 = 16_777_216;
 
 /// Reads files of known hosts.
-fn read_hosts<F: Files>(
-    alloc: Global,
-    files: &mut F,
-    paths: &[&str],
-) -> Result<Vec<Bytes>, Stop>
+fn read_hosts<F: Files>(alloc: Global, files: &mut F, paths: &[&str]) -> Result<Vec<Bytes>, Stop>
     ensures told { (held : List ℕ → Option (List ℕ)) → (F.seen files.old).held ≡ Some held
         → Tells (λ hosts. hosts.items) result
         (hosts_held held 0 (map (λ path. path.now) paths.now)) }
@@ -59,11 +55,7 @@ fn terms_by(alloc: Global, words: &AddWords<'_>, hosts: &[Bytes]) -> Result<Term
 }
 
 /// The constraints that the words ask for.
-pub fn terms<F: Files>(
-    alloc: Global,
-    files: &mut F,
-    words: &AddWords<'_>,
-) -> Result<Terms, Stop>
+pub fn terms<F: Files>(alloc: Global, files: &mut F, words: &AddWords<'_>) -> Result<Terms, Stop>
     ensures told { (held : List ℕ → Option (List ℕ)) → (F.seen files.old).held ≡ Some held
         → Tells (λ terms. terms) result (terms_for (plain_words words.now) held) }
     ensures writable { IfOk result (λ terms. All IsDestination terms.rules) }

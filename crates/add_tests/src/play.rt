@@ -49,7 +49,10 @@ fn files(alloc: Global, failing: u64) -> Result<MapFiles, AllocError> {
         file(alloc, "f2", F2.as_bytes())?,
         file(alloc, "f1.pub", PUBLIC.as_bytes())?,
         file(alloc, "kh", HOSTS.as_bytes())?,
-        (String::from_str(alloc, "big")?, vec![in alloc; b'A'; 1_048_577]?),
+        (
+            String::from_str(alloc, "big")?,
+            vec![in alloc; b'A'; 1_048_577]?
+        ),
     ]?;
     Ok(MapFiles::new(held, [failing].to_vec(alloc)?))
 }

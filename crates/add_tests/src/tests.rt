@@ -19,7 +19,10 @@ fn a_key_is_added_for_a_way_between_hosts(rt: HostRuntime) -> Result<(), Fail> {
     assert!(rt; played.status == AddStatus::Done);
     let wanted = hex::decode(alloc, ADD_ONE_RESTRICTED)?;
     assert_eq!(rt; played.sent.as_slice(), wanted.as_slice());
-    assert_eq!(rt; played.errors.as_slice(), b"Identity added: f1 (one)\n".as_slice());
+    assert_eq!(rt;
+        played.errors.as_slice(),
+        b"Identity added: f1 (one)\n".as_slice()
+    );
     Ok(())
 }
 
@@ -28,7 +31,10 @@ fn an_empty_list_says_so(rt: HostRuntime) -> Result<(), Fail> {
     let played = play(rt.alloc(), "-l", b"", NO_IDENTITIES)?;
     assert!(rt; played.status == AddStatus::Failed(AddFault::NoIdentities));
     assert_eq!(rt; played.sent.as_slice(), b"\x00\x00\x00\x01\x0b".as_slice());
-    assert_eq!(rt; played.output.as_slice(), b"The agent has no identities.\n".as_slice());
+    assert_eq!(rt;
+        played.output.as_slice(),
+        b"The agent has no identities.\n".as_slice()
+    );
     assert!(rt; played.errors.is_empty());
     Ok(())
 }
@@ -52,12 +58,32 @@ fn lifetimes_are_read(rt: HostRuntime) {
 // Words, the agent's bytes, the fault, and all that stands on the errors. Nothing is sent in these.
 const UNSENT: [(&str, AddFault, &str); 15] = [
     ("-l -L", AddFault::Usage, "ssh-add: usage\n"),
-    ("-h scylla.example.org f1", AddFault::Usage, "ssh-add: usage\n"),
+    (
+        "-h scylla.example.org f1",
+        AddFault::Usage,
+        "ssh-add: usage\n",
+    ),
     ("missing", AddFault::File { place: 0 }, "ssh-add: file\n"),
-    ("-H kh -H missing f1", AddFault::File { place: 1 }, "ssh-add: file\n"),
-    ("big f1", AddFault::FileTooLong { place: 0 }, "ssh-add: filetoolong\n"),
-    ("kh", AddFault::Body(KeyFileFault::Base64), "ssh-add: body\n"),
-    ("-d f1", AddFault::Public(PubFault::Words), "ssh-add: public\n"),
+    (
+        "-H kh -H missing f1",
+        AddFault::File { place: 1 },
+        "ssh-add: file\n",
+    ),
+    (
+        "big f1",
+        AddFault::FileTooLong { place: 0 },
+        "ssh-add: filetoolong\n",
+    ),
+    (
+        "kh",
+        AddFault::Body(KeyFileFault::Base64),
+        "ssh-add: body\n",
+    ),
+    (
+        "-d f1",
+        AddFault::Public(PubFault::Words),
+        "ssh-add: public\n",
+    ),
     (
         "-H kh -h a@scylla.example.org>charybdis.example.org f1",
         AddFault::Destination(DestFault::SourceUser),
@@ -93,15 +119,25 @@ const UNSENT: [(&str, AddFault, &str); 15] = [
         AddFault::Destination(DestFault::EmptyUser),
         "ssh-add: destination\n",
     ),
-    ("-x", AddFault::EmptyPassphrase, "ssh-add: emptypassphrase\n"),
+    (
+        "-x",
+        AddFault::EmptyPassphrase,
+        "ssh-add: emptypassphrase\n",
+    ),
 ];
 
 #[test]
 fn faults_before_a_request_have_their_words(rt: HostRuntime) -> Result<(), Fail> {
     for (text, fault, errors) in UNSENT {
         let played = play(rt.alloc(), text, b"\nsecret", SUCCESS)?;
-        assert!(rt; played.status == AddStatus::Failed(fault), "status at {text}");
-        assert!(rt; played.errors.as_slice() == errors.as_bytes(), "errors at {text}");
+        assert!(rt;
+            played.status == AddStatus::Failed(fault),
+            "status at {text}"
+        );
+        assert!(rt;
+            played.errors.as_slice() == errors.as_bytes(),
+            "errors at {text}"
+        );
         assert!(rt; played.sent.is_empty(), "sent at {text}");
         assert!(rt; played.output.is_empty(), "output at {text}");
     }
@@ -110,14 +146,44 @@ fn faults_before_a_request_have_their_words(rt: HostRuntime) -> Result<(), Fail>
 
 // Words, the agent's bytes, the fault, and all that stands on the errors, after a request.
 const SENT: [(&str, &[u8], AddFault, &str); 9] = [
-    ("f1", b"\x00\x00\x00\x01\x05", AddFault::Refused, "ssh-add: refused\n"),
+    (
+        "f1",
+        b"\x00\x00\x00\x01\x05",
+        AddFault::Refused,
+        "ssh-add: refused\n",
+    ),
     ("-D", b"", AddFault::BadReply, "ssh-add: badreply\n"),
-    ("-l", b"\x00\x00\x00\x05\x0c\x00", AddFault::BadReply, "ssh-add: badreply\n"),
-    ("-D", b"\x00\x00\x00\x00", AddFault::BadReply, "ssh-add: badreply\n"),
-    ("-D", b"\x00\x04\x00\x01", AddFault::BadReply, "ssh-add: badreply\n"),
-    ("-D", NO_IDENTITIES, AddFault::BadReply, "ssh-add: badreply\n"),
+    (
+        "-l",
+        b"\x00\x00\x00\x05\x0c\x00",
+        AddFault::BadReply,
+        "ssh-add: badreply\n",
+    ),
+    (
+        "-D",
+        b"\x00\x00\x00\x00",
+        AddFault::BadReply,
+        "ssh-add: badreply\n",
+    ),
+    (
+        "-D",
+        b"\x00\x04\x00\x01",
+        AddFault::BadReply,
+        "ssh-add: badreply\n",
+    ),
+    (
+        "-D",
+        NO_IDENTITIES,
+        AddFault::BadReply,
+        "ssh-add: badreply\n",
+    ),
     ("-L", SUCCESS, AddFault::BadReply, "ssh-add: badreply\n"),
-    ("-l", b"\x00\x00\x00\x01\x0c", AddFault::BadReply, "ssh-add: badreply\n"),
+    (
+        "-l",
+        b"\x00\x00\x00\x01\x0c",
+        AddFault::BadReply,
+        "ssh-add: badreply\n",
+    ),
     (
         "f1 missing",
         SUCCESS,
@@ -130,8 +196,14 @@ const SENT: [(&str, &[u8], AddFault, &str); 9] = [
 fn faults_after_a_request_have_their_words(rt: HostRuntime) -> Result<(), Fail> {
     for (text, replies, fault, errors) in SENT {
         let played = play(rt.alloc(), text, b"", replies)?;
-        assert!(rt; played.status == AddStatus::Failed(fault), "status at {text}");
-        assert!(rt; played.errors.as_slice() == errors.as_bytes(), "errors at {text}");
+        assert!(rt;
+            played.status == AddStatus::Failed(fault),
+            "status at {text}"
+        );
+        assert!(rt;
+            played.errors.as_slice() == errors.as_bytes(),
+            "errors at {text}"
+        );
         assert!(rt; !played.sent.is_empty(), "sent at {text}");
     }
     Ok(())
@@ -140,7 +212,12 @@ fn faults_after_a_request_have_their_words(rt: HostRuntime) -> Result<(), Fail> 
 #[test]
 fn a_second_file_waits_for_the_first_reply(rt: HostRuntime) -> Result<(), Fail> {
     let alloc = rt.alloc();
-    let played = play(alloc, "f1 f2", b"", b"\x00\x00\x00\x01\x05\x00\x00\x00\x01\x06")?;
+    let played = play(
+        alloc,
+        "f1 f2",
+        b"",
+        b"\x00\x00\x00\x01\x05\x00\x00\x00\x01\x06",
+    )?;
     assert!(rt; played.status == AddStatus::Failed(AddFault::Refused));
     let wanted = hex::decode(alloc, ADD_ONE)?;
     assert_eq!(rt; played.sent.as_slice(), wanted.as_slice());
@@ -155,7 +232,10 @@ fn a_long_passphrase_is_refused(rt: HostRuntime) -> Result<(), Fail> {
     assert!(rt; played.status == AddStatus::Failed(AddFault::LongPassphrase));
     let played = play(alloc, "-x", b"a b\nmore", SUCCESS)?;
     assert!(rt; played.status == AddStatus::Done);
-    assert_eq!(rt; played.sent.as_slice(), b"\x00\x00\x00\x08\x16\x00\x00\x00\x03a b".as_slice());
+    assert_eq!(rt;
+        played.sent.as_slice(),
+        b"\x00\x00\x00\x08\x16\x00\x00\x00\x03a b".as_slice()
+    );
     Ok(())
 }
 
@@ -224,11 +304,46 @@ fn a_reply_of_single_bytes_is_whole(rt: HostRuntime) -> Result<(), Fail> {
 
 // Words, what fails, and the fault.
 const FAILING: [(&str, Failing, AddFault); 5] = [
-    ("f1", Failing { files: 1, ..NOTHING }, AddFault::File { place: 0 }),
-    ("-D", Failing { reads: 1, ..NOTHING }, AddFault::PeerFault),
-    ("-D", Failing { writes: 1, ..NOTHING }, AddFault::PeerFault),
-    ("-x", Failing { input: 2, ..NOTHING }, AddFault::InputFault),
-    ("-D", Failing { outputs: 1, ..NOTHING }, AddFault::OutputFault),
+    (
+        "f1",
+        Failing {
+            files: 1,
+            ..NOTHING
+        },
+        AddFault::File { place: 0 },
+    ),
+    (
+        "-D",
+        Failing {
+            reads: 1,
+            ..NOTHING
+        },
+        AddFault::PeerFault,
+    ),
+    (
+        "-D",
+        Failing {
+            writes: 1,
+            ..NOTHING
+        },
+        AddFault::PeerFault,
+    ),
+    (
+        "-x",
+        Failing {
+            input: 2,
+            ..NOTHING
+        },
+        AddFault::InputFault,
+    ),
+    (
+        "-D",
+        Failing {
+            outputs: 1,
+            ..NOTHING
+        },
+        AddFault::OutputFault,
+    ),
 ];
 
 #[test]

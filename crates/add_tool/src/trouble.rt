@@ -76,7 +76,8 @@ fn words(status: AddStatus, reason: Option<ErrorKind>) -> &'static str {
 fn unread(reason: Option<ErrorKind>) -> &'static str {
     match reason {
         Some(ErrorKind::NotFound) => "there is no such file: is the path right?",
-        Some(ErrorKind::PermissionDenied) => "may not be read: whose file is it, and what is its mode?",
+        Some(ErrorKind::PermissionDenied) =>
+            "may not be read: whose file is it, and what is its mode?",
         Some(ErrorKind::IsADirectory) => "is a directory: name a file in it",
         _ => "can't be read: is it a file, and is its disk there?",
     }

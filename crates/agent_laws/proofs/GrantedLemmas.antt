@@ -125,7 +125,7 @@ module _ (life : Option ℕ) (second wall : ℕ) (facts : Facts) (held : KeyStat
   denies_as key is = ap (λ b. denial_under key.rules b chain raising.signing.message wall) (sym is) ∙ ap (λ m. denial_under key.rules key.blob chain m wall) message
 
   -- what may be granted is due
-  grantable-due : (key : HeldKey) → IsGrantable key chain confirmation wall held → length under_way.link.asks < 256 → due ≡ Some claim
+  grantable-due : (key : HeldKey) → IsGrantable key chain confirmation.addition confirmation.message wall held → length under_way.link.asks < 256 → due ≡ Some claim
   grantable-due key may room =
       let by = made key may.found in
       let unlocked : facts.locked ≡ false = holds.locked ∙ ap is_some may.unlocked in
@@ -135,7 +135,7 @@ module _ (life : Option ℕ) (second wall : ℕ) (facts : Facts) (held : KeyStat
       (ap is_permitted (denies_as key (blob key may.found) ∙ may.permitted)) some (ap not unlocked))
 
   -- what is due may be granted
-  due-grantable : (now : Option PastAddition) → held_now ≡ now → is_due now ≡ true → (key : HeldKey) × IsGrantable key chain confirmation wall held
+  due-grantable : (now : Option PastAddition) → held_now ≡ now → is_due now ≡ true → (key : HeldKey) × IsGrantable key chain confirmation.addition confirmation.message wall held
   due-grantable None is met = absurd (cc)
   due-grantable (Some past) is met =
       let key : HeldKey = key_of life past in
@@ -152,12 +152,12 @@ module _ (life : Option ℕ) (second wall : ℕ) (facts : Facts) (held : KeyStat
         },
       )
 
-  never-due : ((key : HeldKey) → IsGrantable key chain confirmation wall held → ⊥) → due ≡ None
+  never-due : ((key : HeldKey) → IsGrantable key chain confirmation.addition confirmation.message wall held → ⊥) → due ≡ None
   never-due never =
       ap (λ b. if b then Some claim else None) (true_or_not (is_due held_now) (λ met. let may = due-grantable held_now refl met in never may.0 may.1))
 
   -- where an ask can't be put it is for want of room alone
-  full-not : under_way.link.last < 2 ^ 64 - 1 → under_way.last_job < 2 ^ 64 - 1 → (key : HeldKey) → IsGrantable key chain confirmation wall held → {cause : Cause} → RoomFor under_way (Some cause) → due ≡ None
+  full-not : under_way.link.last < 2 ^ 64 - 1 → under_way.last_job < 2 ^ 64 - 1 → (key : HeldKey) → IsGrantable key chain confirmation.addition confirmation.message wall held → {cause : Cause} → RoomFor under_way (Some cause) → due ≡ None
   full-not left jobs key may (full more) =
       let by = made key may.found in
       let many : few ≡ false = ap (λ n. nat_lt n 256) open_count ∙ grind (arith, nat_tests, more) in
@@ -215,7 +215,7 @@ module _ (life : Option ℕ) (past : List Stamped) (confirmation : Confirmation)
   few_asks : RoomFor left_over None → length state.under_way.link.asks < 256
   few_asks (free room) = room.few
 
-  goes-put : (key : HeldKey) → IsGrantable key port.chain confirmation state.moment.wall state.held → length state.under_way.link.asks < 256 → Goes life past state (grant_concluded (put_unless None (Signs key (signing_of key confirmation)) confirmation.asker left_over) confirmation state)
+  goes-put : (key : HeldKey) → IsGrantable key port.chain confirmation.addition confirmation.message state.moment.wall state.held → length state.under_way.link.asks < 256 → Goes life past state (grant_concluded (put_unless None (Signs key (signing_of key confirmation)) confirmation.asker left_over) confirmation state)
   goes-put key may room =
       let is = grantable-due life state.moment.mono state.moment.wall (facts_of past) state.held left_over (open_asks past) port.chain confirmation opened.agrees.holds opened.fresh opened.agrees.opens raised.raising raised.addition raised.message raised.flags raised.blob key may room in
       let holds = holds_behind in

@@ -19,7 +19,6 @@ use Rattle.agent_model.specs.Sound.{IsTied}
 use Rattle.agent_model.specs.State.{Port, State, Verification, find_port}
 use Rattle.agent_model.proofs.BindLemmas.{AnswerIs, answer_is, proves, tells as told_so}
 use Rattle.agent_model.proofs.FatedLemmas.{tied-quiet}
-use Rattle.agent_model.proofs.JudgedLemmas.{keeps-quiet}
 use Rattle.agent_model.proofs.MakeLemmas.{Makes, Quiet, first, grants, loses, overs, serves, stays, tells}
 use Rattle.confirm_desk.specs.Confirmations.{Confirmation}
 use Rattle.agent_model.proofs.GrantLemmas.{grant-ends}
@@ -29,7 +28,7 @@ use Rattle.agent_laws.specs.Dues.{due_signing, open_asks, without_number}
 use Rattle.agent_laws.specs.History.{IsLawful, onto}
 use Rattle.agent_laws.proofs.HoldsLemmas.{Holds, facts_of}
 use Rattle.agent_laws.proofs.PastLemmas.{lawful-append, onto-append, stamp, stamps, stamps-append}
-use Rattle.agent_laws.proofs.StepLemmas.{Agrees, Calm, Goes, Opened, calm-quiet, numbers_of, opened-quiet, served-agrees, served-lawful}
+use Rattle.agent_laws.proofs.StepLemmas.{Agrees, Calm, Goes, Opened, calm-quiet, keeps-calm, numbers_of, opened-quiet, served-agrees, served-lawful}
 
 -- the numbers of the asks that are left
 numbers-removed : (number : ℕ) (pending : List Ask) → without_number number (numbers_of pending) ≡ numbers_of (remove_ask number pending)
@@ -151,7 +150,7 @@ pub goes-makes : {event : Happening} {old : State} {outcome : Outcome} (life : O
 goes-makes life past (stays state) tied opened = record { lawful = opened.agrees.idle; agrees = opened.agrees; moment = refl }
 goes-makes {old = old} life past (first {mid = mid} {outcome = outcome} quiet rest) tied opened =
     let calm = calm-quiet quiet in
-    let later = goes-makes life past rest (tied-quiet quiet tied) (opened-quiet life past old mid calm (keeps-quiet quiet tied.rising) opened) in
+    let later = goes-makes life past rest (tied-quiet quiet tied) (opened-quiet life past old mid calm (keeps-calm quiet tied.rising) opened) in
     record {
       lawful = subst (λ m. IsLawful life past (stamps m outcome.actions)) calm.moment later.lawful;
       agrees = subst (λ m. Agrees life m.mono (onto past (stamps m outcome.actions)) outcome.state.held outcome.state.under_way.link.asks outcome.state.under_way.confirmations) calm.moment later.agrees;

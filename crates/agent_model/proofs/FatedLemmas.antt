@@ -243,7 +243,7 @@ module _ (event : Happening) (body : List ℕ) (take : Port → Port) (mild : Is
 
 module _ (state : State) (tied : IsTied state) where
   -- its port isn't a client's
-  tied-close : (link : LinkState) → AreTied (close_helper link state.ports) state.under_way.link.asks
+  pub tied-close : (link : LinkState) → AreTied (close_helper link state.ports) state.under_way.link.asks
   tied-close states.None = tied.tied
   tied-close (states.Starting job) = tied.tied
   tied-close (states.Linked at) = tied-fewer state.ports _ _ (fewer-removed at 0 state.last_port state.ports tied.rising) tied.tied

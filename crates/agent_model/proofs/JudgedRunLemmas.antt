@@ -52,7 +52,7 @@ goes-made old outcome judges = record {
 }
 
 -- no port has a number above the last
-pub absent_above : (number low high : ℕ) (ports : List Port) → IsRising low high ports → high < number → find_port number ports ≡ None
+absent_above : (number low high : ℕ) (ports : List Port) → IsRising low high ports → high < number → find_port number ports ≡ None
 absent_above number low high ports rising above = by_found (find_port number ports) refl
   where
     by_found : (found : Option Port) → find_port number ports ≡ found → find_port number ports ≡ None

@@ -28,6 +28,7 @@ pub mod KeyLemmas
 pub mod OnceLemmas
 pub mod TraceLemmas
 pub mod PutLemmas
+pub mod AgreedLemmas
 pub mod SignLemmas
 pub mod AnswerLemmas
 pub mod JudgeLemmas

@@ -74,7 +74,7 @@ pub plain-answers : (settled : List Settled) (before : Answering) → ArePlain b
 plain-answers [] before plain = plain
 plain-answers (one ∷ later) before plain = plain-answers later (answer_by one.answer one before) (plain-answer one.answer one before plain)
 
-plain-lost : (actions : List Action) (fault : Option LinkFault) (state : State) → ArePlain actions → ArePlain (actions ++ (lose_if fault state).actions)
+pub plain-lost : (actions : List Action) (fault : Option LinkFault) (state : State) → ArePlain actions → ArePlain (actions ++ (lose_if fault state).actions)
 plain-lost actions None state plain = plain-append actions [] plain tt
 plain-lost actions (Some fault) state plain = plain-append actions (Lost ∷ []) plain (tt, tt)
 
@@ -102,7 +102,7 @@ ended-plain job (Over other ∷ later) plain = absurd plain.0
 ended-plain job (Lost ∷ later) plain = ended-plain job later plain.1
 
 -- nothing is granted and nothing ends by them
-among-plain : (action : Action) (actions : List Action) → (IsPlain action → ⊥) → ArePlain actions → IsAmong action actions → ⊥
+pub among-plain : (action : Action) (actions : List Action) → (IsPlain action → ⊥) → ArePlain actions → IsAmong action actions → ⊥
 among-plain action [] other plain among = among
 among-plain action (one_is ∷ later) other plain (inl same) = other (subst IsPlain same plain.0)
 among-plain action (one_is ∷ later) other plain (inr there) = among-plain action later other plain.1 there

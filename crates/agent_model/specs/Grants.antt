@@ -8,7 +8,9 @@ use Rattle.agent_msg.specs.Requests.{Sign, Signing}
 use Rattle.agent_model.specs.Actions.{Action, Answered, Asked, Asking, Granted, Lost, Over, Proved, Raised, Raising, Requested, Requesting}
 use Rattle.agent_model.specs.Askable.{IsGrantable}
 use Rattle.agent_model.specs.Binds.{agent_request_of}
-use Rattle.agent_model.specs.State.{Port, State, find_port}
+use Rattle.agent_model.specs.Fates.{IsTold}
+use Rattle.agent_model.specs.State.{OnAsk, OnConfirmation, Port, State, find_port}
+use Rattle.agent_model.specs.Verdicts.{Awaits, Cause, NotConfirmed, Refuses}
 
 -- ---- what is waited for
 
@@ -109,3 +111,14 @@ IsAmong action (first ∷ later) = (first ≡ action) ⊎ IsAmong action later
 pub data IsPut (asking : Asking) (signing : Signing) (waiting : ℕ → Option Raising) (state : State) (actions : List Action) : Type 0 where
   at_once : (requesting : Requesting) (key : HeldKey) → IsAmong (Requested requesting) actions → requesting.port ≡ asking.port → agent_request_of requesting.body ≡ Ok (Sign signing) → find_identity signing.blob state.held.table.identities ≡ Some key → key.confirm ≡ false → IsPut asking signing waiting state actions
   by_consent : (job : ℕ) (raising : Raising) (key : HeldKey) (port : Port) → IsAmong (Granted job) actions → waiting job ≡ Some raising → raising.port ≡ asking.port → raising.signing ≡ signing → find_port asking.port state.ports ≡ Some port → IsGrantable key port.chain raising.addition signing.message state.moment.wall state.held → IsPut asking signing waiting state actions
+
+-- ---- what becomes of who waits for the user
+
+-- a client that waited for the confirmation of this job, after an event with these actions: it goes on waiting where
+-- that didn't end, and is told SSH_AGENT_FAILURE where it ended without consent; at consent it waits for the ask that
+-- is put for it, or is told SSH_AGENT_FAILURE
+pub data IsAgreed (number job : ℕ) (actions : List Action) (ports : List Port) : Type 0 where
+  unagreed : (IsAmong (Granted job) actions → ⊥) → (IsAmong (Over job) actions → ⊥) → IsTold number (Awaits (OnConfirmation job)) ports → IsAgreed number job actions ports
+  disagreed : IsAmong (Over job) actions → IsTold number (Refuses NotConfirmed) ports → IsAgreed number job actions ports
+  agreed : (asking : Asking) → IsAmong (Granted job) actions → IsAmong (Asked asking) actions → asking.port ≡ number → IsTold number (Awaits (OnAsk asking.ask)) ports → IsAgreed number job actions ports
+  ungranted : (cause : Cause) → IsAmong (Granted job) actions → IsTold number (Refuses cause) ports → IsAgreed number job actions ports

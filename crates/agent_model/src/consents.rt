@@ -1,6 +1,6 @@
 //! Laws of the user's consent: who waits for it, and where what a child process sends is cut.
 
-ghost use Rattle.std.specs.Prelude.{◌≡◌, ◌↔◌, ◌+◌, ◌++◌, ◌≤◌, ℕ, List, Option, None, Some, IsSome};
+ghost use Rattle.std.specs.Prelude.{◌≡◌, ◌≢◌, ◌↔◌, ◌+◌, ◌++◌, ◌≤◌, ℕ, List, Option, None, Some, IsSome};
 ghost use Rattle.std.specs.Option.{option_map};
 ghost use Rattle.world_ports.specs.declared.Moment.{Moment};
 ghost use Rattle.confirm_desk.specs.Confirmations.{Confirmation};
@@ -12,9 +12,9 @@ ghost use Rattle.agent_model.specs.Askable.{HasRoom, IsGrantable, IsRefusedAtGra
 ghost use Rattle.agent_model.specs.Asking.{IsAsking, IsAttended};
 ghost use Rattle.agent_model.specs.Consents.{grant_by, signing_of};
 ghost use Rattle.agent_model.specs.Errands.{Signs, put_unless};
-ghost use Rattle.agent_model.specs.Events.{Happening, Heard, Timed};
-ghost use Rattle.agent_model.specs.Fates.{actions_of};
-ghost use Rattle.agent_model.specs.Grants.{HaveOwnParts, IsAmong, IsPut, noted, pending, times_ended, times_raised, wanted};
+ghost use Rattle.agent_model.specs.Events.{Ended, Happening, Heard, Timed};
+ghost use Rattle.agent_model.specs.Fates.{IsTold, actions_of};
+ghost use Rattle.agent_model.specs.Grants.{HaveOwnParts, IsAgreed, IsAmong, IsPut, noted, pending, times_ended, times_raised, wanted};
 ghost use Rattle.agent_model.specs.KeyStates.{KeyState};
 ghost use Rattle.agent_model.specs.Runs.{forget_closes, run};
 ghost use Rattle.agent_model.specs.Sound.{IsTied};
@@ -56,6 +56,18 @@ pub fn a_piece_of_a_confirmer_in_two_parts()
         → (step state moment (Heard number (a ++ b))).put
         ≡ (step state moment (Heard number a)).put
         ++ (step (step state moment (Heard number a)).state moment (Heard number b)).put }
+{}
+
+/// Whatever happened before, and while its port stays: a client that waits for the user is owed nothing and goes on
+/// waiting until its own confirmation ends, whatever others do. Where that ends without consent it is told
+/// SSH_AGENT_FAILURE; at consent it waits for the ask that is put for it in that event, or is told SSH_AGENT_FAILURE.
+pub fn a_client_waits_for_its_own_consent()
+    ensures waits { (state : State) (number job : ℕ) (port : Port) → IsTied state
+        → find_port number state.ports ≡ Some port → port.waits ≡ OnConfirmation job
+        → IsTold number (Awaits (OnConfirmation job)) state.ports }
+    ensures agreed { (state : State) (moment : Moment) (event : Happening) (number job : ℕ) → IsTied state
+        → event ≢ Ended number → IsTold number (Awaits (OnConfirmation job)) state.ports
+        → IsAgreed number job (step state moment event).actions (step state moment event).state.ports }
 {}
 
 /// Consent leads to an ask exactly where the agent is unlocked, the very addition that the client asked for is held,

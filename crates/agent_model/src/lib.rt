@@ -34,9 +34,9 @@ pub use consent_rows::{
     a_signature_waits_for_the_user, confirmations_are_bounded, consent_is_tested_again,
 };
 pub use consents::{
-    a_piece_of_a_confirmer_in_two_parts, a_signature_has_a_consent_of_its_own,
-    an_addition_that_left_is_never_used, consent_counts_exactly_where_it_may,
-    who_waits_for_the_user_is_open,
+    a_client_waits_for_its_own_consent, a_piece_of_a_confirmer_in_two_parts,
+    a_signature_has_a_consent_of_its_own, an_addition_that_left_is_never_used,
+    consent_counts_exactly_where_it_may, who_waits_for_the_user_is_open,
 };
 pub use laws::{
     a_closed_port_brings_nothing, a_failure_has_a_cause, a_lost_helper_answers_nothing,

@@ -106,4 +106,3 @@ pub fn permitted(alloc: Global, times: u64) -> Result<u64, AllocError> {
     }
     Ok(permitted)
 }
-

@@ -2,6 +2,7 @@
 ghost use Rattle.std.specs.Prelude.{◌≡◌, ◌≤◌, IfOk, IfSome, None, length};
 
 use crate::errors::is_own_want;
+use crate::room::Room;
 use secret_buf::ScrubBuf;
 use std::alloc::Global;
 use std::fs;
@@ -66,10 +67,8 @@ fn read_file<R: SystemFiles>(
     ensures { IfOk result (λ read. IfSome read (λ bytes. length bytes.items ≤ max)) }
 {
     let mut file = fs::open(rt, path)?;
-    let mut room = vec![in alloc; 0u8; ROOM]?;
-    let read = read_all(alloc, &mut file, room.as_mut_slice(), max);
-    room.as_mut_slice().fill(0);
-    read
+    let mut room = Room::zeros(alloc, ROOM)?;
+    read_all(alloc, &mut file, room.as_mut_slice(), max)
 }
 
 // The bytes of a reader, or `None` where it has more than `max`. The buffer wipes what it grows out of
