@@ -1,6 +1,6 @@
 // The program over any input, output and world.
 ghost use Rattle.std.specs.Prelude.{◌≡◌, ◌⊎◌, ℕ, None, Option};
-ghost use Rattle.agent_top.specs.Program.{ReplaysExactly, Completes};
+ghost use Rattle.agent_top.specs.Program.{ReplaysExactly, Completes, RunsLawfully};
 ghost use Rattle.agent_top.specs.ServeProgram.{ServesExactly};
 ghost use Rattle.agent_top.specs.Words.{BeginsServe, IsReplay, IsServe, IsUsage, replay_life, texts_of};
 ghost use Rattle.ready_loop.specs.Serving.{Setting};
@@ -39,6 +39,9 @@ pub fn agent_main<R: Wait, W: World, I: Source, O: Sink>(
         (record { input = I.seen input.old; output = O.seen output.old })
         (record { input = I.seen input.new; output = O.seen output.new }) }
     ensures completes { (life : Option ℕ) → IsReplay words.now life → Completes life result
+        (record { input = I.seen input.old; output = O.seen output.old })
+        (record { input = I.seen input.new; output = O.seen output.new }) }
+    ensures lawful { (life : Option ℕ) → IsReplay words.now life → RunsLawfully life
         (record { input = I.seen input.old; output = O.seen output.old })
         (record { input = I.seen input.new; output = O.seen output.new }) }
     ensures serves { (setting : Setting) → IsServe words.now setting
