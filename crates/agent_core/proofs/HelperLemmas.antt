@@ -98,6 +98,10 @@ numbers-tell_each verdict (asker ∷ askers) ports =
     numbers-tell_each verdict askers (change_port asker (tell verdict) ports)
     ∙ numbers-change_port asker (tell verdict) ports (λ p. refl)
 
+-- the numbers of these ports
+pub numbers-is : (new : OpenPorts) (ports : List Port) → new.ports ≡ ports → numbers new.ports ≡ numbers ports
+numbers-is new ports is = ap numbers is
+
 -- nothing changes where the port isn't open
 pub change_port-absent : (number : ℕ) (f : Port → Port) (ports : List Port) → find_port number ports ≡ None → change_port number f ports ≡ ports
 change_port-absent number f [] absent = refl

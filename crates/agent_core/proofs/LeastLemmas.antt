@@ -29,18 +29,27 @@ least-lesser None None P Q first second = λ n either. elim either [
   | inl p ↦ first n p
   | inr q ↦ second n q
 ]
-least-lesser None (Some m) P Q first second = (inr second.0, λ n either. elim either [
-  | inl p ↦ absurd (first n p)
-  | inr q ↦ second.1 n q
-])
-least-lesser (Some n) None P Q first second = (inl first.0, λ m either. elim either [
-  | inl p ↦ first.1 m p
-  | inr q ↦ absurd (second m q)
-])
-least-lesser (Some n) (Some m) P Q first second = (which (cases_lt n m), λ k either. elim either [
-  | inl p ↦ omega (arith, first.1 k p, below)
-  | inr q ↦ omega (arith, second.1 k q, below_other)
-])
+least-lesser None (Some m) P Q first second = (
+  inr second.0,
+  λ n either. elim either [
+    | inl p ↦ absurd (first n p)
+    | inr q ↦ second.1 n q
+  ],
+)
+least-lesser (Some n) None P Q first second = (
+  inl first.0,
+  λ m either. elim either [
+    | inl p ↦ first.1 m p
+    | inr q ↦ absurd (second m q)
+  ],
+)
+least-lesser (Some n) (Some m) P Q first second = (
+  which (cases_lt n m),
+  λ k either. elim either [
+    | inl p ↦ omega (arith, first.1 k p, below)
+    | inr q ↦ omega (arith, second.1 k q, below_other)
+  ],
+)
   where
     below : min n m ≤ n
     below = grind (arith, nat_tests)

@@ -18,3 +18,4 @@ pub mod LeastLemmas
 pub mod NextConfirmerLemmas
 pub mod ShortLemmas
 pub mod BoundLemmas
+pub mod FailLemmas

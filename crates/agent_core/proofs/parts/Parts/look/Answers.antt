@@ -2,7 +2,8 @@ use Rattle.std.proofs.Common.{◌≡◌, ◌∙◌, ℕ, List, [], ap, refl, sym
 use Rattle.agent_model.specs.State.{State, find_port}
 use Rattle.agent_model.proofs.ClosesLemmas.{gone-none}
 use Rattle.agent_model.proofs.PortsLemmas.{numbers-change_port}
-use Rattle.agent_core.proofs.AgentLemmas.{agent_closed, agent_served, bad_port, whole_port}
+use Rattle.agent_core.proofs.AgentLemmas.{agent_closed, agent_served, bad_port, none_asked, whole_port}
+use Rattle.agent_core.specs.Parts.{state_of}
 use Rattle.agent_core.proofs.HeldLemmas.{after_ok, all_ok}
 use Rattle.agent_core.proofs.HelperLemmas.{closes_same}
 use Rattle.agent_core.proofs.parts.Parts.look.Goals as goal
@@ -34,3 +35,9 @@ returns-in-Bad-clause-state c =
 pub returns-in-More-clause-closes : goal.returns-in-More-clause-closes
 returns-in-More-clause-closes c =
     c.requires.closes ∙ sym (gone-none c.args.self.now.last_port c.args.self.now.ports c.args.self.now.ports refl)
+
+pub serve-requires-clause-alone : goal.serve-requires-clause-alone
+serve-requires-clause-alone c =
+    let there = whole_port (find_port c.args.port c.self.inside.ports.ports) c.in-Whole.body (sym c.in-Whole.ensures) in
+    let state : State = state_of c.self.inside.wall c.self.inside.keys c.self.inside.under_way c.self.inside.ports c.self.inside.ports.closed in
+    none_asked c.args.port c.in-Whole.body there.0 state (rw (← c.self.view_is) at c.requires.tied) there.1 there.2

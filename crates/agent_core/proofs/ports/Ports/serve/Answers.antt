@@ -1,6 +1,7 @@
 use Rattle.std.proofs.Common.{◌≡◌, ◌∙◌, Some, ap}
 use Rattle.agent_model.specs.State.{Port, find_port}
 use Rattle.agent_model.proofs.PortsLemmas.{found_number}
+use Rattle.confirm_desk.specs.Confirmations.{find_asker}
 use Rattle.agent_core.specs.Served.{served_at}
 use Rattle.agent_core.specs.Slots.{OpenPorts, port_of, ports_of}
 use Rattle.agent_core.proofs.HeldLemmas.{after_ok}
@@ -57,3 +58,10 @@ returns-clause-under_way c =
     rw (← c.self.view_is) (λ (port : Port) (there : find_port c.args.number (ports_of c.self.inside.slots.items) ≡ Some port).
     after_ok c.serve_at.result (λ left.
     left ∙ ap (λ (p : Port). (served_at c.args.body_len c.args.wall p c.args.keys.now c.args.under_way.now).work.under_way) (same_found c.self.inside.slots.items c.args.number c.index_mut.result.now port found there)) c.serve_at.ensures.under_way)
+
+pub serve_at-requires-clause-alone : goal.serve_at-requires-clause-alone
+serve_at-requires-clause-alone c =
+    let is = rw c.deref.ensures.value at c.in-Some.ensures in
+    let found = found_slot _ _ _ _ is c.index_mut.ensures.value in
+    let same = found_number c.args.number (ports_of c.self.inside.slots.items) (port_of c.index_mut.result.now) found in
+    ap (λ n. find_asker n c.args.under_way.now.confirmations) same ∙ c.requires.alone
