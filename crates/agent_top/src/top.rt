@@ -1,10 +1,12 @@
 // The program over any input, output and world.
 ghost use Rattle.std.specs.Prelude.{◌≡◌, ◌⊎◌, ℕ, None, Option};
 ghost use Rattle.agent_top.specs.Program.{ReplaysExactly, Completes, RunsLawfully};
+ghost use Rattle.agent_top.specs.ServeLaw.{ServesLawfully};
 ghost use Rattle.agent_top.specs.ServeProgram.{ServesExactly};
 ghost use Rattle.agent_top.specs.Words.{BeginsServe, IsReplay, IsServe, IsUsage, replay_life, texts_of};
 ghost use Rattle.ready_loop.specs.Serving.{Setting};
 ghost use Rattle.replay_run.specs.Claims.{Seen};
+ghost use Rattle.serve_words.specs.Serve.{life_in};
 ghost use Rattle.world_ports.specs.Causes.{Rose};
 ghost use Rattle.world_ports.specs.Streams.{OnlyReads, OnlyWrites};
 
@@ -46,6 +48,8 @@ pub fn agent_main<R: Wait, W: World, I: Source, O: Sink>(
         (record { input = I.seen input.new; output = O.seen output.new }) }
     ensures serves { (setting : Setting) → IsServe words.now setting
         → ServesExactly setting result (W.journal world.old) (W.journal world.new) }
+    ensures serves_lawfully { (setting : Setting) → IsServe words.now setting
+        → ServesLawfully (life_in (texts_of words.now)) setting (W.journal world.old) (W.journal world.new) }
     ensures usage { result ≡ Status.Usage → IsUsage words.now }
     ensures refused { IsUsage words.now
         → (result ≡ Status.Usage) ⊎ ((result ≡ Status.Memory) × BeginsServe words.now) }
