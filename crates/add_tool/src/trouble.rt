@@ -110,7 +110,7 @@ fn plain(fault: AddFault) -> &'static str {
 fn body(fault: KeyFileFault) -> &'static str {
     match fault {
         KeyFileFault::Cipher => {
-            "the key is encrypted: OpenSSH's ssh-add adds such keys to this agent, or ssh-keygen -p removes the passphrase"
+            "the key is encrypted: OpenSSH's ssh-add adds such keys, or ssh-keygen -p removes the passphrase"
         }
         KeyFileFault::Base64 | KeyFileFault::Magic => {
             "no private key of OpenSSH's format: give the text between the two armour lines alone"
