@@ -1,5 +1,7 @@
--- The law of history over the calls of `serve` (ours): the events that they bring, and which signatures are put to the
--- helper then. Read from the end.
+-- The law of history over the calls of `serve` (ours): `ServesLawfully`. From here on down, each file read from its end:
+--   ready_loop, specs/Serving.antt: how far a run of the loop is, by its calls
+--   ready_hub, specs/Answered.antt: what has to come after a call, by its answer
+--   agent_laws, specs/History.antt, Dues.antt, Past.antt: which signature is put to the helper, by what was done before
 use Rattle.std.specs.Prelude.{◌≡◌, ℕ, List, [], ◌∷◌, ◌++◌, Option, Some, None, Result, Ok, Err}
 use Rattle.world_ports.specs.Journal.{Grows}
 use Rattle.world_ports.specs.declared.entry.Entry.{Entry}

@@ -26,8 +26,11 @@ use world_ports::{Sink, Source, World};
 /// serves clients over the world until that fails or, where it is asked to, until it is idle. With any
 /// other words it touches none of the three.
 ///
-/// What the clauses say stands in specs/Program.antt and ServeProgram.antt, whose heads name where to
-/// read on, down to the table of requests.
+/// With both commands a signature is put to the helper exactly where what was done before says so, while
+/// neither the numbers of asks nor those of jobs are spent: `lawful` and `serves_lawfully`.
+///
+/// What the clauses say stands in specs/Program.antt, ServeProgram.antt and ServeLaw.antt, whose heads
+/// name where to read on, down to the table of requests.
 pub fn agent_main<R: Wait, W: World, I: Source, O: Sink>(
     rt: &R,
     alloc: Global,
