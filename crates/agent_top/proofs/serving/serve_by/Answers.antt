@@ -12,3 +12,6 @@ returns-clause-serves g c setting is =
 
 pub returns-clause-serves_lawfully : goal.returns-clause-serves_lawfully
 returns-clause-serves_lawfully g c setting is = serves_lawfully _ setting _ _ is.state
+
+pub returns-in-Err-Memory-clause-serves_lawfully : goal.returns-in-Err-Memory-clause-serves_lawfully
+returns-in-Err-Memory-clause-serves_lawfully g c setting is = serves_lawfully _ setting _ _ is.state
