@@ -6,7 +6,8 @@ use Rattle.replay_run.specs.declared.run_end.RunEnd.{RunEnd}
 use Rattle.replay_run.specs.declared.run_end.RunEnd.TheVariants.{Done, Refused, Memory, ReadFault, WriteFault}
 use Rattle.replay_run.specs.Replay.{run_of}
 use Rattle.replay_run.specs.Claims.{Seen, IsRefused, Ends}
-use Rattle.agent_top.specs.Program.{status_of, ReplaysExactly, IsComplete, IsFinished, HasNoFault, Completes}
+use Rattle.replay_run.proofs.BroughtLemmas.{run-schedule, schedule-lawful}
+use Rattle.agent_top.specs.Program.{status_of, ReplaysExactly, IsComplete, IsFinished, IsLawfulRun, HasNoFault, Completes, RunsLawfully}
 
 -- each end says what its status says
 pub replays_by : (life : Option ℕ) (end : RunEnd) (old new : Seen) → Ends life end old new → ReplaysExactly life (status_of end) old new
@@ -52,4 +53,15 @@ pub completes_by : (life : Option ℕ) (end : RunEnd) (old new : Seen) → Ends 
 completes_by life end old new ends = record {
   complete = complete_by life end old new ends;
   finished = finished_by life end old new ends;
+}
+
+-- ---- the law of history
+
+lawful_run : (life : Option ℕ) (text : List ℕ) → IsLawfulRun life text
+lawful_run life text = record { agent = run-schedule life text; lawful = schedule-lawful life text }
+
+pub lawful_by : (life : Option ℕ) (old new : Seen) → RunsLawfully life old new
+lawful_by life old new = λ bytes read. record {
+  read = lawful_run life bytes;
+  whole = some_of new.input.left (λ rest. IsLawfulRun life (bytes ++ rest)) (λ rest. lawful_run life (bytes ++ rest));
 }

@@ -1,3 +1,4 @@
 pub mod Words
 pub mod Program
 pub mod ServeProgram
+pub mod ServeLaw

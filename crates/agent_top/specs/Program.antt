@@ -1,19 +1,25 @@
 -- What the end of the program says of its input and its output (ours): `ReplaysExactly`, a line a
--- status. From here on down, each file read from its end:
+-- status, and `RunsLawfully` of what it ran. From here on down, each file read from its end:
 --   replay_run, specs/Claims.antt: how the run of a schedule may end
 --   replay_run, specs/Replay.antt: what a schedule prints, by what each line brings
 --   replay_run, specs/Settling.antt: what ports take after each line
+--   replay_run, specs/Brought.antt: the events that the lines and these takings bring
+--   agent_laws, specs/History.antt, Dues.antt, Past.antt: which signature is put to the helper, by what was done before
 --   schedule_text, specs/Lines.antt and Deeds.antt: the lines that are read, and those that are printed
 --   agent_model, specs/Step.antt: one step of the abstract agent
 --   agent_model, specs/Dispatch.antt: the table of requests
-use Rattle.std.specs.Prelude.{◌≡◌, ℕ, Option, None, IfSome}
+use Rattle.std.specs.Prelude.{◌≡◌, ℕ, List, [], Option, None, IfSome}
 use Rattle.world_ports.specs.Causes.{Rose}
+use Rattle.agent_laws.specs.History.{HasNumbers, IsLawful}
+use Rattle.agent_model.specs.Runs.{history, run}
+use Rattle.agent_model.specs.State.{first_state}
 use Rattle.agent_top.specs.declared.status.Status.{Status}
 use Rattle.agent_top.specs.declared.status.Status.TheVariants as status
 use Rattle.replay_run.specs.declared.run_end.RunEnd.{RunEnd}
 use Rattle.replay_run.specs.declared.run_end.RunEnd.TheVariants.{Done, Refused, Memory, ReadFault, WriteFault}
+use Rattle.replay_run.specs.Brought.{events_of}
 use Rattle.replay_run.specs.Replay.{run_of}
-use Rattle.replay_run.specs.Claims.{Seen, EndsDone, EndsRefused, EndsEarly, EndsAtReadFault, EndsAtWriteFault}
+use Rattle.replay_run.specs.Claims.{Seen, HasRead, HoldsOfInput, EndsDone, EndsRefused, EndsEarly, EndsAtReadFault, EndsAtWriteFault}
 
 -- the status of a run that ended so
 abbrev pub status_of : RunEnd → Status
@@ -76,6 +82,17 @@ pub record Completes (life : Option ℕ) (result : Status) (old new : Seen) : Ty
   pub complete : HasNoFault old new → IsComplete result
   pub finished : HasNoFault old new →
       IfSome old.input.left (λ input. (run_of life input).refused ≡ None → IsFinished result)
+
+-- the run of a schedule is that of the events which its lines and their settlings bring; and while neither the numbers of
+-- asks nor those of jobs are spent, a signature is put to the helper in it exactly where what was done before says so
+pub record IsLawfulRun (life : Option ℕ) (text : List ℕ) : Type 0 where
+  pub agent : (run_of life text).agent ≡ run (first_state life) (events_of life text)
+  pub lawful : HasNumbers (run_of life text).agent → IsLawful life [] (history (first_state life) (events_of life text))
+
+-- the run of what was read is such a run, and that of the whole input, where that is told
+abbrev pub RunsLawfully : Option ℕ → Seen → Seen → Type 0
+RunsLawfully life old new =
+    (bytes : List ℕ) → HasRead old new bytes → HoldsOfInput new.input.left bytes (IsLawfulRun life)
 
 -- the exit status
 abbrev pub code_of : Status → ℕ

@@ -1,6 +1,6 @@
 // The command `replay`.
 ghost use Rattle.std.specs.Prelude.{◌≡◌, ◌≢◌, ◌↔◌, ℕ, None, Option};
-ghost use Rattle.agent_top.specs.Program.{ReplaysExactly, Completes, status_of};
+ghost use Rattle.agent_top.specs.Program.{ReplaysExactly, Completes, RunsLawfully, status_of};
 ghost use Rattle.agent_top.specs.Words.{IsReplay, replay_life, texts_of};
 ghost use Rattle.replay_run.specs.Claims.{Seen};
 ghost use Rattle.world_ports.specs.Streams.{OnlyReads, OnlyWrites};
@@ -35,6 +35,9 @@ pub fn replay_main<I: Source, O: Sink>(
         (record { input = I.seen input.old; output = O.seen output.old })
         (record { input = I.seen input.new; output = O.seen output.new }) }
     ensures completes { (life : Option ℕ) → IsReplay words.now life → Completes life result
+        (record { input = I.seen input.old; output = O.seen output.old })
+        (record { input = I.seen input.new; output = O.seen output.new }) }
+    ensures lawful { (life : Option ℕ) → IsReplay words.now life → RunsLawfully life
         (record { input = I.seen input.old; output = O.seen output.old })
         (record { input = I.seen input.new; output = O.seen output.new }) }
     ensures usage { (result ≡ Status.Usage) ↔ (replay_life (texts_of words.now) ≡ None) }

@@ -1,9 +1,10 @@
 // The command `serve`.
 ghost use Rattle.std.specs.Prelude.{◌≡◌, ◌⊎◌, true};
 ghost use Rattle.ready_loop.specs.Serving.{Setting};
+ghost use Rattle.agent_top.specs.ServeLaw.{ServesLawfully};
 ghost use Rattle.agent_top.specs.ServeProgram.{ServesExactly, status_of_serving};
 ghost use Rattle.agent_top.specs.Words.{IsServe, texts_of};
-ghost use Rattle.serve_words.specs.Serve.{is_usage};
+ghost use Rattle.serve_words.specs.Serve.{is_usage, life_in};
 ghost use Rattle.world_ports.specs.Causes.{Rose};
 
 use crate::status::Status;
@@ -32,6 +33,8 @@ pub fn serve_by<R: Wait, W: World>(rt: &R, alloc: Global, words: &[String], worl
     requires { W.last_port world.old ≡ 0 }
     ensures serves { (setting : Setting) → IsServe words.now setting
         → ServesExactly setting result (W.journal world.old) (W.journal world.new) }
+    ensures serves_lawfully { (setting : Setting) → IsServe words.now setting
+        → ServesLawfully (life_in (texts_of words.now)) setting (W.journal world.old) (W.journal world.new) }
     ensures usage { result ≡ Status.Usage → is_usage (texts_of words.now) ≡ true }
     ensures refused { is_usage (texts_of words.now) ≡ true
         → (result ≡ Status.Usage) ⊎ (result ≡ Status.Memory) }

@@ -1,10 +1,12 @@
 // The program over any input, output and world.
 ghost use Rattle.std.specs.Prelude.{◌≡◌, ◌⊎◌, ℕ, None, Option};
-ghost use Rattle.agent_top.specs.Program.{ReplaysExactly, Completes};
+ghost use Rattle.agent_top.specs.Program.{ReplaysExactly, Completes, RunsLawfully};
+ghost use Rattle.agent_top.specs.ServeLaw.{ServesLawfully};
 ghost use Rattle.agent_top.specs.ServeProgram.{ServesExactly};
 ghost use Rattle.agent_top.specs.Words.{BeginsServe, IsReplay, IsServe, IsUsage, replay_life, texts_of};
 ghost use Rattle.ready_loop.specs.Serving.{Setting};
 ghost use Rattle.replay_run.specs.Claims.{Seen};
+ghost use Rattle.serve_words.specs.Serve.{life_in};
 ghost use Rattle.world_ports.specs.Causes.{Rose};
 ghost use Rattle.world_ports.specs.Streams.{OnlyReads, OnlyWrites};
 
@@ -24,8 +26,11 @@ use world_ports::{Sink, Source, World};
 /// serves clients over the world until that fails or, where it is asked to, until it is idle. With any
 /// other words it touches none of the three.
 ///
-/// What the clauses say stands in specs/Program.antt and ServeProgram.antt, whose heads name where to
-/// read on, down to the table of requests.
+/// With both commands a signature is put to the helper exactly where what was done before says so, while
+/// neither the numbers of asks nor those of jobs are spent: `lawful` and `serves_lawfully`.
+///
+/// What the clauses say stands in specs/Program.antt, ServeProgram.antt and ServeLaw.antt, whose heads
+/// name where to read on, down to the table of requests.
 pub fn agent_main<R: Wait, W: World, I: Source, O: Sink>(
     rt: &R,
     alloc: Global,
@@ -41,8 +46,13 @@ pub fn agent_main<R: Wait, W: World, I: Source, O: Sink>(
     ensures completes { (life : Option ℕ) → IsReplay words.now life → Completes life result
         (record { input = I.seen input.old; output = O.seen output.old })
         (record { input = I.seen input.new; output = O.seen output.new }) }
+    ensures lawful { (life : Option ℕ) → IsReplay words.now life → RunsLawfully life
+        (record { input = I.seen input.old; output = O.seen output.old })
+        (record { input = I.seen input.new; output = O.seen output.new }) }
     ensures serves { (setting : Setting) → IsServe words.now setting
         → ServesExactly setting result (W.journal world.old) (W.journal world.new) }
+    ensures serves_lawfully { (setting : Setting) → IsServe words.now setting
+        → ServesLawfully (life_in (texts_of words.now)) setting (W.journal world.old) (W.journal world.new) }
     ensures usage { result ≡ Status.Usage → IsUsage words.now }
     ensures refused { IsUsage words.now
         → (result ≡ Status.Usage) ⊎ ((result ≡ Status.Memory) × BeginsServe words.now) }

@@ -1,6 +1,6 @@
 use Rattle.std.proofs.Common.{◌≡◌, ◌∙◌, ℕ, Option, Some}
 use Rattle.replay_run.specs.Claims.{Seen}
-use Rattle.agent_top.proofs.ProgramLemmas.{replays_by, completes_by}
+use Rattle.agent_top.proofs.ProgramLemmas.{replays_by, completes_by, lawful_by}
 use Rattle.agent_top.proofs.agent.replay_main.Goals as goal
 
 -- the words say one lifetime
@@ -20,3 +20,6 @@ returns-clause-completes g c life replay =
     let new : Seen = record { input = g.I.Stream.seen c.run_replay-end.new.input; output = g.O.Stream.seen c.run_replay-end.new.output } in
     rw (← (same_life (c.in-Some.ensures ∙ replay)), c.status_of_end.ensures)
     (completes_by c.in-Some.words.life c.run_replay-end.result.0 old new c.run_replay-end.ensures.ends)
+
+pub returns-clause-lawful : goal.returns-clause-lawful
+returns-clause-lawful g c life replay = lawful_by life _ _
