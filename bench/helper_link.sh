@@ -2,15 +2,15 @@
 # Asks that are put to a link and answered, for each second, beside a Python dict that does the same:
 # requests are appended and kept by their number, which each answer is looked up by. The argument is
 # the number of batches of 256 asks, 20000 where there is none. Needs python3; `rt ci` builds the
-# program, and so does `rt run -- 1` in crates/link_bench.
+# program, and so does `rt run -- link 1` in crates/bench_tool.
 set -eu
 cd "$(dirname "$0")/.."
-program=crates/link_bench/out/link_bench
+program=crates/bench_tool/out/bench_tool
 batches=${1:-20000}
 [ -x "$program" ] || { echo "bench: $program is not built" >&2; exit 1; }
 
 start=$EPOCHREALTIME
-"$program" "$batches" > /dev/null
+"$program" link "$batches" > /dev/null
 took=$(awk -v from="$start" -v to="$EPOCHREALTIME" 'BEGIN { printf "%.6f", to - from }')
 
 python3 - "$batches" "$took" <<'PYTHON'

@@ -1,12 +1,12 @@
 #!/bin/sh
 # Times the look for a host in files of known hosts with hashed lines, beside `ssh-keygen -F` over the same file on the
-# same machine. Wants python3, ssh-keygen, and crates/hosts_bench/out/hosts_bench, which `rt ci` or `rt run` leaves there.
+# same machine. Wants python3, ssh-keygen, and crates/bench_tool/out/bench_tool, which `rt ci` or `rt run` leaves there.
 # Prints a line a file: its size, seconds of the program, seconds of ssh-keygen, and the ratio of the two. The second
 # file is half as long as the first: a time that is linear is half of the first one's.
 set -eu
 cd "$(dirname "$0")/.."
-program=crates/hosts_bench/out/hosts_bench
-[ -x "$program" ] || { echo "no $program: run rt ci hosts_bench" >&2; exit 1; }
+program=crates/bench_tool/out/bench_tool
+[ -x "$program" ] || { echo "no $program: run rt ci bench_tool" >&2; exit 1; }
 python3 - "$program" <<'PYTHON'
 import base64, hashlib, hmac, os, random, subprocess, sys, tempfile, time
 
@@ -38,7 +38,7 @@ with tempfile.TemporaryDirectory() as folder:
             for number in range(others):
                 file.write(line(f"host{number}.example.org", chance))
             file.write(own)
-        words = [sys.argv[1], path, host]
+        words = [sys.argv[1], "hosts", path, host]
         answer = subprocess.run(words, capture_output=True, text=True, check=True).stdout.strip()
         assert answer == "1 keys", answer
         ours = best(words)

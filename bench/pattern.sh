@@ -1,11 +1,11 @@
 #!/bin/sh
 # Times searches of pattern_core at their worst, beside Python's fnmatch for the same text and pattern on the same
-# machine. Wants python3, and crates/pattern_bench/out/pattern_bench, which `rt ci` or `rt run` leaves there.
+# machine. Wants python3, and crates/bench_tool/out/bench_tool, which `rt ci` or `rt run` leaves there.
 # Prints a line a case: pattern, seconds of the program, seconds of fnmatch, and the ratio of the two.
 set -eu
 cd "$(dirname "$0")/.."
-program=crates/pattern_bench/out/pattern_bench
-[ -x "$program" ] || { echo "no $program: run rt ci pattern_bench" >&2; exit 1; }
+program=crates/bench_tool/out/bench_tool
+[ -x "$program" ] || { echo "no $program: run rt ci bench_tool" >&2; exit 1; }
 python3 - "$program" <<'PYTHON'
 import fnmatch, re, subprocess, sys, time
 
@@ -19,7 +19,7 @@ def best(call, runs=5):
 
 text = "a" * 65536
 for pattern in ["*a*a*a*b", "*" + "a" * 64 + "b", "*" + "a" * 512 + "b"]:
-    words = [sys.argv[1], str(len(text)), pattern]
+    words = [sys.argv[1], "pattern", str(len(text)), pattern]
     answer = subprocess.run(words, capture_output=True, text=True, check=True).stdout.strip()
     assert answer == "false", answer
     ours = best(lambda: subprocess.run(words, capture_output=True, check=True))

@@ -1,10 +1,10 @@
 #!/usr/bin/env bash
 # Bytes per second through a ScrubBuf and through a plain Vec, and their ratio. The argument is the
 # number of pieces of 16 KiB, 200000 where there is none. `rt ci` builds the program, and so does
-# `rt run -- buffer 1` in crates/buffer_bench.
+# `rt run -- buffer 1` in crates/bench_tool.
 set -eu
 cd "$(dirname "$0")/.."
-program=crates/buffer_bench/out/buffer_bench
+program=crates/bench_tool/out/bench_tool
 pieces=${1:-200000}
 [ -x "$program" ] || { echo "bench: $program is not built" >&2; exit 1; }
 

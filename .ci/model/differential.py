@@ -18,7 +18,7 @@ from pathlib import Path
 from agent import STAGES
 from generate import Case, Schedule, goals
 from replay import LONGEST_LINE, LONGEST_SCHEDULE, replay
-from rows_rules import EVERY_ROW
+from rows_logins import EVERY_ROW
 
 HERE = Path(__file__).parent
 Result = tuple[bytes, int]
@@ -264,7 +264,7 @@ def main() -> int:
     print(f"seed {words.seed}")
     if words.wrong:
         return int(not try_wrong(words.count, words.seed))
-    stages = [stage for stage in STAGES if getattr(words, stage)]
+    stages = [stage for stage in STAGES if getattr(words, stage)] or list(STAGES)
     good = (
         try_rows(words.program, stages)
         and try_longest(words.program)

@@ -204,3 +204,19 @@ row(
     [*START_PRINT, to(2, verify(2, H1, S1)), to(1, NO), to(1, NO), to(2, verify(3, H2, S1))]
     + [to(1, OK)],
 )
+row(
+    "a client that leaves while its binding is verified",
+    BINDINGS,
+    ["join client", *hear(1, bind(H1, S1, 1)), *helper(2), "end 1", *hear(2, true(1))]
+    + ["join client", *hear(3, LIST, bind(H1, S1, 0)), *hear(2, true(2))],
+    ["start 1 helper", to(2, verify(1, H1, S1)), "close 1", to(3, listing())]
+    + [to(2, verify(2, H1, S1)), to(3, OK)],
+)
+row(
+    "a helper that is lost before it verified; the next one is asked anew",
+    BINDINGS,
+    ["join client", *hear(1, bind(H1, S1, 0)), *helper(2), "end 2", *hear(1, bind(H1, S1, 0))]
+    + ["started 2 " + "00" * 16, "join child", *hear(3, hello(2)), *hear(3, true(2))],
+    ["start 1 helper", to(2, verify(1, H1, S1)), "close 2", to(1, NO), "start 2 helper"]
+    + [to(3, verify(2, H1, S1)), to(1, OK)],
+)

@@ -190,6 +190,33 @@ row(
     + hear(2, LIST),
     [to(1, OK), to(1, NO), to(1, NOTHING), to(1, OK), to(2, NOTHING)],
 )
+late = asked(1, 2, 2, bound_login(S1, b"perseus", H1))
+row(
+    "a binding that is verified while the agent is locked is taken",
+    RULES,
+    ["join client", *hear(1, ruled(RULE_USER), bind(H1, S1, 0)), *helper(2), "join client"]
+    + [*hear(3, lock(b"a")), *hear(2, true(1)), *hear(1, LIST), *hear(3, unlock(b"a"))]
+    + [*hear(1, LIST), *late[0]],
+    [to(1, OK), "start 1 helper", to(2, verify(1, H1, S1)), to(3, OK), to(1, OK), to(1, NOTHING)]
+    + [to(3, OK), to(1, listing(ONE)), *late[1]],
+)
+row(
+    "a binding that was never verified hides the key",
+    RULES,
+    ["join client", *hear(1, ruled(RULE_USER), bind(H1, S1, 0)), *helper(2), "end 2"]
+    + hear(1, LIST),
+    [to(1, OK), "start 1 helper", to(2, verify(1, H1, S1)), "close 2", to(1, NO), to(1, NOTHING)],
+)
+away = chain(3, 2, 2, (H2, S2, 0))
+here = asked(1, 2, 3, bound_login(S1, b"u", H1))
+row(
+    "two connections that are bound to different hosts",
+    RULES,
+    ["join client", *hear(1, ruled(*RULE_TWO)), *one[0], "join client", *hear(3, LIST), *away[0]]
+    + [*hear(3, LIST, sign(K1, bound_login(S2, b"u", H2)), remove(K1)), *hear(1, LIST), *here[0]],
+    [to(1, OK), *one[1], to(3, listing(ONE)), *away[1], to(3, NOTHING), to(3, NO), to(3, NO)]
+    + [to(1, listing(ONE)), *here[1]],
+)
 ORG = st(b"*.example.org")
 for what, host_key, entry, fits in [
     ("an authority", CERT, (H2, 1), True),

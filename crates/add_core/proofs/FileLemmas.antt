@@ -1,12 +1,12 @@
 -- Files, one after another.
-use Rattle.std.proofs.Common.{◌≡◌, ◌<◌, ◌+◌, ℕ, List, [], ◌∷◌, drop, map, length, get_or, Option, ◌≤◌, Ok, Err, refl, sym, ap, subst, ◌∙◌}
+use Rattle.std.proofs.Common.{◌≡◌, ◌<◌, ◌+◌, ℕ, List, drop, map, length, get_or, Option, ◌≤◌, Ok, Err, sym, ap, subst, ◌∙◌}
 use Rattle.std.specs.Borrow.{Bor}
 use Rattle.std.proofs.lemmas.List.{drop_more, drop_all}
 use Rattle.world_ports.specs.Streams.{StreamView}
 use Rattle.add_core.specs.declared.fault.Stop.{Stop}
 use Rattle.add_core.specs.declared.sending.FileTask.{FileTask}
 use Rattle.add_core.specs.Sendings.{file_step, each_file}
-use Rattle.add_core.specs.Steps.{Step, nothing, followed, Stops, IsWhole}
+use Rattle.add_core.specs.Steps.{Step, followed, Stops, IsWhole}
 use Rattle.add_core.proofs.StepLemmas.{stops_in_front, goes_on, followed-assoc, followed-nothing}
 
 -- the paths that words lend

@@ -1,8 +1,8 @@
 -- A reply that is read in two parts, its length and its body.
-use Rattle.std.proofs.Common.{◌≡◌, ◌⊎◌, inl, inr, ◌+◌, ◌<◌, ◌≤◌, ℕ, List, length, take, drop, Option, None, Some, refl, sym, ap, ◌∙◌, arith, Result, Ok, Err, MatchResult}
+use Rattle.std.proofs.Common.{◌≡◌, ◌⊎◌, inl, inr, ◌<◌, ◌≤◌, ℕ, List, length, take, drop, None, Some, refl, sym, ap, ◌∙◌, arith, Result, Ok, Err, MatchResult}
 use Rattle.std.proofs.lemmas.List.{length-drop, drop-drop}
 use Rattle.wire_text.specs.Wire.{announced_len}
-use Rattle.wire_text.specs.Frames.{Front, Whole, Bad, More, front, front_body, after_front, StartsWithFrame, StartsBadly}
+use Rattle.wire_text.specs.Frames.{Front, Whole, Bad, More, front, front_body, after_front, StartsWithFrame}
 use Rattle.wire_text.proofs.WireLemmas.{announced_len-take}
 use Rattle.wire_text.proofs.FrontLemmas.{front-whole, front-bad, front-short, front-waits}
 use Rattle.world_ports.specs.Streams.{StreamView}

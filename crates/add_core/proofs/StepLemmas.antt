@@ -3,16 +3,16 @@ use Rattle.std.proofs.Common.{◌≡◌, ℕ, List, [], ◌++◌, Option, None, 
 use Rattle.std.proofs.KnownBytes.{Appends-nil, Appends-trans}
 use Rattle.std.proofs.lemmas.List.{append-nil}
 use Rattle.std.specs.Io.KnownBytes.{Appends}
-use Rattle.world_ports.specs.Streams.{StreamView, OnlyReads, WritesFront, WritesPart}
+use Rattle.world_ports.specs.Streams.{StreamView, OnlyReads, WritesPart}
 use Rattle.add_core.specs.declared.fault.AddFault.{AddFault}
 use Rattle.add_core.specs.declared.fault.AddFault.TheVariants as why
 use Rattle.add_core.specs.declared.fault.Stop.{Stop}
 use Rattle.add_core.specs.declared.fault.Stop.TheVariants.{Fault, Memory}
-use Rattle.add_core.specs.Steps.{Step, nothing, failing, telling, followed_by, followed, IsMade, IsCut, IsStopped, Stops, IsWhole, Follows}
+use Rattle.add_core.specs.Steps.{Step, nothing, telling, followed_by, followed, IsMade, IsCut, IsStopped, Stops, IsWhole, Follows}
 use Rattle.agent_msg.specs.ReplyReading.{reply_of}
 use Rattle.agent_msg.specs.declared.agent_reply.ReplyFault.{ReplyFault}
 use Rattle.agent_msg.specs.ReplyReading.{AgentReply}
-use Rattle.add_core.specs.Hearing.{answer_at, TakesReply}
+use Rattle.add_core.specs.Hearing.{TakesReply}
 use Rattle.add_core.specs.Exchanges.{answered, asked, judged, reply_in, reply_at, verdict_of, stepped, Refuses, Judges}
 
 -- ---- fronts

@@ -1,5 +1,5 @@
 -- The end of the tool: its last step, and then the last line.
-use Rattle.std.proofs.Common.{◌≡◌, ◌⊎◌, inl, inr, ◌<◌, ◌≤◌, ◌^◌, ◌-◌, ℕ, Bool, true, false, List, [], ◌++◌, Option, None, Some, Result, Ok, Err, refl, sym, ap, subst, ◌∙◌, arith}
+use Rattle.std.proofs.Common.{◌≡◌, ◌⊎◌, inl, inr, ◌≤◌, ℕ, Bool, true, false, List, [], ◌++◌, Option, None, Some, Result, Ok, Err, refl, sym, ap, subst, arith}
 use Rattle.std.specs.Io.KnownBytes.{Appends}
 use Rattle.std.proofs.KnownBytes.{Appends-nil, Appends-trans}
 use Rattle.std.proofs.lemmas.Bool.{cases_lt}
@@ -11,8 +11,9 @@ use Rattle.add_core.specs.declared.fault.AddStatus.{AddStatus}
 use Rattle.add_core.specs.declared.fault.AddStatus.TheVariants.{Done, Failed, Memory as OutOfMemory}
 use Rattle.add_core.specs.declared.fault.Stop.{Stop}
 use Rattle.add_core.specs.declared.fault.Stop.TheVariants.{Fault, Memory}
+use Rattle.add_words.specs.Words.{words_of}
 use Rattle.add_core.specs.Steps.{Step, IsMade, IsCut}
-use Rattle.add_core.specs.Talk.{Transcript, told_by, form_of, talk, talk_for, only_ends, status_of, last_line, ended, Runs, WritesAllOrFails, IsDone, IsCutOff, IsEnd, Ends}
+use Rattle.add_core.specs.Talk.{Transcript, told_by, talk, talk_for, only_ends, status_of, last_line, ended, Runs, WritesAllOrFails, IsCutOff, IsEnd, Ends}
 use Rattle.add_core.proofs.StepLemmas.{later_front, no_front}
 
 -- ---- counts
@@ -181,7 +182,7 @@ run_ends false answer step p0 p1 o0 o1 e0 m e1 runs later ends = lines_ends answ
 
 -- words that are none of the tool's forms, or memory that ran out before
 pub refused_ends : (status : AddStatus) (words : List (List ℕ)) (has_agent : Bool) (held : List ℕ → Option (List ℕ)) (left replies : List ℕ)
-    (p o e0 e1 : StreamView) → (status ≡ OutOfMemory) ⊎ ((status ≡ Failed why.Usage) × (form_of words ≡ None))
+    (p o e0 e1 : StreamView) → (status ≡ OutOfMemory) ⊎ ((status ≡ Failed why.Usage) × (words_of words ≡ None))
     → WritesAllOrFails (last_line status) e0 e1 → Ends status (talk words has_agent held left replies) p p o o e0 e1
 refused_ends status words has_agent held left replies p o e0 e1 (inl memory) ends =
     let t = talk words has_agent held left replies in

@@ -1,5 +1,5 @@
 -- Requests and their replies: what is sent, what is told of the reply, and what is made of it.
-use Rattle.std.specs.Prelude.{◌≡◌, ◌+◌, ◌≤◌, ℕ, nat_lt, List, [], ◌∷◌, ◌++◌, length, Option, None, Some, Result, Ok, Err, if◌then◌else◌}
+use Rattle.std.specs.Prelude.{◌≡◌, ℕ, nat_lt, List, [], length, Option, None, Some, Result, Ok, Err, if◌then◌else◌}
 use Rattle.wire_text.specs.Wire.{string}
 use Rattle.agent_msg.specs.declared.agent_reply.ReplyFault.{ReplyFault}
 use Rattle.agent_msg.specs.declared.agent_reply.ReplyFault.TheVariants.{Empty}

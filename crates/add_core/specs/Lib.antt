@@ -3,6 +3,7 @@ pub mod Hearing
 pub mod Listings
 pub mod Locks
 pub mod Passphrases
+pub mod Restrictions
 pub mod Sendings
 pub mod Steps
 pub mod Talk

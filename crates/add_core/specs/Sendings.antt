@@ -1,5 +1,5 @@
 -- What is made of files: a request to add or to remove each key, one after another.
-use Rattle.std.specs.Prelude.{ℕ, ◌+◌, ◌^◌, ◌-◌, min, nat_lt, List, [], ◌∷◌, ◌++◌, length, codes, Option, None, Some, Result, Ok, Err, if◌then◌else◌}
+use Rattle.std.specs.Prelude.{ℕ, ◌+◌, ◌^◌, ◌-◌, min, nat_lt, List, [], ◌∷◌, ◌++◌, length, codes, Option, None, Some, Result, Ok, Err, All, if◌then◌else◌}
 use Rattle.wire_text.specs.Wire.{string}
 use Rattle.key_file.specs.declared.fault.KeyFileFault.{KeyFileFault}
 use Rattle.key_file.specs.declared.fault.KeyFileFault.TheVariants as of_body
@@ -11,7 +11,7 @@ use Rattle.key_file.specs.PublicLines.{line_key}
 use Rattle.agent_msg.specs.Requests.{Add as AddRequest}
 use Rattle.agent_msg.specs.Writing.{request_body}
 use Rattle.constraint_rec.specs.declared.terms.Terms.{Terms}
-use Rattle.constraint_rec.specs.Writing.{IsWritable}
+use Rattle.constraint_rec.specs.Hops.{IsDestination}
 use Rattle.add_core.specs.declared.fault.AddFault.{AddFault}
 use Rattle.add_core.specs.declared.fault.AddFault.TheVariants.{File, FileTooLong, Body, Public}
 use Rattle.add_core.specs.declared.fault.Stop.{Stop}
@@ -67,9 +67,9 @@ abbrev pub sent_for : FileTask → List ℕ → List ℕ → Result (List ℕ ×
 sent_for (Add terms) path text = addition_of terms path (file_of text)
 sent_for Remove path text = removal_of path (line_key text)
 
--- the constraints can be written
+-- the destination constraints are such as can be written
 abbrev pub IsDoable : FileTask → Type 0
-IsDoable (Add terms) = IsWritable terms
+IsDoable (Add terms) = All IsDestination terms.rules
 IsDoable Remove = Unit {0}
 
 -- ---- one file after another

@@ -1,8 +1,7 @@
 -- The tool as a whole: one function of the words, of whether there is an agent, of what the files hold,
 -- of the input and of the agent's bytes (ssh-add(1); the texts and the last line on the errors are ours).
-use Rattle.std.specs.Prelude.{◌≡◌, ◌⊎◌, ℕ, Bool, true, false, List, [], ◌∷◌, ◌++◌, codes, Option, None, Some, Result, Ok, Err, option_and_then}
+use Rattle.std.specs.Prelude.{◌≡◌, ◌⊎◌, ℕ, Bool, true, false, List, [], ◌++◌, codes, Option, None, Some, Result, Ok, Err}
 use Rattle.std.specs.Io.KnownBytes.{Appends}
-use Rattle.constraint_rec.specs.declared.terms.Terms.{Terms}
 use Rattle.world_ports.specs.Causes.{Rose}
 use Rattle.world_ports.specs.Streams.{StreamView, WritesPart, reading_view}
 use Rattle.add_words.specs.declared.command.Command.{Command}
@@ -16,33 +15,23 @@ use Rattle.add_core.specs.declared.fault.Stop.{Stop}
 use Rattle.add_core.specs.declared.fault.Stop.TheVariants as of_stop
 use Rattle.add_core.specs.declared.listing.Listing.TheVariants.{Fingerprints, Keys}
 use Rattle.add_core.specs.declared.sending.FileTask.TheVariants.{Add, Remove}
+use Rattle.add_core.specs.Exchanges.{stepped}
 use Rattle.add_core.specs.Listings.{list_step}
 use Rattle.add_core.specs.Locks.{lock_step, remove_all_step}
+use Rattle.add_core.specs.Restrictions.{terms_for}
 use Rattle.add_core.specs.Sendings.{each_file}
 use Rattle.add_core.specs.Steps.{Step, Follows}
 
--- ---- words
-
--- words with destinations are none of the tool's forms yet
-abbrev pub without_destinations : PlainWords → List (List ℕ) → List (List ℕ) → Option PlainWords
-without_destinations words [] [] = Some words
-without_destinations words (destination ∷ destinations) hosts = None
-without_destinations words [] (host ∷ hosts) = None
-
--- what the words say, or nothing where they are none of the tool's forms
-abbrev pub form_of : List (List ℕ) → Option PlainWords
-form_of words =
-    option_and_then (λ (w : PlainWords). without_destinations w w.destinations w.hosts) (words_of words)
-
--- the constraints of keys that are added
-abbrev pub terms_of : PlainWords → Terms
-terms_of words = record { life = words.life; confirm = words.confirm; rules = [] }
-
 -- ---- steps
+
+-- the files of known hosts and the destinations, and then the files of keys
+abbrev pub add_step : PlainWords → (List ℕ → Option (List ℕ)) → List ℕ → Step
+add_step words held replies =
+    stepped (terms_for words held) (λ terms. each_file (Add terms) held 0 words.files replies)
 
 -- by what is to be done
 abbrev pub step_for : Command → PlainWords → (List ℕ → Option (List ℕ)) → List ℕ → List ℕ → Step
-step_for does.Add words held input replies = each_file (Add (terms_of words)) held 0 words.files replies
+step_for does.Add words held input replies = add_step words held replies
 step_for does.Remove words held input replies = each_file Remove held 0 words.files replies
 step_for does.RemoveAll words held input replies = remove_all_step replies
 step_for does.List words held input replies = list_step Fingerprints replies
@@ -132,7 +121,7 @@ talk_for (Some words) has_agent held input replies = talk_with has_agent words h
 
 -- words, whether there is an agent, files, input, the agent's bytes
 abbrev pub talk : List (List ℕ) → Bool → (List ℕ → Option (List ℕ)) → List ℕ → List ℕ → Transcript
-talk words has_agent held input replies = talk_for (form_of words) has_agent held input replies
+talk words has_agent held input replies = talk_for (words_of words) has_agent held input replies
 
 -- ---- what the code does
 

@@ -4,22 +4,10 @@ ghost use Rattle.add_core.specs.declared.fault.PeerStop.TheVariants.{Failed as P
 ghost use Rattle.add_core.specs.declared.fault.Stop.TheVariants.{Fault as Faulty, Memory as NoMemory};
 ghost use Rattle.add_core.specs.Steps.{stop_of};
 
+use add_rules::DestFault;
 use key_file::{KeyFileFault, PubFault};
 use std::alloc::{AllocError, AllocFailed};
 use world_ports::Fault;
-
-/// Why a destination is none.
-#[derive(Clone, Copy, Debug, PartialEq, Eq)]
-pub enum DestFault {
-    /// The host that is left has a user.
-    SourceUser,
-    /// A host is empty.
-    EmptyHost,
-    /// A user is empty.
-    EmptyUser,
-    /// The files of known hosts have no key for a host.
-    NoKeys,
-}
 
 /// Why the tool stopped. What it did before stands.
 #[derive(Clone, Copy, Debug, PartialEq, Eq)]

@@ -1,12 +1,13 @@
 // Files of keys, one after another.
 ghost use Rattle.std.specs.Prelude.{◌≡◌, ◌≢◌, ℕ, List, Option, OnOk, Some, Err, map};
-ghost use Rattle.add_core.specs.Sendings.{IsDoable, each_file, file_step, place_of, text_held};
+ghost use Rattle.add_core.specs.Sendings.{IsDoable, each_file, file_step, place_of, sending_of, sent_for, text_held};
 ghost use Rattle.add_core.specs.Exchanges.{Tells};
-ghost use Rattle.add_core.specs.Steps.{Follows, HasFileCause, HasPeerCause, HasSinkCause, IsOwnOfFiles};
+ghost use Rattle.add_core.specs.Steps.{Follows, HasFileCause, HasPeerCause, HasSinkCause, IsOwn, IsOwnOfFiles};
 
 use crate::exchange::request;
 use crate::fault::{AddFault, Stop};
-use crate::sending::FileTask;
+use crate::key_text::KeyText;
+use crate::sending::{FileTask, Sending};
 use std::alloc::Global;
 use world_ports::{FileFault, Files, Sink, Source};
 
@@ -46,9 +47,17 @@ pub fn read_text<F: Files>(
     }
 }
 
+/// The request for a file of this text, which may hold a private key and is wiped.
+fn made(alloc: Global, task: &mut FileTask, path: &str, text: KeyText) -> Result<Sending, Stop>
+    requires { IsDoable task.old }
+    ensures told { Tells sending_of result (sent_for task.old path.now text) }
+    ensures own { IsOwn result }
+    ensures kept { OnOk result (task.new ≡ task.old) }
+{
+    task.sending(alloc, path, text.as_slice())
+}
+
 /// Sends the request for a file, which stands at this place.
-///
-/// Its text, which may hold a private key, is zero before its memory is given back.
 fn send_file<F: Files, P: Source + Sink, E: Sink>(
     alloc: Global,
     files: &mut F,
@@ -70,13 +79,8 @@ fn send_file<F: Files, P: Source + Sink, E: Sink>(
     ensures errors { HasSinkCause result (E.seen errors.old) (E.seen errors.new) }
     ensures input { result ≢ Err (Stop.Fault AddFault.InputFault) }
 {
-    let mut text = read_text(alloc, files, path, place, LONGEST_KEY)?;
-    let made = task.sending(alloc, path, &text);
-    text.as_mut_slice().fill(0);
-    let sending = match made {
-        Ok(sending) => sending,
-        Err(stop) => return Err(stop),
-    };
+    let text = read_text(alloc, files, path, place, LONGEST_KEY)?;
+    let sending = made(alloc, task, path, KeyText::of(text))?;
     request(alloc, peer, errors, sending.frame.live(), &sending.line)
 }
 

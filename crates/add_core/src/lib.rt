@@ -1,5 +1,5 @@
 //! `ssh-add`: adds keys to an agent, removes and lists them, locks and unlocks it (ssh-add(1)), over
-//! any files, connection, input and outputs. Stands on agent_msg, key_file, known_hosts, add_words and
+//! any files, connection, input and outputs. Stands on agent_msg, key_file, add_words, add_rules and
 //! world_ports.
 #![tactic(auto)]
 
@@ -7,11 +7,15 @@ mod exchange;
 mod fault;
 mod files;
 mod hearing;
+mod key_text;
 mod listing;
 mod locking;
 mod passphrase;
+mod restriction;
 mod sending;
 mod tool;
 
-pub use fault::{AddFault, AddStatus, DestFault};
+pub use add_rules::DestFault;
+pub use fault::{AddFault, AddStatus};
 pub use tool::add_main;
+pub use world_ports::read_life;

@@ -1,18 +1,19 @@
 // The request that is made of a file.
-ghost use Rattle.std.specs.Prelude.{◌≡◌, ◌≢◌, [], Ok, Err, IfOk, OnOk, MatchResult, length};
+ghost use Rattle.std.specs.Prelude.{◌≡◌, ◌≢◌, [], Ok, Err, All, IfOk, OnOk, MatchResult};
 ghost use Rattle.add_core.specs.Exchanges.{Tells, sized};
 ghost use Rattle.add_core.specs.Sendings.{added_line, addition_of, body_stop, line_stop, removal_of, removed_line, sending_of, sent_for, IsDoable};
 ghost use Rattle.add_core.specs.Steps.{IsOwn};
 ghost use Rattle.agent_msg.specs.Requests.{Add};
 ghost use Rattle.agent_msg.specs.Writing.{request_body};
-ghost use Rattle.constraint_rec.specs.Writing.{IsWritable, constraints_bytes};
+ghost use Rattle.constraint_rec.specs.Hops.{IsDestination};
 ghost use Rattle.key_blob.specs.AddedKeys.{IsAddedKey};
 ghost use Rattle.key_file.specs.BodyReading.{file_of};
 ghost use Rattle.key_file.specs.PublicLines.{line_key};
 
 use crate::fault::{AddFault, Stop};
+use add_rules::constraints_len;
 use agent_msg::{Request, write_request};
-use constraint_rec::{Terms, write_constraints};
+use constraint_rec::Terms;
 use key_blob::AddedKey;
 use key_file::{KeyFile, KeyFileFault, PubFault, read_body, read_pub_line};
 use secret_buf::ScrubBuf;
@@ -95,16 +96,6 @@ fn removal(alloc: Global, path: &str, text: &[u8]) -> Result<Sending, Stop>
     Ok(Sending { frame, line })
 }
 
-/// How many bytes constraints take.
-fn constraints_len(alloc: Global, terms: &Terms) -> Result<usize, AllocError>
-    requires { IsWritable terms.now }
-    ensures { IfOk result (λ len. len ≡ length (constraints_bytes terms.now)) }
-{
-    let mut text = Vec::new(alloc);
-    write_constraints(&mut text, terms)?;
-    Ok(text.len())
-}
-
 /// The constraints of an addition.
 fn given_back(alloc: Global, request: Request<'_>) -> Terms
     ensures { (key : _) (comment : _) (terms : _) → request.entry ≡ Request.Add key comment terms
@@ -128,7 +119,7 @@ fn addition_frame(
     terms: &mut Terms,
 ) -> Result<ScrubBuf, Stop>
     requires key { IsAddedKey key }
-    requires terms { IsWritable terms.old }
+    requires terms { All IsDestination terms.old.rules }
     ensures told { MatchResult result
         (λ frame. sized (request_body (Add record { key = key; comment = comment.now; terms = terms.old })) []
         ≡ Ok (frame.live, []))
@@ -138,9 +129,8 @@ fn addition_frame(
     ensures own { IsOwn result }
     ensures kept { OnOk result (terms.new ≡ terms.old) }
 {
-    let constraints = constraints_len(alloc, terms)?;
     let fields = key.private.len().saturating_add(comment.len());
-    if fields.saturating_add(constraints) > LONGEST_REQUEST - 5 {
+    if fields.saturating_add(constraints_len(terms)) > LONGEST_REQUEST - 5 {
         return Err(Stop::Fault(AddFault::TooLong));
     }
     let mut frame = ScrubBuf::new(alloc);
@@ -156,7 +146,7 @@ fn addition_frame(
 
 /// The request to add the private key of this text.
 fn addition(alloc: Global, path: &str, text: &[u8], terms: &mut Terms) -> Result<Sending, Stop>
-    requires { IsWritable terms.old }
+    requires { All IsDestination terms.old.rules }
     ensures told { Tells sending_of result (addition_of terms.old path.now (file_of text.now)) }
     ensures own { IsOwn result }
     ensures kept { OnOk result (terms.new ≡ terms.old) }

@@ -1,8 +1,8 @@
 // The tool.
 ghost use Rattle.std.specs.Prelude.{◌≡◌, ◌≢◌, ◌⊎◌, ◌≤◌, ℕ, List, Option, Some, None, Err, IfSome, MatchResult, true, is_some, map, option_map, string_bytes};
-ghost use Rattle.add_core.specs.Steps.{HasFileCause, HasPeerCause};
-ghost use Rattle.add_core.specs.Talk.{Ends, Runs, WritesAllOrFails, agent_seen, ended, form_of, is_list, last_line, run_step, talk, talk_with, terms_of};
-ghost use Rattle.add_words.specs.Words.{plain_words};
+ghost use Rattle.add_core.specs.Steps.{Follows, HasFileCause, HasPeerCause, HasSinkCause};
+ghost use Rattle.add_core.specs.Talk.{Ends, Runs, WritesAllOrFails, add_step, agent_seen, ended, is_list, last_line, run_step, talk, talk_with};
+ghost use Rattle.add_words.specs.Words.{plain_words, words_of};
 ghost use Rattle.world_ports.specs.Causes.{Rose};
 ghost use Rattle.world_ports.specs.Streams.{StreamView};
 
@@ -10,22 +10,32 @@ use crate::fault::{AddFault, AddStatus, Stop};
 use crate::files::send_files;
 use crate::listing::{Listing, list};
 use crate::locking::{lock, remove_all};
+use crate::restriction::terms;
 use crate::sending::FileTask;
 use add_words::{AddWords, Command, WordsFault, read_words};
-use constraint_rec::Terms;
-use plain_lists::PlainList;
 use std::alloc::Global;
 use world_ports::{Files, Sink, Source, write_all};
 
-/// The constraints of keys that are added.
-fn terms(alloc: Global, words: &AddWords<'_>) -> Terms
-    ensures { result ≡ terms_of (plain_words words.now) }
+/// Adds the keys of files.
+fn add<F: Files, P: Source + Sink, E: Sink>(
+    alloc: Global,
+    words: &AddWords<'_>,
+    files: &mut F,
+    peer: &mut P,
+    errors: &mut E,
+) -> Result<(), Stop>
+    ensures told { (held : List ℕ → Option (List ℕ)) (replies : List ℕ)
+        → (F.seen files.old).held ≡ Some held → (P.seen peer.old).left ≡ Some replies
+        → Follows result (add_step (plain_words words.now) held replies)
+        (P.seen peer.old) (P.seen peer.new) (E.seen errors.old) (E.seen errors.new) }
+    ensures files { HasFileCause result (F.seen files.old) (F.seen files.new) }
+    ensures peer { HasPeerCause result (P.seen peer.old) (P.seen peer.new) }
+    ensures errors { HasSinkCause result (E.seen errors.old) (E.seen errors.new) }
+    ensures input { result ≢ Err (Stop.Fault AddFault.InputFault) }
 {
-    Terms {
-        life: words.life,
-        confirm: words.confirm,
-        rules: PlainList::new(alloc),
-    }
+    let terms = terms(alloc, files, words)?;
+    let mut task = FileTask::Add(terms);
+    send_files(alloc, files, peer, errors, &mut task, &words.files)
 }
 
 /// Does what the words say.
@@ -55,10 +65,7 @@ fn run<F: Files, P: Source + Sink, I: Source, O: Sink, E: Sink>(
     ensures errors { (E.seen errors.old).write_faults ≤ (E.seen errors.new).write_faults }
 {
     match words.command {
-        Command::Add => {
-            let mut task = FileTask::Add(terms(alloc, words));
-            send_files(alloc, files, peer, errors, &mut task, &words.files)
-        }
+        Command::Add => add(alloc, words, files, peer, errors),
         Command::Remove => {
             let mut task = FileTask::Remove;
             send_files(alloc, files, peer, errors, &mut task, &words.files)
@@ -154,20 +161,16 @@ fn talk<F: Files, P: Source + Sink, I: Source, O: Sink, E: Sink>(
 /// The words, where they are of one of the tool's forms.
 fn read_form<'a>(alloc: Global, words: &'a [String]) -> Result<AddWords<'a>, AddStatus>
     ensures { MatchResult result
-        (λ read. form_of (map string_bytes words.entry.now) ≡ Some (plain_words read))
+        (λ read. words_of (map string_bytes words.entry.now) ≡ Some (plain_words read))
         (λ status. (status ≡ AddStatus.Memory)
         ⊎ ((status ≡ AddStatus.Failed AddFault.Usage)
-        × (form_of (map string_bytes words.entry.now) ≡ None))) }
+        × (words_of (map string_bytes words.entry.now) ≡ None))) }
 {
-    let words = match read_words(alloc, words) {
-        Ok(words) => words,
-        Err(WordsFault::Usage) => return Err(AddStatus::Failed(AddFault::Usage)),
-        Err(WordsFault::Memory) => return Err(AddStatus::Memory),
-    };
-    if !words.destinations.is_empty() || !words.hosts.is_empty() {
-        return Err(AddStatus::Failed(AddFault::Usage));
+    match read_words(alloc, words) {
+        Ok(words) => Ok(words),
+        Err(WordsFault::Usage) => Err(AddStatus::Failed(AddFault::Usage)),
+        Err(WordsFault::Memory) => Err(AddStatus::Memory),
     }
-    Ok(words)
 }
 
 /// The tool: does what the words behind the program's name say, with an agent where there is one.
@@ -192,7 +195,7 @@ pub fn add_main<F: Files, P: Source + Sink, I: Source, O: Sink, E: Sink>(
         (O.seen output.old) (O.seen output.new) (E.seen errors.old) (E.seen errors.new) }
 
     // What it says of the words and of an agent is so in any case.
-    ensures usage { form_of (map string_bytes words.now) ≡ None
+    ensures usage { words_of (map string_bytes words.now) ≡ None
         → (result ≡ AddStatus.Failed AddFault.Usage) ⊎ (result ≡ AddStatus.Memory) }
     ensures no_agent { result ≡ AddStatus.NoAgent → peer.old ≡ None }
 

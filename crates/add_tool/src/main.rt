@@ -3,20 +3,21 @@
 //! its streams, and what it says on standard error behind the line that `add_main` writes.
 #![tactic(auto)]
 
+mod named;
 mod trouble;
 
+use crate::named::Named;
 use crate::trouble::Trouble;
 use add_core::{AddFault, AddStatus, add_main};
 use real_edge::{RealFiles, connect};
 use std::env;
 use std::io::{ErrorKind, Result as IoResult};
 use std::process::ExitCode;
-use world_ports::{Reading, Writing};
+use world_ports::{Files, Reading, Writing};
 
-fn run(rt: &HostRuntime) -> IoResult<AddStatus> {
+fn run<F: Files>(rt: &HostRuntime, files: &mut F) -> IoResult<AddStatus> {
     let alloc = rt.alloc();
     let words: Vec<String> = env::args(rt)?.skip(1).collect(alloc)?;
-    let mut files = RealFiles::new(rt);
     let mut peer = match env::var(rt, "SSH_AUTH_SOCK") {
         Ok(path) => connect(rt, path.as_str()).ok(),
         Err(_) => None,
@@ -27,7 +28,7 @@ fn run(rt: &HostRuntime) -> IoResult<AddStatus> {
     Ok(add_main(
         alloc,
         &words,
-        &mut files,
+        files,
         &mut peer,
         &mut input,
         &mut output,
@@ -46,13 +47,15 @@ fn code(status: AddStatus) -> u8 {
 }
 
 fn main(rt: HostRuntime) -> ExitCode {
-    let status = match run(&rt) {
+    let mut files = Named::new(RealFiles::new(&rt));
+    let status = match run(&rt, &mut files) {
         Ok(status) => status,
         Err(error) if error.kind() == ErrorKind::OutOfMemory => AddStatus::Memory,
         // Words that can't be read are none of the tool's, and `add_main` had no say.
         Err(_) => AddStatus::Failed(AddFault::Usage),
     };
-    if let Some(trouble) = Trouble::of(status) {
+    let reason = files.files().reason();
+    if let Some(trouble) = Trouble::of(status, files.take_last(), reason) {
         let _ = eprintln!(rt; "ssh-add: {trouble}");
     }
     ExitCode::from(code(status))

@@ -1,52 +1,87 @@
-// What is told on standard error: what failed, and what to try.
+// What is told on standard error: which file failed, why, and what to try.
 
 use add_core::{AddFault, AddStatus, DestFault};
 use key_file::{KeyFileFault, PubFault};
 use std::fmt;
+use std::io::ErrorKind;
 
 /// Why the program ended with a status other than 0, in words.
-#[derive(Clone, Copy, Debug)]
-pub struct Trouble(AddStatus);
+#[derive(Debug, Drop)]
+pub struct Trouble {
+    status: AddStatus,
+    /// The file that was read last.
+    file: Option<String>,
+    /// Why the last file that couldn't be read couldn't.
+    reason: Option<ErrorKind>,
+}
 
 impl Trouble {
     /// The words for a status other than `Done`; none for an agent without identities.
-    pub fn of(status: AddStatus) -> Option<Trouble> {
+    pub fn of(
+        status: AddStatus,
+        file: Option<String>,
+        reason: Option<ErrorKind>,
+    ) -> Option<Trouble> {
         match status {
             AddStatus::Done | AddStatus::Failed(AddFault::NoIdentities) => None,
-            other => Some(Trouble(other)),
+            other => Some(Trouble {
+                status: other,
+                file,
+                reason,
+            }),
         }
     }
 }
 
 impl fmt::Display for Trouble {
     fn fmt<W: fmt::Write>(&self, f: &mut fmt::Formatter<W>) -> fmt::Result {
-        match self.0 {
-            AddStatus::Done => Ok(()),
-            AddStatus::NoAgent => f.write_str(
-                "no agent can be reached: is one running, and does SSH_AUTH_SOCK name its socket?",
-            ),
-            AddStatus::Memory => f.write_str("out of memory"),
-            AddStatus::Failed(fault) => tell(fault, f),
+        if is_of_a_file(self.status) {
+            if let Some(file) = &self.file {
+                f.write_str(file.as_str())?;
+                f.write_str(": ")?;
+            }
         }
+        f.write_str(words(self.status, self.reason))
     }
 }
 
-fn tell<W: fmt::Write>(fault: AddFault, f: &mut fmt::Formatter<W>) -> fmt::Result {
-    match fault {
-        AddFault::File { place } => write!(
-            f,
-            "file {} can't be read: is the path right, and may you read it?",
-            u64::from(place) + 1
-        ),
-        AddFault::FileTooLong { place } => write!(
-            f,
-            "file {} is too long for a file of its kind: is it the right one?",
-            u64::from(place) + 1
-        ),
-        AddFault::Body(fault) => f.write_str(body(fault)),
-        AddFault::Public(fault) => f.write_str(public(fault)),
-        AddFault::Destination(fault) => f.write_str(destination(fault)),
-        other => f.write_str(plain(other)),
+// The file that was read last is the one that failed, or whose key the request was about.
+fn is_of_a_file(status: AddStatus) -> bool {
+    matches!(
+        status,
+        AddStatus::Failed(
+            AddFault::File { .. }
+                | AddFault::FileTooLong { .. }
+                | AddFault::Body(_)
+                | AddFault::Public(_)
+                | AddFault::TooLong
+                | AddFault::Refused
+        )
+    )
+}
+
+fn words(status: AddStatus, reason: Option<ErrorKind>) -> &'static str {
+    match status {
+        AddStatus::Done => "done",
+        AddStatus::NoAgent => {
+            "no agent can be reached: is one running, and does SSH_AUTH_SOCK name its socket?"
+        }
+        AddStatus::Memory => "out of memory",
+        AddStatus::Failed(AddFault::File { .. }) => unread(reason),
+        AddStatus::Failed(AddFault::Body(fault)) => body(fault),
+        AddStatus::Failed(AddFault::Public(fault)) => public(fault),
+        AddStatus::Failed(AddFault::Destination(fault)) => destination(fault),
+        AddStatus::Failed(fault) => plain(fault),
+    }
+}
+
+fn unread(reason: Option<ErrorKind>) -> &'static str {
+    match reason {
+        Some(ErrorKind::NotFound) => "there is no such file: is the path right?",
+        Some(ErrorKind::PermissionDenied) =>
+            "may not be read: whose file is it, and what is its mode?",
+        Some(ErrorKind::IsADirectory) => "is a directory: name a file in it",
+        _ => "can't be read: is it a file, and is its disk there?",
     }
 }
 
@@ -58,6 +93,7 @@ fn plain(fault: AddFault) -> &'static str {
         AddFault::EmptyPassphrase =>
             "the passphrase is empty: give it in the first line of the input",
         AddFault::LongPassphrase => "the passphrase has more than 1024 bytes: give a shorter one",
+        AddFault::FileTooLong { .. } => "is too long for a file of its kind: is it the right one?",
         AddFault::TooLong => {
             "the request would be too long: are there many destinations, or many known hosts?"
         }
@@ -74,7 +110,7 @@ fn plain(fault: AddFault) -> &'static str {
 fn body(fault: KeyFileFault) -> &'static str {
     match fault {
         KeyFileFault::Cipher => {
-            "the key is encrypted: OpenSSH's ssh-add adds such keys, or remove the passphrase by ssh-keygen -p"
+            "the key is encrypted: OpenSSH's ssh-add adds such keys, or ssh-keygen -p removes the passphrase"
         }
         KeyFileFault::Base64 | KeyFileFault::Magic => {
             "no private key of OpenSSH's format: give the text between the two armour lines alone"

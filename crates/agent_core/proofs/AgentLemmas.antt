@@ -1,58 +1,51 @@
 -- What a change of the agent's parts is in its state.
 use Rattle.std.specs.Prelude.{◌⊎◌}
-use Rattle.std.proofs.Common.{◌≡◌, ℕ, suc, List, [], ◌∷◌, refl, ap, sym, ◌∙◌, Option, Some, None, Bool, false, nat_lt, ◌++◌, if◌then◌else◌, max, IsSome, inl, inr}
+use Rattle.std.proofs.Common.{◌≡◌, ℕ, suc, List, [], ◌∷◌, drop, arith, refl, ap, sym, ◌∙◌, Option, Some, None, Bool, false, nat_lt, ◌++◌, if◌then◌else◌, max, IsSome, inl, inr}
 use Rattle.world_ports.specs.declared.Door.{Door}
 use Rattle.world_ports.specs.declared.Moment.{Moment}
 use Rattle.agent_model.specs.NumberLists.{without}
 use Rattle.wire_text.specs.Frames.{Bad, More, Whole, front_body}
-use Rattle.agent_msg.specs.Reading.{request_of}
+use Rattle.agent_model.specs.Binds.{agent_request_of}
 use Rattle.world_ports.specs.declared.Job.{Job}
 use Rattle.world_ports.specs.declared.JobKind.TheVariants as kinds
 use Rattle.helper_link.specs.HelperLink.{IsStarting, askers, sent}
 use Rattle.helper_link.specs.declared.state.LinkState.TheVariants as states
 use Rattle.agent_model.specs.Actions.{Outcome}
-use Rattle.agent_model.specs.Answers.{link_lost, lose, tell_each}
 use Rattle.agent_model.specs.Children.{changed, closed, failed_by, failed_if, heard_more, job_left, remove_to_start, started_if, unnamed_heard}
 use Rattle.agent_model.specs.Sound.{IsRising}
-use Rattle.agent_model.specs.Dispatch.{Asker, Served, serve}
-use Rattle.agent_model.specs.Events.{Ended, Happening, Heard, Joined, StartFailed, Started, Took}
+use Rattle.agent_model.specs.Dispatch.{Served}
+use Rattle.agent_model.specs.Events.{Happening, Heard, Joined, Started, Tick, Took}
 use Rattle.agent_model.specs.KeyStates.{KeyState, expired}
-use Rattle.agent_model.specs.Looks.{due, due_by}
-use Rattle.agent_model.specs.State.{Client, Helper, Port, State, UnderWay, Unnamed, change_port, find_port, find_to_start, numbers, remove_port, role_of}
-use Rattle.agent_model.specs.Step.{admitted, asker_at, at_moment, closed_between, ended_by_role, gone, handle, has_room, looked, step, take_frame, took_some}
+use Rattle.agent_model.specs.Looks.{due, due_at, due_by}
+use Rattle.agent_model.specs.State.{Client, Confirmer, Helper, Nothing, OnAsk, OnConfirmation, Port, State, UnderWay, Unnamed, Waits, change_port, find_port, find_to_start, numbers, remove_port, role_of}
+use Rattle.agent_model.specs.Step.{admitted, asker_at, attempts, at_moment, closed_between, ended_by_role, gone, handle, has_room, looked, step, take_frame, took_some}
 use Rattle.agent_model.specs.Verdicts.{HelperLost, Refuses, tell}
-use Rattle.agent_model.proofs.ClientLemmas.{looked-bad, looked-stays, looked-whole, served_at}
+use Rattle.agent_model.proofs.ClientLemmas.{looked-bad, looked-stays, looked-whole}
 use Rattle.agent_model.proofs.ClosesLemmas.{gone-none}
 use Rattle.agent_model.proofs.PortsLemmas.{found_number, numbers-change_port}
 use Rattle.agent_model.proofs.SecondLemmas.{second-serve}
 use Rattle.agent_core.specs.Parts.{state_of, with_closes}
-use Rattle.agent_core.specs.Plain.{ArePlain, IsPlain}
 use Rattle.agent_core.specs.Rising.{inserted}
 use Rattle.agent_core.specs.Roles.{role_by}
-use Rattle.agent_core.specs.Served.{asker_of, served_body}
+use Rattle.agent_core.specs.Served.{served_at}
 use Rattle.agent_core.specs.Slots.{OpenPorts}
-use Rattle.agent_core.proofs.HelperLemmas.{lose-closed, lost_state, starting_closes, with_link}
-use Rattle.agent_core.proofs.RoleLemmas.{ended-as, heard-as, linked-as, port_of_role, took-as}
-
--- who asks at a plain port
-asker-plain : (number wall : ℕ) (keys : KeyState) (port : Port) → port.number ≡ number → IsPlain port → asker_at (record { mono = keys.table.greatest; wall = wall }) port ≡ asker_of number wall keys
-asker-plain number wall keys port same plain =
-    ap (λ n. let a : Asker = record { port = n; chain = port.chain; attempted = port.attempted; mono = keys.table.greatest; wall = wall } in a) same
-    ∙ ap (λ chain. let a : Asker = record { port = number; chain = chain; attempted = port.attempted; mono = keys.table.greatest; wall = wall } in a) plain.chain
-    ∙ ap (λ attempted. let a : Asker = record { port = number; chain = []; attempted = attempted; mono = keys.table.greatest; wall = wall } in a) plain.attempted
+use Rattle.std.proofs.lemmas.List.{drop_all}
+use Rattle.confirm_desk.specs.Calls.{took_at, took_by}
+use Rattle.confirm_desk.specs.Confirmations.{Confirmation, find_asker, find_linked}
+use Rattle.agent_model.specs.Sound.{IsTied}
+use Rattle.agent_model.proofs.FatedLemmas.{tied-quiet}
+use Rattle.agent_model.proofs.JobLemmas.{asker_own, in-by_asker, in-found}
+use Rattle.agent_model.proofs.MakeLemmas.{alters}
+use Rattle.agent_core.specs.Bound.{AreHeldFor, IsBound, IsCalm}
+use Rattle.agent_core.proofs.ConfirmerLemmas.{quiet-asking}
+use Rattle.agent_core.proofs.RoleLemmas.{confirmer-as, heard-as, linked-as, port_of_role, took-as, unnamed-free}
 
 -- a client is told what comes of its request
-pub agent_served : (wall : ℕ) (keys kept : KeyState) (going left : UnderWay) (old new : OpenPorts) (closes : List ℕ) (number body_len : ℕ) (port : Port) → ArePlain old.ports → find_port number old.ports ≡ Some port → due port ≡ Whole body_len → kept ≡ (served_body number wall (front_body body_len port.heard) keys going).held → left ≡ (served_body number wall (front_body body_len port.heard) keys going).work.under_way → new ≡ record old { ports = change_port number (λ p. tell (served_body number wall (front_body body_len port.heard) keys going).work.verdict (take_frame body_len false p)) old.ports } → state_of wall kept left new closes ≡ (looked number (state_of wall keys going old closes)).state
-agent_served wall keys kept going left old new closes number body_len port plain found whole kept_is left_is new_is =
+pub agent_served : (wall : ℕ) (keys kept : KeyState) (going left : UnderWay) (old new : OpenPorts) (closes : List ℕ) (number body_len : ℕ) (port : Port) → find_port number old.ports ≡ Some port → due port ≡ Whole body_len → kept ≡ (served_at body_len wall port keys going).held → left ≡ (served_at body_len wall port keys going).work.under_way → new ≡ record old { ports = change_port number (λ p. tell (served_at body_len wall port keys going).work.verdict (take_frame body_len (attempts keys.lock (front_body body_len port.heard)) p)) old.ports } → state_of wall kept left new closes ≡ (looked number (state_of wall keys going old closes)).state
+agent_served wall keys kept going left old new closes number body_len port found whole kept_is left_is new_is =
     let state : State = state_of wall keys going old closes in
-    let asked : Served = served_body number wall (front_body body_len port.heard) keys going in
-    let same : served_at body_len port state ≡ asked =
-    ap (λ asker. serve (request_of (front_body body_len port.heard)) asker keys going) (asker-plain number wall keys port (found_number number old.ports port found) (plain number port found)) in
-    let to : Served → State = λ served. record state {
-      held = served.held;
-      under_way = served.work.under_way;
-      ports = change_port number (λ p. tell served.work.verdict (take_frame body_len false p)) old.ports;
-    } in
+    let asked : Served = served_at body_len wall port keys going in
+    let moment : Moment = record { mono = keys.table.greatest; wall = wall } in
     let at : KeyState → UnderWay → List Port → ℕ → ℕ → State = λ held under_way ports last mono. record {
       held = held;
       under_way = under_way;
@@ -61,12 +54,11 @@ agent_served wall keys kept going left old new closes number body_len port plain
       moment = record { mono = mono; wall = wall };
       closes = closes;
     } in
-    let told : List Port = change_port number (λ p. tell asked.work.verdict (take_frame body_len false p)) old.ports in
+    let told : List Port = change_port number (λ p. tell asked.work.verdict (take_frame body_len (attempts keys.lock (front_body body_len port.heard)) p)) old.ports in
     ap (λ (held : KeyState). at held left new.ports new.last held.table.greatest) kept_is
     ∙ ap (λ under_way. at asked.held under_way new.ports new.last asked.held.table.greatest) left_is
     ∙ ap (λ (v : OpenPorts). at asked.held asked.work.under_way v.ports v.last asked.held.table.greatest) new_is
-    ∙ ap (λ mono. at asked.held asked.work.under_way told old.last mono) (second-serve (request_of (front_body body_len port.heard)) (asker_of number wall keys) keys going refl)
-    ∙ ap to (sym same)
+    ∙ ap (λ mono. at asked.held asked.work.under_way told old.last mono) (second-serve (front_body body_len port.heard) (asker_at moment port) keys going refl)
     ∙ sym (looked-whole number body_len port state found whole)
 
 -- a client is closed
@@ -107,57 +99,84 @@ agent_pays wall keys going left ports closes number count is left_is =
     ap (λ (u : UnderWay). state_of wall keys u ports closes) left_is
     ∙ sym (took-as number count there.0 Helper (state_of wall keys going ports closes) there.1 there.2)
 
--- a client, or a child process that hasn't named itself, has ended
-pub agent_ends : (wall : ℕ) (keys : KeyState) (going : UnderWay) (old new : OpenPorts) (closes : List ℕ) (number : ℕ) → going.confirmations ≡ [] → (role_by (find_port number old.ports) going ≡ Some Client) ⊎ (role_by (find_port number old.ports) going ≡ Some Unnamed) → new ≡ record old { ports = remove_port number old.ports; closed = inserted number old.closed } → state_of wall keys going new closes ≡ (handle (Ended number) (state_of wall keys going old closes)).state
-agent_ends wall keys going old new closes number alone (inl is) new_is =
-    let there = port_of_role (find_port number old.ports) going Client is in
-    let state : State = state_of wall keys going old closes in
-    ap (λ (v : OpenPorts). state_of wall keys going v closes) new_is
-    ∙ ap (λ n. closed n state) (sym (found_number number old.ports there.0 there.1))
-    ∙ ap (λ cs. closed there.0.number (state_of wall keys (record going { confirmations = cs }) old closes)) alone
-    ∙ ap (λ cs. (ended_by_role Client there.0.number (state_of wall keys (record going { confirmations = cs }) old closes)).state) (sym alone)
-    ∙ sym (ended-as number there.0 Client state there.1 there.2)
-agent_ends wall keys going old new closes number alone (inr is) new_is =
-    let there = port_of_role (find_port number old.ports) going Unnamed is in
-    let state : State = state_of wall keys going old closes in
-    ap (λ (v : OpenPorts). state_of wall keys going v closes) new_is
-    ∙ ap (λ n. closed n state) (sym (found_number number old.ports there.0 there.1))
-    ∙ sym (ended-as number there.0 Unnamed state there.1 there.2)
-
--- the helper's port has ended
-pub agent_loses : (wall : ℕ) (keys : KeyState) (going : UnderWay) (ports : OpenPorts) (closes : List ℕ) (number : ℕ) → going.confirmations ≡ [] → IsRising 0 ports.last ports.ports → role_by (find_port number ports.ports) going ≡ Some Helper → (lose (state_of wall keys going ports closes)).state ≡ (handle (Ended number) (state_of wall keys going ports closes)).state
-agent_loses wall keys going ports closes number alone rising is =
-    let there = port_of_role (find_port number ports.ports) going Helper is in
-    let state : State = state_of wall keys going ports closes in
-    let same : there.0.number ≡ number = found_number number ports.ports there.0 there.1 in
-    lose-closed number ports.last state (linked-as there.0.door there.0.number going alone there.2 ∙ ap (λ n. states.Linked n) same) rising
-    ∙ ap (λ n. (lose (closed n state)).state) (sym same)
-    ∙ sym (ended-as number there.0 Helper state there.1 there.2)
-
 -- the helper is at its port
-pub agent_linked : (number : ℕ) (ports : List Port) (going : UnderWay) → going.confirmations ≡ [] → role_by (find_port number ports) going ≡ Some Helper → going.link.state ≡ states.Linked number
-agent_linked number ports going alone is =
+pub agent_linked : (number : ℕ) (ports : List Port) (going : UnderWay) → role_by (find_port number ports) going ≡ Some Helper → going.link.state ≡ states.Linked number
+agent_linked number ports going is =
     let there = port_of_role (find_port number ports) going Helper is in
-    linked-as there.0.door there.0.number going alone there.2 ∙ ap (λ n. states.Linked n) (found_number number ports there.0 there.1)
+    linked-as there.0.door there.0.number going there.2 ∙ ap (λ n. states.Linked n) (found_number number ports there.0 there.1)
+
+-- so is a child process that asks the user
+pub agent_asks : (number : ℕ) (ports : List Port) (going : UnderWay) (one : Confirmation) → role_by (find_port number ports) going ≡ Some (Confirmer one) → find_linked number going.confirmations ≡ Some one
+agent_asks number ports going one is =
+    let there = port_of_role (find_port number ports) going (Confirmer one) is in
+    ap (λ n. find_linked n going.confirmations) (sym (found_number number ports there.0 there.1)) ∙ confirmer-as there.0.door there.0.number going one there.2
+
+-- none does where a child process hasn't named itself
+pub agent_free : (number : ℕ) (ports : List Port) (going : UnderWay) → role_by (find_port number ports) going ≡ Some Unnamed → find_linked number going.confirmations ≡ None
+agent_free number ports going is =
+    let there = port_of_role (find_port number ports) going Unnamed is in
+    ap (λ n. find_linked n going.confirmations) (sym (found_number number ports there.0 there.1)) ∙ (unnamed-free there.0.door there.0.number going there.2).1
+
+-- a confirmer took some of what it is owed
+pub agent_asked : (wall : ℕ) (keys : KeyState) (going left : UnderWay) (ports : OpenPorts) (closes : List ℕ) (number count : ℕ) (one : Confirmation) → role_by (find_port number ports.ports) going ≡ Some (Confirmer one) → left ≡ record going { confirmations = took_at number count going.confirmations } → state_of wall keys left ports closes ≡ (handle (Took number count) (state_of wall keys going ports closes)).state
+agent_asked wall keys going left ports closes number count one is left_is =
+    let there = port_of_role (find_port number ports.ports) going (Confirmer one) is in
+    ap (λ (u : UnderWay). state_of wall keys u ports closes) left_is
+    ∙ ap (λ f. state_of wall keys (record going { confirmations = took_by f count going.confirmations }) ports closes) (agent_asks number ports.ports going one is)
+    ∙ sym (took-as number count there.0 (Confirmer one) (state_of wall keys going ports closes) there.1 there.2)
 
 -- a job was started
-pub agent_starts : (wall : ℕ) (keys : KeyState) (going left : UnderWay) (ports : OpenPorts) (closes : List ℕ) (job : ℕ) (ticket : List ℕ) → going.confirmations ≡ [] → left ≡ record going { to_start = remove_to_start job going.to_start; started = going.started ++ started_if (find_to_start job going.to_start) ticket [] } → state_of wall keys left ports closes ≡ (handle (Started job ticket) (state_of wall keys going ports closes)).state
-agent_starts wall keys going left ports closes job ticket alone left_is =
+pub agent_starts : (wall : ℕ) (keys : KeyState) (going left : UnderWay) (ports : OpenPorts) (closes : List ℕ) (job : ℕ) (ticket : List ℕ) → left ≡ record going { to_start = remove_to_start job going.to_start; started = going.started ++ started_if (find_to_start job going.to_start) ticket going.confirmations } → state_of wall keys left ports closes ≡ (handle (Started job ticket) (state_of wall keys going ports closes)).state
+agent_starts wall keys going left ports closes job ticket left_is =
     ap (λ (u : UnderWay). state_of wall keys u ports closes) left_is
-    ∙ ap (λ cs. state_of wall keys (record going { to_start = remove_to_start job going.to_start; started = going.started ++ started_if (find_to_start job going.to_start) ticket cs }) ports closes) (sym alone)
 
--- a job could not be started
-failed_helper : (job : ℕ) (found : Option Job) (state : State) → IsSome found → ((one : Job) → found ≡ Some one → (one.kind ≡ kinds.Helper) × (one.number ≡ job)) → failed_if found state ≡ lose (job_left job state)
-failed_helper job None state some helper = absurd (cc)
-failed_helper job (Some one) state some helper =
-    ap (λ k. failed_by k one.number (job_left one.number state)) (helper one refl).0
-    ∙ ap (λ n. lose (job_left n state)) (helper one refl).1
+-- ---- what holds in between
 
-pub agent_fails : (wall : ℕ) (keys : KeyState) (going mid left : UnderWay) (ports after : OpenPorts) (closes : List ℕ) (job : ℕ) → IsSome (find_to_start job going.to_start) → ((one : Job) → find_to_start job going.to_start ≡ Some one → (one.kind ≡ kinds.Helper) × (one.number ≡ job)) → mid ≡ record going { to_start = remove_to_start job going.to_start } → mid.verifications ≡ [] → IsStarting mid.link.state → left ≡ with_link (link_lost mid.link) mid → after ≡ record ports { ports = tell_each (Refuses HelperLost) (askers mid.link.asks) ports.ports } → state_of wall keys left after closes ≡ (handle (StartFailed job) (state_of wall keys going ports closes)).state
-agent_fails wall keys going mid left ports after closes job some helper mid_is none starting left_is after_is =
-    lost_state wall keys mid left ports ports after closes none (starting_closes mid.link.state ports.ports starting) refl left_is after_is
-    ∙ ap (λ (u : UnderWay). (lose (state_of wall keys u ports closes)).state) mid_is
-    ∙ sym (ap (λ (o : Outcome). o.state) (failed_helper job (find_to_start job going.to_start) (state_of wall keys going ports closes) some helper))
+-- nobody waits for consent who is served
+due_waits : (waits : Waits) (owed heard : List ℕ) (body_len : ℕ) → due_at waits owed heard ≡ Whole body_len → waits ≡ Nothing
+due_waits Nothing owed heard body_len is = refl
+due_waits (OnAsk ask) owed heard body_len is = absurd (cc)
+due_waits (OnConfirmation job) owed heard body_len is = absurd (cc)
+
+pub none_asked : (number body_len : ℕ) (port : Port) (state : State) → IsTied state → find_port number state.ports ≡ Some port → due port ≡ Whole body_len → find_asker number state.under_way.confirmations ≡ None
+none_asked number body_len port state tied found whole = by_found (find_asker number state.under_way.confirmations) refl
+  where
+    by_found : (own : Option Confirmation) → find_asker number state.under_way.confirmations ≡ own → own ≡ None
+    by_found None is = refl
+    by_found (Some one) is =
+        let there = in-found one 0 state.under_way.last_job tied.raised.order (in-by_asker number state.under_way.confirmations one is) in
+        let asker : one.asker ≡ number = asker_own number state.under_way.confirmations one is in
+        let waits : port.waits ≡ OnConfirmation one.job = tied.raised.asking.asks one.job one port there (ap (λ n. find_port n state.ports) asker ∙ found) in
+        let nothing : port.waits ≡ Nothing = due_waits port.waits port.owed port.heard body_len whole in
+        let no : Nothing ≡ OnConfirmation one.job = sym nothing ∙ waits in
+        absurd (cc)
+
+-- who waits stays tied where more is heard of a port, or some of what it is owed was taken
+pub tied-heard : (number : ℕ) (piece : List ℕ) (state : State) → IsTied state → IsTied (changed number (heard_more piece) state)
+tied-heard number piece state tied =
+    tied-quiet {event = Tick} (alters number (heard_more piece) (record { number = λ p. refl; door = λ p. refl; waits = λ p. refl; owed = λ p none. none; chain = λ p. refl })) tied
+
+pub tied-took : (number count : ℕ) (state : State) → IsTied state → IsTied (changed number (took_some count) state)
+tied-took number count state tied =
+    tied-quiet {event = Tick} (alters number (took_some count) (record { number = λ p. refl; door = λ p. refl; waits = λ p. refl; owed = λ p none. ap (drop count) none ∙ drop_all count [] (omega arith); chain = λ p. refl })) tied
+
+-- what holds of the agent holds of its ports
+pub bound_of : (state : State) → IsCalm state → IsBound state.ports state.under_way
+bound_of state calm = record { order = calm.tied.order; tied = calm.tied.tied; judged = calm.judged.verified }
+
+pub held_of_all : (state : State) → IsCalm state → AreHeldFor state.under_way.confirmations state.ports
+held_of_all state calm = λ job one found. record {
+  is_open = calm.attended.askers job one found;
+  silent = λ port at. quiet-asking state.ports state.under_way.confirmations calm.tied.raised.asking job one port found at;
+}
+
+-- and holds once the moment was taken in
+pub calm-moved : (wall more : ℕ) (keys kept : KeyState) (going : UnderWay) (ports : OpenPorts) (closes closed : List ℕ) → IsCalm (state_of wall keys going ports closes) → IsCalm (state_of more kept going (record ports { closed = [] }) closed)
+calm-moved wall more keys kept going ports closes closed calm = record {
+  tied = record { rising = calm.tied.rising; order = calm.tied.order; tied = calm.tied.tied; askers = calm.tied.askers; helper = calm.tied.helper; known = calm.tied.known; raised = calm.tied.raised };
+  attended = calm.attended;
+  judged = record { verified = calm.judged.verified; noted = calm.judged.noted; given = calm.judged.given; chains = calm.judged.chains };
+}
 
 -- a port joins
 pub agent_joins : (wall : ℕ) (keys : KeyState) (going : UnderWay) (old new : OpenPorts) (closes : List ℕ) (door : Door) (is_in : Bool) → is_in ≡ has_room door old.ports going → new ≡ record { ports = admitted is_in (suc old.last) door old.ports; last = suc old.last; closed = if is_in then [] else suc old.last ∷ [] } → state_of wall keys going new closes ≡ (handle (Joined door) (state_of wall keys going old closes)).state

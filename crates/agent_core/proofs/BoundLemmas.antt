@@ -10,19 +10,17 @@ use Rattle.helper_link.specs.Telling.{telling}
 use Rattle.helper_link.specs.declared.ask.Ask.{Ask}
 use Rattle.helper_link.specs.declared.answer.Settled.{Settled}
 use Rattle.helper_link.proofs.AnswerLemmas.{lead_rise, settling_leads}
-use Rattle.agent_model.specs.Answers.{Answering}
 use Rattle.agent_model.specs.Children.{heard_more, unheard}
 use Rattle.agent_model.specs.Consents.{remove_started}
 use Rattle.agent_model.specs.Sound.{AreTied, IsRising, IsWaiting}
 use Rattle.agent_model.specs.State.{OnAsk, Port, UnderWay, change_port, find_port, remove_port}
 use Rattle.agent_model.specs.Verdicts.{HelperLost, Refuses, tell}
-use Rattle.agent_model.proofs.FateLemmas.{tied-answers}
 use Rattle.agent_model.proofs.PortsLemmas.{find_port-left}
 use Rattle.agent_model.proofs.TieLemmas.{IsOf, apart, found_after, here, tied-told}
 use Rattle.agent_core.specs.Bound.{AreSilent, IsBound}
-use Rattle.agent_core.specs.Settlings.{answered}
+use Rattle.agent_core.specs.Settlings.{AreProvable, answered, unanswered}
 use Rattle.agent_core.specs.Slots.{OpenPorts}
-use Rattle.agent_core.proofs.HelperLemmas.{all_answered}
+use Rattle.agent_core.proofs.JudgedLemmas.{judged-answered, judged-changed, provable-answered, tied-answered}
 
 -- ---- the loss of the helper
 
@@ -58,11 +56,12 @@ tied-removed number last ports asks rising tied = record {
   asks = λ ask one port there found. tied.asks ask one port there (find_port-left one.asker number 0 last ports port rising found);
 }
 
--- a change that leaves who a port is, what it waits for and what it is owed
+-- a change that leaves who a port is, its chain, what it waits for and what it is owed
 pub record IsSlight (f : Port → Port) : Type 0 where
   pub number : (p : Port) → (f p).number ≡ p.number
   pub door : (p : Port) → (f p).door ≡ p.door
   pub owed : (p : Port) → (f p).owed ≡ p.owed
+  pub chain : (p : Port) → (f p).chain ≡ p.chain
   pub waits : (p : Port) → (f p).waits ≡ p.waits
 
 pub tied-changed : (at : ℕ) (f : Port → Port) (ports : List Port) (asks : List Ask) → IsSlight f → AreTied ports asks → AreTied (change_port at f ports) asks
@@ -89,35 +88,56 @@ tied-changed at f ports asks slight tied = record {
 
 -- more is heard of a port, or what was heard of it is taken out
 slight-heard : (piece : List ℕ) → IsSlight (heard_more piece)
-slight-heard piece = record { number = λ p. refl; door = λ p. refl; owed = λ p. refl; waits = λ p. refl }
+slight-heard piece = record { number = λ p. refl; door = λ p. refl; owed = λ p. refl; chain = λ p. refl; waits = λ p. refl }
 
 slight-unheard : IsSlight unheard
-slight-unheard = record { number = λ p. refl; door = λ p. refl; owed = λ p. refl; waits = λ p. refl }
+slight-unheard = record { number = λ p. refl; door = λ p. refl; owed = λ p. refl; chain = λ p. refl; waits = λ p. refl }
 
 pub bound-pushed : (number : ℕ) (piece : List ℕ) (ports mid : OpenPorts) (going : UnderWay) → IsBound ports.ports going → mid ≡ record ports { ports = change_port number (heard_more piece) ports.ports } → IsBound mid.ports going
 bound-pushed number piece ports mid going bound mid_is =
     subst (λ ps. IsBound ps going) (sym (ap (λ (v : OpenPorts). v.ports) mid_is))
-    (record { order = bound.order; tied = tied-changed number (heard_more piece) ports.ports going.link.asks (slight-heard piece) bound.tied })
+    (record {
+      order = bound.order;
+      tied = tied-changed number (heard_more piece) ports.ports going.link.asks (slight-heard piece) bound.tied;
+      judged = judged-changed number (heard_more piece) ports.ports going.verifications going.link.asks (λ p. refl) (λ p. refl) bound.judged;
+    })
 
 pub bound-named : (number job : ℕ) (ports after : OpenPorts) (going mid : UnderWay) → IsBound ports.ports going → mid ≡ record going { link = linked_to number going.link; started = remove_started job going.started } → after ≡ record ports { ports = change_port number unheard ports.ports } → IsBound after.ports mid
 bound-named number job ports after going mid bound mid_is after_is =
     let named : UnderWay = record going { link = linked_to number going.link; started = remove_started job going.started } in
     subst (λ u. IsBound after.ports u) (sym mid_is)
     (subst (λ ps. IsBound ps named) (sym (ap (λ (v : OpenPorts). v.ports) after_is))
-    (record { order = bound.order; tied = tied-changed number unheard ports.ports going.link.asks slight-unheard bound.tied }))
+    (record {
+      order = bound.order;
+      tied = tied-changed number unheard ports.ports going.link.asks slight-unheard bound.tied;
+      judged = judged-changed number unheard ports.ports going.verifications going.link.asks (λ p. refl) (λ p. refl) bound.judged;
+    }))
+
+-- what answers verify is judged as it was
+pub provable-answers : (piece : List ℕ) (ports : OpenPorts) (going told : UnderWay) (settled : List Settled) → IsBound ports.ports going → told ≡ record going { link = (telling piece going.link).link } → settled ≡ (telling piece going.link).settled → AreProvable settled told.verifications ports.ports
+provable-answers piece ports going told settled bound told_is settled_is =
+    let telling_is = telling piece going.link in
+    let leads = settling_leads (going.link.heard ++ piece) going.link.asks in
+    subst (λ vs. AreProvable settled vs ports.ports) (sym (ap (λ (u : UnderWay). u.verifications) told_is))
+    (subst (λ s. AreProvable s going.verifications ports.ports) (sym settled_is)
+    (provable-answered 0 going.link.last telling_is.settled ports.ports going.verifications going.link.asks telling_is.link.asks leads bound.order bound.tied bound.judged))
 
 -- answers leave the asks that they leave
-pub bound-answered : (piece : List ℕ) (ports : OpenPorts) (mid : OpenPorts) (going left : UnderWay) (settled : List Settled) → IsBound ports.ports going → left ≡ record going { link = (telling piece going.link).link } → settled ≡ (telling piece going.link).settled → mid ≡ record ports { ports = answered settled ports.ports } → IsBound mid.ports left
-bound-answered piece ports mid going left settled bound left_is settled_is mid_is =
-    let told = telling piece going.link in
+pub bound-answered : (piece : List ℕ) (ports mid : OpenPorts) (going told left : UnderWay) (settled : List Settled) → IsBound ports.ports going → told ≡ record going { link = (telling piece going.link).link } → settled ≡ (telling piece going.link).settled → left ≡ record told { verifications = unanswered settled told.verifications } → mid ≡ record ports { ports = answered settled told.verifications ports.ports } → IsBound mid.ports left
+bound-answered piece ports mid going told left settled bound told_is settled_is left_is mid_is =
+    let telling_is = telling piece going.link in
     let leads = settling_leads (going.link.heard ++ piece) going.link.asks in
-    let before : Answering = record { ports = ports.ports; verifications = []; actions = [] } in
-    let after : IsBound (answered told.settled ports.ports) (record going { link = told.link }) = record {
-      order = lead_rise told.settled going.link.asks told.link.asks 0 going.link.last leads bound.order;
-      tied = subst (λ ps. AreTied ps told.link.asks) (all_answered told.settled before refl) (tied-answers 0 going.link.last told.settled before going.link.asks told.link.asks leads bound.order bound.tied);
+    let to : List Settled → UnderWay → UnderWay = λ s u. record u { verifications = unanswered s u.verifications } in
+    let heard : UnderWay = record going { link = telling_is.link } in
+    let after : IsBound (answered telling_is.settled going.verifications ports.ports) (to telling_is.settled heard) = record {
+      order = lead_rise telling_is.settled going.link.asks telling_is.link.asks 0 going.link.last leads bound.order;
+      tied = tied-answered 0 going.link.last telling_is.settled ports.ports going.verifications going.link.asks telling_is.link.asks leads bound.order bound.tied;
+      judged = judged-answered 0 going.link.last telling_is.settled ports.ports going.verifications going.link.asks telling_is.link.asks leads bound.order bound.tied bound.judged;
     } in
-    let ports_are = ap (λ s. answered s ports.ports) (sym settled_is) ∙ sym (ap (λ (v : OpenPorts). v.ports) mid_is) in
-    subst (λ u. IsBound mid.ports u) (sym left_is) (subst (λ ps. IsBound ps (record going { link = told.link })) ports_are after)
+    let ports_are : answered telling_is.settled going.verifications ports.ports ≡ mid.ports =
+    ap (λ s. answered s going.verifications ports.ports) (sym settled_is) ∙ ap (λ (u : UnderWay). answered settled u.verifications ports.ports) (sym told_is) ∙ sym (ap (λ (v : OpenPorts). v.ports) mid_is) in
+    let left_are : to telling_is.settled heard ≡ left = ap (λ s. to s heard) (sym settled_is) ∙ ap (to settled) (sym told_is) ∙ sym left_is in
+    subst (λ u. IsBound mid.ports u) left_are (subst (λ ps. IsBound ps (to telling_is.settled heard)) ports_are after)
 
 -- what stands after success stands where there was one
 pub when_ok : {A B : Type 0} {P : Type 0} (r : Result A B) → is_err r ≡ false → OnOk r P → P

@@ -1,38 +1,44 @@
 -- What a child process that names itself is to the agent's parts.
-use Rattle.std.specs.Option.{option_map}
-use Rattle.std.proofs.Common.{◌≡◌, ◌++◌, ℕ, List, refl, ap, sym, ◌∙◌, Option, Some, None, Result, Ok, Err, Bool, true, false, if◌then◌else◌}
+use Rattle.std.specs.Option.{IsSomeAnd, option_map}
+use Rattle.std.proofs.Common.{◌≡◌, ◌++◌, ◌==◌, ℕ, List, [], ◌∷◌, refl, ap, arith, sym, subst, ◌∙◌, Option, Some, None, IsSome, Result, Ok, Err, Bool, true, false, if◌then◌else◌}
+use Rattle.std.proofs.lemmas.Bool.Decides.{nat_tests}
 use Rattle.std.specs.Str.{bytes_eq}
+use Rattle.world_ports.specs.declared.Job.{Job}
+use Rattle.world_ports.specs.declared.JobKind.{JobKind}
 use Rattle.world_ports.specs.declared.JobKind.TheVariants as kinds
 use Rattle.child_msg.specs.Messages.{Denied, False, FromChildMessage, Granted, Hello, Refused, Signed, True}
 use Rattle.child_msg.specs.declared.fault.ChildFault.{ChildFault}
+use Rattle.confirm_desk.specs.Confirmations.{Confirmation, find_job, find_linked, is_at, linked, linked_at}
 use Rattle.agent_model.specs.Actions.{Outcome, stay}
 use Rattle.agent_model.specs.Answers.{helper_heard}
 use Rattle.helper_link.specs.HelperLink.{linked_to}
 use Rattle.wire_text.specs.Frames.{Front, front}
-use Rattle.agent_model.specs.Children.{closed, first_frame, first_message, heard_more, hello_by, helper_named, named_by, ticket_by, unheard, unnamed_heard}
-use Rattle.agent_model.specs.Consents.{find_started, remove_started}
+use Rattle.agent_model.specs.Children.{closed, confirmer_goes_on, confirmer_named, first_frame, first_message, heard_more, hello_by, helper_named, named_by, ticket_by, unheard, unnamed_heard}
+use Rattle.agent_model.specs.Consents.{confirmer_heard, find_started, remove_started}
 use Rattle.agent_model.specs.KeyStates.{KeyState}
 use Rattle.agent_model.specs.State.{Port, StartedJob, State, UnderWay, change_port, find_port, remove_port}
 use Rattle.agent_model.proofs.PortsLemmas.{find_port-change_port}
+use Rattle.under_way.specs.Parts.{IsAwaited, IsFor}
+use Rattle.agent_core.specs.Confirmers.{IsHeldFor}
 use Rattle.agent_core.specs.Parts.{state_of}
-use Rattle.agent_core.specs.Rising.{inserted}
 use Rattle.agent_core.specs.Settlings.{IsNamed, named_job, ticket_of}
 use Rattle.agent_core.specs.Slots.{OpenPorts, heard_in}
+use Rattle.agent_core.proofs.ConfirmerLemmas.{closed_state}
+use Rattle.agent_core.proofs.HelperLemmas.{open-change_port}
 
 -- by whether the ticket is the job's own
-unnamed_ticket : (same : Bool) (one : StartedJob) (job number : ℕ) (rest : List ℕ) (state : State) → (if same then Some job else None) ≡ None → ticket_by same one.job number rest state ≡ stay (closed number state)
-unnamed_ticket true one job number rest state none = absurd (cc)
-unnamed_ticket false one job number rest state none = refl
+unnamed_ticket : (same : Bool) (one : StartedJob) (number : ℕ) (rest : List ℕ) (state : State) → (if same then Some one.job else None) ≡ None → ticket_by same one.job number rest state ≡ stay (closed number state)
+unnamed_ticket true one number rest state none = absurd (cc)
+unnamed_ticket false one number rest state none = refl
 
-unnamed_hello : (found : Option StartedJob) (job : ℕ) (ticket : List ℕ) (number : ℕ) (rest : List ℕ) (state : State) → ticket_of found job ticket ≡ None → hello_by found ticket number rest state ≡ stay (closed number state)
-unnamed_hello None job ticket number rest state none = refl
-unnamed_hello (Some one) job ticket number rest state none =
-    unnamed_ticket (bytes_eq one.ticket ticket) one job number rest state none
+unnamed_hello : (found : Option StartedJob) (ticket : List ℕ) (number : ℕ) (rest : List ℕ) (state : State) → ticket_of found ticket ≡ None → hello_by found ticket number rest state ≡ stay (closed number state)
+unnamed_hello None ticket number rest state none = refl
+unnamed_hello (Some one) ticket number rest state none = unnamed_ticket (bytes_eq one.ticket ticket) one number rest state none
 
 -- a first message that names no started job by its ticket closes the port
 pub first-unnamed : (read : Result FromChildMessage ChildFault) (number : ℕ) (rest : List ℕ) (state : State) → named_job read state.under_way ≡ None → first_message read number rest state ≡ stay (closed number state)
 first-unnamed (Ok (Hello job ticket)) number rest state none =
-    unnamed_hello (find_started job state.under_way.started) job ticket number rest state none
+    unnamed_hello (find_started job state.under_way.started) ticket number rest state none
 first-unnamed (Ok (Signed ask signature)) number rest state none = refl
 first-unnamed (Ok (Refused ask)) number rest state none = refl
 first-unnamed (Ok (True ask)) number rest state none = refl
@@ -41,41 +47,112 @@ first-unnamed (Ok (Granted job)) number rest state none = refl
 first-unnamed (Ok (Denied job)) number rest state none = refl
 first-unnamed (Err fault) number rest state none = refl
 
-named_ticket : (same : Bool) (one : StartedJob) (job named number : ℕ) (rest : List ℕ) (state : State) → (if same then Some job else None) ≡ Some named → one.job.kind ≡ kinds.Helper → one.job.number ≡ named → ticket_by same one.job number rest state ≡ helper_heard rest (helper_named named number state)
-named_ticket false one job named number rest state some kind same = absurd (cc)
-named_ticket true one job named number rest state some kind same =
-    ap (λ k. named_by k one.job.number number rest state) kind
-    ∙ ap (λ n. helper_heard rest (helper_named n number state)) same
+named_ticket : (same : Bool) (one : StartedJob) (job : Job) (number : ℕ) (rest : List ℕ) (state : State) → (if same then Some one.job else None) ≡ Some job → ticket_by same one.job number rest state ≡ named_by job.kind job.number number rest state
+named_ticket false one job number rest state some = absurd (cc)
+named_ticket true one job number rest state some =
+    let same : one.job ≡ job = cc in
+    ap (λ (j : Job). named_by j.kind j.number number rest state) same
 
-named_hello : (found : Option StartedJob) (job : ℕ) (ticket : List ℕ) (named number : ℕ) (rest : List ℕ) (state : State) (one : StartedJob) → ticket_of found job ticket ≡ Some named → found ≡ Some one → one.job.kind ≡ kinds.Helper → one.job.number ≡ named → hello_by found ticket number rest state ≡ helper_heard rest (helper_named named number state)
-named_hello None job ticket named number rest state one some found kind same = absurd (cc)
-named_hello (Some other) job ticket named number rest state one some found kind same =
-    let is : other ≡ one = cc in
-    named_ticket (bytes_eq other.ticket ticket) other job named number rest state some
-    (ap (λ (o : StartedJob). o.job.kind) is ∙ kind) (ap (λ (o : StartedJob). o.job.number) is ∙ same)
+named_hello : (found : Option StartedJob) (ticket : List ℕ) (job : Job) (number : ℕ) (rest : List ℕ) (state : State) → ticket_of found ticket ≡ Some job → hello_by found ticket number rest state ≡ named_by job.kind job.number number rest state
+named_hello None ticket job number rest state some = absurd (cc)
+named_hello (Some one) ticket job number rest state some =
+    named_ticket (bytes_eq one.ticket ticket) one job number rest state some
 
--- the job that is named is the hello's
-ticket_job : (found : Option StartedJob) (job : ℕ) (ticket : List ℕ) (named : ℕ) → ticket_of found job ticket ≡ Some named → job ≡ named
-ticket_job None job ticket named is = absurd (cc)
-ticket_job (Some one) job ticket named is = by_test (bytes_eq one.ticket ticket) is
+-- one that names a job counts by its kind
+pub first-named : (read : Result FromChildMessage ChildFault) (job : Job) (number : ℕ) (rest : List ℕ) (state : State) → named_job read state.under_way ≡ Some job → first_message read number rest state ≡ named_by job.kind job.number number rest state
+first-named (Ok (Hello named ticket)) job number rest state some =
+    named_hello (find_started named state.under_way.started) ticket job number rest state some
+first-named (Ok (Signed ask signature)) job number rest state some = absurd (cc)
+first-named (Ok (Refused ask)) job number rest state some = absurd (cc)
+first-named (Ok (True ask)) job number rest state some = absurd (cc)
+first-named (Ok (False ask)) job number rest state some = absurd (cc)
+first-named (Ok (Granted other)) job number rest state some = absurd (cc)
+first-named (Ok (Denied other)) job number rest state some = absurd (cc)
+first-named (Err fault) job number rest state some = absurd (cc)
+
+-- ---- the job that was named
+
+-- it was started, and is of its kind
+pub started_kind : (job : Job) (kind : JobKind) (going : UnderWay) → IsNamed job going → job.kind ≡ kind → IsSomeAnd (find_started job.number going.started) (λ one. one.job.kind ≡ kind)
+started_kind job kind going named is =
+    let P : Option StartedJob → Type 0 = λ f. IsSomeAnd f (λ one. one.job.kind ≡ kind) in
+    subst P (sym named.found) (ap (λ (j : Job). j.kind) named.same ∙ is)
+
+-- the confirmation that it is for
+awaited_one : (found : Option Confirmation) → IsAwaited found → (one : Confirmation) × (found ≡ Some one)
+awaited_one None is = absurd is
+awaited_one (Some one) is = (one, refl)
+
+for_confirmation : (kind : JobKind) (job : ℕ) (going : UnderWay) → kind ≡ kinds.Confirm → IsFor kind job going → IsAwaited (find_job job going.confirmations)
+for_confirmation kinds.Helper job going is for = absurd (cc)
+for_confirmation kinds.Confirm job going is for = for
+
+pub confirmation_named : (job : Job) (going : UnderWay) → IsNamed job going → job.kind ≡ kinds.Confirm → (one : Confirmation) × (find_job job.number going.confirmations ≡ Some one)
+confirmation_named job going named is =
+    awaited_one (find_job job.number going.confirmations) (for_confirmation job.kind job.number going is named.is_for)
+
+-- its child process came to the port, to be found by its job
+pub linked_job : (job number : ℕ) (confirmations : List Confirmation) (one : Confirmation) → find_job job confirmations ≡ Some one → find_job job (linked job number confirmations) ≡ Some (linked_at number one)
+linked_job job number [] one found = absurd (cc)
+linked_job job number (other ∷ confirmations) one found =
+    by_test (linked_job job number confirmations one) (other.job == job) refl found
   where
-    by_test : (same : Bool) → (if same then Some job else None) ≡ Some named → job ≡ named
-    by_test true is = cc
-    by_test false is = absurd (cc)
+    by_test : (find_job job confirmations ≡ Some one → find_job job (linked job number confirmations) ≡ Some (linked_at number one)) → (test : Bool) → (other.job == job) ≡ test → (if test then Some other else find_job job confirmations) ≡ Some one → find_job job (if test then linked_at number other ∷ confirmations else other ∷ linked job number confirmations) ≡ Some (linked_at number one)
+    by_test rest true same is =
+        let here : other ≡ one = cc in
+        rw same (ap (λ (c : Confirmation). Some (linked_at number c)) here)
+    by_test rest false same is = rw same (rest is)
 
--- one that names a helper's job makes it the helper
-pub first-named : (read : Result FromChildMessage ChildFault) (named number : ℕ) (rest : List ℕ) (state : State) → named_job read state.under_way ≡ Some named → IsNamed named state.under_way → first_message read number rest state ≡ helper_heard rest (helper_named named number state)
-first-named (Ok (Hello job ticket)) named number rest state some is =
-    let same : job ≡ named = ticket_job (find_started job state.under_way.started) job ticket named some in
-    named_hello (find_started job state.under_way.started) job ticket named number rest state is.one some
-    (ap (λ n. find_started n state.under_way.started) same ∙ is.found) is.helpers.kind is.helpers.number
-first-named (Ok (Signed ask signature)) named number rest state some is = absurd (cc)
-first-named (Ok (Refused ask)) named number rest state some is = absurd (cc)
-first-named (Ok (True ask)) named number rest state some is = absurd (cc)
-first-named (Ok (False ask)) named number rest state some is = absurd (cc)
-first-named (Ok (Granted job)) named number rest state some is = absurd (cc)
-first-named (Ok (Denied job)) named number rest state some is = absurd (cc)
-first-named (Err fault) named number rest state some is = absurd (cc)
+-- and by its port, where none was linked to that before
+pub linked_there : (job number : ℕ) (confirmations : List Confirmation) (one : Confirmation) → find_job job confirmations ≡ Some one → find_linked number confirmations ≡ None → find_linked number (linked job number confirmations) ≡ Some (linked_at number one)
+linked_there job number [] one found free = absurd (cc)
+linked_there job number (other ∷ confirmations) one found free =
+    by_tests (linked_there job number confirmations one) (other.job == job) (is_at number other.port) refl found free
+  where
+    self : (number == number) ≡ true
+    self = grind (arith, nat_tests)
+
+    by_tests : (find_job job confirmations ≡ Some one → find_linked number confirmations ≡ None → find_linked number (linked job number confirmations) ≡ Some (linked_at number one)) → (test at : Bool) → is_at number other.port ≡ at → (if test then Some other else find_job job confirmations) ≡ Some one → (if at then Some other else find_linked number confirmations) ≡ None → find_linked number (if test then linked_at number other ∷ confirmations else other ∷ linked job number confirmations) ≡ Some (linked_at number one)
+    by_tests rest true at there is free =
+        let here : other ≡ one = cc in
+        rw self (ap (λ (c : Confirmation). Some (linked_at number c)) here)
+    by_tests rest false true there is free = absurd (cc)
+    by_tests rest false false there is free = rw there (rest is free)
+
+-- ---- who waits
+
+-- a change that leaves what a port is owed
+found_before : (number at : ℕ) (f : Port → Port) (ports : List Port) (port : Port) → ((p : Port) → (f p).number ≡ p.number) → ((p : Port) → (f p).owed ≡ p.owed) → find_port number (change_port at f ports) ≡ Some port → (was : Port) × (find_port number ports ≡ Some was) × (port.owed ≡ was.owed)
+found_before number at f [] port same owed found = absurd (cc)
+found_before number at f (other ∷ ports) port same owed found =
+    by_tests (found_before number at f ports port same owed) (at == other.number) (number == other.number) refl found
+  where
+    by_tests : (find_port number (change_port at f ports) ≡ Some port → (was : Port) × (find_port number ports ≡ Some was) × (port.owed ≡ was.owed)) → (changes here : Bool) → (number == other.number) ≡ here → find_port number (if changes then f other ∷ ports else other ∷ change_port at f ports) ≡ Some port → (was : Port) × ((if here then Some other else find_port number ports) ≡ Some was) × (port.owed ≡ was.owed)
+    by_tests rest true true is there =
+        let here : (number == (f other).number) ≡ true = ap (λ n. number == n) (same other) ∙ is in
+        let head : Some (f other) ≡ Some port = ap (λ b. if b then Some (f other) else find_port number ports) (sym here) ∙ there in
+        let changed : f other ≡ port = cc in
+        (other, refl, ap (λ (p : Port). p.owed) (sym changed) ∙ owed other)
+    by_tests rest true false is there =
+        let apart : (number == (f other).number) ≡ false = ap (λ n. number == n) (same other) ∙ is in
+        (port, ap (λ b. if b then Some (f other) else find_port number ports) (sym apart) ∙ there, refl)
+    by_tests rest false true is there =
+        let head : Some other ≡ Some port = ap (λ b. if b then Some other else find_port number (change_port at f ports)) (sym is) ∙ there in
+        let it : other ≡ port = cc in
+        (other, refl, ap (λ (p : Port). p.owed) (sym it))
+    by_tests rest false false is there =
+        rest (ap (λ b. if b then Some other else find_port number (change_port at f ports)) (sym is) ∙ there)
+
+-- leaves whoever waits for consent open, and owed nothing
+pub held-changed : (at : ℕ) (f : Port → Port) (ports : List Port) (one other : Confirmation) → ((p : Port) → (f p).number ≡ p.number) → ((p : Port) → (f p).owed ≡ p.owed) → other.asker ≡ one.asker → IsHeldFor one ports → IsHeldFor other (change_port at f ports)
+held-changed at f ports one other same owed asker held =
+    let P : ℕ → Type 0 = λ n. IsSome (find_port n (change_port at f ports)) × ((port : Port) → find_port n (change_port at f ports) ≡ Some port → port.owed ≡ []) in
+    let parts : P one.asker = (
+      open-change_port one.asker at f ports same held.is_open,
+      λ port found. (let before = found_before one.asker at f ports port same owed found in before.2 ∙ held.silent before.0 before.1),
+    ) in
+    let moved : P other.asker = subst P (sym asker) parts in
+    record { is_open = moved.0; silent = moved.1 }
 
 -- ---- the agent's parts
 
@@ -93,15 +170,28 @@ unnamed_state wall keys going ports mid closes number piece port f found mid_is 
     ∙ ap (λ (g : Front). (first_frame g number (port.heard ++ piece) (state_of wall keys going (record ports { ports = change_port number (heard_more piece) ports.ports }) closes)).state) (is ∙ ap (λ o. front 262144 (heard_in o)) (pushed_found ports mid number piece port found mid_is))
 
 -- the helper named itself, and goes on
-pub child_named : (wall : ℕ) (keys : KeyState) (going mid : UnderWay) (ports after : OpenPorts) (closes : List ℕ) (read : Result FromChildMessage ChildFault) (job number : ℕ) (sent rest : List ℕ) → named_job read going ≡ Some job → IsNamed job going → mid ≡ record going { link = linked_to number going.link; started = remove_started job going.started } → after ≡ record ports { ports = change_port number unheard ports.ports } → sent ≡ rest → (helper_heard sent (state_of wall keys mid after closes)).state ≡ (first_message read number rest (state_of wall keys going ports closes)).state
-child_named wall keys going mid ports after closes read job number sent rest named is mid_is after_is same =
+pub child_named : (wall : ℕ) (keys : KeyState) (going mid : UnderWay) (ports after : OpenPorts) (closes : List ℕ) (read : Result FromChildMessage ChildFault) (job : Job) (number : ℕ) (sent rest : List ℕ) → named_job read going ≡ Some job → job.kind ≡ kinds.Helper → mid ≡ record going { link = linked_to number going.link; started = remove_started job.number going.started } → after ≡ record ports { ports = change_port number unheard ports.ports } → sent ≡ rest → (helper_heard sent (state_of wall keys mid after closes)).state ≡ (first_message read number rest (state_of wall keys going ports closes)).state
+child_named wall keys going mid ports after closes read job number sent rest named kind mid_is after_is same =
+    let state : State = state_of wall keys going ports closes in
     ap (λ (u : UnderWay). (helper_heard sent (state_of wall keys u after closes)).state) mid_is
-    ∙ ap (λ (v : OpenPorts). (helper_heard sent (state_of wall keys (record going { link = linked_to number going.link; started = remove_started job going.started }) v closes)).state) after_is
-    ∙ ap (λ bytes. (helper_heard bytes (helper_named job number (state_of wall keys going ports closes))).state) same
-    ∙ ap (λ (o : Outcome). o.state) (sym (first-named read job number rest (state_of wall keys going ports closes) named is))
+    ∙ ap (λ (v : OpenPorts). (helper_heard sent (state_of wall keys (record going { link = linked_to number going.link; started = remove_started job.number going.started }) v closes)).state) after_is
+    ∙ ap (λ bytes. (helper_heard bytes (helper_named job.number number state)).state) same
+    ∙ ap (λ k. (named_by k job.number number rest state).state) (sym kind)
+    ∙ ap (λ (o : Outcome). o.state) (sym (first-named read job number rest state named))
+
+-- so does one that asks the user
+pub child_asks : (wall : ℕ) (keys : KeyState) (going mid : UnderWay) (ports after : OpenPorts) (closes : List ℕ) (read : Result FromChildMessage ChildFault) (job : Job) (number : ℕ) (sent rest : List ℕ) (one : Confirmation) → named_job read going ≡ Some job → job.kind ≡ kinds.Confirm → find_job job.number going.confirmations ≡ Some one → mid ≡ record going { started = remove_started job.number going.started; confirmations = linked job.number number going.confirmations } → after ≡ record ports { ports = change_port number unheard ports.ports } → sent ≡ rest → (confirmer_heard (linked_at number one) sent (state_of wall keys mid after closes)).state ≡ (first_message read number rest (state_of wall keys going ports closes)).state
+child_asks wall keys going mid ports after closes read job number sent rest one named kind found mid_is after_is same =
+    let state : State = state_of wall keys going ports closes in
+    ap (λ (u : UnderWay). (confirmer_heard (linked_at number one) sent (state_of wall keys u after closes)).state) mid_is
+    ∙ ap (λ (v : OpenPorts). (confirmer_heard (linked_at number one) sent (state_of wall keys (record going { started = remove_started job.number going.started; confirmations = linked job.number number going.confirmations }) v closes)).state) after_is
+    ∙ ap (λ bytes. (confirmer_heard (linked_at number one) bytes (confirmer_named job.number number state)).state) same
+    ∙ ap (λ f. (confirmer_goes_on f rest (confirmer_named job.number number state)).state) (sym (linked_job job.number number going.confirmations one found))
+    ∙ ap (λ k. (named_by k job.number number rest state).state) (sym kind)
+    ∙ ap (λ (o : Outcome). o.state) (sym (first-named read job number rest state named))
 
 -- or it is closed
-pub child_refused : (wall : ℕ) (keys : KeyState) (going : UnderWay) (ports after : OpenPorts) (closes : List ℕ) (read : Result FromChildMessage ChildFault) (number : ℕ) (rest : List ℕ) → named_job read going ≡ None → after ≡ record ports { ports = remove_port number ports.ports; closed = inserted number ports.closed } → state_of wall keys going after closes ≡ (first_message read number rest (state_of wall keys going ports closes)).state
-child_refused wall keys going ports after closes read number rest none after_is =
-    ap (λ (v : OpenPorts). state_of wall keys going v closes) after_is
+pub child_refused : (wall : ℕ) (keys : KeyState) (going : UnderWay) (ports after : OpenPorts) (closes : List ℕ) (read : Result FromChildMessage ChildFault) (number : ℕ) (rest : List ℕ) → named_job read going ≡ None → after.ports ≡ remove_port number ports.ports → after.last ≡ ports.last → state_of wall keys going after closes ≡ (first_message read number rest (state_of wall keys going ports closes)).state
+child_refused wall keys going ports after closes read number rest none ports_is last_is =
+    closed_state wall keys going ports after closes number ports_is last_is
     ∙ ap (λ (o : Outcome). o.state) (sym (first-unnamed read number rest (state_of wall keys going ports closes) none))

@@ -16,23 +16,10 @@ pub clients_counted : (slots : List Slot) → client_count (ports_of slots) ≡ 
 clients_counted [] = refl
 clients_counted (slot ∷ slots) = count_on (is_client slot.door) slot (filter (λ (s : Slot). is_client s.door) slots) (client_count (ports_of slots)) (clients_counted slots)
 
--- where no confirmation is waited for, a child process that isn't the helper hasn't named itself
-unnamed_by : (linked : Bool) (number : ℕ) → is_unnamed (role_by_helper linked number []) ≡ not linked
-unnamed_by true number = refl
-unnamed_by false number = refl
-
-unnamed_is : (door : Door) (number : ℕ) (link : LinkState) (going : UnderWay) → going.link.state ≡ link → going.confirmations ≡ [] → is_unnamed (role_of door number going) ≡ (not (is_client door) && not (is_linked_to number link))
-unnamed_is Clients number link going linked alone = refl
-unnamed_is Children number link going linked alone =
-    ap (λ l. is_unnamed (role_by_helper (is_linked_to number l) number going.confirmations)) linked
-    ∙ ap (λ cs. is_unnamed (role_by_helper (is_linked_to number link) number cs)) alone
-    ∙ unnamed_by (is_linked_to number link) number
-
-pub unnamed_counted : (slots : List Slot) (link : LinkState) (going : UnderWay) → going.link.state ≡ link → going.confirmations ≡ [] → unnamed_count going (ports_of slots) ≡ length (filter (λ (slot : Slot). not (is_client slot.door) && not (is_linked_to slot.number link)) slots)
-unnamed_counted [] link going linked alone = refl
-unnamed_counted (slot ∷ slots) link going linked alone =
-    ap (λ test. if test then suc (unnamed_count going (ports_of slots)) else unnamed_count going (ports_of slots)) (unnamed_is slot.door slot.number link going linked alone)
-    ∙ count_on (not (is_client slot.door) && not (is_linked_to slot.number link)) slot (filter (λ (s : Slot). not (is_client s.door) && not (is_linked_to s.number link)) slots) (unnamed_count going (ports_of slots)) (unnamed_counted slots link going linked alone)
+pub unnamed_counted : (slots : List Slot) (going : UnderWay) → unnamed_count going (ports_of slots) ≡ length (filter (λ (slot : Slot). is_unnamed (role_of slot.door slot.number going)) slots)
+unnamed_counted [] going = refl
+unnamed_counted (slot ∷ slots) going =
+    count_on (is_unnamed (role_of slot.door slot.number going)) slot (filter (λ (s : Slot). is_unnamed (role_of s.door s.number going)) slots) (unnamed_count going (ports_of slots)) (unnamed_counted slots going)
 
 -- no more pass a test than there are
 pub few_filtered : {A : Type 0} (p : A → Bool) (xs : List A) → length (filter p xs) ≤ length xs

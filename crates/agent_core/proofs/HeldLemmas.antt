@@ -1,11 +1,14 @@
 -- Lemmas on what is held.
-use Rattle.std.proofs.Common.{◌≡◌, ℕ, ◌+◌, ◌<◌, ◌≤◌, List, [], ◌∷◌, ◌++◌, length, map, drop, get_or, refl, ap, sym, arith, ◌∙◌, Option, Some, None, Result, Ok, Err, filter, is_some, Bool, true, false, if◌then◌else◌}
-use Rattle.std.specs.Prelude.{OnOk}
-use Rattle.agent_msg.specs.Requests.{ClientRequest, IsRequest, ListIdentities, Sign, Add, Remove, RemoveAll, Lock, Unlock, Bind, OtherExtension, Unsupported}
+use Rattle.std.proofs.Common.{◌≡◌, ℕ, ◌+◌, ◌<◌, ◌≤◌, List, [], ◌∷◌, ◌++◌, length, map, drop, get_or, refl, ap, sym, arith, ◌∙◌, Option, Some, None, Result, Ok, Err, filter, is_some, not, subst, Bool, true, false, if◌then◌else◌}
+use Rattle.std.specs.Prelude.{◌↔◌, IsSome, IsTrue, OnOk}
+use Rattle.agent_msg.specs.Requests.{Addition, ClientRequest, IsRequest, session_bind, ListIdentities, Sign, Add, Remove, RemoveAll, Lock, Unlock, Bind, OtherExtension, Unsupported}
+use Rattle.agent_msg.specs.Reading.{request_of}
+use Rattle.agent_model.specs.Binds.{and_host_key}
 use Rattle.agent_model.specs.Limits.{longest_body}
 use Rattle.agent_model.proofs.BoundLemmas.{private-within, text-within}
 use Rattle.agent_model.specs.Verdicts.{verdict_text}
-use Rattle.agent_core.specs.Served.{IsShortRequest, asker_of, keys_of, served_by}
+use Rattle.agent_core.specs.Served.{IsShortRequest, IsStatus, asker_of, hides, keys_of, served_body, served_by}
+use Rattle.agent_core.specs.declared.asker.Asker.{Asker as CoreAsker}
 use Rattle.std.proofs.lemmas.List.{drop_more, length-append}
 use Rattle.wire_text.specs.Wire.{string, uint32}
 use Rattle.wire_text.proofs.WireLemmas.{length-string}
@@ -14,7 +17,7 @@ use Rattle.std.specs.Str.{bytes_eq}
 use Rattle.identity_table.specs.Identities.{AreShort, answer_len, entries_len, find_identity, longest_private, remove_identity}
 use Rattle.identity_table.proofs.FindLemmas.{found_has}
 use Rattle.identity_table.proofs.PlaceLemmas.{remove_identity-none}
-use Rattle.agent_model.specs.Dispatch.{Asker, remove_by, seen_by, sees, with_identities}
+use Rattle.agent_model.specs.Dispatch.{Asker, add_by, add_seen, remove_by, remove_seen, seen_by, sees, serve, with_identities}
 use Rattle.agent_model.specs.State.{UnderWay}
 use Rattle.agent_msg.specs.Replies.{entry, entries, entries_length, identities_answer, identities_length}
 use Rattle.agent_model.specs.KeyStates.{KeyState, shown}
@@ -47,28 +50,68 @@ entry_of key blob comment is_blob is_comment = ap (λ b. entry (b, comment)) is_
 
 -- ---- removals
 
--- what is left is the same where nothing is held under that blob
-pub removed-keys : (found : Option HeldKey) (asker : Asker) (blob : List ℕ) (held : KeyState) (under_way : UnderWay) → find_identity blob held.table.identities ≡ found → with_identities (remove_identity blob held.table.identities) held ≡ (remove_by found asker blob held under_way).held
-removed-keys None asker blob held under_way absent =
+-- what the asker sees is removed, and what isn't held is left
+by_seen : (seen : Bool) (blob : List ℕ) (held : KeyState) (under_way : UnderWay) → not seen ≡ false → with_identities (remove_identity blob held.table.identities) held ≡ (remove_seen seen blob held under_way).held
+by_seen true blob held under_way shown = refl
+by_seen false blob held under_way shown = absurd (cc)
+
+pub removed-keys : (found : Option HeldKey) (asker : Asker) (blob : List ℕ) (held : KeyState) (under_way : UnderWay) → find_identity blob held.table.identities ≡ found → hides found asker ≡ false → with_identities (remove_identity blob held.table.identities) held ≡ (remove_by found asker blob held under_way).held
+removed-keys None asker blob held under_way absent shown =
     ap (λ (identities : List HeldKey). with_identities identities held) (remove_identity-none blob held.table.identities absent)
-removed-keys (Some key) asker blob held under_way found = refl
+removed-keys (Some key) asker blob held under_way found shown = by_seen (sees asker key) blob held under_way shown
 
--- ---- lists
+by_seen-status : (seen : Bool) (blob : List ℕ) (held : KeyState) (under_way : UnderWay) → IsStatus seen (remove_seen seen blob held under_way).work under_way
+by_seen-status true blob held under_way = record { text = refl; waits = refl; under_way = refl }
+by_seen-status false blob held under_way = record { text = refl; waits = refl; under_way = refl }
 
--- each identity is seen
-seen-all : (asker : Asker) (keys : List HeldKey) → filter (sees asker) keys ≡ keys
-seen-all asker [] = refl
-seen-all asker (key ∷ keys) = ap (λ rest. key ∷ rest) (seen-all asker keys)
+-- a test that tells whether there is one
+pub decided : (test : Bool) (found : Option HeldKey) → (IsTrue test ↔ IsSome found) → test ≡ is_some found
+decided true None is =
+    let no : false ≡ true = is.0 refl in
+    absurd (cc)
+decided true (Some key) is = refl
+decided false None is = refl
+decided false (Some key) is = is.1 refl
 
--- so that a list shows all
-pub seen_by_all : (asker : Asker) (held : KeyState) → seen_by asker held ≡ map shown held.table.identities
-seen_by_all asker held = ap (map shown) (seen-all asker held.table.identities)
+-- and told so
+pub removed-status : (found : Option HeldKey) (asker : Asker) (blob : List ℕ) (held : KeyState) (under_way : UnderWay) → hides found asker ≡ false → IsStatus (is_some found) (remove_by found asker blob held under_way).work under_way
+removed-status None asker blob held under_way shown = record { text = refl; waits = refl; under_way = refl }
+removed-status (Some key) asker blob held under_way shown =
+    let seen : sees asker key ≡ true = shown_seen (sees asker key) shown in
+    subst (λ b. IsStatus true (remove_seen b blob held under_way).work under_way) (sym seen) (by_seen-status true blob held under_way)
+  where
+    shown_seen : (seen : Bool) → not seen ≡ false → seen ≡ true
+    shown_seen true is = refl
+    shown_seen false is = absurd (cc)
 
--- so does the answer of an agent that isn't locked
-pub listed-unlocked : (table : TableState) (lock : Option (List ℕ)) (port wall : ℕ) (going : UnderWay) → is_some lock ≡ false → identities_answer (map shown table.identities) ≡ verdict_text (served_by port wall ListIdentities (keys_of table lock) going).work.verdict
-listed-unlocked table None port wall going unlocked =
-    ap identities_answer (sym (seen_by_all (asker_of port wall (keys_of table None)) (keys_of table None)))
-listed-unlocked table (Some passphrase) port wall going unlocked = absurd (cc)
+-- what the asker doesn't see stays
+pub hidden-keys : (found : Option HeldKey) (asker : Asker) (blob : List ℕ) (held : KeyState) (under_way : UnderWay) → hides found asker ≡ true → (held ≡ (remove_by found asker blob held under_way).held) × IsStatus false (remove_by found asker blob held under_way).work under_way
+hidden-keys None asker blob held under_way hidden = absurd (cc)
+hidden-keys (Some key) asker blob held under_way hidden = by_unseen (sees asker key) hidden
+  where
+    by_unseen : (seen : Bool) → not seen ≡ true → (held ≡ (remove_seen seen blob held under_way).held) × IsStatus false (remove_seen seen blob held under_way).work under_way
+    by_unseen true is = absurd (cc)
+    by_unseen false is = (refl, by_seen-status false blob held under_way)
+
+-- ---- additions
+
+-- in the place of what the asker doesn't see nothing is added
+pub hidden-add : (found : Option HeldKey) (asker : Asker) (addition : Addition) (held : KeyState) (under_way : UnderWay) → hides found asker ≡ true → (held ≡ (add_by found asker addition held under_way).held) × IsStatus false (add_by found asker addition held under_way).work under_way
+hidden-add None asker addition held under_way hidden = absurd (cc)
+hidden-add (Some key) asker addition held under_way hidden = by_unseen (sees asker key) hidden
+  where
+    by_unseen : (seen : Bool) → not seen ≡ true → (held ≡ (add_seen seen addition asker.mono held under_way).held) × IsStatus false (add_seen seen addition asker.mono held under_way).work under_way
+    by_unseen true is = absurd (cc)
+    by_unseen false is = (refl, record { text = refl; waits = refl; under_way = refl })
+
+-- otherwise it is
+pub shown-add : (found : Option HeldKey) (asker : Asker) (addition : Addition) (held : KeyState) (under_way : UnderWay) → hides found asker ≡ false → add_by found asker addition held under_way ≡ add_seen true addition asker.mono held under_way
+shown-add None asker addition held under_way shown = refl
+shown-add (Some key) asker addition held under_way shown = by_shown (sees asker key) shown
+  where
+    by_shown : (seen : Bool) → not seen ≡ false → add_seen seen addition asker.mono held under_way ≡ add_seen true addition asker.mono held under_way
+    by_shown true is = refl
+    by_shown false is = absurd (cc)
 
 -- an agent that isn't locked has no passphrase
 pub none_of : (lock : Option (List ℕ)) → is_some lock ≡ false → lock ≡ None
@@ -92,6 +135,10 @@ all_ok (Err e) f p q s = p
 
 -- ---- requests
 
+-- what comes of a body is what comes of the request that it reads as
+pub served-body : (asker : CoreAsker) (body : List ℕ) (request : ClientRequest) (held : KeyState) (under_way : UnderWay) → request_of body ≡ Ok request → served_by asker request held under_way ≡ served_body asker body held under_way
+served-body asker body request held under_way is = ap (λ read. serve (and_host_key read) (asker_of asker held) held under_way) (sym is)
+
 -- what comes in a body that isn't long isn't long
 pub short_request : (body : List ℕ) (request : ClientRequest) → IsRequest body request → length body ≤ longest_body → IsShortRequest request
 short_request body ListIdentities is within = tt
@@ -104,7 +151,12 @@ short_request body (Remove blob) is within = tt
 short_request body RemoveAll is within = tt
 short_request body (Lock passphrase) is within = text-within 22 body passphrase is within
 short_request body (Unlock passphrase) is within = tt
-short_request body (Bind bind) is within = tt
+short_request body (Bind bind) is within =
+    let name = length-append (string session_bind) (string bind.host_key ++ (string bind.session ++ (string bind.signature ++ is.forwarding ∷ []))) in
+    let key = length-append (string bind.host_key) (string bind.session ++ (string bind.signature ++ is.forwarding ∷ [])) in
+    let session = length-append (string bind.session) (string bind.signature ++ is.forwarding ∷ []) in
+    let signature = length-append (string bind.signature) (is.forwarding ∷ []) in
+    omega (arith, ap length is.printed, name, key, session, signature, length-string bind.host_key, length-string bind.session, length-string bind.signature, within)
 short_request body (OtherExtension name) is within = tt
 short_request body (Unsupported number) is within = tt
 

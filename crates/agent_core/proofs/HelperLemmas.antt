@@ -20,65 +20,87 @@ use Rattle.agent_model.specs.Sound.{IsRising}
 use Rattle.agent_model.proofs.ClosesLemmas.{gone-none}
 use Rattle.agent_model.proofs.PortsLemmas.{find_port-remove_port, numbers-change_port}
 use Rattle.agent_core.specs.Parts.{state_of}
-use Rattle.agent_core.specs.Settlings.{AreShortAnswers, IsShortAnswer, answered, verdict_of}
+use Rattle.agent_core.specs.Settlings.{AreProvable, AreShortAnswers, IsProvable, IsShortAnswer, answered, told_with, unanswered}
 use Rattle.agent_core.specs.Slots.{OpenPorts}
 
 -- ---- answers
 
--- where no verification is waited for, an answer tells its asker
-tells_asker : (a : Answer) (one : Settled) (before : Answering) → before.verifications ≡ [] → (answer_by a one before).ports ≡ change_port one.asker (tell (verdict_of a)) before.ports
-tells_asker (answer.Signed signature) one before none = refl
-tells_asker answer.Refused one before none = refl
-tells_asker answer.True one before none =
-    ap (λ (vs : List Verification). (answer_true (find_verification one.ask vs) one before).ports) none
-tells_asker answer.False one before none = refl
+-- an answer changes its asker's port, and leaves the other verifications
+ports-true : (found : Option Verification) (one : Settled) (before : Answering) → (answer_true found one before).ports ≡ change_port one.asker (told_with answer.True found) before.ports
+ports-true None one before = refl
+ports-true (Some verification) one before = refl
 
--- and none is waited for after it
-verifies_nothing : (a : Answer) (one : Settled) (before : Answering) → before.verifications ≡ [] → (answer_by a one before).verifications ≡ []
-verifies_nothing (answer.Signed signature) one before none = ap (remove_verification one.ask) none
-verifies_nothing answer.Refused one before none = ap (remove_verification one.ask) none
-verifies_nothing answer.True one before none =
-    ap (λ (vs : List Verification). (answer_true (find_verification one.ask vs) one before).verifications) none
-    ∙ ap (remove_verification one.ask) none
-verifies_nothing answer.False one before none = ap (remove_verification one.ask) none
+left-true : (found : Option Verification) (one : Settled) (before : Answering) → (answer_true found one before).verifications ≡ remove_verification one.ask before.verifications
+left-true None one before = refl
+left-true (Some verification) one before = refl
+
+pub ports-answer : (a : Answer) (one : Settled) (before : Answering) → (answer_by a one before).ports ≡ change_port one.asker (told_with a (find_verification one.ask before.verifications)) before.ports
+ports-answer (answer.Signed signature) one before = refl
+ports-answer answer.Refused one before = refl
+ports-answer answer.True one before = ports-true (find_verification one.ask before.verifications) one before
+ports-answer answer.False one before = refl
+
+pub left-answer : (a : Answer) (one : Settled) (before : Answering) → (answer_by a one before).verifications ≡ remove_verification one.ask before.verifications
+left-answer (answer.Signed signature) one before = refl
+left-answer answer.Refused one before = refl
+left-answer answer.True one before = left-true (find_verification one.ask before.verifications) one before
+left-answer answer.False one before = refl
 
 -- so do all of them
-pub all_answered : (settled : List Settled) (before : Answering) → before.verifications ≡ [] → (answer_all settled before).ports ≡ answered settled before.ports
-all_answered [] before none = refl
-all_answered (one ∷ later) before none =
-    all_answered later (answer_by one.answer one before) (verifies_nothing one.answer one before none)
-    ∙ ap (answered later) (tells_asker one.answer one before none)
+pub all_answered : (settled : List Settled) (before : Answering) → (answer_all settled before).ports ≡ answered settled before.verifications before.ports
+all_answered [] before = refl
+all_answered (one ∷ later) before =
+    all_answered later (answer_by one.answer one before)
+    ∙ ap (λ vs. answered later vs (answer_by one.answer one before).ports) (left-answer one.answer one before)
+    ∙ ap (answered later (remove_verification one.ask before.verifications)) (ports-answer one.answer one before)
 
-none_left : (settled : List Settled) (before : Answering) → before.verifications ≡ [] → (answer_all settled before).verifications ≡ []
-none_left [] before none = none
-none_left (one ∷ later) before none =
-    none_left later (answer_by one.answer one before) (verifies_nothing one.answer one before none)
+pub all_unanswered : (settled : List Settled) (before : Answering) → (answer_all settled before).verifications ≡ unanswered settled before.verifications
+all_unanswered [] before = refl
+all_unanswered (one ∷ later) before =
+    all_unanswered later (answer_by one.answer one before)
+    ∙ ap (unanswered later) (left-answer one.answer one before)
 
 -- what is under way with another link
 abbrev pub with_link : HelperLink → UnderWay → UnderWay
 with_link link going = record going { link = link }
 
+-- and with other verifications
+abbrev pub with_left : List Verification → UnderWay → UnderWay
+with_left verifications going = record going { verifications = verifications }
+
 -- the state after answers
-pub with_answers-is : (wall : ℕ) (keys : KeyState) (going : UnderWay) (ports : OpenPorts) (closes : List ℕ) (told : Telling) → going.verifications ≡ [] → with_answers told.link (answers_in told.settled (state_of wall keys going ports closes)) (state_of wall keys going ports closes) ≡ state_of wall keys (with_link told.link going) (record ports { ports = answered told.settled ports.ports }) closes
-with_answers-is wall keys going ports closes told none =
+pub with_answers-is : (wall : ℕ) (keys : KeyState) (going : UnderWay) (ports : OpenPorts) (closes : List ℕ) (told : Telling) → with_answers told.link (answers_in told.settled (state_of wall keys going ports closes)) (state_of wall keys going ports closes) ≡ state_of wall keys (with_left (unanswered told.settled going.verifications) (with_link told.link going)) (record ports { ports = answered told.settled going.verifications ports.ports }) closes
+with_answers-is wall keys going ports closes told =
     let before : Answering = record { ports = ports.ports; verifications = going.verifications; actions = [] } in
-    let to : List Port → List Verification → State = λ ps vs. state_of wall keys (record going { link = told.link; verifications = vs }) (record ports { ports = ps }) closes in
-    ap (λ ps. to ps (answer_all told.settled before).verifications) (all_answered told.settled before none)
-    ∙ ap (λ vs. to (answered told.settled ports.ports) vs) (none_left told.settled before none ∙ sym none)
+    let to : List Port → List Verification → State = λ ps vs. state_of wall keys (with_left vs (with_link told.link going)) (record ports { ports = ps }) closes in
+    ap (λ ps. to ps (answer_all told.settled before).verifications) (all_answered told.settled before)
+    ∙ ap (λ vs. to (answered told.settled going.verifications ports.ports) vs) (all_unanswered told.settled before)
 
 -- ---- numbers
 
-pub numbers-answered : (settled : List Settled) (ports : List Port) → numbers (answered settled ports) ≡ numbers ports
-numbers-answered [] ports = refl
-numbers-answered (one ∷ later) ports =
-    numbers-answered later (change_port one.asker (tell (verdict_of one.answer)) ports)
-    ∙ numbers-change_port one.asker (tell (verdict_of one.answer)) ports (λ p. refl)
+-- an asker stays who it is
+pub number-told_with : (a : Answer) (found : Option Verification) (p : Port) → (told_with a found p).number ≡ p.number
+number-told_with (answer.Signed signature) found p = refl
+number-told_with answer.Refused found p = refl
+number-told_with answer.True None p = refl
+number-told_with answer.True (Some verification) p = refl
+number-told_with answer.False found p = refl
+
+pub numbers-answered : (settled : List Settled) (vs : List Verification) (ports : List Port) → numbers (answered settled vs ports) ≡ numbers ports
+numbers-answered [] vs ports = refl
+numbers-answered (one ∷ later) vs ports =
+    numbers-answered later (remove_verification one.ask vs) (change_port one.asker (told_with one.answer (find_verification one.ask vs)) ports)
+    ∙ numbers-change_port one.asker (told_with one.answer (find_verification one.ask vs)) ports (number-told_with one.answer (find_verification one.ask vs))
 
 pub numbers-tell_each : (verdict : Verdict) (askers : List ℕ) (ports : List Port) → numbers (tell_each verdict askers ports) ≡ numbers ports
 numbers-tell_each verdict [] ports = refl
 numbers-tell_each verdict (asker ∷ askers) ports =
     numbers-tell_each verdict askers (change_port asker (tell verdict) ports)
     ∙ numbers-change_port asker (tell verdict) ports (λ p. refl)
+
+-- the numbers of these ports
+pub numbers-is : (new : OpenPorts) (ports : List Port) → new.ports ≡ ports → numbers new.ports ≡ numbers ports
+numbers-is new ports is = ap numbers is
 
 -- nothing changes where the port isn't open
 pub change_port-absent : (number : ℕ) (f : Port → Port) (ports : List Port) → find_port number ports ≡ None → change_port number f ports ≡ ports
@@ -100,27 +122,28 @@ remove_port-absent number (port ∷ ports) absent = by_test (number == port.numb
 -- ---- the helper sent more
 
 -- at a fault of what was told the helper is lost
-pub heard_state : (wall : ℕ) (keys : KeyState) (going mid : UnderWay) (ports after : OpenPorts) (closes piece : List ℕ) (settled : List Settled) (fault : Option LinkFault) → going.verifications ≡ [] → mid ≡ with_link (telling piece going.link).link going → settled ≡ (telling piece going.link).settled → fault ≡ (telling piece going.link).fault → after ≡ record ports { ports = answered settled ports.ports } → (lose_if fault (state_of wall keys mid after closes)).state ≡ (helper_heard piece (state_of wall keys going ports closes)).state
-heard_state wall keys going mid ports after closes piece settled fault none mid_is settled_is fault_is after_is =
+pub heard_state : (wall : ℕ) (keys : KeyState) (going mid left : UnderWay) (ports after : OpenPorts) (closes piece : List ℕ) (settled : List Settled) (fault : Option LinkFault) → mid ≡ with_link (telling piece going.link).link going → settled ≡ (telling piece going.link).settled → fault ≡ (telling piece going.link).fault → left ≡ with_left (unanswered settled mid.verifications) mid → after ≡ record ports { ports = answered settled mid.verifications ports.ports } → (lose_if fault (state_of wall keys left after closes)).state ≡ (helper_heard piece (state_of wall keys going ports closes)).state
+heard_state wall keys going mid left ports after closes piece settled fault mid_is settled_is fault_is left_is after_is =
     let told : Telling = telling piece going.link in
-    let left : UnderWay = with_link told.link going in
-    ap (λ (f : Option LinkFault). (lose_if f (state_of wall keys mid after closes)).state) fault_is
-    ∙ ap (λ (u : UnderWay). (lose_if told.fault (state_of wall keys u after closes)).state) mid_is
-    ∙ ap (λ (v : OpenPorts). (lose_if told.fault (state_of wall keys left v closes)).state) after_is
-    ∙ ap (λ (s : List Settled). (lose_if told.fault (state_of wall keys left (record ports { ports = answered s ports.ports }) closes)).state) settled_is
-    ∙ ap (λ (s : State). (lose_if told.fault s).state) (sym (with_answers-is wall keys going ports closes told none))
+    let to : UnderWay → List Settled → State = λ u s. state_of wall keys (with_left (unanswered s u.verifications) u) (record ports { ports = answered s u.verifications ports.ports }) closes in
+    ap (λ (f : Option LinkFault). (lose_if f (state_of wall keys left after closes)).state) fault_is
+    ∙ ap (λ (u : UnderWay). (lose_if told.fault (state_of wall keys u after closes)).state) left_is
+    ∙ ap (λ (v : OpenPorts). (lose_if told.fault (state_of wall keys (with_left (unanswered settled mid.verifications) mid) v closes)).state) after_is
+    ∙ ap (λ (u : UnderWay). (lose_if told.fault (to u settled)).state) mid_is
+    ∙ ap (λ (s : List Settled). (lose_if told.fault (to (with_link told.link going) s)).state) settled_is
+    ∙ ap (λ (s : State). (lose_if told.fault s).state) (sym (with_answers-is wall keys going ports closes told))
 
 -- ---- the helper is lost
 
 -- its port is closed, and each that waits for it is told
-pub lost_state : (wall : ℕ) (keys : KeyState) (going left : UnderWay) (before ports after : OpenPorts) (closes : List ℕ) → going.verifications ≡ [] → close_helper going.link.state before.ports ≡ ports.ports → before.last ≡ ports.last → left ≡ with_link (link_lost going.link) going → after ≡ record ports { ports = tell_each (Refuses HelperLost) (askers going.link.asks) ports.ports } → state_of wall keys left after closes ≡ (lose (state_of wall keys going before closes)).state
-lost_state wall keys going left before ports after closes none closed last left_is after_is =
-    let to : List Port → ℕ → List Verification → State = λ ps n vs. state_of wall keys (record going { link = link_lost going.link; verifications = vs }) (record ports { ports = tell_each (Refuses HelperLost) (askers going.link.asks) ps; last = n }) closes in
+pub lost_state : (wall : ℕ) (keys : KeyState) (going left : UnderWay) (before ports after : OpenPorts) (closes : List ℕ) → close_helper going.link.state before.ports ≡ ports.ports → before.last ≡ ports.last → left ≡ with_left [] (with_link (link_lost going.link) going) → after ≡ record ports { ports = tell_each (Refuses HelperLost) (askers going.link.asks) ports.ports } → state_of wall keys left after closes ≡ (lose (state_of wall keys going before closes)).state
+lost_state wall keys going left before ports after closes closed last left_is after_is =
+    let gone : UnderWay = with_left [] (with_link (link_lost going.link) going) in
+    let to : List Port → ℕ → State = λ ps n. state_of wall keys gone (record ports { ports = tell_each (Refuses HelperLost) (askers going.link.asks) ps; last = n }) closes in
     ap (λ (u : UnderWay). state_of wall keys u after closes) left_is
-    ∙ ap (λ (v : OpenPorts). state_of wall keys (with_link (link_lost going.link) going) v closes) after_is
-    ∙ ap (λ vs. to ports.ports ports.last vs) none
-    ∙ ap (λ ps. to ps ports.last []) (sym closed)
-    ∙ ap (λ n. to (close_helper going.link.state before.ports) n []) (sym last)
+    ∙ ap (λ (v : OpenPorts). state_of wall keys gone v closes) after_is
+    ∙ ap (λ ps. to ps ports.last) (sym closed)
+    ∙ ap (λ n. to (close_helper going.link.state before.ports) n) (sym last)
 
 -- a helper that is being started has no port
 pub starting_closes : (state : LinkState) (ports : List Port) → IsStarting state → close_helper state ports ≡ ports
@@ -153,11 +176,11 @@ open-change_port number other f (port ∷ ports) keeps some =
     by_tests rest false true is some = rw is refl
     by_tests rest false false is some = rw is (rest some)
 
-pub open-answered : (number : ℕ) (settled : List Settled) (ports : List Port) → IsSome (find_port number ports) → IsSome (find_port number (answered settled ports))
-open-answered number [] ports some = some
-open-answered number (one ∷ later) ports some =
-    open-answered number later (change_port one.asker (tell (verdict_of one.answer)) ports)
-    (open-change_port number one.asker (tell (verdict_of one.answer)) ports (λ p. refl) some)
+pub open-answered : (number : ℕ) (settled : List Settled) (vs : List Verification) (ports : List Port) → IsSome (find_port number ports) → IsSome (find_port number (answered settled vs ports))
+open-answered number [] vs ports some = some
+open-answered number (one ∷ later) vs ports some =
+    open-answered number later (remove_verification one.ask vs) (change_port one.asker (told_with one.answer (find_verification one.ask vs)) ports)
+    (open-change_port number one.asker (told_with one.answer (find_verification one.ask vs)) ports (number-told_with one.answer (find_verification one.ask vs)) some)
 
 -- ---- what was closed
 
@@ -182,12 +205,22 @@ closes_before old mid new ports is new_is same =
 
 -- ---- one after another
 
+-- the answers from one on are that one and those behind it
+pub drop-one : (settled : List Settled) (i : ℕ) (one : Settled) → i < length settled → one ≡ get_or settled i one → drop i settled ≡ one ∷ drop (i + 1) settled
+drop-one settled i one within is = drop_more settled i one within ∙ ap (λ (o : Settled). o ∷ drop (i + 1) settled) (sym is)
+
 -- what is told behind an answer is told behind those before it
-pub answered-more : (settled : List Settled) (i : ℕ) (one : Settled) (ports new : OpenPorts) → i < length settled → one ≡ get_or settled i one → new ≡ record ports { ports = change_port one.asker (tell (verdict_of one.answer)) ports.ports } → (let v : OpenPorts = record new { ports = answered (drop (i + 1) settled) new.ports } in v) ≡ record ports { ports = answered (drop i settled) ports.ports }
-answered-more settled i one ports new within is new_is =
-    ap (λ (v : OpenPorts). let w : OpenPorts = record v { ports = answered (drop (i + 1) settled) v.ports } in w) new_is
-    ∙ ap (λ (s : List Settled). let w : OpenPorts = record ports { ports = answered s ports.ports } in w)
-    (ap (λ (o : Settled). o ∷ drop (i + 1) settled) is ∙ sym (drop_more settled i one within))
+pub answered-more : (one : Settled) (later all : List Settled) (vs left : List Verification) (ports new : OpenPorts) → all ≡ one ∷ later → left ≡ remove_verification one.ask vs → new ≡ record ports { ports = change_port one.asker (told_with one.answer (find_verification one.ask vs)) ports.ports } → (let v : OpenPorts = record new { ports = answered later left new.ports } in v) ≡ record ports { ports = answered all vs ports.ports }
+answered-more one later all vs left ports new all_is left_is new_is =
+    ap (λ (v : OpenPorts). let w : OpenPorts = record v { ports = answered later left v.ports } in w) new_is
+    ∙ ap (λ l. let w : OpenPorts = record ports { ports = answered later l (change_port one.asker (told_with one.answer (find_verification one.ask vs)) ports.ports) } in w) left_is
+    ∙ ap (λ (s : List Settled). let w : OpenPorts = record ports { ports = answered s vs ports.ports } in w) (sym all_is)
+
+-- and so are the verifications that are left
+pub unanswered-more : (one : Settled) (later all : List Settled) (going new : UnderWay) → all ≡ one ∷ later → new ≡ with_left (remove_verification one.ask going.verifications) going → with_left (unanswered later new.verifications) new ≡ with_left (unanswered all going.verifications) going
+unanswered-more one later all going new all_is new_is =
+    ap (λ (u : UnderWay). with_left (unanswered later u.verifications) u) new_is
+    ∙ ap (λ (s : List Settled). with_left (unanswered s going.verifications) going) (sym all_is)
 
 -- and so is what is told behind the first whose ask failed
 pub told-first : (failed : List ℕ) (asker : ℕ) (ports new : OpenPorts) → slice_get failed 0 ≡ Some asker → new ≡ record ports { ports = change_port asker (tell (Refuses HelperRefused)) ports.ports } → (let v : OpenPorts = record new { ports = tell_each (Refuses HelperLost) (drop 1 failed) new.ports } in v) ≡ record ports { ports = tell_each (Refuses HelperLost) failed ports.ports }
@@ -208,7 +241,11 @@ fewer_failed [] asker first = absurd (cc)
 fewer_failed (other ∷ failed) asker first = omega arith
 
 -- the next answer is short, and those behind it
-pub short-at : (settled : List Settled) (i : ℕ) (one : Settled) → i < length settled → one ≡ get_or settled i one → AreShortAnswers (drop i settled) → IsShortAnswer one.answer × AreShortAnswers (drop (i + 1) settled)
-short-at settled i one within is short =
+pub short-at : (one : Settled) (later all : List Settled) → all ≡ one ∷ later → AreShortAnswers all → IsShortAnswer one.answer × AreShortAnswers later
+short-at one later all all_is short =
     let P : List Settled → Type 0 = λ s. AreShortAnswers s in
-    subst P (drop_more settled i one within ∙ ap (λ (o : Settled). o ∷ drop (i + 1) settled) (sym is)) short
+    subst P all_is short
+
+-- and what it verifies is as it was judged, and what those behind it do
+pub provable-at : (one : Settled) (later all : List Settled) (vs : List Verification) (ports : List Port) → all ≡ one ∷ later → AreProvable all vs ports → IsProvable (find_verification one.ask vs) (find_port one.asker ports) × AreProvable later (remove_verification one.ask vs) (change_port one.asker (told_with one.answer (find_verification one.ask vs)) ports)
+provable-at one later all vs ports all_is provable = subst (λ s. AreProvable s vs ports) all_is provable

@@ -4,27 +4,26 @@ use Rattle.std.proofs.lemmas.Bool.Decides.{nat_tests}
 use Rattle.std.proofs.lemmas.List.{map-set, map-append, drop-map, take-map, length-append}
 use Rattle.std.proofs.lemmas.Option.{slice_get-map}
 use Rattle.secret_buf.specs.Buffers.{Buffer, no_bytes}
+use Rattle.dest_rule.specs.Chains.{ChainState, no_chain}
 use Rattle.std.specs.List.{remove}
 use Rattle.std.specs.Option.{option_map}
 use Rattle.world_ports.specs.declared.Door.{Door}
 use Rattle.world_ports.specs.declared.Door.TheVariants.{Clients}
 use Rattle.agent_core.specs.declared.waits.Waits.TheVariants as waits
-use Rattle.agent_model.specs.Dispatch.{Served}
 use Rattle.agent_core.specs.declared.slot.Slot.{Slot}
 use Rattle.agent_core.specs.Places.{IsPlace}
-use Rattle.agent_core.specs.Plain.{ArePlain, IsPlain}
 use Rattle.agent_core.specs.Rising.{IsRisingNumbers, inserted, noted, removed}
 use Rattle.agent_core.specs.Slots.{IsKept, is_owing, owing_of, port_of, ports_of, waits_of}
 use Rattle.agent_core.proofs.OwingLemmas.{length-inserted, length-owing_of, listed-changed, owing_of-owed, owing_of-append, owing_of-kept, owing_of-remove_port, rising-inserted, rising_numbers}
 use Rattle.agent_core.proofs.PlaceLemmas.{length-ports_of, no_slot}
 use Rattle.agent_model.specs.KeyStates.{KeyState}
 use Rattle.agent_model.specs.Sound.{IsRising}
-use Rattle.agent_model.specs.Step.{take_frame}
+use Rattle.agent_model.specs.Step.{attempts, take_frame}
 use Rattle.agent_model.specs.Verdicts.{tell}
-use Rattle.agent_core.specs.Served.{served_body}
+use Rattle.agent_core.specs.Served.{served_at}
 use Rattle.wire_text.specs.Frames.{front_body}
 use Rattle.agent_model.specs.State.{Port, UnderWay, change_port, find_port, is_client, is_some_bytes, new_port, remove_port}
-use Rattle.agent_model.proofs.PortsLemmas.{found_above, found_number, rising-append, rising-change_port, rising-remove_port, rising_higher}
+use Rattle.agent_model.proofs.PortsLemmas.{found_above, rising-append, rising-change_port, rising-remove_port, rising_higher}
 
 -- edits of the slots are edits of the ports
 pub ports_of-remove : (slots : List Slot) (place : ℕ) → ports_of (remove slots place) ≡ remove (ports_of slots) place
@@ -65,17 +64,6 @@ pub found_port : (slots : List Slot) (number place : ℕ) → IsPlace number (po
 found_port slots number place is =
     is.found ∙ slice_get-map port_of slots place ∙ ap (option_map port_of) (slice_get-within slots place no_slot (within_place slots number place is))
 
--- each that is found is plain
-pub are_plain : (slots : List Slot) → ArePlain (ports_of slots)
-are_plain [] = λ number port found. absurd (cc)
-are_plain (slot ∷ slots) = λ number port found. by_test number port (number == slot.number) (are_plain slots number port) found
-  where
-    by_test : (number : ℕ) (port : Port) (same : Bool) → (find_port number (ports_of slots) ≡ Some port → IsPlain port) → (if same then Some (port_of slot) else find_port number (ports_of slots)) ≡ Some port → IsPlain port
-    by_test number port true later found =
-        let is : port_of slot ≡ port = cc in
-        subst IsPlain is (record { chain = refl; attempted = refl })
-    by_test number port false later found = later found
-
 -- ---- one port is changed
 
 -- the slot at its place is set to what a change of the port gives
@@ -83,9 +71,15 @@ pub set_changed : (slots : List Slot) (number place : ℕ) (slot : Slot) (port :
 set_changed slots number place slot port f is found same =
     map-set port_of slots place slot ∙ ap (set (ports_of slots) place) same ∙ sym (is.changed f port found)
 
--- under its number and its door, with these bytes
+-- under its number and its door, with these bytes and this chain
 abbrev pub with_bytes : Slot → Port → Port
-with_bytes slot port = record port { heard = slot.heard.live; owed = slot.owed; waits = waits_of slot.waits }
+with_bytes slot port = record port {
+  heard = slot.heard.live;
+  owed = slot.owed;
+  chain = slot.chain.bindings;
+  attempted = slot.chain.attempted;
+  waits = waits_of slot.waits;
+}
 
 -- a slot that was changed under its number and its door
 same_port : (slot old : Slot) → slot.number ≡ old.number → slot.door ≡ old.door → port_of slot ≡ with_bytes slot (port_of old)
@@ -227,25 +221,22 @@ kept-refused slots owing closed room croom last cmore kept none croomy some belo
       fits = below;
     }
 
--- a slot with an empty buffer, which is owed nothing, is a new port
-pub joined_port : (last number : ℕ) (door : Door) (heard : Buffer) (owed : List ℕ) → number ≡ suc last → heard ≡ no_bytes → owed ≡ [] → port_of (record { number = number; door = door; heard = heard; owed = owed; waits = waits.Nothing }) ≡ new_port (suc last) door
-joined_port last number door heard owed next silent paid =
-    ap (λ n. port_of (record { number = n; door = door; heard = heard; owed = owed; waits = waits.Nothing })) next
-    ∙ ap (λ b. port_of (record { number = suc last; door = door; heard = b; owed = owed; waits = waits.Nothing })) silent
-    ∙ ap (λ bytes. port_of (record { number = suc last; door = door; heard = no_bytes; owed = bytes; waits = waits.Nothing })) paid
+-- a slot with an empty buffer and no chain, which is owed nothing, is a new port
+pub joined_port : (last number : ℕ) (door : Door) (heard : Buffer) (owed : List ℕ) (chain : ChainState) → number ≡ suc last → heard ≡ no_bytes → owed ≡ [] → chain ≡ no_chain → port_of (record { number = number; door = door; heard = heard; owed = owed; chain = chain; waits = waits.Nothing }) ≡ new_port (suc last) door
+joined_port last number door heard owed chain next silent paid unbound =
+    ap (λ n. port_of (record { number = n; door = door; heard = heard; owed = owed; chain = chain; waits = waits.Nothing })) next
+    ∙ ap (λ b. port_of (record { number = suc last; door = door; heard = b; owed = owed; chain = chain; waits = waits.Nothing })) silent
+    ∙ ap (λ bytes. port_of (record { number = suc last; door = door; heard = no_bytes; owed = bytes; chain = chain; waits = waits.Nothing })) paid
+    ∙ ap (λ c. port_of (record { number = suc last; door = door; heard = no_bytes; owed = []; chain = c; waits = waits.Nothing })) unbound
 
 -- ---- a request is taken
 
--- what comes of it is by the port's own number and bytes
-pub same_served : (slots : List Slot) (number : ℕ) (old : Slot) (wall body_len : ℕ) (keys : KeyState) (going : UnderWay) (port : Port) → find_port number (ports_of slots) ≡ Some (port_of old) → find_port number (ports_of slots) ≡ Some port → served_body old.number wall (front_body body_len old.heard.live) keys going ≡ served_body number wall (front_body body_len port.heard) keys going
-same_served slots number old wall body_len keys going port found there =
-    let same_number : old.number ≡ number = found_number number (ports_of slots) (port_of old) found in
-    let is_port : port_of old ≡ port = cc in
-    ap (λ n. served_body n wall (front_body body_len old.heard.live) keys going) same_number
-    ∙ ap (λ (q : Port). served_body number wall (front_body body_len q.heard) keys going) is_port
+-- the port that is found is the slot's
+pub same_found : (slots : List Slot) (number : ℕ) (old : Slot) (port : Port) → find_port number (ports_of slots) ≡ Some (port_of old) → find_port number (ports_of slots) ≡ Some port → port_of old ≡ port
+same_found slots number old port found there = cc
 
--- the client is told it
-pub serve_changed : (slots : List Slot) (number place : ℕ) (slot old : Slot) (wall body_len : ℕ) (keys : KeyState) (going : UnderWay) (port : Port) → IsPlace number (ports_of slots) place → find_port number (ports_of slots) ≡ Some (port_of old) → find_port number (ports_of slots) ≡ Some port → port_of slot ≡ tell (served_body old.number wall (front_body body_len old.heard.live) keys going).work.verdict (take_frame body_len false (port_of old)) → ports_of (set slots place slot) ≡ change_port number (λ p. tell (served_body number wall (front_body body_len port.heard) keys going).work.verdict (take_frame body_len false p)) (ports_of slots)
+-- the client is told what comes of it
+pub serve_changed : (slots : List Slot) (number place : ℕ) (slot old : Slot) (wall body_len : ℕ) (keys : KeyState) (going : UnderWay) (port : Port) → IsPlace number (ports_of slots) place → find_port number (ports_of slots) ≡ Some (port_of old) → find_port number (ports_of slots) ≡ Some port → port_of slot ≡ tell (served_at body_len wall (port_of old) keys going).work.verdict (take_frame body_len (attempts keys.lock (front_body body_len old.heard.live)) (port_of old)) → ports_of (set slots place slot) ≡ change_port number (λ p. tell (served_at body_len wall port keys going).work.verdict (take_frame body_len (attempts keys.lock (front_body body_len port.heard)) p)) (ports_of slots)
 serve_changed slots number place slot old wall body_len keys going port is found there told =
-    set_changed slots number place slot (port_of old) (λ p. tell (served_body number wall (front_body body_len port.heard) keys going).work.verdict (take_frame body_len false p)) is found
-    (told ∙ ap (λ (served : Served). tell served.work.verdict (take_frame body_len false (port_of old))) (same_served slots number old wall body_len keys going port found there))
+    set_changed slots number place slot (port_of old) (λ p. tell (served_at body_len wall port keys going).work.verdict (take_frame body_len (attempts keys.lock (front_body body_len port.heard)) p)) is found
+    (told ∙ ap (λ (q : Port). tell (served_at body_len wall q keys going).work.verdict (take_frame body_len (attempts keys.lock (front_body body_len q.heard)) (port_of old))) (same_found slots number old port found there))

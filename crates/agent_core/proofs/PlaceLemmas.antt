@@ -6,6 +6,7 @@ use Rattle.std.proofs.lemmas.Bool.{cases_lt}
 use Rattle.std.proofs.lemmas.Cmp.{ranked}
 use Rattle.std.proofs.lemmas.List.Sorted.{IsNonDecreasingBy-from_default}
 use Rattle.secret_buf.specs.Buffers.{no_bytes}
+use Rattle.dest_rule.specs.Chains.{no_chain}
 use Rattle.std.specs.List.Sorted.{IsBinarySearchResult, IsSearchInRange, IsNonDecreasingBy}
 use Rattle.std.specs.Ordering.{nat_cmp, ordering_index}
 use Rattle.std.specs.Result.{result_ok}
@@ -90,7 +91,7 @@ numbers-ordered low high (port ∷ ports) (suc i) (suc j) rising order within =
 
 -- a slot of no port
 pub no_slot : Slot
-no_slot = record { number = 0; door = Clients; heard = no_bytes; owed = []; waits = waits.Nothing }
+no_slot = record { number = 0; door = Clients; heard = no_bytes; owed = []; chain = no_chain; waits = waits.Nothing }
 
 -- the comparisons with a number rise along the slots, as a binary search asks
 comparisons_rise : (slots : List Slot) (number high : ℕ) → IsRising 0 high (ports_of slots) → IsNonDecreasingBy (λ slot. ordering_index (nat_cmp slot.number number)) slots

@@ -6,9 +6,12 @@ use Rattle.world_ports.specs.declared.Door.TheVariants.{Clients, Children}
 use Rattle.helper_link.specs.declared.state.LinkState.{LinkState}
 use Rattle.helper_link.specs.declared.state.LinkState.TheVariants as states
 use Rattle.agent_model.specs.Events.{Ended, Heard, Took}
-use Rattle.agent_model.specs.State.{Client, Helper, Port, Role, State, UnderWay, Unnamed, owed_as, owed_by, find_port, is_linked_to, role_by_helper, role_of}
+use Rattle.agent_model.specs.State.{Client, Confirmer, Helper, Port, Role, State, UnderWay, Unnamed, owed_as, owed_by, find_port, is_linked_to, is_unnamed, role_by_helper, role_by_link, role_of}
 use Rattle.agent_model.specs.Step.{ended_at, ended_by_role, handle, heard_at, heard_by_role, took_at, took_by_role}
-use Rattle.agent_core.specs.Roles.{door_by, role_by}
+use Rattle.std.specs.Option.{option_map}
+use Rattle.confirm_desk.specs.Confirmations.{Confirmation, find_linked}
+use Rattle.agent_core.specs.declared.role.Role.TheVariants as core
+use Rattle.agent_core.specs.Roles.{door_by, is_unnamed_kind, role_by, role_kind}
 use Rattle.agent_core.specs.Slots.{owed_in}
 use Rattle.helper_link.specs.HelperLink.{sendable}
 
@@ -48,16 +51,86 @@ linked_number number (states.Linked port) is =
     let same : port ≡ number = grind (arith, nat_tests) in
     ap (λ n. states.Linked n) same
 
--- where no confirmation is waited for, only it is the helper
-helper_by : (linked : Bool) (number : ℕ) → role_by_helper linked number [] ≡ Helper → linked ≡ true
-helper_by true number is = refl
-helper_by false number is = absurd (cc)
+-- only it is the helper
+helper_link : (found : Option Confirmation) → role_by_link found ≡ Helper → ⊥
+helper_link None is = absurd (cc)
+helper_link (Some one) is = absurd (cc)
 
-pub linked-as : (door : Door) (number : ℕ) (going : UnderWay) → going.confirmations ≡ [] → role_of door number going ≡ Helper → going.link.state ≡ states.Linked number
-linked-as Clients number going alone is = absurd (cc)
-linked-as Children number going alone is =
-    let linked : Bool = is_linked_to number going.link.state in
-    linked_number number going.link.state (helper_by linked number (sym (ap (role_by_helper linked number) alone) ∙ is))
+helper_by : (linked : Bool) (number : ℕ) (confirmations : List Confirmation) → role_by_helper linked number confirmations ≡ Helper → linked ≡ true
+helper_by true number confirmations is = refl
+helper_by false number confirmations is = absurd (helper_link (find_linked number confirmations) is)
+
+pub linked-as : (door : Door) (number : ℕ) (going : UnderWay) → role_of door number going ≡ Helper → going.link.state ≡ states.Linked number
+linked-as Clients number going is = absurd (cc)
+linked-as Children number going is =
+    linked_number number going.link.state (helper_by (is_linked_to number going.link.state) number going.confirmations is)
+
+-- a confirmer is where its confirmation says
+pub confirmer-as : (door : Door) (number : ℕ) (going : UnderWay) (one : Confirmation) → role_of door number going ≡ Confirmer one → find_linked number going.confirmations ≡ Some one
+confirmer-as Clients number going one is = absurd (cc)
+confirmer-as Children number going one is = by_linked (is_linked_to number going.link.state) is
+  where
+    by_link : (found : Option Confirmation) → role_by_link found ≡ Confirmer one → found ≡ Some one
+    by_link None there = absurd (cc)
+    by_link (Some other) there = cc
+
+    by_linked : (linked : Bool) → role_by_helper linked number going.confirmations ≡ Confirmer one → find_linked number going.confirmations ≡ Some one
+    by_linked true there = absurd (cc)
+    by_linked false there = by_link (find_linked number going.confirmations) there
+
+-- where none has named itself, no confirmation is
+pub unnamed-free : (door : Door) (number : ℕ) (going : UnderWay) → role_of door number going ≡ Unnamed → (door ≡ Children) × (find_linked number going.confirmations ≡ None)
+unnamed-free Clients number going is = absurd (cc)
+unnamed-free Children number going is = (refl, by_linked (is_linked_to number going.link.state) is)
+  where
+    by_link : (found : Option Confirmation) → role_by_link found ≡ Unnamed → found ≡ None
+    by_link None there = refl
+    by_link (Some other) there = absurd (cc)
+
+    by_linked : (linked : Bool) → role_by_helper linked number going.confirmations ≡ Unnamed → find_linked number going.confirmations ≡ None
+    by_linked true there = absurd (cc)
+    by_linked false there = by_link (find_linked number going.confirmations) there
+
+-- ---- who the code says is there
+
+pub client-kind : (role : Option Role) → option_map role_kind role ≡ Some core.Client → role ≡ Some Client
+client-kind None is = absurd (cc)
+client-kind (Some Client) is = refl
+client-kind (Some Unnamed) is = let no : core.Unnamed ≡ core.Client = cc in absurd (cc)
+client-kind (Some Helper) is = let no : core.Helper ≡ core.Client = cc in absurd (cc)
+client-kind (Some (Confirmer one)) is = let no : core.Confirmer ≡ core.Client = cc in absurd (cc)
+
+pub unnamed-kind : (role : Option Role) → option_map role_kind role ≡ Some core.Unnamed → role ≡ Some Unnamed
+unnamed-kind None is = absurd (cc)
+unnamed-kind (Some Client) is = let no : core.Client ≡ core.Unnamed = cc in absurd (cc)
+unnamed-kind (Some Unnamed) is = refl
+unnamed-kind (Some Helper) is = let no : core.Helper ≡ core.Unnamed = cc in absurd (cc)
+unnamed-kind (Some (Confirmer one)) is = let no : core.Confirmer ≡ core.Unnamed = cc in absurd (cc)
+
+pub helper-kind : (role : Option Role) → option_map role_kind role ≡ Some core.Helper → role ≡ Some Helper
+helper-kind None is = absurd (cc)
+helper-kind (Some Client) is = let no : core.Client ≡ core.Helper = cc in absurd (cc)
+helper-kind (Some Unnamed) is = let no : core.Unnamed ≡ core.Helper = cc in absurd (cc)
+helper-kind (Some Helper) is = refl
+helper-kind (Some (Confirmer one)) is = let no : core.Confirmer ≡ core.Helper = cc in absurd (cc)
+
+pub confirmer-kind : (role : Option Role) → option_map role_kind role ≡ Some core.Confirmer → (one : Confirmation) × (role ≡ Some (Confirmer one))
+confirmer-kind None is = absurd (cc)
+confirmer-kind (Some Client) is = let no : core.Client ≡ core.Confirmer = cc in absurd (cc)
+confirmer-kind (Some Unnamed) is = let no : core.Unnamed ≡ core.Confirmer = cc in absurd (cc)
+confirmer-kind (Some Helper) is = let no : core.Helper ≡ core.Confirmer = cc in absurd (cc)
+confirmer-kind (Some (Confirmer one)) is = (one, refl)
+
+pub no-kind : (role : Option Role) → option_map role_kind role ≡ None → role ≡ None
+no-kind None is = refl
+no-kind (Some role) is = absurd (cc)
+
+-- whether it has named itself
+pub unnamed_of_kind : (role : Role) → is_unnamed_kind (role_kind role) ≡ is_unnamed role
+unnamed_of_kind Client = refl
+unnamed_of_kind Unnamed = refl
+unnamed_of_kind Helper = refl
+unnamed_of_kind (Confirmer one) = refl
 
 -- ---- a child process
 
@@ -75,19 +148,12 @@ linked_false number (states.Linked port) other = by_test (port == number) refl
     by_test false is = is
 
 -- its role then
-pub role-child : (found : Option Port) (number : ℕ) (going : UnderWay) (helper : Bool) → ((port : Port) → found ≡ Some port → port.number ≡ number) → going.confirmations ≡ [] → door_by found ≡ Some Children → is_linked_to number going.link.state ≡ helper → role_by found going ≡ Some (if helper then Helper else Unnamed)
-role-child None number going helper same alone child is = absurd (cc)
-role-child (Some port) number going helper same alone child is =
+pub role-child : (found : Option Port) (number : ℕ) (going : UnderWay) → ((port : Port) → found ≡ Some port → port.number ≡ number) → door_by found ≡ Some Children → option_map role_kind (role_by found going) ≡ Some (role_kind (role_of Children number going))
+role-child None number going same child = absurd (cc)
+role-child (Some port) number going same child =
     let door : port.door ≡ Children = cc in
-    ap (λ d. Some (role_of d port.number going)) door
-    ∙ ap (λ n. Some (role_by_helper (is_linked_to n going.link.state) n going.confirmations)) (same port refl)
-    ∙ ap (λ l. Some (role_by_helper l number going.confirmations)) is
-    ∙ ap (λ cs. Some (role_by_helper helper number cs)) alone
-    ∙ by_helper helper
-  where
-    by_helper : (h : Bool) → Some (role_by_helper h number []) ≡ Some (if h then Helper else Unnamed)
-    by_helper true = refl
-    by_helper false = refl
+    ap (λ d. Some (role_kind (role_of d port.number going))) door
+    ∙ ap (λ n. Some (role_kind (role_of Children n going))) (same port refl)
 
 -- ---- what is owed
 
@@ -112,3 +178,9 @@ owed-unnamed (Some port) going is =
 pub owed-none : (found : Option Port) (going : UnderWay) → role_by found going ≡ None → owed_by found going ≡ []
 owed-none None going is = refl
 owed-none (Some port) going is = absurd (cc)
+
+pub owed-confirmer : (found : Option Port) (going : UnderWay) (one : Confirmation) → role_by found going ≡ Some (Confirmer one) → owed_by found going ≡ one.owed
+owed-confirmer None going one is = absurd (cc)
+owed-confirmer (Some port) going one is =
+    let role : role_of port.door port.number going ≡ Confirmer one = cc in
+    ap (λ r. owed_as r port going) role

@@ -2,14 +2,18 @@
 use Rattle.std.specs.Prelude.{◌≡◌, ℕ, List, [], ◌∷◌, Some}
 use Rattle.helper_link.specs.Sound.{RiseTo}
 use Rattle.agent_model.specs.Events.{Happening, Joined, Heard, Ended, Took, Started, StartFailed, Tick}
-use Rattle.agent_model.specs.Sound.{AreTied, IsTied}
+use Rattle.agent_model.specs.Sound.{AreJudged, AreTied, IsJudged, IsTied}
 use Rattle.agent_model.specs.State.{Port, State, UnderWay, change_port, find_port}
+use Rattle.confirm_desk.specs.Confirmations.{Confirmation, find_job}
+use Rattle.agent_model.specs.Asking.{IsAttended}
+use Rattle.agent_core.specs.Confirmers.{IsHeldFor}
 use Rattle.agent_model.specs.Verdicts.{HelperLost, Refuses, tell}
 
--- the numbers of the unanswered asks rise, and who waits is tied to them
+-- the numbers of the unanswered asks rise, who waits is tied to them, and what they verify is judged as it was
 pub record IsBound (ports : List Port) (going : UnderWay) : Type 0 where
   pub order : RiseTo 0 going.link.asks going.link.last
   pub tied : AreTied ports going.link.asks
+  pub judged : AreJudged ports going.verifications going.link.asks
 
 -- each of these clients is owed nothing when it is told that the helper is lost
 abbrev pub AreSilent : List ℕ → List Port → Type 0
@@ -18,10 +22,24 @@ AreSilent (asker ∷ others) ports =
     ((port : Port) → find_port asker ports ≡ Some port → port.owed ≡ [])
     × AreSilent others (change_port asker (tell (Refuses HelperLost)) ports)
 
--- the agent between two events: who waits is tied to the asks, and each failed ask was handed out
+-- the agent between two events: who waits is tied to the asks and the confirmations, whose clients and child processes
+-- are open, what is verified is judged as it was, and each failed ask was handed out
 pub record IsAtRest (state : State) : Type 0 where
   pub tied : IsTied state
+  pub attended : IsAttended state
+  pub judged : IsJudged state
   pub failed : state.under_way.link.failed ≡ []
+
+-- the same but for the asks that failed
+pub record IsCalm (state : State) : Type 0 where
+  pub tied : IsTied state
+  pub attended : IsAttended state
+  pub judged : IsJudged state
+
+-- the client of each confirmation is open, and owed nothing
+abbrev pub AreHeldFor : List Confirmation → List Port → Type 0
+AreHeldFor confirmations ports =
+    (job : ℕ) (one : Confirmation) → find_job job confirmations ≡ Some one → IsHeldFor one ports
 
 -- the event wants no memory: a port ends, a child process was started or couldn't be, or nothing but the time
 abbrev pub WantsNoMemory : Happening → Type 0

@@ -1,10 +1,12 @@
+pub mod Closed
 pub mod Happenings
 pub mod Rising
 pub mod Slots
 pub mod Places
 pub mod Roles
+pub mod Seen
 pub mod Served
 pub mod Settlings
-pub mod Plain
 pub mod Parts
 pub mod Bound
+pub mod Confirmers

@@ -1,18 +1,26 @@
 -- Who is at a port, as the code tells it (ours).
-use Rattle.std.specs.Prelude.{ℕ, Bool, List, Option, Some, None, min, nat_lt, if◌then◌else◌}
+use Rattle.std.specs.Prelude.{ℕ, Bool, true, false, List, Option, Some, None, min, nat_lt, if◌then◌else◌}
 use Rattle.world_ports.specs.declared.Door.{Door}
 use Rattle.world_ports.specs.declared.Door.TheVariants.{Clients, Children}
 use Rattle.helper_link.specs.declared.state.LinkState.{LinkState}
 use Rattle.helper_link.specs.declared.state.LinkState.TheVariants as states
 use Rattle.agent_core.specs.declared.role.Role.{Role as CoreRole}
 use Rattle.agent_core.specs.declared.role.Role.TheVariants as core
-use Rattle.agent_model.specs.State.{Client, Helper, Port, Role, UnderWay, Unnamed, find_port, is_some_bytes, role_of}
+use Rattle.agent_model.specs.State.{Client, Confirmer, Helper, Port, Role, UnderWay, Unnamed, find_port, is_some_bytes, role_of}
 
--- a role of the code
-abbrev pub role_word : CoreRole → Role
-role_word core.Client = Client
-role_word core.Unnamed = Unnamed
-role_word core.Helper = Helper
+-- a role as the code tells it: not which confirmation it is
+abbrev pub role_kind : Role → CoreRole
+role_kind Client = core.Client
+role_kind Unnamed = core.Unnamed
+role_kind Helper = core.Helper
+role_kind (Confirmer confirmation) = core.Confirmer
+
+-- a child process that hasn't named itself
+abbrev pub is_unnamed_kind : CoreRole → Bool
+is_unnamed_kind core.Client = false
+is_unnamed_kind core.Unnamed = true
+is_unnamed_kind core.Helper = false
+is_unnamed_kind core.Confirmer = false
 
 -- who is at a port, where it is open
 abbrev pub role_by : Option Port → UnderWay → Option Role

@@ -1,5 +1,6 @@
 -- The storage of the open ports as the abstract agent sees it.
-use Rattle.std.specs.Prelude.{◌≡◌, ℕ, ◌+◌, ◌^◌, ◌<◌, ◌≤◌, List, [], ◌∷◌, length, map, Option, Some, None, Bool, false, ◌&&◌, if◌then◌else◌}
+use Rattle.std.specs.Prelude.{◌≡◌, ℕ, ◌+◌, ◌^◌, ◌<◌, ◌≤◌, List, [], ◌∷◌, length, map, Option, Some, None, Bool, ◌&&◌, if◌then◌else◌}
+use Rattle.dest_rule.specs.Chains.{ChainState}
 use Rattle.agent_core.specs.declared.slot.Slot.{Slot}
 use Rattle.agent_core.specs.declared.waits.Waits.{Waits as CoreWaits}
 use Rattle.agent_core.specs.declared.waits.Waits.TheVariants as waits
@@ -13,17 +14,21 @@ waits_of waits.Nothing = Nothing
 waits_of (waits.OnAsk ask) = OnAsk ask
 waits_of (waits.OnConfirmation job) = OnConfirmation job
 
--- a port without its storage: its connection is bound to no host
+-- a port without its storage
 abbrev pub port_of : Slot → Port
 port_of slot = record {
   number = slot.number;
   door = slot.door;
   heard = slot.heard.live;
   owed = slot.owed;
-  chain = [];
-  attempted = false;
+  chain = slot.chain.bindings;
+  attempted = slot.chain.attempted;
   waits = waits_of slot.waits;
 }
+
+-- the bindings of a port's connection, and whether it tried to bind
+abbrev pub chain_of : Port → ChainState
+chain_of port = record { bindings = port.chain; attempted = port.attempted }
 
 -- the ports, in the order in which they are kept
 abbrev pub ports_of : List Slot → List Port

@@ -1,50 +1,59 @@
 //! Child processes that haven't named themselves.
 
-ghost use Rattle.std.specs.Prelude.{◌≡◌, ◌≤◌, ◌+◌, ℕ, List, [], Some, IfSome, IsSome, OnOk, length};
+ghost use Rattle.std.specs.Prelude.{◌≡◌, ◌≤◌, ◌+◌, ℕ, List, [], None, Some, IfSome, IsSome, OnOk, length};
 ghost use Rattle.child_msg.specs.Reading.{from_child_of};
 ghost use Rattle.frame_core.specs.Looks.{front_of};
 ghost use Rattle.wire_text.specs.Frames.{Whole, after_front, front, front_body};
 ghost use Rattle.agent_model.specs.Children.{first_message, unnamed_heard};
-ghost use Rattle.agent_model.specs.KeyStates.{KeyState};
 ghost use Rattle.agent_model.specs.State.{Port, find_port};
-ghost use Rattle.agent_model.specs.Step.{gone};
-ghost use Rattle.agent_core.specs.Bound.{IsBound};
+ghost use Rattle.agent_model.specs.Asking.{JobsRise};
+ghost use Rattle.confirm_desk.specs.Confirmations.{find_linked};
+ghost use Rattle.agent_core.specs.Closed.{IsClosedSince};
+ghost use Rattle.agent_core.specs.Bound.{AreHeldFor, IsBound};
 ghost use Rattle.agent_core.specs.Parts.{state_of};
 ghost use Rattle.agent_core.specs.Settlings.{IsNamed, named_job};
 ghost use Rattle.agent_core.specs.Slots.{heard_in};
 
 use crate::CoreMemory;
+use crate::confirmer::hear_confirmer;
 use crate::helper::hear_helper;
+use crate::keys::Keys;
 use crate::ports::Ports;
 use crate::slot::{LONGEST_BODY, first_body};
 use child_msg::{FromChild, read_from_child};
 use frame_core::{Look, look};
 use under_way::UnderWay;
+use world_ports::{Job, JobKind};
 
 /// A child process that hasn't named itself sent more: its first frame is to name it, or it is closed.
 pub fn hear_unnamed(
     ports: &mut Ports,
     under_way: &mut UnderWay,
+    keys: &Keys,
+    wall: u64,
     number: u64,
     piece: &[u8],
 ) -> Result<(), CoreMemory>
     requires is_open { IsSome (find_port number ports.old.ports) }
     requires bound { IsBound ports.old.ports under_way.old }
+    requires held { AreHeldFor under_way.old.confirmations ports.old.ports }
+    requires free { find_linked number under_way.old.confirmations ≡ None }
+    requires jobs { JobsRise 0 under_way.old.confirmations under_way.old.last_job }
     requires failed { under_way.old.link.failed ≡ [] }
 
-    ensures state { (wall : ℕ) (keys : KeyState) (port : Port) (c : List ℕ)
+    ensures state { (port : Port) (c : List ℕ)
         → find_port number ports.old.ports ≡ Some port → OnOk result
-        (state_of wall keys under_way.new ports.new c
-        ≡ (unnamed_heard port.heard piece.now number (state_of wall keys under_way.old ports.old c)).state) }
-    ensures closes { ports.old.closed ≡ [] → OnOk result
-        (ports.new.closed ≡ gone ports.old.last ports.old.ports ports.new.last ports.new.ports) }
+        (state_of wall keys.now under_way.new ports.new c
+        ≡ (unnamed_heard port.heard piece.now number (state_of wall keys.now under_way.old ports.old c)).state) }
+    ensures closed { (last : ℕ) (began : List Port) → IsClosedSince last began ports.old
+        → OnOk result (IsClosedSince last began ports.new) }
     ensures failed { OnOk result (under_way.new.link.failed ≡ []) }
 {
     ports.push(number, piece)?;
     match first_frame(ports, number) {
-        Look::Whole { body } => take_first(ports, under_way, number, body),
+        Look::Whole { body } => take_first(ports, under_way, keys, wall, number, body),
         Look::Bad { .. } => {
-            ports.close(number);
+            ports.close_open(number);
             Ok(())
         }
         Look::More => Ok(()),
@@ -62,6 +71,8 @@ fn first_frame(ports: &Ports, number: u64) -> Look
 fn take_first(
     ports: &mut Ports,
     under_way: &mut UnderWay,
+    keys: &Keys,
+    wall: u64,
     number: u64,
     body_len: u32,
 ) -> Result<(), CoreMemory>
@@ -69,28 +80,40 @@ fn take_first(
     requires whole { (port : Port) → find_port number ports.old.ports ≡ Some port
         → front 262144 port.heard ≡ Whole body_len }
     requires bound { IsBound ports.old.ports under_way.old }
+    requires held { AreHeldFor under_way.old.confirmations ports.old.ports }
+    requires free { find_linked number under_way.old.confirmations ≡ None }
+    requires jobs { JobsRise 0 under_way.old.confirmations under_way.old.last_job }
     requires failed { under_way.old.link.failed ≡ [] }
 
-    ensures state { (wall : ℕ) (keys : KeyState) (port : Port) (c : List ℕ)
+    ensures state { (port : Port) (c : List ℕ)
         → find_port number ports.old.ports ≡ Some port → OnOk result
-        (state_of wall keys under_way.new ports.new c
+        (state_of wall keys.now under_way.new ports.new c
         ≡ (first_message (from_child_of (front_body body_len port.heard)) number (after_front body_len port.heard)
-        (state_of wall keys under_way.old ports.old c)).state) }
-    ensures closes { ports.old.closed ≡ [] → OnOk result
-        (ports.new.closed ≡ gone ports.old.last ports.old.ports ports.new.last ports.new.ports) }
+        (state_of wall keys.now under_way.old ports.old c)).state) }
+    ensures closed { (last : ℕ) (began : List Port) → IsClosedSince last began ports.old
+        → OnOk result (IsClosedSince last began ports.new) }
     ensures failed { OnOk result (under_way.new.link.failed ≡ []) }
 {
     let Some(job) = job_named(under_way, first_body(ports.heard(number), body_len)) else {
-        ports.close(number);
+        ports.close_open(number);
         return Ok(());
     };
     let heard = ports.take_heard(number);
-    under_way.helper_named(job, number);
-    hear_helper(ports, under_way, number, behind(heard.live(), body_len))
+    let rest = behind(heard.live(), body_len);
+    match job.kind {
+        JobKind::Helper => {
+            under_way.helper_named(job.number, number);
+            hear_helper(ports, under_way, number, rest)
+        }
+        JobKind::Confirm => {
+            under_way.confirmer_named(job.number, number);
+            hear_confirmer(ports, under_way, keys, wall, number, rest)
+        }
+    }
 }
 
 // The started job that this body names by its ticket.
-fn job_named(under_way: &UnderWay, body: &[u8]) -> Option<u64>
+fn job_named(under_way: &UnderWay, body: &[u8]) -> Option<Job>
     ensures job { result ≡ named_job (from_child_of body.now) under_way.now }
     ensures named { IfSome result (λ job. IsNamed job under_way.now) }
 {
@@ -99,7 +122,7 @@ fn job_named(under_way: &UnderWay, body: &[u8]) -> Option<u64>
     };
     let started = under_way.find_started(job)?;
     if started.ticket == ticket {
-        Some(job)
+        Some(started.job)
     } else {
         None
     }

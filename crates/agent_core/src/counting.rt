@@ -1,13 +1,14 @@
 //! How many open ports there are of a kind.
 
-ghost use Rattle.std.specs.Prelude.{◌≡◌, ◌≤◌, ◌&&◌, [], filter, length, not};
-ghost use Rattle.agent_model.specs.State.{UnderWay, client_count, is_client, is_linked_to, unnamed_count};
+ghost use Rattle.std.specs.Prelude.{◌≡◌, ◌≤◌, filter, length};
+ghost use Rattle.agent_model.specs.State.{client_count, is_client, is_unnamed, role_of, unnamed_count};
+ghost use Rattle.agent_core.specs.Roles.{is_unnamed_kind};
 ghost use Rattle.agent_core.specs.Slots.{ports_of};
 ghost use Rattle.agent_core.specs.declared.slot.Slot.{Slot as ASlot};
 
-use crate::role::is_linked;
+use crate::role::{Role, child_role};
 use crate::slot::Slot;
-use helper_link::LinkState;
+use under_way::UnderWay;
 use world_ports::Door;
 
 /// How many are clients.
@@ -28,24 +29,38 @@ fn count_clients(slots: &[Slot]) -> usize
 }
 
 /// How many are child processes that haven't named themselves.
-pub fn unnamed(slots: &[Slot], link: LinkState) -> usize
-    ensures value { (under_way : UnderWay) → under_way.link.state ≡ link → under_way.confirmations ≡ []
-        → result ≡ unnamed_count under_way (ports_of slots.now) }
+pub fn unnamed(slots: &[Slot], under_way: &UnderWay) -> usize
+    ensures value { result ≡ unnamed_count under_way.now (ports_of slots.now) }
     ensures few { result ≤ length slots.now }
 {
-    count_unnamed(slots, link)
+    count_unnamed(slots, under_way)
 }
 
-fn count_unnamed(slots: &[Slot], link: LinkState) -> usize
-    ensures { result ≡ length (filter (λ (slot : ASlot). not (is_client slot.door) && not (is_linked_to slot.number link))
+fn count_unnamed(slots: &[Slot], under_way: &UnderWay) -> usize
+    ensures { result ≡ length (filter (λ (slot : ASlot). is_unnamed (role_of slot.door slot.number under_way.now))
         slots.now) }
 {
-    slots.iter().filter(|slot| is_unnamed(slot, link)).count()
+    slots
+        .iter()
+        .filter(|slot| is_unnamed(slot, under_way))
+        .count()
 }
 
-// Whether it is a child process's, and not the helper's.
-fn is_unnamed(slot: &Slot, link: LinkState) -> bool
-    ensures { result ≡ (not (is_client slot.now.door) && not (is_linked_to slot.now.number link)) }
+// Whether it is a child process's that hasn't named itself.
+fn is_unnamed(slot: &Slot, under_way: &UnderWay) -> bool
+    ensures { result ≡ is_unnamed (role_of slot.now.door slot.now.number under_way.now) }
 {
-    slot.door == Door::Children && !is_linked(link, slot.number)
+    match slot.door {
+        Door::Clients => false,
+        Door::Children => is_nobody(child_role(under_way, slot.number)),
+    }
+}
+
+fn is_nobody(role: Role) -> bool
+    ensures { result ≡ is_unnamed_kind role }
+{
+    match role {
+        Role::Unnamed => true,
+        Role::Client | Role::Helper | Role::Confirmer => false,
+    }
 }

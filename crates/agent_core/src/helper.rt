@@ -2,20 +2,21 @@
 
 ghost use Rattle.std.specs.Prelude.{◌≡◌, ◌≢◌, ℕ, List, [], IsSome, OnOk};
 ghost use Rattle.helper_link.specs.HelperLink.{IsStarting, askers};
-ghost use Rattle.agent_model.specs.Answers.{helper_heard, link_lost, lose, tell_each};
+ghost use Rattle.agent_model.specs.Answers.{find_verification, helper_heard, link_lost, lose, remove_verification, tell_each};
 ghost use Rattle.agent_model.specs.KeyStates.{KeyState};
 ghost use Rattle.agent_model.specs.Sound.{IsRising};
-ghost use Rattle.agent_model.specs.State.{find_port};
+ghost use Rattle.agent_model.specs.State.{Port, change_port, find_port};
 ghost use Rattle.agent_model.specs.Step.{gone};
 ghost use Rattle.agent_model.specs.Verdicts.{HelperLost, Refuses};
-ghost use Rattle.under_way.specs.Parts.{IsAlone};
 ghost use Rattle.agent_core.specs.Bound.{AreSilent, IsBound};
+ghost use Rattle.agent_core.specs.Closed.{IsClosedSince};
 ghost use Rattle.agent_core.specs.Parts.{state_of};
-ghost use Rattle.agent_core.specs.Settlings.{AreShortAnswers, answered};
+ghost use Rattle.under_way.specs.Parts.{HasNoHelper};
+ghost use Rattle.agent_core.specs.Settlings.{AreProvable, AreShortAnswers, IsProvable, IsShortAnswer, answered, told_with, unanswered};
 
 use crate::CoreMemory;
 use crate::ports::Ports;
-use helper_link::{LinkState, Settled};
+use helper_link::{Answer, LinkState, Settled};
 use under_way::UnderWay;
 
 /// The helper sent more: each asker is told its answer, and at a fault of the stream the helper is lost.
@@ -35,10 +36,12 @@ pub fn hear_helper(
         ≡ (helper_heard piece.now (state_of wall keys under_way.old ports.old c)).state) }
     ensures closes { ports.old.closed ≡ [] → OnOk result
         (ports.new.closed ≡ gone ports.old.last ports.old.ports ports.new.last ports.new.ports) }
+    ensures closed { (last : ℕ) (began : List Port) → IsClosedSince last began ports.old
+        → OnOk result (IsClosedSince last began ports.new) }
     ensures failed { OnOk result (under_way.new.link.failed ≡ []) }
 {
     let told = under_way.helper_told(piece)?;
-    answer_all(ports, told.settled.as_slice())?;
+    answer_all(ports, under_way, told.settled.as_slice())?;
     match told.fault {
         Some(_) => {
             lose_helper(ports, under_way, helper);
@@ -60,6 +63,8 @@ pub fn lose_helper(ports: &mut Ports, under_way: &mut UnderWay, helper: u64)
     ensures rising { IsRising 0 ports.old.last ports.old.ports }
     ensures closes { ports.old.closed ≡ []
         → ports.new.closed ≡ gone ports.old.last ports.old.ports ports.new.last ports.new.ports }
+    ensures closed { (last : ℕ) (began : List Port) → IsClosedSince last began ports.old
+        → IsClosedSince last began ports.new }
     ensures failed { under_way.new.link.failed ≡ [] }
 {
     ports.close(helper);
@@ -69,16 +74,15 @@ pub fn lose_helper(ports: &mut Ports, under_way: &mut UnderWay, helper: u64)
 /// No helper is there or coming any more: each client that waits for an answer of it is told. Takes no memory.
 pub fn lose_link(ports: &mut Ports, under_way: &mut UnderWay)
     requires some { under_way.old.link.state ≢ LinkState.None }
-    requires jobs { IsStarting under_way.old.link.state
-        → (under_way.old.to_start ≡ []) × (under_way.old.started ≡ []) }
+    requires jobs { IsStarting under_way.old.link.state → HasNoHelper under_way.old }
     requires silent { AreSilent (askers under_way.old.link.asks) ports.old.ports }
     requires failed { under_way.old.link.failed ≡ [] }
 
     ensures ports { ports.new ≡ record ports.old {
       ports = tell_each (Refuses HelperLost) (askers under_way.old.link.asks) ports.old.ports;
     } }
-    ensures under_way { under_way.new ≡ record under_way.old { link = link_lost under_way.old.link } }
-    ensures alone { IsAlone under_way.old }
+    ensures under_way { under_way.new
+        ≡ record under_way.old { link = link_lost under_way.old.link; verifications = [] } }
 {
     under_way.lose();
     'askers: while let Some(asker) = under_way.next_failed() {
@@ -87,15 +91,43 @@ pub fn lose_link(ports: &mut Ports, under_way: &mut UnderWay)
 }
 
 // Tells each asker its answer, in the order of the answers.
-fn answer_all(ports: &mut Ports, settled: &[Settled]) -> Result<(), CoreMemory>
-    requires { AreShortAnswers settled.now }
+fn answer_all(
+    ports: &mut Ports,
+    under_way: &mut UnderWay,
+    settled: &[Settled],
+) -> Result<(), CoreMemory>
+    requires short { AreShortAnswers settled.now }
+    requires provable { AreProvable settled.now under_way.old.verifications ports.old.ports }
 
-    ensures { OnOk result (ports.new ≡ record ports.old {
-      ports = answered settled.now ports.old.ports;
+    ensures ports { OnOk result (ports.new ≡ record ports.old {
+      ports = answered settled.now under_way.old.verifications ports.old.ports;
+    }) }
+    ensures under_way { OnOk result (under_way.new ≡ record under_way.old {
+      verifications = unanswered settled.now under_way.old.verifications;
     }) }
 {
     for one in settled {
-        ports.tell(one.asker, &one.answer)?;
+        answer_one(ports, under_way, one)?;
     }
     Ok(())
+}
+
+// Tells an asker its answer. A verified binding is added to its chain before, where it is new.
+fn answer_one(ports: &mut Ports, under_way: &mut UnderWay, one: &Settled) -> Result<(), CoreMemory>
+    requires short { IsShortAnswer one.now.answer }
+    requires provable { IsProvable (find_verification one.now.ask under_way.old.verifications)
+        (find_port one.now.asker ports.old.ports) }
+
+    ensures ports { OnOk result (ports.new ≡ record ports.old {
+      ports = change_port one.now.asker
+          (told_with one.now.answer (find_verification one.now.ask under_way.old.verifications)) ports.old.ports;
+    }) }
+    ensures under_way { under_way.new ≡ record under_way.old {
+      verifications = remove_verification one.now.ask under_way.old.verifications;
+    } }
+{
+    match (&one.answer, under_way.take_verification(one.ask)) {
+        (Answer::True, Some(verification)) => ports.prove(one.asker, &verification),
+        (answer, _) => ports.tell(one.asker, answer),
+    }
 }

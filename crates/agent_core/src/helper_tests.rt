@@ -15,33 +15,33 @@ const SIGN_REQUEST: &[u8] = b"\0\0\0\x4f\x0d\0\0\0\x40\
     \x11\x11\x11\x11\x11\x11\x11\x11\x11\x11\x11\x11\x11\x11\x11\x11\
     \0\0\0\x02\x01\x02\0\0\0\0";
 /// SSH_AGENT_SIGN_RESPONSE, 14, with the signature "sig".
-const SIGN_RESPONSE: &[u8] = b"\0\0\0\x08\x0e\0\0\0\x03sig";
+pub const SIGN_RESPONSE: &[u8] = b"\0\0\0\x08\x0e\0\0\0\x03sig";
 
 // Messages of child processes (docs/PROTOCOL.md, "Messages of child processes").
-const TICKET: [u8; 16] = *b"0123456789abcdef";
+pub const TICKET: [u8; 16] = *b"0123456789abcdef";
 /// HELLO, 1, of job 1 with that ticket, and with another.
-const HELLO: &[u8] = b"\0\0\0\x1d\x01\0\0\0\0\0\0\0\x01\0\0\0\x100123456789abcdef";
+pub const HELLO: &[u8] = b"\0\0\0\x1d\x01\0\0\0\0\0\0\0\x01\0\0\0\x100123456789abcdef";
 
 const WRONG_HELLO: &[u8] = b"\0\0\0\x1d\x01\0\0\0\0\0\0\0\x01\0\0\0\x100123456789abcdeg";
 /// SIGNED, 101, to ask 1 and to ask 2, with the signature "sig".
 const SIGNED_1: &[u8] = b"\0\0\0\x10\x65\0\0\0\0\0\0\0\x01\0\0\0\x03sig";
 
-const SIGNED_2: &[u8] = b"\0\0\0\x10\x65\0\0\0\0\0\0\0\x02\0\0\0\x03sig";
+pub const SIGNED_2: &[u8] = b"\0\0\0\x10\x65\0\0\0\0\0\0\0\x02\0\0\0\x03sig";
 /// SIGNED to ask 2, and then a frame that announces no byte.
 const SIGNED_2_AND_BAD: &[u8] = b"\0\0\0\x10\x65\0\0\0\0\0\0\0\x02\0\0\0\x03sig\0\0\0\0";
 
-// One event that fits.
-fn tell(rt: &impl Abort, agent: &mut Agent, event: &Event<'_>) -> Result<(), Fail> {
+/// One event that fits.
+pub fn tell(rt: &impl Abort, agent: &mut Agent, event: &Event<'_>) -> Result<(), Fail> {
     assert!(rt; agent.fits(event));
     agent.step(NOW, event)?;
     Ok(())
 }
 
-fn hear(rt: &impl Abort, agent: &mut Agent, port: u64, piece: &[u8]) -> Result<(), Fail> {
+pub fn hear(rt: &impl Abort, agent: &mut Agent, port: u64, piece: &[u8]) -> Result<(), Fail> {
     tell(rt, agent, &Event::Heard { port, piece })
 }
 
-fn take_all(rt: &impl Abort, agent: &mut Agent, port: u64) -> Result<(), Fail> {
+pub fn take_all(rt: &impl Abort, agent: &mut Agent, port: u64) -> Result<(), Fail> {
     let count = agent.owed(port).len();
     tell(rt, agent, &Event::Took { port, count })
 }

@@ -1,18 +1,26 @@
 //! What the agent holds.
 
-ghost use Rattle.std.specs.Prelude.{◌≡◌, ◌≤◌, ℕ, [], IfOk, OnOk, length};
+ghost use Rattle.std.specs.Prelude.{◌≡◌, ◌≤◌, [], None, IfOk, IfSome, OnOk, length};
 ghost use Rattle.identity_table.specs.Identities.{IsSound, next_death};
 ghost use Rattle.agent_model.specs.KeyStates.{expired, no_keys};
 ghost use Rattle.agent_model.specs.Limits.{longest_body};
+ghost use Rattle.agent_model.specs.Step.{attempts};
 ghost use Rattle.agent_model.specs.Verdicts.{verdict_text, verdict_waits};
+ghost use Rattle.confirm_desk.specs.Confirmations.{find_asker};
+ghost use Rattle.std.specs.Option.{option_copied};
+ghost use Rattle.agent_core.specs.Confirmers.{IsShortKey, granted_key};
 ghost use Rattle.agent_core.specs.Served.{served_body};
 ghost use Rattle.agent_core.specs.Slots.{waits_of};
 
 use crate::CoreMemory;
+use crate::asker::Asker;
+use crate::granted::find_granted;
 use crate::owed::Owed;
 use crate::requests::answer;
 use crate::waits::Waits;
-use identity_table::{Lock, Table};
+use agent_msg::names_bind;
+use dest_rule::Chain;
+use identity_table::{Identity, Lock, Table};
 use std::alloc::Global;
 use std::marker::Model;
 use under_way::UnderWay;
@@ -82,37 +90,60 @@ impl Keys {
         self.table.expire(now);
     }
 
-    /// Does what the request of this body asks, for the client of this port: owes the reply, or tells what it waits
-    /// for.
+    /// Whether a body with which the client asks makes its connection count as one that tried to bind itself: a
+    /// locked agent doesn't look.
+    pub fn is_attempt(&self, body: &[u8]) -> bool
+        ensures { result ≡ attempts self.now.lock body.now }
+    {
+        !self.lock.is_locked() && names_bind(body)
+    }
+
+    /// Does what the request of this body asks: owes the reply, or tells what the asker waits for.
     pub fn serve(
         &mut self,
         under_way: &mut UnderWay,
-        port: u64,
+        asker: &Asker<'_>,
         body: &[u8],
         owed: &mut Owed,
     ) -> Result<Waits, CoreMemory>
         requires nothing { owed.old ≡ [] }
         requires short { length body.now ≤ longest_body }
         requires failed { under_way.old.link.failed ≡ [] }
+        requires alone { find_asker asker.now.port under_way.old.confirmations ≡ None }
 
-        ensures keys { (wall : ℕ) → OnOk result
-            (self.new ≡ (served_body port wall body.now self.old under_way.old).held) }
-        ensures under_way { (wall : ℕ) → OnOk result
-            (under_way.new ≡ (served_body port wall body.now self.old under_way.old).work.under_way) }
+        ensures keys { OnOk result (self.new ≡ (served_body asker.now body.now self.old under_way.old).held) }
+        ensures under_way { OnOk result
+            (under_way.new ≡ (served_body asker.now body.now self.old under_way.old).work.under_way) }
         ensures failed { OnOk result (under_way.new.link.failed ≡ []) }
-        ensures reply { (wall : ℕ) → OnOk result
-            (owed.new ≡ verdict_text (served_body port wall body.now self.old under_way.old).work.verdict) }
-        ensures waits { (wall : ℕ) → IfOk result (λ waits.
-            waits_of waits ≡ verdict_waits (served_body port wall body.now self.old under_way.old).work.verdict) }
+        ensures reply { OnOk result
+            (owed.new ≡ verdict_text (served_body asker.now body.now self.old under_way.old).work.verdict) }
+        ensures waits { IfOk result (λ waits.
+            waits_of waits ≡ verdict_waits (served_body asker.now body.now self.old under_way.old).work.verdict) }
     {
         answer(
             self.alloc,
             &mut self.table,
             &mut self.lock,
             under_way,
-            port,
+            asker,
             body,
             owed,
         )
+    }
+}
+
+impl Keys {
+    /// The key of an addition, where it is held yet, the agent isn't locked and the key may sign the message now.
+    pub fn find_granted(
+        &self,
+        addition: u64,
+        chain: &Chain,
+        message: &[u8],
+        wall: u64,
+    ) -> Option<&Identity>
+        ensures value { option_copied result ≡ granted_key addition chain.now.bindings message.now wall self.now }
+        ensures short { IfSome result (λ key. IsShortKey key.now) }
+    {
+        find_granted(&self.table, &self.lock, addition, chain, message, wall)
     }
 }

@@ -4,9 +4,16 @@
 #![tactic(auto)]
 
 mod agent;
+mod asker;
+#[cfg(test)]
+mod bind_tests;
 mod children;
+#[cfg(test)]
+mod confirm_tests;
+mod confirmer;
 mod counting;
 mod event;
+mod granted;
 mod helper;
 #[cfg(test)]
 mod helper_tests;
@@ -19,6 +26,7 @@ mod ports;
 mod requests;
 mod rising;
 mod role;
+mod seen;
 mod slot;
 #[cfg(test)]
 mod tests;

@@ -5,9 +5,12 @@ ghost use Rattle.secret_buf.specs.Buffers.{KeepsRoom};
 ghost use Rattle.agent_msg.specs.Replies.{entries, identities_answer, sign_response, status};
 ghost use Rattle.identity_table.specs.Identities.{answer_len, max_answer};
 ghost use Rattle.agent_model.specs.KeyStates.{shown};
+ghost use Rattle.agent_core.specs.Seen.{entry_if, is_seen, seen};
 
+use crate::asker::Asker;
+use crate::seen::{seen_size, sees};
 use agent_msg::{put_list_entry, put_list_head, put_signature, put_status};
-use identity_table::{Identity, listed_len};
+use identity_table::Identity;
 use secret_buf::ScrubBuf;
 use std::alloc::{AllocError, Global};
 use std::marker::Model;
@@ -102,16 +105,17 @@ impl Owed {
         put_signature(&mut self.bytes, signature)
     }
 
-    /// The list of these identities.
-    pub fn put_list(&mut self, identities: &[Identity]) -> Result<(), AllocError>
+    /// The list of those of these identities that the asker sees.
+    pub fn put_list(&mut self, asker: &Asker<'_>, identities: &[Identity]) -> Result<(), AllocError>
         requires nothing { self.old ≡ [] }
         requires fits { answer_len identities.now ≤ max_answer }
-        ensures { OnOk result (self.new ≡ identities_answer (map shown identities.now)) }
+        ensures { OnOk result (self.new ≡ identities_answer (map shown (seen asker.now identities.now))) }
     {
-        let body = listed_len(identities) as u32;
+        let size = seen_size(asker, identities);
+        let body = size.body as u32;
         self.is_long = body > LONG;
-        put_list_head(&mut self.bytes, body, identities.len() as u32)?;
-        put_entries(&mut self.bytes, identities)?;
+        put_list_head(&mut self.bytes, body, size.count as u32)?;
+        put_entries(&mut self.bytes, asker, identities)?;
         Ok(())
     }
 }
@@ -128,14 +132,31 @@ impl Owed {
     }
 }
 
-// Appends the identities of a list.
-fn put_entries(out: &mut ScrubBuf, identities: &[Identity]) -> Result<(), AllocError>
+// Appends those of the identities that the asker sees.
+fn put_entries(
+    out: &mut ScrubBuf,
+    asker: &Asker<'_>,
+    identities: &[Identity],
+) -> Result<(), AllocError>
     requires { answer_len identities.now ≤ max_answer }
     ensures ok { OnOk result (out.new.live
-        ≡ out.old.live ++ entries (map shown identities.now)) }
+        ≡ out.old.live ++ entries (map shown (seen asker.now identities.now))) }
     ensures keeps_room { KeepsRoom out.old out.new }
 {
     for identity in identities {
+        put_entry(out, asker, identity)?;
+    }
+    Ok(())
+}
+
+// Appends an identity where it is seen.
+fn put_entry(out: &mut ScrubBuf, asker: &Asker<'_>, identity: &Identity) -> Result<(), AllocError>
+    requires { 8 + length identity.now.blob + length identity.now.comment ≤ max_answer }
+    ensures ok { OnOk result (out.new.live
+        ≡ out.old.live ++ entry_if (is_seen asker.now identity.now) identity.now) }
+    ensures keeps_room { KeepsRoom out.old out.new }
+{
+    if sees(asker, identity) {
         put_list_entry(out, identity.blob(), identity.comment())?;
     }
     Ok(())

@@ -3,23 +3,24 @@
 ghost use Rattle.std.specs.Prelude.{◌≡◌, ℕ, List, [], IsOk, IsSome, OnOk};
 ghost use Rattle.agent_model.specs.Children.{changed, heard_more};
 ghost use Rattle.agent_model.specs.Events.{Ended, Heard, Joined, StartFailed, Started, Took};
-ghost use Rattle.agent_model.specs.Sound.{IsSteady};
+ghost use Rattle.agent_model.specs.Sound.{IsSteady, IsTied};
 ghost use Rattle.agent_model.specs.State.{Fits, find_port, next_owed, owed_of};
 ghost use Rattle.agent_model.specs.Step.{closed_between, handle, looked, step};
-ghost use Rattle.agent_core.specs.Bound.{IsBound, WantsNoMemory};
+ghost use Rattle.agent_core.specs.Bound.{IsCalm, WantsNoMemory};
 ghost use Rattle.agent_core.specs.Happenings.{happening};
 ghost use Rattle.agent_core.specs.Parts.{with_closes};
 
 use crate::children::hear_unnamed;
+use crate::confirmer::{end_if, hear_confirmer, lose_client, lose_confirmer};
 use crate::helper::{hear_helper, lose_helper, lose_link};
 use crate::keys::Keys;
 use crate::ports::Ports;
-use crate::role::{Role, next_of, owed_helper, role_at};
+use crate::role::{Role, lesser, next_of, owed_helper, role_at};
 use crate::{CoreMemory, Event};
 use frame_core::Look;
 use std::marker::Model;
 use under_way::UnderWay;
-use world_ports::{Door, Moment};
+use world_ports::{Door, JobKind, Moment};
 
 /// The most clients that may be open at once.
 const MOST_CLIENTS: usize = 128;
@@ -49,7 +50,7 @@ impl Parts {
     /// Takes one event at a moment.
     pub fn take(&mut self, moment: Moment, event: &Event<'_>) -> Result<(), CoreMemory>
         requires fits { Fits (happening event.now) self.old }
-        requires bound { IsBound self.old.ports self.old.under_way }
+        requires calm { IsCalm self.old }
         requires failed { self.old.under_way.link.failed ≡ [] }
 
         ensures stepped { OnOk result (self.new ≡ (step self.old moment (happening event.now)).state) }
@@ -69,6 +70,7 @@ impl Parts {
         match role_at(&self.ports, &self.under_way, port) {
             Some(Role::Client) => self.ports.owed(port),
             Some(Role::Helper) => self.under_way.owed(),
+            Some(Role::Confirmer) => self.under_way.confirmer_owed(port),
             // A child process that hasn't named itself is owed nothing.
             Some(Role::Unnamed) | None => &[],
         }
@@ -76,18 +78,20 @@ impl Parts {
 
     /// The open port of the least number above `after` that is owed bytes.
     pub fn next_owed(&self, after: u64) -> Option<u64>
+        requires { IsCalm self.now }
         ensures next { result ≡ next_owed after self.now }
         ensures steady { IsSteady self.now }
     {
         let client = self.ports.next_owed(after);
         let helper = owed_helper(&self.ports, &self.under_way);
-        next_of(after, client, helper)
+        let confirmer = self.under_way.next_confirmer_owed(after);
+        lesser(next_of(after, client, helper), confirmer)
     }
 
     // Takes one event after its moment.
     fn handle(&mut self, event: &Event<'_>) -> Result<(), CoreMemory>
         requires fits { Fits (happening event.now) self.old }
-        requires bound { IsBound self.old.ports self.old.under_way }
+        requires calm { IsCalm self.old }
         requires failed { self.old.under_way.link.failed ≡ [] }
         requires closes { self.old.closes ≡ [] }
 
@@ -129,7 +133,7 @@ impl Parts {
     {
         let has_room = match door {
             Door::Clients => self.ports.clients() < MOST_CLIENTS,
-            Door::Children => self.ports.unnamed(self.under_way.link_state()) < MOST_UNNAMED,
+            Door::Children => self.ports.unnamed(&self.under_way) < MOST_UNNAMED,
         };
         self.ports.join(door, has_room)
     }
@@ -137,7 +141,7 @@ impl Parts {
     // A port sent more.
     fn hear(&mut self, port: u64, piece: &[u8]) -> Result<(), CoreMemory>
         requires is_open { IsSome (find_port port self.old.ports) }
-        requires bound { IsBound self.old.ports self.old.under_way }
+        requires calm { IsCalm self.old }
         requires failed { self.old.under_way.link.failed ≡ [] }
         requires closes { self.old.closes ≡ [] }
 
@@ -148,7 +152,22 @@ impl Parts {
     {
         match role_at(&self.ports, &self.under_way, port) {
             Some(Role::Client) => self.hear_client(port, piece),
-            Some(Role::Unnamed) => hear_unnamed(&mut self.ports, &mut self.under_way, port, piece),
+            Some(Role::Unnamed) => hear_unnamed(
+                &mut self.ports,
+                &mut self.under_way,
+                &self.keys,
+                self.wall,
+                port,
+                piece,
+            ),
+            Some(Role::Confirmer) => hear_confirmer(
+                &mut self.ports,
+                &mut self.under_way,
+                &self.keys,
+                self.wall,
+                port,
+                piece,
+            ),
             Some(Role::Helper) => hear_helper(&mut self.ports, &mut self.under_way, port, piece),
             None => unreachable!(),
         }
@@ -157,6 +176,7 @@ impl Parts {
     // A client sent more.
     fn hear_client(&mut self, port: u64, piece: &[u8]) -> Result<(), CoreMemory>
         requires is_open { IsSome (find_port port self.old.ports) }
+        requires calm { IsCalm self.old }
         requires failed { self.old.under_way.link.failed ≡ [] }
         requires closes { self.old.closes ≡ [] }
 
@@ -172,6 +192,7 @@ impl Parts {
     // A port took some of what it is owed.
     fn send(&mut self, port: u64, count: usize) -> Result<(), CoreMemory>
         requires fits { Fits (Took port count) self.old }
+        requires calm { IsCalm self.old }
         requires failed { self.old.under_way.link.failed ≡ [] }
         requires closes { self.old.closes ≡ [] }
 
@@ -189,6 +210,10 @@ impl Parts {
                 self.under_way.helper_took(count);
                 Ok(())
             }
+            Some(Role::Confirmer) => {
+                self.under_way.confirmer_took(port, count);
+                Ok(())
+            }
             // It is owed nothing.
             Some(Role::Unnamed) | None => unreachable!(),
         }
@@ -197,7 +222,7 @@ impl Parts {
     // A port has ended.
     fn end(&mut self, port: u64)
         requires is_open { IsSome (find_port port self.old.ports) }
-        requires bound { IsBound self.old.ports self.old.under_way }
+        requires calm { IsCalm self.old }
         requires failed { self.old.under_way.link.failed ≡ [] }
         requires closes { self.old.closes ≡ [] }
 
@@ -207,9 +232,10 @@ impl Parts {
         ensures failed { self.new.under_way.link.failed ≡ [] }
     {
         match role_at(&self.ports, &self.under_way, port) {
-            Some(Role::Client) => self.ports.close(port),
+            Some(Role::Client) => lose_client(&mut self.ports, &mut self.under_way, port),
             Some(Role::Unnamed) => self.ports.close(port),
             Some(Role::Helper) => lose_helper(&mut self.ports, &mut self.under_way, port),
+            Some(Role::Confirmer) => lose_confirmer(&mut self.ports, &mut self.under_way, port),
             None => unreachable!(),
         }
     }
@@ -230,7 +256,7 @@ impl Parts {
     // A child process could not be started.
     fn fail(&mut self, job: u64)
         requires fits { Fits (StartFailed job) self.old }
-        requires bound { IsBound self.old.ports self.old.under_way }
+        requires calm { IsCalm self.old }
         requires failed { self.old.under_way.link.failed ≡ [] }
         requires closes { self.old.closes ≡ [] }
 
@@ -239,12 +265,15 @@ impl Parts {
         ensures closes { self.new.closes ≡ closed_between self.old self.new }
         ensures failed { self.new.under_way.link.failed ≡ [] }
     {
-        self.under_way.job_failed(job);
-        lose_link(&mut self.ports, &mut self.under_way);
+        match self.under_way.job_failed(job) {
+            JobKind::Helper => lose_link(&mut self.ports, &mut self.under_way),
+            JobKind::Confirm => end_if(&mut self.ports, &mut self.under_way, job),
+        }
     }
 
     // Takes the first request of a client where it is whole, and closes its port where its length is bad.
     fn look(&mut self, port: u64) -> Result<(), CoreMemory>
+        requires tied { IsTied self.old }
         requires failed { self.old.under_way.link.failed ≡ [] }
         requires closes { self.old.closes ≡ [] }
 
@@ -256,7 +285,7 @@ impl Parts {
         match self.ports.due(port) {
             Look::Whole { body } => self
                 .ports
-                .serve(&mut self.keys, &mut self.under_way, port, body),
+                .serve(&mut self.keys, &mut self.under_way, self.wall, port, body),
             Look::Bad { .. } => {
                 self.ports.close(port);
                 Ok(())

@@ -1,34 +1,39 @@
 //! The open ports.
 
-ghost use Rattle.std.specs.Prelude.{◌≡◌, ◌↔◌, ℕ, ◌-◌, ◌^◌, ◌<◌, ◌≤◌, [], ◌∷◌, true, if◌then◌else◌, suc, false, None, Some, IfOk, IsSome, IsTrue, MatchOption, OnOk, length};
+ghost use Rattle.std.specs.Prelude.{◌≡◌, ◌↔◌, ℕ, List, ◌-◌, ◌^◌, ◌<◌, ◌≤◌, [], ◌∷◌, true, if◌then◌else◌, suc, false, None, Some, IfOk, IsSome, IsTrue, MatchOption, OnOk, length};
 ghost use Rattle.wire_text.specs.Frames.{Whole, front_body};
 ghost use Rattle.frame_core.specs.Looks.{front_of};
+ghost use Rattle.agent_model.specs.Answers.{prove};
 ghost use Rattle.agent_model.specs.Children.{heard_more, unheard};
 ghost use Rattle.agent_model.specs.Looks.{due_by};
 ghost use Rattle.agent_model.specs.Sound.{IsRising};
-ghost use Rattle.agent_model.specs.State.{Port, UnderWay as AnUnderWay, change_port, client_count, find_port, remove_port, unnamed_count, wants_by};
-ghost use Rattle.agent_model.specs.Step.{admitted, gone, take_frame, took_some};
-ghost use Rattle.agent_model.specs.Verdicts.{HelperLost, Refuses, tell};
-ghost use Rattle.agent_core.specs.Plain.{ArePlain};
+ghost use Rattle.agent_model.specs.State.{Port, change_port, client_count, find_port, remove_port, unnamed_count, wants_by};
+ghost use Rattle.agent_model.specs.Step.{admitted, attempts, gone, take_frame, took_some};
+ghost use Rattle.agent_model.specs.Verdicts.{HelperLost, Refuses, Verdict, tell};
+ghost use Rattle.under_way.specs.Parts.{TellsOf};
+ghost use Rattle.agent_core.specs.Closed.{IsClosedSince};
 ghost use Rattle.agent_core.specs.Rising.{first_above, inserted};
 ghost use Rattle.agent_core.specs.Roles.{door_by};
-ghost use Rattle.agent_core.specs.Served.{served_body};
-ghost use Rattle.agent_core.specs.Settlings.{IsShortAnswer, verdict_of};
-ghost use Rattle.agent_core.specs.Slots.{heard_in, owed_in, owing_of, port_of};
+ghost use Rattle.confirm_desk.specs.Confirmations.{find_asker};
+ghost use Rattle.agent_core.specs.Served.{served_at};
+ghost use Rattle.agent_core.specs.Settlings.{IsProvable, IsShortAnswer, verdict_of};
+ghost use Rattle.agent_core.specs.Slots.{chain_of, heard_in, owed_in, owing_of, port_of};
+ghost use Rattle.under_way.specs.Verifications.{verification_of};
 
 use crate::keys::Keys;
-use crate::listed::{drop_sent_at, refuse_at, serve_at, tell_at};
+use crate::listed::{conclude_at, drop_sent_at, prove_at, refuse_at, serve_at, tell_at};
 use crate::owed::Owed;
 use crate::places::place_of;
 use crate::slot::{self, Slot};
 use crate::waits::Waits;
 use crate::{CoreMemory, counting, rising};
+use dest_rule::Chain;
 use frame_core::Look;
-use helper_link::{Answer, LinkState};
+use helper_link::Answer;
 use secret_buf::ScrubBuf;
 use std::alloc::{AllocFailed, Global};
 use std::marker::Model;
-use under_way::UnderWay;
+use under_way::{UnderWay, Verification};
 use world_ports::Door;
 
 /// The open ports in the order of their numbers.
@@ -74,12 +79,11 @@ impl Ports {
     }
 
     /// How many child processes are open that haven't named themselves.
-    pub fn unnamed(&self, link: LinkState) -> usize
-        ensures value { (going : AnUnderWay) → going.link.state ≡ link → going.confirmations ≡ []
-            → result ≡ unnamed_count going self.now.ports }
+    pub fn unnamed(&self, under_way: &UnderWay) -> usize
+        ensures value { result ≡ unnamed_count under_way.now self.now.ports }
         ensures few { result ≤ length self.now.ports }
     {
-        counting::unnamed(&self.slots, link)
+        counting::unnamed(&self.slots, under_way)
     }
 
     /// The door through which an open port came.
@@ -143,7 +147,6 @@ impl Ports {
     pub fn next_owed(&self, after: u64) -> Option<u64>
         ensures next { result ≡ first_above after (owing_of self.now.ports) }
         ensures rising { IsRising 0 self.now.last self.now.ports }
-        ensures plain { ArePlain self.now.ports }
     {
         rising::next_above(&self.owing, after)
     }
@@ -195,7 +198,6 @@ impl Ports {
         ensures ports { OnOk result (self.new ≡ record self.old {
           ports = change_port number (heard_more piece.now) self.old.ports;
         }) }
-        ensures plain { ArePlain self.old.ports }
     {
         let Some(place) = place_of(&self.slots, number) else {
             unreachable!()
@@ -224,7 +226,6 @@ impl Ports {
         ensures ports { self.new ≡ record self.old {
           ports = change_port number (took_some count) self.old.ports;
         } }
-        ensures plain { ArePlain self.old.ports }
     {
         let Some(place) = place_of(&self.slots, number) else {
             unreachable!()
@@ -237,26 +238,25 @@ impl Ports {
         &mut self,
         keys: &mut Keys,
         under_way: &mut UnderWay,
+        wall: u64,
         number: u64,
         body_len: u32,
     ) -> Result<(), CoreMemory>
         requires due { due_by (find_port number self.old.ports) ≡ Whole body_len }
         requires failed { under_way.old.link.failed ≡ [] }
+        requires alone { find_asker number under_way.old.confirmations ≡ None }
 
-        ensures ports { (wall : ℕ) (port : Port) → find_port number self.old.ports ≡ Some port
+        ensures ports { (port : Port) → find_port number self.old.ports ≡ Some port
             → OnOk result (self.new ≡ record self.old {
               ports = change_port number (λ p. tell
-                  (served_body number wall (front_body body_len port.heard) keys.old under_way.old).work.verdict
-                  (take_frame body_len false p)) self.old.ports;
+                  (served_at body_len wall port keys.old under_way.old).work.verdict
+                  (take_frame body_len (attempts keys.old.lock (front_body body_len port.heard)) p)) self.old.ports;
             }) }
-        ensures keys { (wall : ℕ) (port : Port) → find_port number self.old.ports ≡ Some port
-            → OnOk result (keys.new
-            ≡ (served_body number wall (front_body body_len port.heard) keys.old under_way.old).held) }
-        ensures under_way { (wall : ℕ) (port : Port) → find_port number self.old.ports ≡ Some port
-            → OnOk result (under_way.new
-            ≡ (served_body number wall (front_body body_len port.heard) keys.old under_way.old).work.under_way) }
+        ensures keys { (port : Port) → find_port number self.old.ports ≡ Some port
+            → OnOk result (keys.new ≡ (served_at body_len wall port keys.old under_way.old).held) }
+        ensures under_way { (port : Port) → find_port number self.old.ports ≡ Some port
+            → OnOk result (under_way.new ≡ (served_at body_len wall port keys.old under_way.old).work.under_way) }
         ensures failed { OnOk result (under_way.new.link.failed ≡ []) }
-        ensures plain { ArePlain self.old.ports }
     {
         let Some(place) = place_of(&self.slots, number) else {
             unreachable!()
@@ -266,8 +266,23 @@ impl Ports {
             &mut self.owing,
             keys,
             under_way,
+            wall,
             body_len,
         )
+    }
+
+    /// Binds an asker's connection as it was verified, and tells the asker so: nobody's, where it has left.
+    pub fn prove(&mut self, number: u64, verification: &Verification) -> Result<(), CoreMemory>
+        requires { IsProvable (Some (verification_of verification.now)) (find_port number self.old.ports) }
+
+        ensures { OnOk result (self.new ≡ record self.old {
+          ports = change_port number (prove (verification_of verification.now)) self.old.ports;
+        }) }
+    {
+        match place_of(&self.slots, number) {
+            Some(place) => prove_at(&mut self.slots[place], &mut self.owing, verification),
+            None => Ok(()),
+        }
     }
 
     /// Tells an asker what the helper answered: nobody, where it has left.
@@ -308,7 +323,6 @@ impl Ports {
         } }
         ensures gone { gone self.old.last self.old.ports self.new.last self.new.ports ≡ number ∷ [] }
         ensures rising { IsRising 0 self.old.last self.old.ports }
-        ensures plain { ArePlain self.old.ports }
     {
         let Some(place) = place_of(&self.slots, number) else {
             unreachable!()
@@ -367,6 +381,7 @@ impl Ports {
             door,
             heard: ScrubBuf::new(alloc),
             owed,
+            chain: Chain::new(alloc),
             waits: Waits::Nothing,
         };
         if let Err(AllocFailed { value }) = self.slots.push(slot) {
@@ -375,5 +390,56 @@ impl Ports {
         }
         self.last += 1;
         Ok(())
+    }
+}
+
+impl Ports {
+    /// The hosts that the connection of an open port was bound to.
+    pub fn chain(&self, number: u64) -> Option<&Chain>
+        ensures { MatchOption result (find_port number self.now.ports ≡ None) (λ chain. (port : Port)
+            → find_port number self.now.ports ≡ Some port → chain.now ≡ chain_of port) }
+    {
+        match self.find(number) {
+            Some(slot) => Some(&slot.chain),
+            None => None,
+        }
+    }
+
+    /// Lets an asker wait for an ask, or tells it that there is none: nobody, where it has left. Takes no memory.
+    pub fn conclude(&mut self, number: u64, asked: Option<u64>)
+        requires { (port : Port) → find_port number self.old.ports ≡ Some port → port.owed ≡ [] }
+
+        ensures { (verdict : Verdict) → TellsOf verdict asked → self.new ≡ record self.old {
+          ports = change_port number (tell verdict) self.old.ports;
+        } }
+    {
+        match place_of(&self.slots, number) {
+            Some(place) => conclude_at(&mut self.slots[place], &mut self.owing, asked),
+            None => {}
+        }
+    }
+
+    /// Closes a port, where it is open. What it was owed and what was heard of it is wiped. Takes no memory.
+    pub fn close_open(&mut self, number: u64)
+        ensures ports { self.new.ports ≡ remove_port number self.old.ports }
+        ensures last { self.new.last ≡ self.old.last }
+        ensures closed { (last : ℕ) (ports : List Port) → IsClosedSince last ports self.old
+            → IsClosedSince last ports self.new }
+        ensures rising { IsRising 0 self.old.last self.old.ports }
+    {
+        if self.has(number) {
+            self.close(number);
+        }
+    }
+
+    // Whether a port is open, among those that rise.
+    fn has(&self, number: u64) -> bool
+        ensures value { IsTrue result ↔ IsSome (find_port number self.now.ports) }
+        ensures rising { IsRising 0 self.now.last self.now.ports }
+    {
+        match place_of(&self.slots, number) {
+            Some(_) => true,
+            None => false,
+        }
     }
 }

@@ -1,54 +1,61 @@
 //! What requests do to the identities and the lock, and what they are answered.
 
-ghost use Rattle.std.specs.Prelude.{◌≡◌, ◌+◌, ℕ, List, [], Option, IsSome, OnOk, IfOk, ◌≤◌, length};
+ghost use Rattle.std.specs.Prelude.{◌≡◌, ◌+◌, ℕ, List, [], true, None, Option, IsSome, is_none, OnOk, IfOk, ◌≤◌, length};
 ghost use Rattle.agent_model.specs.Limits.{longest_body};
-ghost use Rattle.agent_msg.specs.Requests.{ListIdentities, Sign, client_request};
+ghost use Rattle.agent_msg.specs.Requests.{Sign, client_request};
+ghost use Rattle.dest_rule.specs.Rules.{denial_under};
 ghost use Rattle.identity_table.specs.Identities.{TableState, find_identity};
-ghost use Rattle.agent_model.specs.Dispatch.{add_under, remove_by};
+ghost use Rattle.agent_model.specs.Dispatch.{add_by, add_seen, remove_by};
 ghost use Rattle.agent_model.specs.State.{UnderWay as AnUnderWay};
 ghost use Rattle.agent_model.specs.Verdicts.{Verdict, verdict_text, verdict_waits};
-ghost use Rattle.under_way.specs.Parts.{TellsOf};
-ghost use Rattle.agent_core.specs.Served.{IsPlainRequest, IsShortRequest, IsStatus, asker_of, keys_of, served_body, served_by};
+ghost use Rattle.under_way.specs.Parts.{TellsOf, TellsOfUser};
+ghost use Rattle.confirm_desk.specs.Confirmations.{find_asker};
+ghost use Rattle.agent_core.specs.Served.{TellsWait, sign_work, IsPlainRequest, IsShortRequest, IsStatus, asker_of, binds, hides, keys_of, served_body, served_by};
 ghost use Rattle.agent_core.specs.Slots.{waits_of};
+ghost use Rattle.agent_core.specs.declared.asker.Asker.{Asker as AnAsker};
 
 use crate::CoreMemory;
+use crate::asker::Asker;
 use crate::owed::Owed;
+use crate::seen::{list, sees};
 use crate::waits::Waits;
 use agent_msg::{MsgFault, Request, read_request};
-use constraint_rec::Terms;
-use identity_table::{AddFault, Lock, Table};
-use key_blob::AddedKey;
+use constraint_rec::{Constraint, Terms};
+use dest_rule::{Next, may_sign};
+use identity_table::{AddFault, Identity, Lock, Table};
+use key_blob::{AddedKey, read_public};
 use secret_buf::SecretBytes;
 use std::alloc::Global;
 use under_way::UnderWay;
 
-/// Does what the request of this body asks, for the client of this port: owes the reply, or tells what it waits for.
+/// Does what the request of this body asks: owes the reply, or tells what the asker waits for.
 pub fn answer(
     alloc: Global,
     table: &mut Table,
     lock: &mut Lock,
     under_way: &mut UnderWay,
-    port: u64,
+    asker: &Asker<'_>,
     body: &[u8],
     owed: &mut Owed,
 ) -> Result<Waits, CoreMemory>
     requires nothing { owed.old ≡ [] }
     requires short { length body.now ≤ longest_body }
     requires failed { under_way.old.link.failed ≡ [] }
+    requires alone { find_asker asker.now.port under_way.old.confirmations ≡ None }
 
-    ensures keys { (wall : ℕ) → OnOk result (keys_of table.new lock.new
-        ≡ (served_body port wall body.now (keys_of table.old lock.old) under_way.old).held) }
-    ensures under_way { (wall : ℕ) → OnOk result (under_way.new
-        ≡ (served_body port wall body.now (keys_of table.old lock.old) under_way.old).work.under_way) }
+    ensures keys { OnOk result (keys_of table.new lock.new
+        ≡ (served_body asker.now body.now (keys_of table.old lock.old) under_way.old).held) }
+    ensures under_way { OnOk result (under_way.new
+        ≡ (served_body asker.now body.now (keys_of table.old lock.old) under_way.old).work.under_way) }
     ensures failed { OnOk result (under_way.new.link.failed ≡ []) }
-    ensures reply { (wall : ℕ) → OnOk result (owed.new ≡ verdict_text
-        (served_body port wall body.now (keys_of table.old lock.old) under_way.old).work.verdict) }
-    ensures waits { (wall : ℕ) → IfOk result (λ waits. waits_of waits ≡ verdict_waits
-        (served_body port wall body.now (keys_of table.old lock.old) under_way.old).work.verdict) }
+    ensures reply { OnOk result (owed.new ≡ verdict_text
+        (served_body asker.now body.now (keys_of table.old lock.old) under_way.old).work.verdict) }
+    ensures waits { IfOk result (λ waits. waits_of waits ≡ verdict_waits
+        (served_body asker.now body.now (keys_of table.old lock.old) under_way.old).work.verdict) }
 {
     match read_request(alloc, body) {
         Ok(Request::List) => {
-            list(table, lock, owed)?;
+            list(asker, table, lock, owed)?;
             Ok(Waits::Nothing)
         }
         Ok(
@@ -58,11 +65,24 @@ pub fn answer(
                 flags,
             },
         ) => {
-            let asked = sign(table, lock, under_way, port, blob, message, flags)?;
+            let asked = sign(asker, table, lock, under_way, blob, message, flags)?;
             Ok(wait(asked, owed))
         }
+        Ok(
+            Request::Bind {
+                host_key,
+                session,
+                signature,
+                forwarding,
+            },
+        ) => {
+            let asked = bind(
+                asker, lock, under_way, host_key, session, signature, forwarding,
+            )?;
+            Ok(wait(on_ask(asked), owed))
+        }
         Ok(request) => {
-            let done = take(alloc, table, lock, port, request)?;
+            let done = take(alloc, asker, table, lock, request)?;
             owed.put_status(done);
             Ok(Waits::Nothing)
         }
@@ -74,14 +94,14 @@ pub fn answer(
     }
 }
 
-// The client waits for the ask of this number, or is refused where there is none.
-fn wait(asked: Option<u64>, owed: &mut Owed) -> Waits
+// The client waits for this, or is refused where it is for nothing.
+fn wait(asked: Option<Waits>, owed: &mut Owed) -> Waits
     requires { owed.old ≡ [] }
-    ensures { (verdict : Verdict) → TellsOf verdict asked
+    ensures { (verdict : Verdict) → TellsWait verdict asked
         → (owed.new ≡ verdict_text verdict) × (waits_of result ≡ verdict_waits verdict) }
 {
     match asked {
-        Some(ask) => Waits::OnAsk { ask },
+        Some(waits) => waits,
         None => {
             owed.put_status(false);
             Waits::Nothing
@@ -89,25 +109,26 @@ fn wait(asked: Option<u64>, owed: &mut Owed) -> Waits
     }
 }
 
-// Puts a signature to the helper, where the key is held and the user isn't to be asked, and gives the ask's number.
+// Has a signature made, where the key is held and its constraints permit it, and gives what the client waits for.
 fn sign(
+    asker: &Asker<'_>,
     table: &Table,
     lock: &Lock,
     under_way: &mut UnderWay,
-    port: u64,
     blob: &[u8],
     message: &[u8],
     flags: u32,
-) -> Result<Option<u64>, CoreMemory>
+) -> Result<Option<Waits>, CoreMemory>
     requires short { length blob.now + length message.now ≤ longest_body }
     requires failed { under_way.old.link.failed ≡ [] }
+    requires alone { find_asker asker.now.port under_way.old.confirmations ≡ None }
 
-    ensures keys { (wall : ℕ) → (served_by port wall (Sign record { blob = blob.now; message = message.now; flags = flags })
+    ensures keys { (served_by asker.now (Sign record { blob = blob.now; message = message.now; flags = flags })
         (keys_of table.now lock.now) under_way.old).held ≡ keys_of table.now lock.now }
-    ensures under_way { (wall : ℕ) → OnOk result (under_way.new ≡ (served_by port wall
+    ensures under_way { OnOk result (under_way.new ≡ (served_by asker.now
         (Sign record { blob = blob.now; message = message.now; flags = flags })
         (keys_of table.now lock.now) under_way.old).work.under_way) }
-    ensures told { (wall : ℕ) → IfOk result (TellsOf (served_by port wall
+    ensures told { IfOk result (TellsWait (served_by asker.now
         (Sign record { blob = blob.now; message = message.now; flags = flags })
         (keys_of table.now lock.now) under_way.old).work.verdict) }
     ensures failed { OnOk result (under_way.new.link.failed ≡ []) }
@@ -116,42 +137,129 @@ fn sign(
         return Ok(None);
     }
     match table.find(blob) {
-        // The user can't be asked yet.
-        Some(key) if !key.confirm() => Ok(under_way.put_sign(port, key, message, flags)?),
+        Some(key) if permits(asker, key.rules(), blob, message) => {
+            sign_with(asker.port, under_way, key, message, flags)
+        }
         _ => Ok(None),
     }
 }
 
-// Owes the list of the identities, which is empty while the agent is locked.
-#[tactic(auto, using(crate::proofs::HeldLemmas::seen_by_all), unfolding(identity_table::specs::Identities::entries_len))]
-fn list(table: &Table, lock: &Lock, owed: &mut Owed) -> Result<(), CoreMemory>
-    requires { owed.old ≡ [] }
-    ensures { (port wall : ℕ) (under_way : AnUnderWay) → OnOk result (owed.new ≡ verdict_text
-        (served_by port wall ListIdentities (keys_of table.now lock.now) under_way).work.verdict) }
+// Puts a signature with this key to the helper, or asks the user first where its uses are to be confirmed.
+fn sign_with(
+    port: u64,
+    under_way: &mut UnderWay,
+    key: &Identity,
+    message: &[u8],
+    flags: u32,
+) -> Result<Option<Waits>, CoreMemory>
+    requires short { 25 + length key.now.private + length key.now.blob + length message.now ≤ 1048576 }
+    requires message { length message.now ≤ longest_body }
+    requires failed { under_way.old.link.failed ≡ [] }
+    requires alone { find_asker port under_way.old.confirmations ≡ None }
+
+    ensures under_way { OnOk result (under_way.new ≡ (sign_work key.now.confirm port key.now message.now flags
+        under_way.old).under_way) }
+    ensures told { IfOk result (TellsWait
+        (sign_work key.now.confirm port key.now message.now flags under_way.old).verdict) }
+    ensures failed { OnOk result (under_way.new.link.failed ≡ []) }
 {
-    if lock.is_locked() {
-        owed.put_list(&[])?;
+    if key.confirm() {
+        let job = under_way.ask_user(port, key, message, flags)?;
+        Ok(on_confirmation(job))
     } else {
-        owed.put_list(table.as_slice())?;
+        let ask = under_way.put_sign(port, key, message, flags)?;
+        Ok(on_ask(ask))
     }
-    Ok(())
+}
+
+// The answer to this ask is waited for.
+fn on_ask(ask: Option<u64>) -> Option<Waits>
+    ensures { (verdict : Verdict) → TellsOf verdict ask → TellsWait verdict result }
+{
+    match ask {
+        Some(ask) => Some(Waits::OnAsk { ask }),
+        None => None,
+    }
+}
+
+// The user's consent is waited for, which this job asks for.
+fn on_confirmation(job: Option<u64>) -> Option<Waits>
+    ensures { (verdict : Verdict) → TellsOfUser verdict job → TellsWait verdict result }
+{
+    match job {
+        Some(job) => Some(Waits::OnConfirmation { job }),
+        None => None,
+    }
+}
+
+// Whether these constraints of the key of this blob permit a signature of the message for the asker.
+fn permits(asker: &Asker<'_>, rules: &[Constraint], blob: &[u8], message: &[u8]) -> bool
+    ensures { result ≡ is_none
+        (denial_under rules.now blob.now asker.now.chain.now.bindings message.now asker.now.wall) }
+{
+    rules.is_empty() || may_sign(rules, blob, asker.chain, message, asker.wall).is_ok()
+}
+
+// Puts the verification of a binding to the helper, where the chain doesn't refuse it, and gives the ask's number.
+fn bind(
+    asker: &Asker<'_>,
+    lock: &Lock,
+    under_way: &mut UnderWay,
+    host_key: &[u8],
+    session: &[u8],
+    signature: &[u8],
+    forwarding: bool,
+) -> Result<Option<u64>, CoreMemory>
+    requires short { length host_key.now + length session.now + length signature.now ≤ longest_body }
+    requires failed { under_way.old.link.failed ≡ [] }
+
+    ensures keys { (table : TableState) → (served_by asker.now (binds host_key.now session.now signature.now forwarding)
+        (keys_of table lock.now) under_way.old).held ≡ keys_of table lock.now }
+    ensures under_way { (table : TableState) → OnOk result (under_way.new ≡ (served_by asker.now
+        (binds host_key.now session.now signature.now forwarding)
+        (keys_of table lock.now) under_way.old).work.under_way) }
+    ensures told { (table : TableState) → IfOk result (TellsOf (served_by asker.now
+        (binds host_key.now session.now signature.now forwarding)
+        (keys_of table lock.now) under_way.old).work.verdict) }
+    ensures failed { OnOk result (under_way.new.link.failed ≡ []) }
+{
+    if lock.is_locked() || read_public(host_key).is_err() {
+        return Ok(None);
+    }
+    let is_new = match asker.chain.judge(host_key, session) {
+        Next::Refuse(_) => return Ok(None),
+        Next::Same => false,
+        Next::New => true,
+    };
+    Ok(under_way.put_verify(asker.port, host_key, session, signature, forwarding, is_new)?)
+}
+
+// Whether an identity of this blob is held that the asker doesn't see.
+fn is_hidden(asker: &Asker<'_>, table: &Table, blob: &[u8]) -> bool
+    ensures { (lock : Option (List ℕ)) → result ≡ hides (find_identity blob.now table.now.identities)
+        (asker_of asker.now (keys_of table.now lock)) }
+{
+    match table.find(blob) {
+        Some(key) => !sees(asker, key),
+        None => false,
+    }
 }
 
 // Does what any other request asks, and tells whether it succeeded.
 fn take(
     alloc: Global,
+    asker: &Asker<'_>,
     table: &mut Table,
     lock: &mut Lock,
-    port: u64,
     request: Request<'_>,
 ) -> Result<bool, CoreMemory>
     requires other { IsPlainRequest (client_request request) }
     requires short { IsShortRequest (client_request request) }
 
-    ensures keys { (wall : ℕ) (under_way : AnUnderWay) → OnOk result (keys_of table.new lock.new
-        ≡ (served_by port wall (client_request request.entry) (keys_of table.old lock.old) under_way).held) }
-    ensures work { (wall : ℕ) (under_way : AnUnderWay) → IfOk result (λ done. IsStatus done
-        (served_by port wall (client_request request.entry) (keys_of table.old lock.old) under_way).work under_way) }
+    ensures keys { (under_way : AnUnderWay) → OnOk result (keys_of table.new lock.new
+        ≡ (served_by asker.now (client_request request.entry) (keys_of table.old lock.old) under_way).held) }
+    ensures work { (under_way : AnUnderWay) → IfOk result (λ done. IsStatus done
+        (served_by asker.now (client_request request.entry) (keys_of table.old lock.old) under_way).work under_way) }
 {
     if lock.is_locked() {
         return Ok(take_locked(lock, request));
@@ -161,8 +269,8 @@ fn take(
             key,
             comment,
             terms,
-        } => add(table, key, comment, terms),
-        Request::Remove { blob } => Ok(remove(table, blob)),
+        } => add(asker, table, key, comment, terms),
+        Request::Remove { blob } => Ok(remove(asker, table, blob)),
         Request::RemoveAll => {
             table.remove_all();
             Ok(true)
@@ -171,13 +279,12 @@ fn take(
             let passphrase = SecretBytes::from_slice(alloc, passphrase)?;
             Ok(lock.lock(passphrase))
         }
-        // The agent isn't locked, and no extension is served.
-        Request::Bind { .. }
-        | Request::Unlock { .. }
-        | Request::OtherExtension { .. }
-        | Request::Unsupported { .. } => Ok(false),
+        // The agent isn't locked, and no other extension is served.
+        Request::Unlock { .. } | Request::OtherExtension { .. } | Request::Unsupported { .. } => {
+            Ok(false)
+        }
         // `answer` takes these.
-        Request::List | Request::Sign { .. } => unreachable!(),
+        Request::List | Request::Sign { .. } | Request::Bind { .. } => unreachable!(),
     }
 }
 
@@ -186,10 +293,10 @@ fn take_locked(lock: &mut Lock, request: Request<'_>) -> bool
     requires locked { IsSome lock.old }
     requires other { IsPlainRequest (client_request request) }
 
-    ensures keys { (port wall : ℕ) (table : TableState) (under_way : AnUnderWay) → keys_of table lock.new
-        ≡ (served_by port wall (client_request request.entry) (keys_of table lock.old) under_way).held }
-    ensures work { (port wall : ℕ) (table : TableState) (under_way : AnUnderWay) → IsStatus result
-        (served_by port wall (client_request request.entry) (keys_of table lock.old) under_way).work under_way }
+    ensures keys { (asker : AnAsker) (table : TableState) (under_way : AnUnderWay) → keys_of table lock.new
+        ≡ (served_by asker (client_request request.entry) (keys_of table lock.old) under_way).held }
+    ensures work { (asker : AnAsker) (table : TableState) (under_way : AnUnderWay) → IsStatus result
+        (served_by asker (client_request request.entry) (keys_of table lock.old) under_way).work under_way }
 {
     match request {
         Request::Unlock { passphrase } => lock.unlock(passphrase),
@@ -197,32 +304,55 @@ fn take_locked(lock: &mut Lock, request: Request<'_>) -> bool
     }
 }
 
-// Removes the key of this blob, where it is held.
-fn remove(table: &mut Table, blob: &[u8]) -> bool
-    ensures keys { (port wall : ℕ) (lock : Option (List ℕ)) (under_way : AnUnderWay) → keys_of table.new lock
-        ≡ (remove_by (find_identity blob.now table.old.identities) (asker_of port wall (keys_of table.old lock))
+// Removes the key of this blob, where it is held and the asker sees it.
+fn remove(asker: &Asker<'_>, table: &mut Table, blob: &[u8]) -> bool
+    ensures keys { (lock : Option (List ℕ)) (under_way : AnUnderWay) → keys_of table.new lock
+        ≡ (remove_by (find_identity blob.now table.old.identities) (asker_of asker.now (keys_of table.old lock))
         blob.now (keys_of table.old lock) under_way).held }
-    ensures work { (port wall : ℕ) (lock : Option (List ℕ)) (under_way : AnUnderWay) → IsStatus result
-        (remove_by (find_identity blob.now table.old.identities) (asker_of port wall (keys_of table.old lock))
+    ensures work { (lock : Option (List ℕ)) (under_way : AnUnderWay) → IsStatus result
+        (remove_by (find_identity blob.now table.old.identities) (asker_of asker.now (keys_of table.old lock))
         blob.now (keys_of table.old lock) under_way).work under_way }
 {
+    if is_hidden(asker, table, blob) {
+        return false;
+    }
     table.remove(blob)
 }
 
-// Adds a key, which may not have destination constraints.
-fn add(table: &mut Table, key: AddedKey, comment: &[u8], terms: Terms) -> Result<bool, CoreMemory>
+// Adds a key, where the asker sees the one that it replaces.
+fn add(
+    asker: &Asker<'_>,
+    table: &mut Table,
+    key: AddedKey,
+    comment: &[u8],
+    terms: Terms,
+) -> Result<bool, CoreMemory>
     requires { length key.private ≤ longest_body }
 
-    ensures keys { (port wall : ℕ) (lock : Option (List ℕ)) (under_way : AnUnderWay) → OnOk result
-        (keys_of table.new lock ≡ (add_under terms.rules (asker_of port wall (keys_of table.old lock))
+    ensures keys { (lock : Option (List ℕ)) (under_way : AnUnderWay) → OnOk result
+        (keys_of table.new lock ≡ (add_by (find_identity key.blob table.old.identities) (asker_of asker.now (keys_of table.old lock))
         record { key = key; comment = comment.now; terms = terms } (keys_of table.old lock) under_way).held) }
-    ensures work { (port wall : ℕ) (lock : Option (List ℕ)) (under_way : AnUnderWay) → IfOk result (λ done.
-        IsStatus done (add_under terms.rules (asker_of port wall (keys_of table.old lock))
+    ensures work { (lock : Option (List ℕ)) (under_way : AnUnderWay) → IfOk result (λ done.
+        IsStatus done (add_by (find_identity key.blob table.old.identities) (asker_of asker.now (keys_of table.old lock))
         record { key = key; comment = comment.now; terms = terms } (keys_of table.old lock) under_way).work under_way) }
 {
-    if !terms.rules.is_empty() {
+    if is_hidden(asker, table, key.blob.as_slice()) {
         return Ok(false);
     }
+    put(table, key, comment, terms)
+}
+
+// Adds a key, in the place of the one that has its blob.
+fn put(table: &mut Table, key: AddedKey, comment: &[u8], terms: Terms) -> Result<bool, CoreMemory>
+    requires { length key.private ≤ longest_body }
+
+    ensures keys { (lock : Option (List ℕ)) (under_way : AnUnderWay) → OnOk result (keys_of table.new lock
+        ≡ (add_seen true record { key = key; comment = comment.now; terms = terms } table.old.greatest
+        (keys_of table.old lock) under_way).held) }
+    ensures work { (lock : Option (List ℕ)) (under_way : AnUnderWay) → IfOk result (λ done. IsStatus done
+        (add_seen true record { key = key; comment = comment.now; terms = terms } table.old.greatest
+        (keys_of table.old lock) under_way).work under_way) }
+{
     let now = table.greatest();
     match table.add(key, terms, comment, now) {
         Ok(_) => Ok(true),

@@ -2,9 +2,11 @@
 
 ghost use Rattle.std.specs.Prelude.{◌≡◌, ℕ};
 ghost use Rattle.std.specs.Option.{option_map};
-ghost use Rattle.agent_model.specs.State.{find_port, is_linked_to};
-ghost use Rattle.under_way.specs.Parts.{IsAlone};
-ghost use Rattle.agent_core.specs.Roles.{next_of, owed_helper, role_by, role_word};
+ghost use Rattle.agent_model.specs.State.{find_port, is_linked_to, role_by_link, role_of};
+ghost use Rattle.confirm_desk.specs.Calls.{lesser};
+ghost use Rattle.confirm_desk.specs.Confirmations.{find_linked};
+ghost use Rattle.world_ports.specs.declared.Door.TheVariants.{Children};
+ghost use Rattle.agent_core.specs.Roles.{next_of, owed_helper, role_by, role_kind};
 
 use crate::ports::Ports;
 use helper_link::LinkState;
@@ -18,19 +20,39 @@ pub enum Role {
     /// A child process that hasn't named itself.
     Unnamed,
     Helper,
+    /// A child process that asks the user.
+    Confirmer,
 }
 
 /// Who is at the port of this number, where it is open.
 pub fn role_at(ports: &Ports, under_way: &UnderWay, number: u64) -> Option<Role>
-    ensures value { option_map role_word result ≡ role_by (find_port number ports.now.ports) under_way.now }
-    ensures alone { IsAlone under_way.now }
+    ensures { result ≡ option_map role_kind (role_by (find_port number ports.now.ports) under_way.now) }
 {
-    let is_helper = is_linked(under_way.link_state(), number);
     match ports.door(number) {
         Some(Door::Clients) => Some(Role::Client),
-        Some(Door::Children) if is_helper => Some(Role::Helper),
-        Some(Door::Children) => Some(Role::Unnamed),
+        Some(Door::Children) => Some(child_role(under_way, number)),
         None => None,
+    }
+}
+
+/// Which child process is at the port of this number.
+pub fn child_role(under_way: &UnderWay, number: u64) -> Role
+    ensures { result ≡ role_kind (role_of Children number under_way.now) }
+{
+    if is_linked(under_way.link_state(), number) {
+        Role::Helper
+    } else {
+        role_by_link(under_way, number)
+    }
+}
+
+// Which one that isn't the helper.
+fn role_by_link(under_way: &UnderWay, number: u64) -> Role
+    ensures { result ≡ role_kind (role_by_link (find_linked number under_way.now.confirmations)) }
+{
+    match under_way.find_confirmer(number) {
+        Some(_) => Role::Confirmer,
+        None => Role::Unnamed,
     }
 }
 
@@ -46,8 +68,7 @@ pub fn is_linked(link: LinkState, number: u64) -> bool
 
 /// The helper's port, where it is open and owed bytes.
 pub fn owed_helper(ports: &Ports, under_way: &UnderWay) -> Option<u64>
-    ensures value { result ≡ owed_helper under_way.now ports.now.ports }
-    ensures alone { IsAlone under_way.now }
+    ensures { result ≡ owed_helper under_way.now ports.now.ports }
 {
     match under_way.link_state() {
         LinkState::Linked { port } => match ports.door(port) {
@@ -66,5 +87,16 @@ pub fn next_of(after: u64, client: Option<u64>, helper: Option<u64>) -> Option<u
         (Some(client), Some(helper)) if helper > after => Some(client.min(helper)),
         (None, Some(helper)) if helper > after => Some(helper),
         (client, _) => client,
+    }
+}
+
+/// The lesser of two ports, where there are two.
+pub fn lesser(port: Option<u64>, other: Option<u64>) -> Option<u64>
+    ensures { result ≡ lesser port other }
+{
+    match (port, other) {
+        (Some(port), Some(other)) => Some(port.min(other)),
+        (Some(port), None) => Some(port),
+        (None, other) => other,
     }
 }

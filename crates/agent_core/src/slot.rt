@@ -1,27 +1,34 @@
 //! One open port.
 
-ghost use Rattle.std.specs.Prelude.{◌≡◌, ◌+◌, ◌≤◌, ℕ, [], false, IfOk, OnOk, length};
+ghost use Rattle.std.specs.Prelude.{◌≡◌, ◌+◌, ◌≤◌, ◌||◌, [], true, None, IfOk, OnOk, length};
 ghost use Rattle.wire_text.specs.Frames.{after_front, front, front_body, More, Whole};
 ghost use Rattle.frame_core.specs.Looks.{front_of};
+ghost use Rattle.agent_model.specs.Answers.{chain_with, prove};
 ghost use Rattle.agent_model.specs.Children.{heard_more, unheard};
 ghost use Rattle.agent_model.specs.Limits.{longest_body};
 ghost use Rattle.agent_model.specs.Looks.{due};
 ghost use Rattle.agent_model.specs.State.{wants_at};
-ghost use Rattle.agent_model.specs.Step.{take_frame, took_some};
-ghost use Rattle.agent_model.specs.Verdicts.{HelperLost, Refuses, tell};
-ghost use Rattle.agent_core.specs.Served.{served_body};
+ghost use Rattle.agent_model.specs.Step.{attempts, take_frame, took_some};
+ghost use Rattle.confirm_desk.specs.Confirmations.{find_asker};
+ghost use Rattle.agent_model.specs.Verdicts.{HelperLost, Refuses, Verdict, tell};
+ghost use Rattle.under_way.specs.Parts.{TellsOf};
+ghost use Rattle.agent_core.specs.Served.{served_at};
 ghost use Rattle.agent_core.specs.Settlings.{IsShortAnswer, verdict_of};
+ghost use Rattle.agent_model.specs.Sound.{IsRight};
 ghost use Rattle.agent_core.specs.Slots.{port_of};
+ghost use Rattle.under_way.specs.Verifications.{verification_of};
 
 use crate::CoreMemory;
+use crate::asker::Asker;
 use crate::keys::Keys;
 use crate::owed::Owed;
 use crate::waits::Waits;
+use dest_rule::Chain;
 use frame_core::{Look, look};
 use helper_link::Answer;
 use secret_buf::ScrubBuf;
 use std::mem;
-use under_way::UnderWay;
+use under_way::{UnderWay, Verification};
 use world_ports::Door;
 
 /// The longest body of a client's message, in bytes.
@@ -37,6 +44,8 @@ pub struct Slot {
     pub heard: ScrubBuf,
     /// What a client is owed. A child process is owed nothing here.
     pub owed: Owed,
+    /// The hosts that a client's connection was bound to.
+    pub chain: Chain,
     pub waits: Waits,
 }
 
@@ -48,6 +57,7 @@ impl Slot {
             door: _,
             heard: _,
             owed: _,
+            chain: _,
             waits: _,
         } = self;
     }
@@ -111,26 +121,73 @@ pub fn serve(
     slot: &mut Slot,
     keys: &mut Keys,
     under_way: &mut UnderWay,
+    wall: u64,
     body_len: u32,
 ) -> Result<(), CoreMemory>
     requires due { due (port_of slot.old) ≡ Whole body_len }
     requires failed { under_way.old.link.failed ≡ [] }
+    requires alone { find_asker slot.old.number under_way.old.confirmations ≡ None }
 
-    ensures port { (wall : ℕ) → OnOk result (port_of slot.new ≡ tell
-        (served_body slot.old.number wall (front_body body_len slot.old.heard.live) keys.old under_way.old).work.verdict
-        (take_frame body_len false (port_of slot.old))) }
-    ensures keys { (wall : ℕ) → OnOk result (keys.new
-        ≡ (served_body slot.old.number wall (front_body body_len slot.old.heard.live) keys.old under_way.old).held) }
-    ensures under_way { (wall : ℕ) → OnOk result (under_way.new
-        ≡ (served_body slot.old.number wall (front_body body_len slot.old.heard.live) keys.old
-        under_way.old).work.under_way) }
+    ensures port { OnOk result (port_of slot.new ≡ tell
+        (served_at body_len wall (port_of slot.old) keys.old under_way.old).work.verdict
+        (take_frame body_len (attempts keys.old.lock (front_body body_len slot.old.heard.live)) (port_of slot.old))) }
+    ensures keys { OnOk result (keys.new ≡ (served_at body_len wall (port_of slot.old) keys.old under_way.old).held) }
+    ensures under_way { OnOk result
+        (under_way.new ≡ (served_at body_len wall (port_of slot.old) keys.old under_way.old).work.under_way) }
     ensures failed { OnOk result (under_way.new.link.failed ≡ []) }
     ensures number { slot.new.number ≡ slot.old.number }
     ensures door { slot.new.door ≡ slot.old.door }
 {
+    let asker = Asker {
+        port: slot.number,
+        chain: &slot.chain,
+        wall,
+    };
     let body = first_body(slot.heard.live(), body_len);
-    slot.waits = keys.serve(under_way, slot.number, body, &mut slot.owed)?;
+    let is_attempt = keys.is_attempt(body);
+    slot.waits = keys.serve(under_way, &asker, body, &mut slot.owed)?;
+    mark(&mut slot.chain, is_attempt);
     drop_frame(&mut slot.heard, body_len);
+    Ok(())
+}
+
+// Marks the chain of a connection that tried to bind itself.
+fn mark(chain: &mut Chain, is_attempt: bool)
+    ensures { chain.new ≡ record chain.old { attempted = chain.old.attempted || is_attempt } }
+{
+    if is_attempt {
+        chain.attempt();
+    }
+}
+
+/// The binding of an asker's connection was verified: it is added where it is new, and the asker is told so.
+pub fn prove(slot: &mut Slot, verification: &Verification) -> Result<(), CoreMemory>
+    requires { IsRight (verification_of verification.now) slot.old.chain.bindings }
+    ensures port { OnOk result (port_of slot.new ≡ prove (verification_of verification.now) (port_of slot.old)) }
+    ensures number { slot.new.number ≡ slot.old.number }
+    ensures door { slot.new.door ≡ slot.old.door }
+{
+    if verification.is_new {
+        bind(&mut slot.chain, verification)?;
+    }
+    slot.owed.append_status(true)?;
+    slot.waits = Waits::Nothing;
+    Ok(())
+}
+
+// Adds a verified binding, which is new to the chain.
+fn bind(chain: &mut Chain, verification: &Verification) -> Result<(), CoreMemory>
+    requires right { IsRight (verification_of verification.now) chain.old.bindings }
+    requires new { verification.now.is_new ≡ true }
+    ensures { OnOk result (chain.new ≡ record chain.old {
+      bindings = chain_with verification.now.is_new (verification_of verification.now).binding chain.old.bindings;
+    }) }
+{
+    chain.bind(
+        verification.host_key.as_slice(),
+        verification.session.as_slice(),
+        verification.forwarding,
+    )?;
     Ok(())
 }
 
@@ -181,5 +238,22 @@ fn drop_frame(heard: &mut ScrubBuf, body_len: u32)
     heard.consume(4 + body_len as usize);
     if body_len > LONG && heard.live().is_empty() {
         heard.wipe();
+    }
+}
+
+/// Waits for the ask of this number, or owes a failure where there is none, and waits no more. Takes no memory.
+pub fn conclude(slot: &mut Slot, asked: Option<u64>)
+    requires { slot.old.owed ≡ [] }
+    ensures port { (verdict : Verdict) → TellsOf verdict asked
+        → port_of slot.new ≡ tell verdict (port_of slot.old) }
+    ensures number { slot.new.number ≡ slot.old.number }
+    ensures door { slot.new.door ≡ slot.old.door }
+{
+    match asked {
+        Some(ask) => slot.waits = Waits::OnAsk { ask },
+        None => {
+            slot.owed.put_status(false);
+            slot.waits = Waits::Nothing;
+        }
     }
 }

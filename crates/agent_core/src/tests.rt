@@ -6,11 +6,11 @@ use world_ports::{Door, Moment};
 // Messages of draft-miller-ssh-agent, "Protocol Messages": the length of the body in four bytes, and
 // the body, whose first byte is the message's number.
 /// SSH_AGENTC_REQUEST_IDENTITIES, 11.
-const LIST: [u8; 5] = [0, 0, 0, 1, 11];
+pub const LIST: [u8; 5] = [0, 0, 0, 1, 11];
 /// SSH_AGENTC_REMOVE_ALL_IDENTITIES, 19.
 const REMOVE_ALL: [u8; 5] = [0, 0, 0, 1, 19];
 /// SSH_AGENT_IDENTITIES_ANSWER, 12, with no identity.
-const NO_IDENTITIES: [u8; 9] = [0, 0, 0, 5, 12, 0, 0, 0, 0];
+pub const NO_IDENTITIES: [u8; 9] = [0, 0, 0, 5, 12, 0, 0, 0, 0];
 /// SSH_AGENT_SUCCESS, 6.
 pub const SUCCESS: [u8; 5] = [0, 0, 0, 1, 6];
 /// SSH_AGENT_FAILURE, 5.
@@ -100,7 +100,7 @@ const ADD_FOR_TEN_SECONDS: &[u8] = b"\0\0\0\x71\x19\
     \x21\x21\x21\x21\x21\x21\x21\x21\x21\x21\x21\x21\x21\x21\x21\x21\
     \0\0\0\x03one\x01\0\0\0\x0a";
 /// SSH_AGENT_IDENTITIES_ANSWER with that key.
-const LISTED: &[u8] = b"\0\0\0\x50\x0c\0\0\0\x01\0\0\0\x40\
+pub const LISTED: &[u8] = b"\0\0\0\x50\x0c\0\0\0\x01\0\0\0\x40\
     \0\0\0\x18keyed-sha256@example.com\
     \0\0\0\x20\x11\x11\x11\x11\x11\x11\x11\x11\x11\x11\x11\x11\x11\x11\x11\x11\
     \x11\x11\x11\x11\x11\x11\x11\x11\x11\x11\x11\x11\x11\x11\x11\x11\

@@ -1,5 +1,5 @@
--- A taking of all that a port is owed lowers the budget of a state in which no confirmation is waited for.
-use Rattle.std.proofs.Common.{drop, inl, inr, ◌≡◌, ℕ, ◌+◌, ◌<◌, ◌≤◌, List, [], ◌∷◌, length, refl, ap, sym, arith, ◌∙◌, Option, Some, None, Bool, true, false, if◌then◌else◌, length-drop, ◌==◌}
+-- A taking of all that a port is owed lowers the budget.
+use Rattle.std.proofs.Common.{drop, inl, inr, ◌≡◌, ℕ, ◌+◌, ◌<◌, ◌≤◌, List, [], ◌∷◌, length, refl, ap, sym, arith, ◌∙◌, Option, Some, None, Bool, true, false, if◌then◌else◌, length-drop, ◌==◌, ◌⊎◌}
 use Rattle.std.proofs.Math.Seq.{drop-length}
 use Rattle.std.proofs.lemmas.Bool.Decides.{nat_tests}
 use Rattle.world_ports.specs.declared.Door.{Door}
@@ -11,25 +11,29 @@ use Rattle.agent_model.specs.Actions.{Outcome}
 use Rattle.agent_model.specs.Budget.{asking_bytes, budget, port_budget, ports_budget}
 use Rattle.agent_model.specs.Children.{changed}
 use Rattle.agent_model.specs.Dispatch.{Served}
-use Rattle.agent_model.specs.Events.{Took}
+use Rattle.agent_model.specs.Events.{Happening, Took}
 use Rattle.agent_model.specs.Limits.{longest_body}
 use Rattle.agent_model.specs.Looks.{due, due_at, due_by}
 use Rattle.agent_model.specs.State.{Nothing, OnAsk, OnConfirmation, Port, State, UnderWay, Waits, change_port, find_port, is_some_bytes, owed_as, owed_by, owed_by_port, owed_of, remove_port, role_of}
 use Rattle.agent_model.specs.Step.{asker_at, at_moment, attempts, looked, step, take_frame, took_at, took_by_role, took_some}
 use Rattle.agent_model.specs.Verdicts.{tell}
-use Rattle.agent_msg.specs.Reading.{request_of}
 use Rattle.agent_model.proofs.ClientLemmas.{handle-took, looked-bad, looked-stays, looked-whole, served_at}
 use Rattle.agent_model.proofs.GrowLemmas.{AsksMore, asks_more}
 use Rattle.agent_model.proofs.NumberLemmas.{step-grows}
+use Rattle.agent_model.proofs.JobLemmas.{linked-change, linked-changed}
+use Rattle.agent_model.proofs.RunLemmas.{step_keeps-rising}
 use Rattle.agent_model.proofs.ServeLemmas.{serve-ends}
 use Rattle.agent_model.proofs.PortsLemmas.{rising-change_port}
 use Rattle.agent_model.specs.Sound.{IsRising, IsSteady}
-use Rattle.agent_model.specs.State.{Helper, Role, is_linked_to, role_by_helper, role_by_link}
+use Rattle.agent_model.specs.State.{Confirmer, Helper, Role, first_state, is_linked_to, role_by_helper, role_by_link}
 use Rattle.helper_link.specs.HelperLink.{sendable, sent}
-use Rattle.confirm_desk.specs.Confirmations.{Confirmation, find_linked}
+use Rattle.confirm_desk.specs.Confirmations.{Confirmation, find_linked, took}
+use Rattle.confirm_desk.specs.Confirmations as desk
 use Rattle.helper_link.specs.declared.state.LinkState.{LinkState}
 use Rattle.helper_link.specs.declared.state.LinkState.TheVariants as states
 use Rattle.std.proofs.lemmas.Bool.{cases_eq}
+use Rattle.std.proofs.lemmas.List.{drop_all}
+use Rattle.std.specs.Option.{option_map}
 
 -- a change of the port of this number changes its part of the budget alone
 budget-change : (under_way : UnderWay) (number : ℕ) (f : Port → Port) (ports : List Port) (port : Port) → find_port number ports ≡ Some port → ports_budget under_way (change_port number f ports) + port_budget under_way port ≡ ports_budget under_way ports + port_budget under_way (f port)
@@ -176,7 +180,7 @@ look_lowers : (number : ℕ) (port : Port) (state : State) (at : Front) → IsRi
 look_lowers number port state (Whole body_len) rising door found is =
     let served : Served = served_at body_len port state in
     let f : Port → Port = λ p. tell served.work.verdict (take_frame body_len (attempts state.held.lock (front_body body_len port.heard)) p) in
-    let more = asks_more (serve-ends (asker_at state.moment port) state.held state.under_way (request_of (front_body body_len port.heard))) in
+    let more = asks_more (serve-ends (asker_at state.moment port) state.held state.under_way (front_body body_len port.heard)) in
     let after : budget (looked number state).state ≡ ports_budget served.work.under_way (change_port number f state.ports) = ap budget (looked-whole number body_len port state found is) in
     let changed_rising = rising-change_port number 0 state.last_port f state.ports (λ p. refl) rising in
     let added = adds_helpers (change_port number f state.ports) state.under_way served.work.under_way more in
@@ -249,23 +253,29 @@ pays_by Children port under_way =
 pays : (port : Port) (under_way : UnderWay) → port_budget (paid under_way) port ≤ port_budget under_way port
 pays port under_way = omega (arith, pays_by port.door port under_way)
 
-all_pay : (ports : List Port) (under_way : UnderWay) → ports_budget (paid under_way) ports ≤ ports_budget under_way ports
-all_pay [] under_way = omega arith
-all_pay (port ∷ ports) under_way = omega (arith, pays port under_way, all_pay ports under_way)
+-- where no port's part is higher the whole isn't
+all_lower : (ports : List Port) (old new : UnderWay) → ((port : Port) → port_budget new port ≤ port_budget old port) → ports_budget new ports ≤ ports_budget old ports
+all_lower [] old new lower = omega arith
+all_lower (port ∷ ports) old new lower = omega (arith, lower port, all_lower ports old new lower)
 
--- so that the budget falls where one port had some
-one_pays : (number : ℕ) (ports : List Port) (port : Port) (under_way : UnderWay) → find_port number ports ≡ Some port → port_budget (paid under_way) port < port_budget under_way port → ports_budget (paid under_way) ports < ports_budget under_way ports
-one_pays number [] port under_way found lower = absurd (cc)
-one_pays number (first ∷ ports) port under_way found lower = elim (cases_eq number first.number) [
+-- and it falls where one port's part does
+one_lower : (number : ℕ) (ports : List Port) (port : Port) (old new : UnderWay) → ((p : Port) → port_budget new p ≤ port_budget old p) → find_port number ports ≡ Some port → port_budget new port < port_budget old port → ports_budget new ports < ports_budget old ports
+one_lower number [] port old new all found lower = absurd (cc)
+one_lower number (first ∷ ports) port old new all found lower = elim (cases_eq number first.number) [
   | inl here ↦
       (let is : first ≡ port = grind (arith, nat_tests) in
-      let a : port_budget under_way first ≡ port_budget under_way port = ap (port_budget under_way) is in
-      let b : port_budget (paid under_way) first ≡ port_budget (paid under_way) port = ap (port_budget (paid under_way)) is in
-      omega (arith, a, b, lower, all_pay ports under_way))
+      let a : port_budget old first ≡ port_budget old port = ap (port_budget old) is in
+      let b : port_budget new first ≡ port_budget new port = ap (port_budget new) is in
+      omega (arith, a, b, lower, all_lower ports old new all))
   | inr apart ↦
       (let later : find_port number ports ≡ Some port = grind (arith, nat_tests) in
-      omega (arith, pays first under_way, one_pays number ports port under_way later lower))
+      omega (arith, all first, one_lower number ports port old new all later lower))
 ]
+
+counts_less : (bytes : ℕ) (new old : Bool) → new ≡ false → old ≡ true → bytes + (if new then 1 else 0) < bytes + (if old then 1 else 0)
+counts_less bytes true old none some = absurd (cc)
+counts_less bytes false true none some = omega arith
+counts_less bytes false false none some = absurd (cc)
 
 -- who is at the helper's port
 helper_role : (port : Port) (under_way : UnderWay) → port.door ≡ Children → is_linked_to port.number under_way.link.state ≡ true → role_of port.door port.number under_way ≡ Helper
@@ -288,37 +298,107 @@ helper_lowers number port moment state door linked found some =
     ∙ ap (λ n. ports_budget (record uw { link = sent n uw.link }) state.ports) count_is in
     let left : is_some_bytes (owed_by_port port (paid uw)) ≡ false =
     ap (λ r. is_some_bytes (owed_as r port (paid uw))) new_role ∙ ap is_some_bytes (nothing_left uw.link.state uw.link.owed) in
-    omega (arith, handled, one_pays number state.ports port uw found (counts_less (asking_bytes port.door port.heard) (is_some_bytes (owed_by_port port (paid uw))) (is_some_bytes (owed_by_port port uw)) left some))
-  where
-    counts_less : (bytes : ℕ) (new old : Bool) → new ≡ false → old ≡ true → bytes + (if new then 1 else 0) < bytes + (if old then 1 else 0)
-    counts_less bytes true old none some = absurd (cc)
-    counts_less bytes false true none some = omega arith
-    counts_less bytes false false none some = absurd (cc)
+    omega (arith, handled, one_lower number state.ports port uw (paid uw) (λ p. pays p uw) found (counts_less (asking_bytes port.door port.heard) (is_some_bytes (owed_by_port port (paid uw))) (is_some_bytes (owed_by_port port uw)) left some))
+
+-- ---- a confirmer
+
+-- the confirmer of this job took bytes
+abbrev served : ℕ → ℕ → UnderWay → UnderWay
+served job count under_way = record under_way { confirmations = took job count under_way.confirmations }
+
+-- fewer bytes are no more
+fewer_some : (count : ℕ) (bytes : List ℕ) → (if is_some_bytes (drop count bytes) then 1 else 0) ≤ (if is_some_bytes bytes then 1 else 0)
+fewer_some count [] = nothing_counts (is_some_bytes (drop count [])) _ (ap is_some_bytes (drop_all count [] (omega arith)))
+fewer_some count (byte ∷ bytes) =
+    let some : is_some_bytes (byte ∷ bytes) ≡ true = grind (arith, nat_tests) in
+    omega (arith, ap {B = ℕ} (λ b. if b then 1 else 0) some, one_or_none (is_some_bytes (drop count (byte ∷ bytes))))
+
+confirmer_pays : (linked : Bool) (found after : Option Confirmation) (port : Port) (job count : ℕ) (under_way : UnderWay) → (after ≡ found) ⊎ (after ≡ option_map (desk.took_some count) found) → (if is_some_bytes (owed_as (by_helper linked after) port (served job count under_way)) then 1 else 0) ≤ (if is_some_bytes (owed_as (by_helper linked found) port under_way) then 1 else 0)
+confirmer_pays true found after port job count under_way how = omega arith
+confirmer_pays false None after port job count under_way (inl same) =
+    omega (arith, ap {B = ℕ} (λ f. if is_some_bytes (owed_as (by_helper false f) port (served job count under_way)) then 1 else 0) same)
+confirmer_pays false None after port job count under_way (inr same) =
+    omega (arith, ap {B = ℕ} (λ f. if is_some_bytes (owed_as (by_helper false f) port (served job count under_way)) then 1 else 0) same)
+confirmer_pays false (Some confirmation) after port job count under_way (inl same) =
+    omega (arith, ap {B = ℕ} (λ f. if is_some_bytes (owed_as (by_helper false f) port (served job count under_way)) then 1 else 0) same)
+confirmer_pays false (Some confirmation) after port job count under_way (inr same) =
+    omega (arith, ap {B = ℕ} (λ f. if is_some_bytes (owed_as (by_helper false f) port (served job count under_way)) then 1 else 0) same, fewer_some count confirmation.owed)
+
+served_by : (door : Door) (port : Port) (job count : ℕ) (under_way : UnderWay) → unit_as door port (served job count under_way) ≤ unit_as door port under_way
+served_by Clients port job count under_way = omega arith
+served_by Children port job count under_way =
+    let linked : Bool = is_linked_to port.number under_way.link.state in
+    let found : Option Confirmation = find_linked port.number under_way.confirmations in
+    let after : Option Confirmation = find_linked port.number (took job count under_way.confirmations) in
+    let new_role : role_of Children port.number (served job count under_way) ≡ by_helper linked after = role-children port.number (served job count under_way) in
+    let role : role_of Children port.number under_way ≡ by_helper linked found = role-children port.number under_way in
+    let a : unit_as Children port (served job count under_way) ≡ (if is_some_bytes (owed_as (by_helper linked after) port (served job count under_way)) then 1 else 0) = ap (λ r. if is_some_bytes (owed_as r port (served job count under_way)) then 1 else 0) new_role in
+    let b : unit_as Children port under_way ≡ (if is_some_bytes (owed_as (by_helper linked found) port under_way) then 1 else 0) = ap (λ r. if is_some_bytes (owed_as r port under_way) then 1 else 0) role in
+    omega (arith, a, b, confirmer_pays linked found after port job count under_way (linked-change port.number job (desk.took_some count) under_way.confirmations (λ c. refl)))
+
+served_pays : (port : Port) (job count : ℕ) (under_way : UnderWay) → port_budget (served job count under_way) port ≤ port_budget under_way port
+served_pays port job count under_way = omega (arith, served_by port.door port job count under_way)
+
+-- who is at the port of a confirmer
+pub confirmer_role : (port : Port) (under_way : UnderWay) (confirmation : Confirmation) → port.door ≡ Children → is_linked_to port.number under_way.link.state ≡ false → find_linked port.number under_way.confirmations ≡ Some confirmation → role_of port.door port.number under_way ≡ Confirmer confirmation
+confirmer_role port under_way confirmation door linked found =
+    ap (λ d. role_of d port.number under_way) door ∙ role-children port.number under_way
+    ∙ ap (λ b. by_helper b (find_linked port.number under_way.confirmations)) linked ∙ ap (by_helper false) found
+
+-- a confirmer takes all that it is owed: the budget falls
+confirmer_lowers : (number : ℕ) (port : Port) (moment : Moment) (state : State) (confirmation : Confirmation) → IsSteady state → port.door ≡ Children → is_linked_to port.number state.under_way.link.state ≡ false → find_linked port.number state.under_way.confirmations ≡ Some confirmation → find_port number state.ports ≡ Some port → is_some_bytes (owed_by_port port state.under_way) ≡ true → budget (step state moment (Took number (length (owed_of number state)))).state < budget state
+confirmer_lowers number port moment state confirmation steady door linked at found some =
+    let opened : State = at_moment moment state in
+    let uw : UnderWay = state.under_way in
+    let count : ℕ = length confirmation.owed in
+    let new : UnderWay = served confirmation.job count uw in
+    let role = confirmer_role port uw confirmation door linked at in
+    let new_role = confirmer_role port new (desk.took_some count confirmation) door linked (linked-changed port.number 0 (desk.took_some count) uw.confirmations uw.last_job confirmation (λ c. refl) steady.order at) in
+    let count_is : length (owed_of number state) ≡ count = ap (λ (o : Option Port). length (owed_by o uw)) found ∙ ap (λ r. length (owed_as r port uw)) role in
+    let handled : budget (step state moment (Took number (length (owed_of number state)))).state ≡ ports_budget new state.ports =
+    ap (λ (o : Option Port). budget (took_at o (length (owed_of number state)) opened).state) found
+    ∙ ap (λ r. budget (took_by_role r port.number (length (owed_of number state)) opened).state) role
+    ∙ ap (λ n. ports_budget (served confirmation.job n uw) state.ports) count_is in
+    let left : is_some_bytes (owed_by_port port new) ≡ false =
+    ap (λ r. is_some_bytes (owed_as r port new)) new_role ∙ ap is_some_bytes (drop-length confirmation.owed) in
+    omega (arith, handled, one_lower number state.ports port uw new (λ p. served_pays p confirmation.job count uw) found (counts_less (asking_bytes port.door port.heard) (is_some_bytes (owed_by_port port new)) (is_some_bytes (owed_by_port port uw)) left some))
 
 -- ---- any port
 
--- a child process is the helper, or owed nothing
-child_lowers : (linked : Bool) (number : ℕ) (port : Port) (moment : Moment) (state : State) → is_linked_to port.number state.under_way.link.state ≡ linked → state.under_way.confirmations ≡ [] → port.door ≡ Children → find_port number state.ports ≡ Some port → is_some_bytes (owed_by_port port state.under_way) ≡ true → budget (step state moment (Took number (length (owed_of number state)))).state < budget state
-child_lowers true number port moment state linked alone door found some =
-    helper_lowers number port moment state door linked found some
-child_lowers false number port moment state linked alone door found some =
+-- a child process is the helper, or a confirmer, or owed nothing
+unnamed_lowers : (at : Option Confirmation) (number : ℕ) (port : Port) (moment : Moment) (state : State) → find_linked port.number state.under_way.confirmations ≡ at → is_linked_to port.number state.under_way.link.state ≡ false → IsSteady state → port.door ≡ Children → find_port number state.ports ≡ Some port → is_some_bytes (owed_by_port port state.under_way) ≡ true → budget (step state moment (Took number (length (owed_of number state)))).state < budget state
+unnamed_lowers None number port moment state at linked steady door found some =
     let unnamed : owed_by_port port state.under_way ≡ [] =
     ap (λ d. owed_as (role_of d port.number state.under_way) port state.under_way) door
-    ∙ ap (λ r. owed_as r port state.under_way) (role-children port.number state.under_way ∙ ap (λ b. by_helper b (find_linked port.number state.under_way.confirmations)) linked ∙ ap (λ (cs : List Confirmation). by_helper false (find_linked port.number cs)) alone) in
+    ∙ ap (λ r. owed_as r port state.under_way) (role-children port.number state.under_way ∙ ap (λ b. by_helper b (find_linked port.number state.under_way.confirmations)) linked ∙ ap (by_helper false) at) in
     let no : false ≡ true = sym (ap is_some_bytes unnamed) ∙ some in
     absurd (cc)
+unnamed_lowers (Some confirmation) number port moment state at linked steady door found some =
+    confirmer_lowers number port moment state confirmation steady door linked at found some
+
+child_lowers : (linked : Bool) (number : ℕ) (port : Port) (moment : Moment) (state : State) → is_linked_to port.number state.under_way.link.state ≡ linked → IsSteady state → port.door ≡ Children → find_port number state.ports ≡ Some port → is_some_bytes (owed_by_port port state.under_way) ≡ true → budget (step state moment (Took number (length (owed_of number state)))).state < budget state
+child_lowers true number port moment state linked steady door found some =
+    helper_lowers number port moment state door linked found some
+child_lowers false number port moment state linked steady door found some =
+    unnamed_lowers (find_linked port.number state.under_way.confirmations) number port moment state refl linked steady door found some
 
 by_door : (door : Door) (number : ℕ) (port : Port) (moment : Moment) (state : State) → IsSteady state → port.door ≡ door → find_port number state.ports ≡ Some port → is_some_bytes (owed_by_port port state.under_way) ≡ true → budget (step state moment (Took number (length (owed_of number state)))).state < budget state
 by_door Clients number port moment state steady door found some =
     client_lowers number port moment state steady.rising door found
     (ap is_some_bytes (sym (ap (λ d. owed_as (role_of d port.number state.under_way) port state.under_way) door)) ∙ some)
 by_door Children number port moment state steady door found some =
-    child_lowers (is_linked_to port.number state.under_way.link.state) number port moment state refl steady.alone door found some
+    child_lowers (is_linked_to port.number state.under_way.link.state) number port moment state refl steady door found some
 
 -- a port takes all that it is owed: the budget falls
 pub taking_lowers : (number : ℕ) (port : Port) (moment : Moment) (state : State) → IsSteady state → find_port number state.ports ≡ Some port → is_some_bytes (owed_by_port port state.under_way) ≡ true → budget (step state moment (Took number (length (owed_of number state)))).state < budget state
 taking_lowers number port moment state steady found some = by_door port.door number port moment state steady refl found some
 
--- a taking begins no confirmation
-pub taking_stays_alone : (number count : ℕ) (moment : Moment) (state : State) → state.under_way.confirmations ≡ [] → (step state moment (Took number count)).state.under_way.confirmations ≡ []
-taking_stays_alone number count moment state = (step-grows state moment (Took number count)).alone
+-- every event keeps a state steady
+pub step_keeps-steady : (state : State) (moment : Moment) (event : Happening) → IsSteady state → IsSteady (step state moment event).state
+step_keeps-steady state moment event steady = record {
+  rising = step_keeps-rising state moment event steady.rising;
+  order = (step-grows state moment event).order steady.order;
+}
+
+pub first_is_steady : (life : Option ℕ) → IsSteady (first_state life)
+first_is_steady life = record { rising = omega arith; order = omega arith }

@@ -3,7 +3,7 @@ use Rattle.std.proofs.Common.{◌≡◌, ℕ, List, [], ◌∷◌, refl, ap, ◌
 use Rattle.world_ports.specs.declared.Door.{Door}
 use Rattle.world_ports.specs.declared.Door.TheVariants.{Clients}
 use Rattle.wire_text.specs.Frames.{Front, Whole, Bad, More, front_body}
-use Rattle.agent_msg.specs.Reading.{request_of}
+use Rattle.agent_model.specs.Binds.{agent_request_of}
 use Rattle.agent_model.specs.Actions.{Outcome}
 use Rattle.agent_model.specs.Children.{changed, closed, heard_more}
 use Rattle.agent_model.specs.Dispatch.{Served, serve}
@@ -30,7 +30,7 @@ looked-found number port state answer found is =
 -- what comes of a request, of the client of this port at the front of whose bytes it stands
 abbrev pub served_at : ℕ → Port → State → Served
 served_at body_len port state =
-    serve (request_of (front_body body_len port.heard)) (asker_at state.moment port) state.held state.under_way
+    serve (agent_request_of (front_body body_len port.heard)) (asker_at state.moment port) state.held state.under_way
 
 -- a client with a request to be taken is told what comes of it
 pub looked-whole : (number body_len : ℕ) (port : Port) (state : State) → find_port number state.ports ≡ Some port → due port ≡ Whole body_len → (looked number state).state ≡ record state {

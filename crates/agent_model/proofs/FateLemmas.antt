@@ -13,7 +13,7 @@ use Rattle.helper_link.specs.declared.answer.Settled.{Settled}
 use Rattle.helper_link.specs.declared.ask.Ask.{Ask}
 use Rattle.helper_link.proofs.OrderLemmas.{remove_rises}
 use Rattle.agent_model.specs.Actions.{Action, Answered}
-use Rattle.agent_model.specs.Answers.{Answering, answer_all, answer_asker, answer_by, answer_true, find_verification, prove, proved_at, tell_each}
+use Rattle.agent_model.specs.Answers.{Answering, answer_all, answer_asker, answer_by, answer_true, find_verification, prove, proved_at, remove_verification, tell_each}
 use Rattle.agent_model.specs.Fates.{Fate, Fails, Gets, IsTold, Unanswered, answer_verdict, fate_by, fate_of, fate_verdict, or_later, settled_fate, times_answered, times_asked}
 use Rattle.agent_model.specs.Sound.{AreTied}
 use Rattle.agent_model.specs.State.{Nothing, OnAsk, Port, Verification, change_port, find_port}
@@ -70,6 +70,7 @@ pub record AnswersAs (verdict : Verdict) (one : Settled) (before after : Answeri
   pub owed : (p : Port) → (change p).owed ≡ p.owed ++ verdict_text verdict
   pub waits : (p : Port) → (change p).waits ≡ Nothing
   pub silent : (ask : ℕ) → (fate_of ask rest ≡ Unanswered) × (times_answered ask rest ≡ 0) × (times_asked ask rest ≡ 0)
+  pub verifications : after.verifications ≡ remove_verification one.ask before.verifications
 
 as_told : (verdict : Verdict) (one : Settled) (before : Answering) → verdict_waits verdict ≡ Nothing → AnswersAs verdict one before (answer_asker verdict one before)
 as_told verdict one before nothing = record {
@@ -82,6 +83,7 @@ as_told verdict one before nothing = record {
   owed = λ p. refl;
   waits = λ p. nothing;
   silent = λ ask. (refl, refl, refl);
+  verifications = refl;
 }
 
 as_true : (found : Option Verification) (one : Settled) (before : Answering) → AnswersAs (Replies Success) one before (answer_true found one before)
@@ -96,6 +98,7 @@ as_true (Some verification) one before = record {
   owed = λ p. refl;
   waits = λ p. refl;
   silent = proved (find_port one.asker before.ports);
+  verifications = refl;
 }
   where
     proved : (found : Option Port) (ask : ℕ) → (fate_of ask (proved_at found verification) ≡ Unanswered) × (times_answered ask (proved_at found verification) ≡ 0) × (times_asked ask (proved_at found verification) ≡ 0)
@@ -143,7 +146,7 @@ settled-fates ask (one ∷ later) before =
 
 module _ (low last : ℕ) where
   -- what an answer leaves
-  one_answer : (one : Settled) (before : Answering) (asks : List Ask) → find_ask one.ask asks ≡ Some (ask_of one.ask one.asker (kind_answered one.answer)) → RiseTo low asks last → AreTied before.ports asks → AreTied (answer_by one.answer one before).ports (remove_ask one.ask asks)
+  pub one_answer : (one : Settled) (before : Answering) (asks : List Ask) → find_ask one.ask asks ≡ Some (ask_of one.ask one.asker (kind_answered one.answer)) → RiseTo low asks last → AreTied before.ports asks → AreTied (answer_by one.answer one before).ports (remove_ask one.ask asks)
   one_answer one before asks found rise tied =
       let told_as = answers_as one.answer one before in
       subst (λ ports. AreTied ports (remove_ask one.ask asks)) (sym told_as.ports)
@@ -203,7 +206,7 @@ first_ask : (one : Ask) (asks : List Ask) → (find_ask one.number (one ∷ asks
 first_ask one asks = (grind (arith, nat_tests), grind (arith, nat_tests))
 
 -- one ask less
-one_lost : (low last : ℕ) (one : Ask) (asks : List Ask) (ports : List Port) → RiseTo low (one ∷ asks) last → AreTied ports (one ∷ asks) → AreTied (change_port one.asker (tell (Refuses HelperLost)) ports) asks
+pub one_lost : (low last : ℕ) (one : Ask) (asks : List Ask) (ports : List Port) → RiseTo low (one ∷ asks) last → AreTied ports (one ∷ asks) → AreTied (change_port one.asker (tell (Refuses HelperLost)) ports) asks
 one_lost low last one asks ports rise tied =
     subst (AreTied (change_port one.asker (tell (Refuses HelperLost)) ports)) (first_ask one asks).1
     (tied-told ports (one ∷ asks) tied one.number one.asker one.kind (tell (Refuses HelperLost)) low last rise (first_ask one asks).0 (λ p. refl) (λ p ask is. absurd (cc)))

@@ -18,28 +18,34 @@ use Rattle.helper_link.specs.declared.state.LinkState.TheVariants as states
 use Rattle.helper_link.proofs.AnswerLemmas.{lead_others, lead_rise, settling_leads}
 use Rattle.helper_link.proofs.OrderLemmas.{find-push, push_rises}
 use Rattle.child_msg.specs.Messages.{ToChildMessage}
-use Rattle.agent_msg.specs.Reading.{request_of}
-use Rattle.agent_model.specs.Actions.{Action, Asked, Lost, Outcome, Requested, acted, and_then, stay}
+use Rattle.agent_model.specs.Asking.{AreRaised, IsAsking}
+use Rattle.agent_model.specs.Consents.{close_confirmer, grant_concluded, over, signing_of, without_confirmation}
+use Rattle.confirm_desk.specs.Confirmations.{Confirmation, confirmation_of, find_job}
+use Rattle.confirm_desk.specs.Prompt.{prompt_for}
+use Rattle.agent_model.specs.Actions.{Action, Asked, Lost, Outcome, Requested, Work, acted, and_then, stay}
 use Rattle.agent_model.specs.Answers.{Answering, answer_all, close_helper, helper_tells, lose, lose_if, with_answers}
 use Rattle.agent_model.specs.Children.{changed, unheard}
 use Rattle.agent_model.specs.Dispatch.{Served}
-use Rattle.agent_model.specs.Errands.{Errand, begun_by, kind_of, message_of, purpose_of, with_ask}
+use Rattle.agent_model.specs.Errands.{Errand, Signs, begun_by, held_for, kind_of, message_of, purpose_of, with_ask, with_confirmation}
 use Rattle.agent_model.specs.Events.{Happening, Timed, Ended, Tick}
 use Rattle.agent_model.specs.Fates.{Fate, Fails, Gets, IsTold, NoneEnds, Unanswered, actions_of, fate_of, fate_verdict, or_later}
 use Rattle.agent_model.specs.KeyStates.{KeyState}
 use Rattle.agent_model.specs.Runs.{run}
-use Rattle.agent_model.specs.Sound.{AreTied, IsRising, IsTied, IsWaiting}
-use Rattle.agent_model.specs.State.{Nothing, OnAsk, OnConfirmation, Port, State, UnderWay, change_port, find_port, first_state, new_port, remove_port}
+use Rattle.agent_model.specs.Sound.{AreTied, IsTied, IsWaiting}
+use Rattle.agent_model.specs.State.{Nothing, OnAsk, OnConfirmation, Port, State, UnderWay, change_port, find_port, first_state, new_port, Waits}
 use Rattle.agent_model.specs.Step.{admitted, asker_at, at_moment, attempts, concluded, has_room, step, take_frame}
-use Rattle.agent_model.specs.Verdicts.{Awaits, Refuses, Replies, Verdict, tell, verdict_waits}
+use Rattle.agent_model.specs.Verdicts.{Awaits, NoLongerAllowed, NotConfirmed, Refuses, Replies, Verdict, tell, verdict_waits}
 use Rattle.agent_model.proofs.FateLemmas.{answer-waits, fate-answers, fate-append, tied-answers, tied-lost, told-apart, told-here, told-lost, waits-lost}
-use Rattle.agent_model.proofs.GrowLemmas.{asks_more}
-use Rattle.agent_model.proofs.LeadLemmas.{Follows, changes, follows-makes, follows-quiet, leads-answers, same}
-use Rattle.agent_model.proofs.MakeLemmas.{IsMild, Makes, MayClose, Quiet, alters, by_event, child, closes, ended, first, goes_on, grants, idle, loses, mild-unheard, names, overs, serves, stays, tells}
-use Rattle.agent_model.proofs.PortsLemmas.{change_port-twice, find_port-left, find_port-removed_apart, found_number, found_within, rising-append, rising_higher}
+use Rattle.agent_model.proofs.GrantLemmas.{IsGranted, allowed, disallowed, grant-ends, unasked}
+use Rattle.agent_model.proofs.GrowLemmas.{jobs-for}
+use Rattle.agent_model.proofs.JobLemmas.{IsIn, in-found}
+use Rattle.agent_model.proofs.LeadLemmas.{Follows, changes, follows-makes, follows-quiet, leads-answers, leads-close_confirmer, same}
+use Rattle.agent_model.proofs.MakeLemmas.{IsMild, Makes, MayClose, Quiet, alters, by_event, child, closes, ended, first, goes_on, grants, idle, links, loses, mild-unheard, names, overs, serves, stays, tells}
+use Rattle.agent_model.proofs.PortsLemmas.{change_port-twice, find_port-removed_apart, found_number, found_within, rising-append, rising_higher}
+use Rattle.agent_model.proofs.RaisedLemmas.{Fewer, fewer-changed, fewer-closed, fewer-removed, raised-answers, raised-fewer, raised-joined, raised-kept, raised-later, raised-linked, raised-lost, raised-over, raised-raised, raised-silent}
 use Rattle.agent_model.proofs.RunLemmas.{leads-found, leads-rising}
 use Rattle.agent_model.proofs.ServeLemmas.{IsServed, answered, asked, raised, refused, serve-ends}
-use Rattle.agent_model.proofs.TieLemmas.{IsOf, apart, found_after, found_joined, here, tied-asked, tied-silent}
+use Rattle.agent_model.proofs.TieLemmas.{found_joined, tied-asked, tied-silent}
 
 -- the state is tied, and who waited before is told what the actions make of its ask, unless its port ended
 pub record Fated (event : Happening) (old : State) (outcome : Outcome) : Type 0 where
@@ -47,8 +53,8 @@ pub record Fated (event : Happening) (old : State) (outcome : Outcome) : Type 0 
   pub told : (number ask : ℕ) → event ≢ Ended number → IsTold number (Awaits (OnAsk ask)) old.ports → IsTold number (fate_verdict (fate_of ask outcome.actions) ask) outcome.state.ports
 
 -- what follows a tied state is tied, by its asks
-assemble : (old new : State) → Follows old new → IsTied old → RiseTo 0 new.under_way.link.asks new.under_way.link.last → AreTied new.ports new.under_way.link.asks → ((ask : ℕ) (one : Ask) → find_ask ask new.under_way.link.asks ≡ Some one → one.asker ≤ old.last_port) → ((number : ℕ) → new.under_way.link.state ≡ states.Linked number → old.under_way.link.state ≡ states.Linked number) → new.under_way.confirmations ≡ [] → IsTied new
-assemble old new follows tied order ties askers linked alone = record {
+assemble : (old new : State) → Follows old new → IsTied old → RiseTo 0 new.under_way.link.asks new.under_way.link.last → AreTied new.ports new.under_way.link.asks → ((ask : ℕ) (one : Ask) → find_ask ask new.under_way.link.asks ≡ Some one → one.asker ≤ old.last_port) → ((number : ℕ) → new.under_way.link.state ≡ states.Linked number → old.under_way.link.state ≡ states.Linked number) → AreRaised new.under_way.confirmations new.under_way.last_job new.ports old.last_port → IsTied new
+assemble old new follows tied order ties askers linked consents = record {
   rising = rw follows.last (leads-rising 0 old.last_port old.ports follows.ports tied.rising);
   order = order;
   tied = ties;
@@ -57,25 +63,10 @@ assemble old new follows tied order ties askers linked alone = record {
       let before = leads-found number 0 old.last_port old.ports port follows.ports tied.rising found in
       before.2 ∙ tied.helper number before.0 (linked number is) before.1;
   known = λ number is. rw follows.last (tied.known number (linked number is));
-  alone = alone;
+  raised = rw follows.last consents;
 }
 
 -- ---- quiet changes
-
--- each port that is open was, and waits for what it waited for
-abbrev Fewer : List Port → List Port → Type 0
-Fewer old new = (number : ℕ) (port : Port) → find_port number new ≡ Some port → (was : Port) × (find_port number old ≡ Some was) × (port.waits ≡ was.waits) × (was.owed ≡ [] → port.owed ≡ []) × (port.door ≡ was.door)
-
-fewer-changed : (at : ℕ) (f : Port → Port) (ports : List Port) → IsMild f → Fewer ports (change_port at f ports)
-fewer-changed at f ports mild number port found = by_port (found_after number at f ports port mild.number found)
-  where
-    by_port : IsOf number at f ports port → (was : Port) × (find_port number ports ≡ Some was) × (port.waits ≡ was.waits) × (was.owed ≡ [] → port.owed ≡ []) × (port.door ≡ was.door)
-    by_port (here old equal was is) = (old, was, ap (λ (p : Port). p.waits) is ∙ mild.waits old, λ none. ap (λ (p : Port). p.owed) is ∙ mild.owed old none, ap (λ (p : Port). p.door) is ∙ mild.door old)
-    by_port (apart other was) = (port, was, refl, λ none. none, refl)
-
-fewer-removed : (at low high : ℕ) (ports : List Port) → IsRising low high ports → Fewer ports (remove_port at ports)
-fewer-removed at low high ports rising number port found =
-    (port, find_port-left number at low high ports port rising found, refl, λ none. none, refl)
 
 tied-fewer : (old new : List Port) (asks : List Ask) → Fewer old new → AreTied old asks → AreTied new asks
 tied-fewer old new asks fewer tied = record {
@@ -93,17 +84,17 @@ linked_number a b is = cc
 
 pub tied-quiet : {event : Happening} {old new : State} → Quiet event old new → IsTied old → IsTied new
 tied-quiet {event = event} {old = old} (alters number f mild) tied =
-    assemble old _ (follows-quiet event old (alters number f mild) record { last = refl; ports = same }) tied tied.order (tied-fewer old.ports _ _ (fewer-changed number f old.ports mild) tied.tied) tied.askers (λ n is. is) tied.alone
+    assemble old _ (follows-quiet event old (alters number f mild) record { last = refl; ports = same }) tied tied.order (tied-fewer old.ports _ _ (fewer-changed number f old.ports mild) tied.tied) tied.askers (λ n is. is) (raised-fewer old.ports _ (fewer-changed number f old.ports mild) tied.raised)
 tied-quiet {event = event} {old = old} (closes number may) tied =
-    assemble old _ (follows-quiet event old (closes number may) record { last = refl; ports = same }) tied tied.order (tied-fewer old.ports _ _ (fewer-removed number 0 old.last_port old.ports tied.rising) tied.tied) tied.askers (λ n is. is) tied.alone
+    assemble old _ (follows-quiet event old (closes number may) record { last = refl; ports = same }) tied tied.order (tied-fewer old.ports _ _ (fewer-removed number 0 old.last_port old.ports tied.rising) tied.tied) tied.askers (λ n is. is) (raised-fewer old.ports _ (fewer-removed number 0 old.last_port old.ports tied.rising) tied.raised)
 tied-quiet {event = event} {old = old} (goes_on new asks) tied =
-    assemble old _ (follows-quiet event old (goes_on new asks) record { last = refl; ports = same }) tied (rw (asks.asks, asks.last) tied.order) (rw asks.asks tied.tied) (λ ask one found. tied.askers ask one (ap (find_ask ask) (sym asks.asks) ∙ found)) (λ n is. sym asks.state ∙ is) (asks.alone tied.alone)
-tied-quiet {event = event} {old = old} (names job number port found door) tied =
-    let follows = follows-quiet event old {old = old} (names job number port found door) record { last = refl; ports = same } in
+    assemble old _ (follows-quiet event old (goes_on new asks) record { last = refl; ports = same }) tied (rw (asks.asks, asks.last) tied.order) (rw asks.asks tied.tied) (λ ask one found. tied.askers ask one (ap (find_ask ask) (sym asks.asks) ∙ found)) (λ n is. sym asks.state ∙ is) (rw asks.jobs (raised-kept old.ports asks.kept tied.raised))
+tied-quiet {event = event} {old = old} (names job number port found door free) tied =
+    let follows = follows-quiet event old {old = old} (names job number port found door free) record { last = refl; ports = same } in
     record {
       rising = leads-rising 0 old.last_port old.ports follows.ports tied.rising;
       order = tied.order;
-      tied = tied-fewer old.ports _ _ (fewer-changed number unheard old.ports record { number = λ p. refl; door = λ p. refl; waits = λ p. refl; owed = λ p none. none }) tied.tied;
+      tied = tied-fewer old.ports _ _ (fewer-changed number unheard old.ports record { number = λ p. refl; door = λ p. refl; waits = λ p. refl; owed = λ p none. none; chain = λ p. refl }) tied.tied;
       askers = tied.askers;
       helper = λ n q linked there.
           let before = leads-found n 0 old.last_port old.ports q follows.ports tied.rising there in
@@ -112,8 +103,17 @@ tied-quiet {event = event} {old = old} (names job number port found door) tied =
           let equal : before.0 ≡ port = cc in
           before.2 ∙ ap (λ (p : Port). p.door) equal ∙ door;
       known = λ n linked. rw (← linked_number number n linked) (found_within number 0 old.last_port old.ports port tied.rising found);
-      alone = tied.alone;
+      raised = raised-fewer old.ports _ (fewer-changed number unheard old.ports mild-unheard) tied.raised;
     }
+tied-quiet {event = event} {old = old} (links job number port found door free other) tied =
+    let fewer = fewer-changed number unheard old.ports mild-unheard in
+    let child : (q : Port) → find_port number (change_port number unheard old.ports) ≡ Some q → q.door ≡ Children = λ q there.
+    let was = fewer number q there in
+    let is : Some was.0 ≡ Some port = sym was.1 ∙ found in
+    let equal : was.0 ≡ port = cc in
+    was.4 ∙ ap (λ (p : Port). p.door) equal ∙ door in
+    assemble old _ (follows-quiet event old {old = old} (links job number port found door free other) record { last = refl; ports = same }) tied tied.order (tied-fewer old.ports _ _ fewer tied.tied) tied.askers (λ n is. is)
+    (raised-linked _ job number child (found_within number 0 old.last_port old.ports port tied.rising found) (raised-fewer old.ports _ fewer tied.raised))
 
 -- who waits goes on waiting where a port is changed a little
 told-mild : (number ask at : ℕ) (f : Port → Port) (ports : List Port) → IsMild f → IsTold number (Awaits (OnAsk ask)) ports → IsTold number (Awaits (OnAsk ask)) (change_port at f ports)
@@ -132,18 +132,30 @@ waits-quiet {event = event} {old = old} number ask (closes at may) open_yet told
     is_port : (port : Port) → number ≡ at → find_port at old.ports ≡ Some port → told.port ≡ port
     is_port port equal found = let is : Some told.port ≡ Some port = sym told.found ∙ ap (λ n. find_port n old.ports) equal ∙ found in cc
 
-    other : MayClose event at old.ports → number ≢ at
-    other (idle port found nothing) equal =
+    other : MayClose event at old.ports old.under_way.confirmations → number ≢ at
+    other (idle port found nothing client) equal =
         let waits : OnAsk ask ≡ Nothing = sym told.waits ∙ ap (λ (p : Port). p.waits) (is_port port equal found) ∙ nothing in
         absurd (cc)
-    other (child port found door) equal =
+    other (child port found door free) equal =
         let doors : Clients ≡ Children = sym told.door ∙ ap (λ (p : Port). p.door) (is_port port equal found) ∙ door in
         absurd (cc)
     other (ended is) equal = open_yet (is ∙ ap Ended (sym equal))
 waits-quiet number ask (goes_on new asks) open_yet told = told
-waits-quiet {old = old} number ask (names job at port found door) open_yet told = told-mild number ask at unheard old.ports mild-unheard told
+waits-quiet {old = old} number ask (names job at port found door free) open_yet told = told-mild number ask at unheard old.ports mild-unheard told
+waits-quiet {old = old} number ask (links job at port found door free unhelped) open_yet told = told-mild number ask at unheard old.ports mild-unheard told
 
 -- ---- a client that is served
+
+-- a helper is there only where one was
+pub linked-begun : (link : LinkState) (job number : ℕ) → begun_by link job ≡ states.Linked number → link ≡ states.Linked number
+linked-begun states.None job number is = absurd (cc)
+linked-begun (states.Starting other) job number is = is
+linked-begun (states.Linked at) job number is = is
+
+-- who is to be answered by the new ask has a port that joined
+new_asker : (new : Bool) (pending : Option Ask) (ask : Ask) (one : Ask) (last : ℕ) → ask.asker ≤ last → ((other : Ask) → pending ≡ Some other → other.asker ≤ last) → cond new (Some ask) pending ≡ Some one → one.asker ≤ last
+new_asker true pending ask one last within known is = let new : ask ≡ one = cc in omega (arith, within, ap (λ (o : Ask). o.asker) new)
+new_asker false pending ask one last within known is = known one is
 
 module _ (event : Happening) (body : List ℕ) (take : Port → Port) (mild : IsMild take) (port : Port) (state : State) (found : find_port port.number state.ports ≡ Some port) (door : port.door ≡ Clients) (nothing : port.waits ≡ Nothing) (owed : port.owed ≡ []) (tied : IsTied state) where
   -- the client is told this
@@ -176,19 +188,27 @@ module _ (event : Happening) (body : List ℕ) (take : Port → Port) (mild : Is
           let waits : OnAsk ask ≡ Nothing = sym told.waits ∙ ap (λ (p : Port). p.waits) is_port ∙ nothing in
           absurd (cc)
 
+  -- the client waits for nothing
+  waits_not : (on : ℕ → Waits) → ((n : ℕ) → Nothing ≢ on n) → (p : Port) → find_port port.number state.ports ≡ Some p → (n : ℕ) → p.waits ≢ on n
+  waits_not on other p there n is =
+      let same_port : Some port ≡ Some p = sym found ∙ there in
+      let equal : port ≡ p = cc in
+      other n (sym nothing ∙ ap (λ (q : Port). q.waits) equal ∙ is)
+
   -- it waits for no ask
-  silent : (held : KeyState) (under_way : UnderWay) (verdict : Verdict) (actions : List Action) (put : List ToChildMessage) → under_way.link ≡ state.under_way.link → under_way.confirmations ≡ [] → ((ask : ℕ) → verdict_waits verdict ≢ OnAsk ask) → ((ask : ℕ) → fate_of ask actions ≡ Unanswered) → Fated event state (record { state = left held under_way verdict; actions = actions; put = put })
-  silent held under_way verdict actions put link alone waits fates = record {
+  silent : (held : KeyState) (under_way : UnderWay) (verdict : Verdict) (actions : List Action) (put : List ToChildMessage) → under_way.link ≡ state.under_way.link → AreRaised under_way.confirmations under_way.last_job (change_port port.number (change verdict) state.ports) state.last_port → ((ask : ℕ) → verdict_waits verdict ≢ OnAsk ask) → ((ask : ℕ) → fate_of ask actions ≡ Unanswered) → Fated event state (record { state = left held under_way verdict; actions = actions; put = put })
+  silent held under_way verdict actions put link consents waits fates = record {
     tied = assemble state (left held under_way verdict) (follows-left held under_way verdict) tied (rw link tied.order)
-        (rw link (subst (λ ports. AreTied ports state.under_way.link.asks) (twice verdict) (tied-silent state.ports state.under_way.link.asks tied.tied port.number port (change verdict) found nothing mild.number (λ p. waits))))
-        (λ ask one is. tied.askers ask one (ap (λ (l : HelperLink). find_ask ask l.asks) (sym link) ∙ is)) (λ n is. ap (λ (l : HelperLink). l.state) (sym link) ∙ is) alone;
+        (rw link (subst (λ ports. AreTied ports state.under_way.link.asks) (twice verdict) (tied-silent state.ports state.under_way.link.asks tied.tied port.number (change verdict) (waits_not OnAsk (λ n is. absurd (cc))) mild.number (λ p. waits))))
+        (λ ask one is. tied.askers ask one (ap (λ (l : HelperLink). find_ask ask l.asks) (sym link) ∙ is)) (λ n is. ap (λ (l : HelperLink). l.state) (sym link) ∙ is)
+        (subst (λ ports. AreRaised under_way.confirmations under_way.last_job ports state.last_port) (twice verdict) consents);
     told = λ number ask open_yet told. subst (λ f. IsTold number (fate_verdict f ask) (left held under_way verdict).ports) (sym (fates ask)) (others held under_way verdict number ask told);
   }
 
-  linked-begun : (link : LinkState) (job number : ℕ) → begun_by link job ≡ states.Linked number → link ≡ states.Linked number
-  linked-begun states.None job number is = absurd (cc)
-  linked-begun (states.Starting other) job number is = is
-  linked-begun (states.Linked at) job number is = is
+  -- and it doesn't wait for consent
+  quiet : (verdict : Verdict) → ((job : ℕ) → verdict_waits verdict ≢ OnConfirmation job) → AreRaised state.under_way.confirmations state.under_way.last_job (change_port port.number (change verdict) state.ports) state.last_port
+  quiet verdict waits =
+      raised-silent state.ports tied.raised port.number (change verdict) (waits_not OnConfirmation (λ n is. absurd (cc))) mild.number mild.door (λ p. waits)
 
   -- it puts an ask
   puts : (held : KeyState) (errand : Errand) → Fated event state (record { state = left held (with_ask errand port.number state.under_way) (Awaits (OnAsk (state.under_way.link.last + 1))); actions = Requested (record { port = port.number; body = body; verdict = Awaits (OnAsk (state.under_way.link.last + 1)) }) ∷ Asked (record { ask = state.under_way.link.last + 1; port = port.number; purpose = purpose_of errand }) ∷ []; put = message_of errand (state.under_way.link.last + 1) ∷ [] })
@@ -199,33 +219,39 @@ module _ (event : Happening) (body : List ℕ) (take : Port → Port) (mild : Is
       record {
         tied = assemble state (left held new verdict) (follows-left held new verdict) tied (push_rises 0 link.asks link.last port.number (kind_of errand) tied.order)
             (subst (λ ports. AreTied ports new.link.asks) (twice verdict)
-            (tied-asked state.ports link.asks tied.tied port.number 0 link.last (kind_of errand) port (change verdict) tied.order found nothing owed door mild.number mild.door (λ p. refl) (λ p none. ap (λ bytes. bytes ++ []) (mild.owed p none))))
-            (λ ask one is. by_test (link.last + 1 == ask) ask one (sym (find-push ask 0 (ask_of (link.last + 1) port.number (kind_of errand)) link.asks link.last tied.order (omega arith)) ∙ is))
-            (λ n is. linked-begun link.state (state.under_way.last_job + 1) n is) tied.alone;
+            (tied-asked state.ports link.asks tied.tied port.number 0 link.last (kind_of errand) port (change verdict) tied.order found (waits_not OnAsk (λ n is. absurd (cc)) port found) owed door mild.number mild.door (λ p. refl) (λ p none. ap (λ bytes. bytes ++ []) (mild.owed p none))))
+            (λ ask one is. new_asker (link.last + 1 == ask) (find_ask ask link.asks) (ask_of (link.last + 1) port.number (kind_of errand)) one state.last_port (found_within port.number 0 state.last_port state.ports port tied.rising found) (tied.askers ask)
+            (sym (find-push ask 0 (ask_of (link.last + 1) port.number (kind_of errand)) link.asks link.last tied.order (omega arith)) ∙ is))
+            (λ n is. linked-begun link.state (state.under_way.last_job + 1) n is)
+            (subst (λ ports. AreRaised state.under_way.confirmations new.last_job ports state.last_port) (twice verdict)
+            (raised-later state.under_way.last_job new.last_job state.last_port state.last_port (jobs-for link.state state.under_way.last_job) (omega arith) (quiet verdict (λ job is. absurd (cc)))));
         told = λ number ask open_yet told. others held new verdict number ask told;
       }
-    where
-      by_test : (new : Bool) (ask : ℕ) (one : Ask) → cond new (Some (ask_of (state.under_way.link.last + 1) port.number (kind_of errand))) (find_ask ask state.under_way.link.asks) ≡ Some one → one.asker ≤ state.last_port
-      by_test true ask one is =
-          let new : ask_of (state.under_way.link.last + 1) port.number (kind_of errand) ≡ one = cc in
-          rw (← ap (λ (o : Ask). o.asker) new) (found_within port.number 0 state.last_port state.ports port tied.rising found)
-      by_test false ask one is = tied.askers ask one is
 
   -- by what comes of its request
   fated-served : {served : Served} → IsServed (asker_at state.moment port) state.held state.under_way served → Fated event state (concluded port.number body served (changed port.number take state))
-  fated-served (answered reply kept keeps) = silent kept state.under_way (Replies reply) _ _ refl tied.alone (λ ask is. absurd (cc)) (λ ask. refl)
-  fated-served (refused cause) = silent state.held state.under_way (Refuses cause) _ _ refl tied.alone (λ ask is. absurd (cc)) (λ ask. refl)
-  fated-served (asked errand free) = puts state.held errand
-  fated-served (raised key signing free) = silent state.held _ (Awaits (OnConfirmation (state.under_way.last_job + 1))) _ _ refl ((asks_more {asker = asker_at state.moment port} {held = state.held} {under_way = state.under_way} (raised key signing free)).alone tied.alone) (λ ask is. absurd (cc)) (λ ask. refl)
+  fated-served (answered reply kept keeps) = silent kept state.under_way (Replies reply) _ _ refl (quiet (Replies reply) (λ job is. absurd (cc))) (λ ask is. absurd (cc)) (λ ask. refl)
+  fated-served (refused cause) = silent state.held state.under_way (Refuses cause) _ _ refl (quiet (Refuses cause) (λ job is. absurd (cc))) (λ ask is. absurd (cc)) (λ ask. refl)
+  fated-served (asked errand free right) = puts state.held errand
+  fated-served (raised key signing free) =
+      let job : ℕ = state.under_way.last_job + 1 in
+      silent state.held (with_confirmation key signing port.number state.under_way) (Awaits (OnConfirmation job)) _ _ refl
+      (raised-raised state.ports tied.raised port.number (confirmation_of job (held_for port.number key signing) (prompt_for key.comment key.blob)) port (change (Awaits (OnConfirmation job))) refl refl refl (found_within port.number 0 state.last_port state.ports port tied.rising found) found nothing owed door mild.number mild.door (λ p. refl) (λ p none. ap (λ bytes. bytes ++ []) (mild.owed p none)))
+      (λ ask is. absurd (cc)) (λ ask. refl)
 
 -- ---- the helper answers, or is lost
 
 module _ (state : State) (tied : IsTied state) where
   -- its port isn't a client's
-  tied-close : (link : LinkState) → AreTied (close_helper link state.ports) state.under_way.link.asks
+  pub tied-close : (link : LinkState) → AreTied (close_helper link state.ports) state.under_way.link.asks
   tied-close states.None = tied.tied
   tied-close (states.Starting job) = tied.tied
   tied-close (states.Linked at) = tied-fewer state.ports _ _ (fewer-removed at 0 state.last_port state.ports tied.rising) tied.tied
+
+  raised-close : (link : LinkState) → AreRaised state.under_way.confirmations state.under_way.last_job (close_helper link state.ports) state.last_port
+  raised-close states.None = tied.raised
+  raised-close (states.Starting job) = tied.raised
+  raised-close (states.Linked at) = raised-fewer state.ports _ (fewer-removed at 0 state.last_port state.ports tied.rising) tied.raised
 
   told-close : (link : LinkState) (number : ℕ) (verdict : Verdict) → state.under_way.link.state ≡ link → IsTold number verdict state.ports → IsTold number verdict (close_helper link state.ports)
   told-close states.None number verdict is told = told
@@ -243,7 +269,8 @@ module _ (state : State) (tied : IsTied state) where
   lose-tied =
       assemble state (lose state).state (follows-makes Tick state (loses state) record { last = refl; ports = same }) tied (omega arith)
       (tied-lost 0 state.under_way.link.last state.under_way.link.asks _ tied.order (tied-close state.under_way.link.state))
-      (λ ask one is. absurd (cc)) (λ n is. absurd (cc)) tied.alone
+      (λ ask one is. absurd (cc)) (λ n is. absurd (cc))
+      (raised-lost 0 state.under_way.link.last state.under_way.link.asks _ tied.order (tied-close state.under_way.link.state) (raised-close state.under_way.link.state))
 
   -- who was told something already is told nothing more
   told-loss : (number ask : ℕ) (fate : Fate) → IsTold number (fate_verdict fate ask) state.ports → IsTold number (fate_verdict (or_later fate Fails) ask) (lose state).state.ports
@@ -274,13 +301,14 @@ module _ (piece : List ℕ) (state : State) (tied : IsTied state) where
   there true ask one is = absurd (cc)
   there false ask one is = tied.askers ask one is
 
-  tied_mid : IsTied mid
+  pub tied_mid : IsTied mid
   tied_mid =
       assemble state mid record { last = refl; ports = leads-answers state.ports told.settled before same } tied
       (lead_rise told.settled state.under_way.link.asks told.link.asks 0 state.under_way.link.last leads tied.order)
       (tied-answers 0 state.under_way.link.last told.settled before state.under_way.link.asks told.link.asks leads tied.order tied.tied)
       (λ ask one is. there (is_answered ask told.settled) ask one (sym (lead_others ask told.settled state.under_way.link.asks told.link.asks 0 state.under_way.link.last leads tied.order) ∙ is))
-      (λ n is. is) tied.alone
+      (λ n is. is)
+      (raised-answers 0 state.under_way.link.last told.settled before state.under_way.link.asks told.link.asks leads tied.order tied.tied tied.raised)
 
   told_mid : (number ask : ℕ) → IsTold number (Awaits (OnAsk ask)) state.ports → IsTold number (fate_verdict (fate_of ask after.actions) ask) mid.ports
   told_mid number ask waits = fate-answers 0 state.under_way.link.last number ask told.settled before state.under_way.link.asks told.link.asks leads tied.order tied.tied refl waits
@@ -298,6 +326,113 @@ module _ (piece : List ℕ) (state : State) (tied : IsTied state) where
   fated-tells : (event : Happening) → Fated event state (helper_tells (telling piece state.under_way.link) state)
   fated-tells event = fated-fault event told.fault
 
+-- ---- a confirmation ends
+
+module _ (event : Happening) (confirmation : Confirmation) (state : State) (there : IsIn confirmation state.under_way.confirmations) (tied : IsTied state) where
+  abbrev uw : UnderWay
+  uw = state.under_way
+
+  -- without its child process's port
+  abbrev rest : List Port
+  rest = close_confirmer confirmation.port state.ports
+
+  found_there : find_job confirmation.job uw.confirmations ≡ Some confirmation
+  found_there = in-found confirmation 0 uw.last_job tied.raised.order there
+
+  rest_fewer : Fewer state.ports rest
+  rest_fewer = fewer-closed confirmation.port 0 state.last_port state.ports tied.rising
+
+  rest_tied : AreTied rest uw.link.asks
+  rest_tied = tied-fewer state.ports rest uw.link.asks rest_fewer tied.tied
+
+  rest_raised : AreRaised uw.confirmations uw.last_job rest state.last_port
+  rest_raised = raised-fewer state.ports rest rest_fewer tied.raised
+
+  -- who waits for it
+  waits_for : (port : Port) → find_port confirmation.asker rest ≡ Some port → port.waits ≡ OnConfirmation confirmation.job
+  waits_for port found = rest_raised.asking.asks confirmation.job confirmation port found_there found
+
+  waits_on : (port : Port) → find_port confirmation.asker rest ≡ Some port → (ask : ℕ) → port.waits ≢ OnAsk ask
+  waits_on port found ask is =
+      let no : OnConfirmation confirmation.job ≡ OnAsk ask = sym (waits_for port found) ∙ is in
+      absurd (cc)
+
+  -- a client's port stays
+  stays_open : (number : ℕ) (port : Port) → port.door ≡ Clients → find_port number state.ports ≡ Some port → find_port number rest ≡ Some port
+  stays_open number port door found = by_port confirmation.port refl
+    where
+      by_port : (at : Option ℕ) → confirmation.port ≡ at → find_port number (close_confirmer at state.ports) ≡ Some port
+      by_port None is = found
+      by_port (Some at) is = find_port-removed_apart number at state.ports other ∙ found
+        where
+          other : number ≢ at
+          other same_number =
+              let child_there : port.door ≡ Children = tied.raised.confirmers confirmation.job at confirmation port found_there is (ap (λ n. find_port n state.ports) (sym same_number) ∙ found) in
+              let doors : Clients ≡ Children = sym door ∙ child_there in
+              absurd (cc)
+
+  -- who waits for an ask is told nothing
+  told_still : (number ask : ℕ) (verdict : Verdict) → IsTold number (Awaits (OnAsk ask)) state.ports → IsTold number (Awaits (OnAsk ask)) (change_port confirmation.asker (tell verdict) rest)
+  told_still number ask verdict told =
+      let at : find_port number rest ≡ Some told.port = stays_open number told.port told.door told.found in
+      told-apart number confirmation.asker (Awaits (OnAsk ask)) (tell verdict) rest (λ p. refl)
+      (λ same_number. waits_on told.port (ap (λ n. find_port n rest) (sym same_number) ∙ at) ask told.waits)
+      record { port = told.port; found = at; door = told.door; owed = told.owed; waits = told.waits }
+
+  -- what is left then
+  abbrev over_left : UnderWay → Verdict → State
+  over_left under_way verdict = record state { ports = change_port confirmation.asker (tell verdict) rest; under_way = under_way }
+
+  follows-over : (under_way : UnderWay) (verdict : Verdict) → Follows state (over_left under_way verdict)
+  follows-over under_way verdict = record {
+    last = refl;
+    ports = changes confirmation.asker (tell verdict) _ (λ p. refl) (λ p. refl) (leads-close_confirmer state.ports confirmation.port state.ports same);
+  }
+
+  -- the client waits for nothing any more
+  over_tied : (verdict : Verdict) → verdict_waits verdict ≡ Nothing → IsTied (over_left (without_confirmation confirmation.job uw) verdict)
+  over_tied verdict nothing =
+      assemble state _ (follows-over (without_confirmation confirmation.job uw) verdict) tied tied.order
+      (tied-silent rest uw.link.asks rest_tied confirmation.asker (tell verdict) waits_on (λ p. refl) (λ p a is. let no : Nothing ≡ OnAsk a = sym nothing ∙ is in absurd (cc)))
+      tied.askers (λ n is. is)
+      (raised-over rest rest_raised confirmation (tell verdict) found_there (λ p. refl) (λ p. refl) (λ p job is. let no : Nothing ≡ OnConfirmation job = sym nothing ∙ is in absurd (cc)))
+
+  fated-over : Fated event state (over confirmation state)
+  fated-over = record {
+    tied = over_tied (Refuses NotConfirmed) refl;
+    told = λ number ask open_yet told. told_still number ask (Refuses NotConfirmed) told;
+  }
+
+  -- its ask is put
+  module _ (port : Port) (opened : find_port confirmation.asker state.ports ≡ Some port) where
+    asking : IsAsking confirmation.asker confirmation.job port uw.confirmations
+    asking = tied.raised.asking.waits confirmation.asker confirmation.job port opened (tied.raised.asking.asks confirmation.job confirmation port found_there opened)
+
+    fated-grant : {work : Work} → IsGranted port.chain confirmation state.moment.wall state.held (without_confirmation confirmation.job uw) work → Fated event state (grant_concluded work confirmation state)
+    fated-grant (disallowed never) = record {
+      tied = over_tied (Refuses NoLongerAllowed) refl;
+      told = λ number ask open_yet told. told_still number ask (Refuses NoLongerAllowed) told;
+    }
+    fated-grant (unasked cause key may fault) = record {
+      tied = over_tied (Refuses cause) refl;
+      told = λ number ask open_yet told. told_still number ask (Refuses cause) told;
+    }
+    fated-grant (allowed key may free) =
+        let link = uw.link in
+        let verdict : Verdict = Awaits (OnAsk (link.last + 1)) in
+        let errand : Errand = Signs key (signing_of key confirmation) in
+        let new : UnderWay = with_ask errand confirmation.asker (without_confirmation confirmation.job uw) in
+        record {
+          tied = assemble state _ (follows-over new verdict) tied (push_rises 0 link.asks link.last confirmation.asker (kind_of errand) tied.order)
+              (tied-asked rest link.asks rest_tied confirmation.asker 0 link.last (kind_of errand) port (tell verdict) tied.order (stays_open confirmation.asker port asking.door opened) (waits_on port (stays_open confirmation.asker port asking.door opened)) asking.owed asking.door (λ p. refl) (λ p. refl) (λ p. refl) (λ p none. ap (λ bytes. bytes ++ []) none))
+              (λ ask one is. new_asker (link.last + 1 == ask) (find_ask ask link.asks) (ask_of (link.last + 1) confirmation.asker (kind_of errand)) one state.last_port (tied.raised.askers confirmation.job confirmation found_there) (tied.askers ask)
+              (sym (find-push ask 0 (ask_of (link.last + 1) confirmation.asker (kind_of errand)) link.asks link.last tied.order (omega arith)) ∙ is))
+              (λ n is. linked-begun link.state (uw.last_job + 1) n is)
+              (raised-later uw.last_job new.last_job state.last_port state.last_port (jobs-for link.state uw.last_job) (omega arith)
+              (raised-over rest rest_raised confirmation (tell verdict) found_there (λ p. refl) (λ p. refl) (λ p job is. absurd (cc))));
+          told = λ number ask open_yet told. told_still number ask verdict told;
+        }
+
 -- ---- events
 
 fated-makes : {event : Happening} {old : State} {outcome : Outcome} → Makes event old outcome → IsTied old → Fated event old outcome
@@ -307,15 +442,16 @@ fated-makes (first quiet rest) tied =
     record { tied = later.tied; told = λ number ask open_yet told. later.told number ask open_yet (waits-quiet number ask quiet open_yet told) }
 fated-makes {event = event} (serves body_len port state found door nothing owed) tied =
     let body : List ℕ = front_body body_len port.heard in
-    fated-served event body (take_frame body_len (attempts state.held.lock body)) record { number = λ p. refl; door = λ p. refl; waits = λ p. refl; owed = λ p none. none } port state found door nothing owed tied
-    (serve-ends (asker_at state.moment port) state.held state.under_way (request_of body))
+    fated-served event body (take_frame body_len (attempts state.held.lock body)) record { number = λ p. refl; door = λ p. refl; waits = λ p. refl; owed = λ p none. none; chain = λ p. refl } port state found door nothing owed tied
+    (serve-ends (asker_at state.moment port) state.held state.under_way body)
 fated-makes {event = event} (tells piece state) tied = fated-tells piece state tied event
 fated-makes (loses state) tied = record { tied = lose-tied state tied; told = λ number ask open_yet told. told-loss state tied number ask Unanswered told }
-fated-makes (overs confirmation state some) tied = absurd (some tied.alone)
-fated-makes (grants confirmation port state some) tied = absurd (some tied.alone)
+fated-makes {event = event} (overs confirmation state there) tied = fated-over event confirmation state there tied
+fated-makes {event = event} (grants confirmation port state there opened) tied =
+    fated-grant event confirmation state there tied port opened (grant-ends port.chain confirmation state)
 
 -- one more port that is there makes no difference to those that are found
-found_still : (number : ℕ) (port : Port) (ports more : List Port) → find_port number ports ≡ Some port → find_port number (ports ++ more) ≡ Some port
+pub found_still : (number : ℕ) (port : Port) (ports more : List Port) → find_port number ports ≡ Some port → find_port number (ports ++ more) ≡ Some port
 found_still number port [] more found = absurd (cc)
 found_still number port (other ∷ ports) more found = by_test (number == other.number) (found_still number port ports more) found
   where
@@ -332,7 +468,7 @@ fated-admitted event door state false tied = record {
     askers = λ ask one found. omega (arith, tied.askers ask one found);
     helper = tied.helper;
     known = λ number is. omega (arith, tied.known number is);
-    alone = tied.alone;
+    raised = raised-later state.under_way.last_job state.under_way.last_job state.last_port (suc state.last_port) (omega arith) (omega arith) tied.raised;
   };
   told = λ number ask open_yet told. told;
 }
@@ -347,7 +483,7 @@ fated-admitted event door state true tied = record {
     askers = λ ask one found. omega (arith, tied.askers ask one found);
     helper = λ number port is found. tied.helper number port is (known_port number port (tied.known number is) found);
     known = λ number is. omega (arith, tied.known number is);
-    alone = tied.alone;
+    raised = raised-joined state.last_port door state.ports tied.raised known_port;
   };
   told = λ number ask open_yet told. record { port = told.port; found = found_still number told.port state.ports _ told.found; door = told.door; owed = told.owed; waits = told.waits };
 }
@@ -368,7 +504,7 @@ fated-admitted event door state true tied = record {
 -- the moment is taken in
 pub tied-opened : (moment : Moment) (state : State) → IsTied state → IsTied (at_moment moment state)
 tied-opened moment state tied =
-    record { rising = tied.rising; order = tied.order; tied = tied.tied; askers = tied.askers; helper = tied.helper; known = tied.known; alone = tied.alone }
+    record { rising = tied.rising; order = tied.order; tied = tied.tied; askers = tied.askers; helper = tied.helper; known = tied.known; raised = tied.raised }
 
 -- each event
 pub step-fated : (state : State) (moment : Moment) (event : Happening) → IsTied state → Fated event state (step state moment event)
@@ -378,7 +514,7 @@ step-fated state moment event tied =
     let fated = by_event (Fated event opened) event opened (λ door. fated-admitted event door opened (has_room door state.ports state.under_way) at) (λ outcome makes. fated-makes makes at) in
     let left = fated.tied in
     record {
-      tied = record { rising = left.rising; order = left.order; tied = left.tied; askers = left.askers; helper = left.helper; known = left.known; alone = left.alone };
+      tied = record { rising = left.rising; order = left.order; tied = left.tied; askers = left.askers; helper = left.helper; known = left.known; raised = left.raised };
       told = fated.told;
     }
 
@@ -392,7 +528,13 @@ first-tied life = record {
   askers = λ ask one found. absurd (cc);
   helper = λ number port is found. absurd (cc);
   known = λ number is. absurd (cc);
-  alone = refl;
+  raised = record {
+    order = omega arith;
+    asking = record { waits = λ number job port found is. absurd (cc); asks = λ job one port there found. absurd (cc) };
+    askers = λ job one found. absurd (cc);
+    confirmers = λ job number one port found at there. absurd (cc);
+    known = λ job number one found at. absurd (cc);
+  };
 }
 
 pub run-tied : (state : State) (events : List Timed) → IsTied state → IsTied (run state events)

@@ -1,36 +1,38 @@
 -- What a request may begin: at most one more ask, for the helper that is there or coming.
-use Rattle.std.proofs.Common.{◌≡◌, ℕ, ◌+◌, ◌≤◌, arith, List, [], ◌∷◌, ◌++◌, refl, ap, length, not, true, ◌∙◌, sym, Option, Some, None, nat_lt, if◌then◌else◌}
+use Rattle.std.proofs.Common.{◌≡◌, ℕ, ◌+◌, ◌≤◌, arith, List, [], ◌∷◌, ◌++◌, refl, ap, Option, Some, None, if◌then◌else◌}
 use Rattle.confirm_desk.specs.Confirmations.{Confirmation, confirmation_of, find_linked, is_at}
 use Rattle.confirm_desk.specs.Prompt.{prompt_for}
 use Rattle.helper_link.specs.declared.state.LinkState.{LinkState}
 use Rattle.helper_link.specs.declared.state.LinkState.TheVariants as states
+use Rattle.agent_model.specs.Asking.{JobsRise}
 use Rattle.agent_model.specs.Dispatch.{Asker, Served}
-use Rattle.agent_model.specs.Errands.{Errand, begun_by, held_for, last_job_for, put_unless, raise_fault, raise_fault_by}
+use Rattle.agent_model.specs.Errands.{Errand, begun_by, held_for, last_job_for, put_unless}
 use Rattle.agent_model.specs.KeyStates.{KeyState}
-use Rattle.agent_model.specs.Limits.{most_confirmations}
 use Rattle.agent_model.specs.State.{UnderWay, is_linked_to}
 use Rattle.agent_model.specs.Verdicts.{Cause}
+use Rattle.agent_model.proofs.JobLemmas.{jobs-higher, jobs-push}
 use Rattle.agent_model.proofs.ServeLemmas.{IsServed, answered, asked, raised, refused}
 
--- the child processes that have named themselves stay who they are; where no confirmation is waited for none is; and
--- no number falls
+-- the child processes that have named themselves stay who they are, the jobs of confirmations go on rising, and no
+-- number falls
 pub record AsksMore (old new : UnderWay) : Type 0 where
   pub helper : (number : ℕ) → is_linked_to number new.link.state ≡ is_linked_to number old.link.state
   pub confirmers : (number : ℕ) → find_linked number new.confirmations ≡ find_linked number old.confirmations
-  pub alone : old.confirmations ≡ [] → new.confirmations ≡ []
+  pub order : JobsRise 0 old.confirmations old.last_job → JobsRise 0 new.confirmations new.last_job
   pub jobs : old.last_job ≤ new.last_job
   pub asks : old.link.last ≤ new.link.last
 
 -- nothing is begun
 nothing_more : (under_way : UnderWay) → AsksMore under_way under_way
-nothing_more under_way = record { helper = λ number. refl; confirmers = λ number. refl; alone = λ none. none; jobs = omega arith; asks = omega arith }
+nothing_more under_way = record { helper = λ number. refl; confirmers = λ number. refl; order = λ rise. rise; jobs = omega arith; asks = omega arith }
 
 linked-begun : (state : LinkState) (job number : ℕ) → is_linked_to number (begun_by state job) ≡ is_linked_to number state
 linked-begun states.None job number = refl
 linked-begun (states.Starting other) job number = refl
 linked-begun (states.Linked port) job number = refl
 
-jobs-for : (state : LinkState) (last : ℕ) → last ≤ last_job_for state last
+-- no job's number falls
+pub jobs-for : (state : LinkState) (last : ℕ) → last ≤ last_job_for state last
 jobs-for states.None last = omega arith
 jobs-for (states.Starting job) last = omega arith
 jobs-for (states.Linked port) last = omega arith
@@ -41,7 +43,7 @@ more-put (Some cause) errand asker under_way = nothing_more under_way
 more-put None errand asker under_way = record {
   helper = λ number. linked-begun under_way.link.state (under_way.last_job + 1) number;
   confirmers = λ number. refl;
-  alone = λ none. none;
+  order = jobs-higher 0 under_way.confirmations under_way.last_job _ (jobs-for under_way.link.state under_way.last_job);
   jobs = jobs-for under_way.link.state under_way.last_job;
   asks = omega arith;
 }
@@ -52,19 +54,15 @@ linked-behind number one [] nowhere = ap (λ (port : Option ℕ). if is_at numbe
 linked-behind number one (first ∷ others) nowhere =
     ap (λ (rest : Option Confirmation). if is_at number first.port then Some first else rest) (linked-behind number one others nowhere)
 
-none-raised : (under_way : UnderWay) → under_way.confirmations ≡ [] → raise_fault under_way ≡ raise_fault_by true under_way.last_job
-none-raised under_way none =
-    ap (λ (confirmations : List Confirmation). raise_fault_by (not (nat_lt (length confirmations) most_confirmations)) under_way.last_job) none
-
 -- whatever is asked
 pub asks_more : {asker : Asker} {held : KeyState} {under_way : UnderWay} {served : Served} → IsServed asker held under_way served → AsksMore under_way served.work.under_way
 asks_more {under_way = under_way} (answered reply kept same) = nothing_more under_way
 asks_more {under_way = under_way} (refused cause) = nothing_more under_way
-asks_more {asker = asker} {under_way = under_way} (asked errand free) = more-put None errand asker.port under_way
+asks_more {asker = asker} {under_way = under_way} (asked errand free right) = more-put None errand asker.port under_way
 asks_more {asker = asker} {under_way = under_way} (raised key signing free) = record {
   helper = λ number. refl;
   confirmers = λ number. linked-behind number (confirmation_of (under_way.last_job + 1) (held_for asker.port key signing) (prompt_for key.comment key.blob)) under_way.confirmations refl;
-  alone = λ none. let no : raise_fault_by true under_way.last_job ≡ None = sym (none-raised under_way none) ∙ free in absurd (cc);
+  order = jobs-push 0 (confirmation_of (under_way.last_job + 1) (held_for asker.port key signing) (prompt_for key.comment key.blob)) under_way.confirmations under_way.last_job refl;
   jobs = omega arith;
   asks = omega arith;
 }

@@ -14,7 +14,7 @@ use Rattle.agent_model.specs.Events.{Happening}
 use Rattle.agent_model.specs.State.{Port, State, change_port, remove_port}
 use Rattle.agent_model.specs.Verdicts.{HelperLost, Refuses, Verdict, tell}
 use Rattle.agent_model.proofs.FateLemmas.{answers_as}
-use Rattle.agent_model.proofs.MakeLemmas.{Makes, Quiet, alters, closes, first, goes_on, grants, loses, names, overs, serves, stays, tells}
+use Rattle.agent_model.proofs.MakeLemmas.{Makes, Quiet, alters, closes, first, goes_on, grants, links, loses, names, overs, serves, stays, tells}
 
 -- the ports that changes under their numbers and removals lead to
 pub data Leads (old : List Port) : List Port → Type 0 where
@@ -38,7 +38,7 @@ module _ (old : List Port) where
   leads-close_helper (states.Starting job) ports leads = leads
   leads-close_helper (states.Linked port) ports leads = removes port ports leads
 
-  leads-close_confirmer : (port : Option ℕ) (ports : List Port) → Leads old ports → Leads old (close_confirmer port ports)
+  pub leads-close_confirmer : (port : Option ℕ) (ports : List Port) → Leads old ports → Leads old (close_confirmer port ports)
   leads-close_confirmer None ports leads = leads
   leads-close_confirmer (Some port) ports leads = removes port ports leads
 
@@ -64,7 +64,9 @@ module _ (event : Happening) (start : State) where
   follows-quiet {old} (alters number f mild) follows = record { last = follows.last; ports = changes number f old.ports mild.number mild.door follows.ports }
   follows-quiet {old} (closes number may) follows = record { last = follows.last; ports = removes number old.ports follows.ports }
   follows-quiet (goes_on new asks) follows = record { last = follows.last; ports = follows.ports }
-  follows-quiet {old} (names job number port found door) follows =
+  follows-quiet {old} (names job number port found door free) follows =
+      record { last = follows.last; ports = changes number unheard old.ports (λ p. refl) (λ p. refl) follows.ports }
+  follows-quiet {old} (links job number port found door free other) follows =
       record { last = follows.last; ports = changes number unheard old.ports (λ p. refl) (λ p. refl) follows.ports }
 
   -- what an event makes follows
@@ -80,7 +82,7 @@ module _ (event : Happening) (start : State) where
       follows-lose_if told.fault (with_answers told.link (answers_in told.settled state) state)
       record { last = follows.last; ports = leads-answers start.ports told.settled _ follows.ports }
   follows-makes (loses state) follows = follows-lose state follows
-  follows-makes (overs confirmation state some) follows =
+  follows-makes (overs confirmation state there) follows =
       record { last = follows.last; ports = changes confirmation.asker _ _ (λ p. refl) (λ p. refl) (leads-close_confirmer start.ports confirmation.port state.ports follows.ports) }
-  follows-makes (grants confirmation port state some) follows =
+  follows-makes (grants confirmation port state there opened) follows =
       record { last = follows.last; ports = changes confirmation.asker _ _ (λ p. refl) (λ p. refl) (leads-close_confirmer start.ports confirmation.port state.ports follows.ports) }

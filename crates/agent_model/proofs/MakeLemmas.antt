@@ -1,6 +1,9 @@
 -- What events are made of: a few small changes of the state, one after another.
-use Rattle.std.proofs.Common.{◌≡◌, ℕ, List, [], ◌∷◌, ◌++◌, arith, drop, refl, ap, sym, ◌∙◌, Bool, true, false, Option, Some, None, Result, Ok, Err}
+use Rattle.std.proofs.Common.{◌≡◌, ◌≢◌, ◌==◌, ℕ, List, [], ◌∷◌, ◌++◌, arith, drop, refl, ap, sym, ◌∙◌, Bool, true, false, Option, Some, None, Result, Ok, Err}
 use Rattle.std.proofs.lemmas.List.{drop_all}
+use Rattle.std.proofs.lemmas.Bool.Decides.{nat_tests}
+use Rattle.helper_link.specs.declared.state.LinkState.{LinkState}
+use Rattle.helper_link.specs.declared.state.LinkState.TheVariants as states
 use Rattle.std.specs.Option.{option_map}
 use Rattle.std.specs.Str.{bytes_eq}
 use Rattle.world_ports.specs.declared.Door.{Door}
@@ -13,6 +16,7 @@ use Rattle.child_msg.specs.Messages.{Denied, False, FromChildMessage, Granted, H
 use Rattle.child_msg.specs.Reading.{from_child_of}
 use Rattle.child_msg.specs.declared.fault.ChildFault.{ChildFault}
 use Rattle.confirm_desk.specs.Confirmations.{Confirmation, Consent, No, NotYet, Yes, change_job, consent, find_asker, find_job, find_linked}
+use Rattle.confirm_desk.specs.Confirmations as desk
 use Rattle.helper_link.specs.Telling.{telling}
 use Rattle.agent_model.specs.Actions.{Outcome, stay}
 use Rattle.agent_model.specs.Answers.{helper_tells, lose}
@@ -22,41 +26,57 @@ use Rattle.agent_model.specs.Events.{Happening, Joined, Heard, Ended, Took, Star
 use Rattle.agent_model.specs.Limits.{longest_body}
 use Rattle.agent_model.specs.State.{Client, Confirmer, Helper, Nothing, OnAsk, OnConfirmation, Port, Role, StartedJob, State, UnderWay, Unnamed, Waits, change_port, find_port, find_to_start, is_linked_to, role_by_helper, role_by_link, role_of}
 use Rattle.agent_model.specs.Step.{confirmer_took, ended_at, ended_by_role, handle, heard_at, heard_by_role, helper_took, joined, look_front, look_owed, look_port, look_waits, taken, took_at, took_by_role, took_some}
+use Rattle.agent_model.proofs.JobLemmas.{IsIn, in-by_asker, in-by_job, in-by_port}
 use Rattle.agent_model.proofs.PortsLemmas.{find_port-change_port, found_number}
 
 -- ---- small changes
 
--- a change of a port that leaves who is there, what it waits for, and that nothing is owed to it
+-- a change of a port that leaves who is there, what it waits for, its bindings, and that nothing is owed to it
 pub record IsMild (f : Port → Port) : Type 0 where
   pub number : (p : Port) → (f p).number ≡ p.number
   pub door : (p : Port) → (f p).door ≡ p.door
   pub waits : (p : Port) → (f p).waits ≡ p.waits
   pub owed : (p : Port) → p.owed ≡ [] → (f p).owed ≡ []
+  pub chain : (p : Port) → (f p).chain ≡ p.chain
 
--- the same is unanswered, and no number was given
+-- a change of a confirmation that leaves what is to be signed for whom, and where its child process is
+pub record IsFaint (f : Confirmation → Confirmation) : Type 0 where
+  pub job : (c : Confirmation) → (f c).job ≡ c.job
+  pub asker : (c : Confirmation) → (f c).asker ≡ c.asker
+  pub addition : (c : Confirmation) → (f c).addition ≡ c.addition
+  pub message : (c : Confirmation) → (f c).message ≡ c.message
+  pub flags : (c : Confirmation) → (f c).flags ≡ c.flags
+  pub port : (c : Confirmation) → (f c).port ≡ c.port
+
+-- the same is to be confirmed: at most one confirmation is changed so
+pub data Kept (old : List Confirmation) : List Confirmation → Type 0 where
+  unchanged : Kept old old
+  altered : (job : ℕ) (f : Confirmation → Confirmation) → IsFaint f → Kept old (change_job job f old)
+
+-- the same is unanswered and to be confirmed, and no number was given
 pub record SameAsks (old new : UnderWay) : Type 0 where
   pub state : new.link.state ≡ old.link.state
   pub asks : new.link.asks ≡ old.link.asks
   pub last : new.link.last ≡ old.link.last
   pub jobs : new.last_job ≡ old.last_job
-  pub alone : old.confirmations ≡ [] → new.confirmations ≡ []
+  pub verifications : new.verifications ≡ old.verifications
+  pub kept : Kept old.confirmations new.confirmations
 
--- why an event closes a port: it's a client that waits for nothing, or a child process, or it ended
-pub data MayClose (event : Happening) (number : ℕ) (ports : List Port) : Type 0 where
-  idle : (port : Port) → find_port number ports ≡ Some port → port.waits ≡ Nothing → MayClose event number ports
-  child : (port : Port) → find_port number ports ≡ Some port → port.door ≡ Children → MayClose event number ports
-  ended : event ≡ Ended number → MayClose event number ports
+-- why an event closes a port: it's a client that waits for nothing, or a child process that doesn't ask the user, or
+-- it ended
+pub data MayClose (event : Happening) (number : ℕ) (ports : List Port) (confirmations : List Confirmation) : Type 0 where
+  idle : (port : Port) → find_port number ports ≡ Some port → port.waits ≡ Nothing → port.door ≡ Clients → MayClose event number ports confirmations
+  child : (port : Port) → find_port number ports ≡ Some port → port.door ≡ Children → find_linked number confirmations ≡ None → MayClose event number ports confirmations
+  ended : event ≡ Ended number → MayClose event number ports confirmations
 
--- a change that tells nobody anything: a port is changed or closed, jobs come and go, or the helper names itself
+-- a change that tells nobody anything: a port is changed or closed, jobs come and go, or the helper or a child process
+-- that asks the user names itself
 pub data Quiet (event : Happening) (old : State) : State → Type 0 where
   alters : (number : ℕ) (f : Port → Port) → IsMild f → Quiet event old (changed number f old)
-  closes : (number : ℕ) → MayClose event number old.ports → Quiet event old (closed number old)
+  closes : (number : ℕ) → MayClose event number old.ports old.under_way.confirmations → Quiet event old (closed number old)
   goes_on : (new : UnderWay) → SameAsks old.under_way new → Quiet event old (record old { under_way = new })
-  names : (job number : ℕ) (port : Port) → find_port number old.ports ≡ Some port → port.door ≡ Children → Quiet event old (helper_named job number old)
-
--- some confirmation is waited for
-abbrev pub IsAwaited : State → Type 0
-IsAwaited state = state.under_way.confirmations ≡ [] → ⊥
+  names : (job number : ℕ) (port : Port) → find_port number old.ports ≡ Some port → port.door ≡ Children → find_linked number old.under_way.confirmations ≡ None → Quiet event old (helper_named job number old)
+  links : (job number : ℕ) (port : Port) → find_port number old.ports ≡ Some port → port.door ≡ Children → find_linked number old.under_way.confirmations ≡ None → old.under_way.link.state ≢ states.Linked number → Quiet event old (confirmer_named job number old)
 
 -- what an event does in a state: quiet changes, and then at most one thing that is told
 pub data Makes (event : Happening) : State → Outcome → Type 0 where
@@ -65,31 +85,33 @@ pub data Makes (event : Happening) : State → Outcome → Type 0 where
   serves : (body_len : ℕ) (port : Port) (state : State) → find_port port.number state.ports ≡ Some port → port.door ≡ Clients → port.waits ≡ Nothing → port.owed ≡ [] → Makes event state (taken body_len (front_body body_len port.heard) port state)
   tells : (piece : List ℕ) (state : State) → Makes event state (helper_tells (telling piece state.under_way.link) state)
   loses : (state : State) → Makes event state (lose state)
-  overs : (confirmation : Confirmation) (state : State) → IsAwaited state → Makes event state (over confirmation state)
-  grants : (confirmation : Confirmation) (port : Port) (state : State) → IsAwaited state → Makes event state (grant_concluded (grant_work port.chain confirmation state) confirmation state)
+  overs : (confirmation : Confirmation) (state : State) → IsIn confirmation state.under_way.confirmations → Makes event state (over confirmation state)
+  grants : (confirmation : Confirmation) (port : Port) (state : State) → IsIn confirmation state.under_way.confirmations → find_port confirmation.asker state.ports ≡ Some port → Makes event state (grant_concluded (grant_work port.chain confirmation state) confirmation state)
 
 mild-heard : (piece : List ℕ) → IsMild (heard_more piece)
-mild-heard piece = record { number = λ p. refl; door = λ p. refl; waits = λ p. refl; owed = λ p none. none }
+mild-heard piece = record { number = λ p. refl; door = λ p. refl; waits = λ p. refl; owed = λ p none. none; chain = λ p. refl }
 
 pub mild-unheard : IsMild unheard
-mild-unheard = record { number = λ p. refl; door = λ p. refl; waits = λ p. refl; owed = λ p none. none }
+mild-unheard = record { number = λ p. refl; door = λ p. refl; waits = λ p. refl; owed = λ p none. none; chain = λ p. refl }
 
 mild-took : (count : ℕ) → IsMild (took_some count)
-mild-took count = record { number = λ p. refl; door = λ p. refl; waits = λ p. refl; owed = λ p none. ap (drop count) none ∙ drop_all count [] (omega arith) }
+mild-took count = record { number = λ p. refl; door = λ p. refl; waits = λ p. refl; owed = λ p none. ap (drop count) none ∙ drop_all count [] (omega arith); chain = λ p. refl }
 
--- a confirmation that is changed isn't a new one
-no_job : (job : ℕ) (f : Confirmation → Confirmation) (confirmations : List Confirmation) → confirmations ≡ [] → change_job job f confirmations ≡ []
-no_job job f confirmations none = rw none refl
+pub faint-heard : (piece : List ℕ) → IsFaint (desk.heard_more piece)
+faint-heard piece = record { job = λ c. refl; asker = λ c. refl; addition = λ c. refl; message = λ c. refl; flags = λ c. refl; port = λ c. refl }
+
+pub faint-took : (count : ℕ) → IsFaint (desk.took_some count)
+faint-took count = record { job = λ c. refl; asker = λ c. refl; addition = λ c. refl; message = λ c. refl; flags = λ c. refl; port = λ c. refl }
 
 -- ---- who is at a port
 
 -- a client isn't a child process
-role-door : (door : Door) (number : ℕ) (under_way : UnderWay) (role : Role) → role_of door number under_way ≡ role → (role ≡ Client → ⊥) → door ≡ Children
+pub role-door : (door : Door) (number : ℕ) (under_way : UnderWay) (role : Role) → role_of door number under_way ≡ role → (role ≡ Client → ⊥) → door ≡ Children
 role-door Clients number under_way role is other = absurd (other (sym is))
 role-door Children number under_way role is other = refl
 
 -- and a client is one
-role-client : (door : Door) (number : ℕ) (under_way : UnderWay) → role_of door number under_way ≡ Client → door ≡ Clients
+pub role-client : (door : Door) (number : ℕ) (under_way : UnderWay) → role_of door number under_way ≡ Client → door ≡ Clients
 role-client Clients number under_way is = refl
 role-client Children number under_way is = by_test (is_linked_to number under_way.link.state) is
   where
@@ -108,15 +130,57 @@ client_after number f port ports mild found door after is =
     let same : f port ≡ after = cc in
     ap (λ (p : Port). p.door) (sym same) ∙ mild.door port ∙ door
 
--- where no confirmation is waited for no child process is a confirmer
-role-alone : (door : Door) (number : ℕ) (under_way : UnderWay) (confirmation : Confirmation) → role_of door number under_way ≡ Confirmer confirmation → under_way.confirmations ≡ [] → ⊥
-role-alone Clients number under_way confirmation is none = absurd (cc)
-role-alone Children number under_way confirmation is none =
-    by_test (is_linked_to number under_way.link.state) (ap (λ cs. role_by_helper (is_linked_to number under_way.link.state) number cs) (sym none) ∙ is)
+-- a confirmer is at the port of its confirmation
+pub role-confirmer : (door : Door) (number : ℕ) (under_way : UnderWay) (confirmation : Confirmation) → role_of door number under_way ≡ Confirmer confirmation → find_linked number under_way.confirmations ≡ Some confirmation
+role-confirmer Clients number under_way confirmation is = absurd (cc)
+role-confirmer Children number under_way confirmation is = by_test (is_linked_to number under_way.link.state) is
   where
-    by_test : (linked : Bool) → role_by_helper linked number [] ≡ Confirmer confirmation → ⊥
-    by_test true one = absurd (cc)
-    by_test false one = absurd (cc)
+    by_link : (found : Option Confirmation) → role_by_link found ≡ Confirmer confirmation → found ≡ Some confirmation
+    by_link None unnamed = absurd (cc)
+    by_link (Some other) confirmer = let same : other ≡ confirmation = cc in ap Some same
+
+    by_test : (linked : Bool) → role_by_helper linked number under_way.confirmations ≡ Confirmer confirmation → find_linked number under_way.confirmations ≡ Some confirmation
+    by_test true helper = absurd (cc)
+    by_test false other = by_link (find_linked number under_way.confirmations) other
+
+-- a child process that hasn't named itself is at no confirmation's port, and not at the helper's
+pub role-free : (door : Door) (number : ℕ) (under_way : UnderWay) → role_of door number under_way ≡ Unnamed → find_linked number under_way.confirmations ≡ None
+role-free Clients number under_way is = absurd (cc)
+role-free Children number under_way is = by_test (is_linked_to number under_way.link.state) is
+  where
+    by_link : (found : Option Confirmation) → role_by_link found ≡ Unnamed → found ≡ None
+    by_link None unnamed = refl
+    by_link (Some other) confirmer = absurd (cc)
+
+    by_test : (linked : Bool) → role_by_helper linked number under_way.confirmations ≡ Unnamed → find_linked number under_way.confirmations ≡ None
+    by_test true helper = absurd (cc)
+    by_test false other = by_link (find_linked number under_way.confirmations) other
+
+pub role-other : (door : Door) (number : ℕ) (under_way : UnderWay) → role_of door number under_way ≡ Unnamed → under_way.link.state ≢ states.Linked number
+role-other Clients number under_way is linked = absurd (cc)
+role-other Children number under_way is linked =
+    let same : (number == number) ≡ true = grind (arith, nat_tests) in
+    let helper : is_linked_to number under_way.link.state ≡ true = ap (is_linked_to number) linked ∙ same in
+    let no : Helper ≡ Unnamed = sym (ap (λ b. role_by_helper b number under_way.confirmations) helper) ∙ is in
+    absurd (cc)
+
+-- the helper is at the port of the link
+linked_at_it : (number : ℕ) (link : LinkState) → is_linked_to number link ≡ true → link ≡ states.Linked number
+linked_at_it number states.None is = absurd (cc)
+linked_at_it number (states.Starting job) is = absurd (cc)
+linked_at_it number (states.Linked at) is = let same : number ≡ at = grind (arith, nat_tests) in ap states.Linked (sym same)
+
+pub role-helper : (door : Door) (number : ℕ) (under_way : UnderWay) → role_of door number under_way ≡ Helper → under_way.link.state ≡ states.Linked number
+role-helper Clients number under_way is = absurd (cc)
+role-helper Children number under_way is = by_test (is_linked_to number under_way.link.state) refl is
+  where
+    by_link : (found : Option Confirmation) → role_by_link found ≡ Helper → ⊥
+    by_link None unnamed = absurd (cc)
+    by_link (Some other) confirmer = absurd (cc)
+
+    by_test : (linked : Bool) → is_linked_to number under_way.link.state ≡ linked → role_by_helper linked number under_way.confirmations ≡ Helper → under_way.link.state ≡ states.Linked number
+    by_test true at helper = linked_at_it number under_way.link.state at
+    by_test false at other = absurd (by_link (find_linked number under_way.confirmations) other)
 
 -- a port is found by its own number
 own_number : (number : ℕ) (port : Port) (ports : List Port) → find_port number ports ≡ Some port → find_port port.number ports ≡ Some port
@@ -127,7 +191,7 @@ own_number number port ports found = ap (λ n. find_port n ports) (found_number 
 module _ (event : Happening) where
   makes-front : (answer : Front) (port : Port) (state : State) → find_port port.number state.ports ≡ Some port → port.door ≡ Clients → port.waits ≡ Nothing → port.owed ≡ [] → Makes event state (look_front answer port state)
   makes-front (Whole body_len) port state found door waits owed = serves body_len port state found door waits owed
-  makes-front (Bad announced) port state found door waits owed = first (closes port.number (idle port found waits)) (stays (closed port.number state))
+  makes-front (Bad announced) port state found door waits owed = first (closes port.number (idle port found waits door)) (stays (closed port.number state))
   makes-front More port state found door waits owed = stays state
 
   makes-owed : (owed : List ℕ) (port : Port) (state : State) → find_port port.number state.ports ≡ Some port → port.door ≡ Clients → port.waits ≡ Nothing → port.owed ≡ owed → Makes event state (look_owed owed port state)
@@ -143,40 +207,35 @@ module _ (event : Happening) where
   makes-look number None state is client = stays state
   makes-look number (Some port) state is client = makes-waits port.waits port state (own_number number port state.ports is) (client port refl) refl
 
-  makes-over_if : (found : Option Confirmation) (state : State) → (state.under_way.confirmations ≡ [] → found ≡ None) → Makes event state (over_if found state)
-  makes-over_if None state none = stays state
-  makes-over_if (Some confirmation) state none =
-      overs confirmation state (λ alone. let no : Some confirmation ≡ None = none alone in absurd (cc))
+  makes-over_if : (found : Option Confirmation) (state : State) → ((confirmation : Confirmation) → found ≡ Some confirmation → IsIn confirmation state.under_way.confirmations) → Makes event state (over_if found state)
+  makes-over_if None state there = stays state
+  makes-over_if (Some confirmation) state there = overs confirmation state (there confirmation refl)
 
-  makes-grant : (found : Option Port) (confirmation : Confirmation) (state : State) → IsAwaited state → Makes event state (grant_to found confirmation state)
-  makes-grant None confirmation state some = stays state
-  makes-grant (Some port) confirmation state some = grants confirmation port state some
+  makes-grant : (found : Option Port) (confirmation : Confirmation) (state : State) → IsIn confirmation state.under_way.confirmations → find_port confirmation.asker state.ports ≡ found → Makes event state (grant_to found confirmation state)
+  makes-grant None confirmation state there is = stays state
+  makes-grant (Some port) confirmation state there is = grants confirmation port state there is
 
-  makes-consent : (said : Consent) (confirmation : Confirmation) (piece : List ℕ) (state : State) → IsAwaited state → Makes event state (consent_by said confirmation piece state)
-  makes-consent NotYet confirmation piece state some =
-      first (goes_on (with_heard confirmation.job piece state).under_way record { state = refl; asks = refl; last = refl; jobs = refl; alone = λ none. absurd (some none) })
+  makes-consent : (said : Consent) (confirmation : Confirmation) (piece : List ℕ) (state : State) → IsIn confirmation state.under_way.confirmations → Makes event state (consent_by said confirmation piece state)
+  makes-consent NotYet confirmation piece state there =
+      first (goes_on (with_heard confirmation.job piece state).under_way record { state = refl; asks = refl; last = refl; jobs = refl; verifications = refl; kept = altered confirmation.job (desk.heard_more piece) (faint-heard piece) })
       (stays (with_heard confirmation.job piece state))
-  makes-consent Yes confirmation piece state some = makes-grant (find_port confirmation.asker state.ports) confirmation state some
-  makes-consent No confirmation piece state some = overs confirmation state some
+  makes-consent Yes confirmation piece state there = makes-grant (find_port confirmation.asker state.ports) confirmation state there refl
+  makes-consent No confirmation piece state there = overs confirmation state there
 
-  makes-goes_on : (found : Option Confirmation) (rest : List ℕ) (state : State) → (state.under_way.confirmations ≡ [] → found ≡ None) → Makes event state (confirmer_goes_on found rest state)
-  makes-goes_on None rest state none = stays state
-  makes-goes_on (Some confirmation) rest state none =
-      makes-consent (consent confirmation.job (confirmation.heard ++ rest)) confirmation rest state
-      (λ alone. let no : Some confirmation ≡ None = none alone in absurd (cc))
+  makes-goes_on : (job : ℕ) (found : Option Confirmation) (rest : List ℕ) (state : State) → find_job job state.under_way.confirmations ≡ found → Makes event state (confirmer_goes_on found rest state)
+  makes-goes_on job None rest state is = stays state
+  makes-goes_on job (Some confirmation) rest state is =
+      makes-consent (consent confirmation.job (confirmation.heard ++ rest)) confirmation rest state (in-by_job job state.under_way.confirmations confirmation is)
 
   -- a child process that hasn't named itself
-  module _ (number : ℕ) (port : Port) (state : State) (found : find_port number state.ports ≡ Some port) (door : port.door ≡ Children) where
+  module _ (number : ℕ) (port : Port) (state : State) (found : find_port number state.ports ≡ Some port) (door : port.door ≡ Children) (free : find_linked number state.under_way.confirmations ≡ None) (other : state.under_way.link.state ≢ states.Linked number) where
     shut : Makes event state (stay (closed number state))
-    shut = first (closes number (child port found door)) (stays (closed number state))
+    shut = first (closes number (child port found door free)) (stays (closed number state))
 
     makes-named : (kind : JobKind) (job : ℕ) (rest : List ℕ) → Makes event state (named_by kind job number rest state)
-    makes-named kinds.Helper job rest = first (names job number port found door) (tells rest (helper_named job number state))
+    makes-named kinds.Helper job rest = first (names job number port found door free) (tells rest (helper_named job number state))
     makes-named kinds.Confirm job rest =
-        let mid : State = confirmer_named job number state in
-        first (alters number unheard mild-unheard)
-        (first (goes_on mid.under_way record { state = refl; asks = refl; last = refl; jobs = refl; alone = no_job job _ state.under_way.confirmations })
-        (makes-goes_on (find_job job mid.under_way.confirmations) rest mid (λ none. ap (find_job job) none)))
+        first (links job number port found door free other) (makes-goes_on job _ rest (confirmer_named job number state) refl)
 
     makes-ticket : (same : Bool) (job : Job) (rest : List ℕ) → Makes event state (ticket_by same job number rest state)
     makes-ticket true job rest = makes-named job.kind job.number rest
@@ -210,10 +269,11 @@ module _ (event : Happening) where
       (makes-frame port.number (heard_more piece port) (changed port.number (heard_more piece) state)
       (find_port-change_port port.number (heard_more piece) state.ports (λ p. refl) ∙ ap (option_map (heard_more piece)) found)
       (role-door port.door port.number state.under_way Unnamed is (λ no. absurd (cc)))
+      (role-free port.door port.number state.under_way is) (role-other port.door port.number state.under_way is)
       (front 262144 (port.heard ++ piece)) (port.heard ++ piece))
   makes-heard_role Helper port piece state found is = tells piece state
   makes-heard_role (Confirmer confirmation) port piece state found is =
-      makes-consent (consent confirmation.job (confirmation.heard ++ piece)) confirmation piece state (role-alone port.door port.number state.under_way confirmation is)
+      makes-consent (consent confirmation.job (confirmation.heard ++ piece)) confirmation piece state (in-by_port port.number state.under_way.confirmations confirmation (role-confirmer port.door port.number state.under_way confirmation is))
 
   makes-heard : (number : ℕ) (found : Option Port) (piece : List ℕ) (state : State) → find_port number state.ports ≡ found → Makes event state (heard_at found piece state)
   makes-heard number None piece state is = stays state
@@ -225,9 +285,9 @@ module _ (event : Happening) where
       (makes-look port.number _ (changed port.number (took_some count) state) refl (client_after port.number (took_some count) port state.ports (mild-took count) found (role-client port.door port.number state.under_way is)))
   makes-took_role Unnamed port count state found is = stays state
   makes-took_role Helper port count state found is =
-      first (goes_on (helper_took count state).under_way record { state = refl; asks = refl; last = refl; jobs = refl; alone = λ none. none }) (stays (helper_took count state))
+      first (goes_on (helper_took count state).under_way record { state = refl; asks = refl; last = refl; jobs = refl; verifications = refl; kept = unchanged }) (stays (helper_took count state))
   makes-took_role (Confirmer confirmation) port count state found is =
-      first (goes_on (confirmer_took confirmation.job count state).under_way record { state = refl; asks = refl; last = refl; jobs = refl; alone = no_job confirmation.job _ state.under_way.confirmations })
+      first (goes_on (confirmer_took confirmation.job count state).under_way record { state = refl; asks = refl; last = refl; jobs = refl; verifications = refl; kept = altered confirmation.job (desk.took_some count) (faint-took count) })
       (stays (confirmer_took confirmation.job count state))
 
   makes-took : (number : ℕ) (found : Option Port) (count : ℕ) (state : State) → find_port number state.ports ≡ found → Makes event state (took_at found count state)
@@ -236,11 +296,11 @@ module _ (event : Happening) where
 
   makes-ended_role : (role : Role) (port : Port) (state : State) → event ≡ Ended port.number → role_of port.door port.number state.under_way ≡ role → Makes event state (ended_by_role role port.number state)
   makes-ended_role Client port state end is =
-      first (closes port.number (ended end)) (makes-over_if (find_asker port.number state.under_way.confirmations) (closed port.number state) (λ none. ap (find_asker port.number) none))
+      first (closes port.number (ended end)) (makes-over_if (find_asker port.number state.under_way.confirmations) (closed port.number state) (in-by_asker port.number state.under_way.confirmations))
   makes-ended_role Unnamed port state end is = first (closes port.number (ended end)) (stays (closed port.number state))
   makes-ended_role Helper port state end is = first (closes port.number (ended end)) (loses (closed port.number state))
   makes-ended_role (Confirmer confirmation) port state end is =
-      first (closes port.number (ended end)) (overs confirmation (closed port.number state) (role-alone port.door port.number state.under_way confirmation is))
+      first (closes port.number (ended end)) (overs confirmation (closed port.number state) (in-by_port port.number state.under_way.confirmations confirmation (role-confirmer port.door port.number state.under_way confirmation is)))
 
   makes-ended : (number : ℕ) (found : Option Port) (state : State) → event ≡ Ended number → find_port number state.ports ≡ found → Makes event state (ended_at found state)
   makes-ended number None state end is = stays state
@@ -248,12 +308,12 @@ module _ (event : Happening) where
 
   makes-failed_by : (kind : JobKind) (number : ℕ) (state : State) → Makes event state (failed_by kind number state)
   makes-failed_by kinds.Helper number state = loses state
-  makes-failed_by kinds.Confirm number state = makes-over_if (find_job number state.under_way.confirmations) state (λ none. ap (find_job number) none)
+  makes-failed_by kinds.Confirm number state = makes-over_if (find_job number state.under_way.confirmations) state (in-by_job number state.under_way.confirmations)
 
   makes-failed : (found : Option Job) (state : State) → Makes event state (failed_if found state)
   makes-failed None state = stays state
   makes-failed (Some job) state =
-      first (goes_on (job_left job.number state).under_way record { state = refl; asks = refl; last = refl; jobs = refl; alone = λ none. none }) (makes-failed_by job.kind job.number (job_left job.number state))
+      first (goes_on (job_left job.number state).under_way record { state = refl; asks = refl; last = refl; jobs = refl; verifications = refl; kept = unchanged }) (makes-failed_by job.kind job.number (job_left job.number state))
 
 -- every event but a joining
 pub makes-handle : (event : Happening) (state : State) → ((door : Door) → event ≡ Joined door → ⊥) → Makes event state (handle event state)
@@ -262,7 +322,7 @@ makes-handle (Heard port piece) state other = makes-heard (Heard port piece) por
 makes-handle (Took port count) state other = makes-took (Took port count) port _ count state refl
 makes-handle (Ended port) state other = makes-ended (Ended port) port _ state refl refl
 makes-handle (Started job ticket) state other =
-    first (goes_on (job_started job ticket state).under_way record { state = refl; asks = refl; last = refl; jobs = refl; alone = λ none. none }) (stays (job_started job ticket state))
+    first (goes_on (job_started job ticket state).under_way record { state = refl; asks = refl; last = refl; jobs = refl; verifications = refl; kept = unchanged }) (stays (job_started job ticket state))
 makes-handle (StartFailed job) state other = makes-failed (StartFailed job) (find_to_start job state.under_way.to_start) state
 makes-handle Tick state other = stays state
 

@@ -15,11 +15,14 @@ use Rattle.helper_link.specs.declared.ask.Ask.{Ask}
 use Rattle.helper_link.specs.declared.fault.LinkFault.{LinkFault}
 use Rattle.helper_link.proofs.AnswerLemmas.{settling_leads}
 use Rattle.helper_link.proofs.OrderLemmas.{find-push, find-remove, remove_rises}
-use Rattle.agent_msg.specs.Reading.{request_of}
-use Rattle.agent_model.specs.Actions.{Action, Answered, Lost, Outcome, Requested, acted, and_then}
+use Rattle.confirm_desk.specs.Confirmations.{Confirmation}
+use Rattle.dest_rule.specs.declared.binding.Binding.{Binding}
+use Rattle.agent_model.specs.Consents.{signing_of}
+use Rattle.agent_model.proofs.GrantLemmas.{IsGranted, allowed, disallowed, grant-ends, unasked}
+use Rattle.agent_model.specs.Actions.{Action, Answered, Granted, Lost, Outcome, Requested, Work, acted, and_then}
 use Rattle.agent_model.specs.Answers.{Answering, answer_all, answer_by, lose_if, with_answers}
 use Rattle.agent_model.specs.Dispatch.{Asker, Served}
-use Rattle.agent_model.specs.Errands.{kind_of, with_ask}
+use Rattle.agent_model.specs.Errands.{Errand, Signs, kind_of, with_ask}
 use Rattle.agent_model.specs.Events.{Happening, Timed}
 use Rattle.agent_model.specs.Fates.{Fails, Fate, Gets, Unanswered, actions_of, answers_by, asks_by, fate_of, or_later, times_answered, times_asked}
 use Rattle.agent_model.specs.KeyStates.{KeyState}
@@ -29,7 +32,7 @@ use Rattle.agent_model.specs.State.{State, UnderWay}
 use Rattle.agent_model.specs.Step.{asker_at, at_moment, step}
 use Rattle.agent_model.proofs.FateLemmas.{answer-fate, answers_as}
 use Rattle.agent_model.proofs.FatedLemmas.{step-fated, tied-opened, tied-quiet}
-use Rattle.agent_model.proofs.MakeLemmas.{Makes, Quiet, alters, by_event, closes, first, goes_on, grants, loses, names, overs, serves, stays, tells}
+use Rattle.agent_model.proofs.MakeLemmas.{Makes, Quiet, alters, by_event, closes, first, goes_on, grants, links, loses, names, overs, serves, stays, tells}
 use Rattle.agent_model.proofs.ServeLemmas.{IsServed, answered, asked, raised, refused, serve-ends}
 use Rattle.agent_model.proofs.TieLemmas.{ask_within}
 
@@ -161,27 +164,37 @@ module _ (ask : ℕ) where
   spent_quiet {old = old} (alters number f mild) = nothing_spent ask old.under_way.link old.under_way.link refl refl
   spent_quiet {old = old} (closes number may) = nothing_spent ask old.under_way.link old.under_way.link refl refl
   spent_quiet {old = old} (goes_on new asks) = nothing_spent ask old.under_way.link new.link asks.asks asks.last
-  spent_quiet {old = old} (names job number port found door) = nothing_spent ask old.under_way.link _ refl refl
+  spent_quiet {old = old} (names job number port found door free) = nothing_spent ask old.under_way.link _ refl refl
+  spent_quiet {old = old} (links job number port found door free other) = nothing_spent ask old.under_way.link _ refl refl
 
   spent_served : {asker : Asker} {held : KeyState} {under_way : UnderWay} {served : Served} (first_action : Action) → answers_by ask first_action ≡ 0 → asks_by ask first_action ≡ 0 → RiseTo 0 under_way.link.asks under_way.link.last → IsServed asker held under_way served → Spends ask under_way.link (first_action ∷ served.work.actions) served.work.under_way.link
   spent_served first_action answers asks rise (answered reply kept same) = record { answered = omega (arith, answers); asked = omega (arith, asks) }
   spent_served first_action answers asks rise (refused cause) = record { answered = omega (arith, answers); asked = omega (arith, asks) }
-  spent_served {asker = asker} {under_way = under_way} first_action answers asks rise (asked errand free) =
+  spent_served {asker = asker} {under_way = under_way} first_action answers asks rise (asked errand free right) =
       let put = spent_put under_way.link (with_ask errand asker.port under_way).link (ask_of (under_way.link.last + 1) asker.port (kind_of errand)) rise refl refl refl in
       record { answered = omega (arith, answers, put.0); asked = omega (arith, asks, put.1) }
   spent_served first_action answers asks rise (raised key signing free) = record { answered = omega (arith, answers); asked = omega (arith, asks) }
+
+  spent_granted : {chain : List Binding} {confirmation : Confirmation} {wall : ℕ} {held : KeyState} {under_way : UnderWay} {work : Work} (first_action : Action) → answers_by ask first_action ≡ 0 → asks_by ask first_action ≡ 0 → RiseTo 0 under_way.link.asks under_way.link.last → IsGranted chain confirmation wall held under_way work → Spends ask under_way.link (first_action ∷ work.actions) work.under_way.link
+  spent_granted first_action answers asks rise (disallowed never) = record { answered = omega (arith, answers); asked = omega (arith, asks) }
+  spent_granted first_action answers asks rise (unasked cause key may fault) = record { answered = omega (arith, answers); asked = omega (arith, asks) }
+  spent_granted {confirmation = confirmation} {under_way = under_way} first_action answers asks rise (allowed key may free) =
+      let errand : Errand = Signs key (signing_of key confirmation) in
+      let put = spent_put under_way.link (with_ask errand confirmation.asker under_way).link (ask_of (under_way.link.last + 1) confirmation.asker (kind_of errand)) rise refl refl refl in
+      record { answered = omega (arith, answers, put.0); asked = omega (arith, asks, put.1) }
 
   spent_makes : {event : Happening} {old : State} {outcome : Outcome} → Makes event old outcome → IsTied old → Spends ask old.under_way.link outcome.actions outcome.state.under_way.link
   spent_makes (stays state) tied = nothing_spent ask state.under_way.link state.under_way.link refl refl
   spent_makes (first quiet rest) tied = spent_in_turn (spent_quiet quiet) (spent_makes rest (tied-quiet quiet tied))
   spent_makes (serves body_len port state found door nothing owed) tied =
-      spent_served (Requested _) refl refl tied.order (serve-ends (asker_at state.moment port) state.held state.under_way (request_of (front_body body_len port.heard)))
+      spent_served (Requested _) refl refl tied.order (serve-ends (asker_at state.moment port) state.held state.under_way (front_body body_len port.heard))
   spent_makes (tells piece state) tied =
       let told = telling piece state.under_way.link in
       spent_fault state told.settled told.link told.fault (settling_leads (state.under_way.link.heard ++ piece) state.under_way.link.asks) tied.order refl
   spent_makes (loses state) tied = spent_loss state.under_way.link _ refl refl
-  spent_makes (overs confirmation state some) tied = absurd (some tied.alone)
-  spent_makes (grants confirmation port state some) tied = absurd (some tied.alone)
+  spent_makes (overs confirmation state there) tied = record { answered = omega arith; asked = omega arith }
+  spent_makes (grants confirmation port state there opened) tied =
+      spent_granted (Granted confirmation.job) refl refl tied.order (grant-ends port.chain confirmation state)
 
   step-spends : (state : State) (moment : Moment) (event : Happening) → IsTied state → Spends ask state.under_way.link (step state moment event).actions (step state moment event).state.under_way.link
   step-spends state moment event tied =
@@ -212,15 +225,20 @@ module _ (ask : ℕ) where
   served_fails : {asker : Asker} {held : KeyState} {under_way : UnderWay} {served : Served} → IsServed asker held under_way served → fate_of ask served.work.actions ≡ Unanswered
   served_fails (answered reply kept same) = refl
   served_fails (refused cause) = refl
-  served_fails (asked errand free) = refl
+  served_fails (asked errand free right) = refl
   served_fails (raised key signing free) = refl
+
+  granted_fails : {chain : List Binding} {confirmation : Confirmation} {wall : ℕ} {held : KeyState} {under_way : UnderWay} {work : Work} → IsGranted chain confirmation wall held under_way work → fate_of ask work.actions ≡ Unanswered
+  granted_fails (disallowed never) = refl
+  granted_fails (unasked cause key may fault) = refl
+  granted_fails (allowed key may free) = refl
 
   -- nothing is unanswered
   lost_makes : {event : Happening} {old : State} {outcome : Outcome} → Makes event old outcome → IsTied old → fate_of ask outcome.actions ≡ Fails → outcome.state.under_way.link.asks ≡ []
   lost_makes (stays state) tied is = absurd (cc)
   lost_makes (first quiet rest) tied is = lost_makes rest (tied-quiet quiet tied) is
   lost_makes (serves body_len port state found door nothing owed) tied is =
-      let silent = served_fails (serve-ends (asker_at state.moment port) state.held state.under_way (request_of (front_body body_len port.heard))) in
+      let silent = served_fails (serve-ends (asker_at state.moment port) state.held state.under_way (front_body body_len port.heard)) in
       let no_loss : Unanswered ≡ Fails = sym silent ∙ is in
       absurd (cc)
   lost_makes (tells piece state) tied is =
@@ -231,8 +249,11 @@ module _ (ask : ℕ) where
       by_fault None answering never fails = absurd (never (ap (fate_of ask) (sym (append-nil answering.actions)) ∙ fails))
       by_fault (Some fault) answering never fails = refl
   lost_makes (loses state) tied is = refl
-  lost_makes (overs confirmation state some) tied is = absurd (some tied.alone)
-  lost_makes (grants confirmation port state some) tied is = absurd (some tied.alone)
+  lost_makes (overs confirmation state there) tied is = absurd (cc)
+  lost_makes (grants confirmation port state there opened) tied is =
+      let silent = granted_fails (grant-ends port.chain confirmation state) in
+      let no_loss : Unanswered ≡ Fails = sym silent ∙ is in
+      absurd (cc)
 
   pub step-lost : (state : State) (moment : Moment) (event : Happening) → IsTied state → fate_of ask (step state moment event).actions ≡ Fails → (step state moment event).state.under_way.link.asks ≡ []
   step-lost state moment event tied =

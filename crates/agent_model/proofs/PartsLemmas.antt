@@ -6,7 +6,7 @@ use Rattle.wire_text.specs.Frames.{Front, front, front_body, after_front, Whole,
 use Rattle.wire_text.proofs.FrontLemmas.{front-append_bad, front-append_whole, front_says}
 use Rattle.world_ports.specs.declared.Moment.{Moment}
 use Rattle.world_ports.specs.declared.Door.TheVariants.{Clients}
-use Rattle.agent_msg.specs.Reading.{request_of}
+use Rattle.agent_model.specs.Binds.{agent_request_of}
 use Rattle.agent_model.specs.Actions.{Outcome, stay}
 use Rattle.agent_model.specs.Children.{changed, closed, heard_more}
 use Rattle.agent_model.specs.Dispatch.{Served, serve}
@@ -33,7 +33,7 @@ whole_within heard body_len whole =
     let says = front_says longest_body heard (Whole body_len) whole in
     omega (arith, says.0.follows, says.1)
 
-same_body : (heard piece : List ℕ) (body_len : ℕ) → front longest_body heard ≡ Whole body_len → front_body body_len (heard ++ piece) ≡ front_body body_len heard
+pub same_body : (heard piece : List ℕ) (body_len : ℕ) → front longest_body heard ≡ Whole body_len → front_body body_len (heard ++ piece) ≡ front_body body_len heard
 same_body heard piece body_len whole =
     let within : 4 + body_len ≤ length heard = whole_within heard body_len whole in
     let four : drop 4 (heard ++ piece) ≡ drop 4 heard ++ piece = drop-append-le 4 heard piece (omega arith) in
@@ -61,7 +61,7 @@ after_request : (moment : Moment) (state : State) (closes : List ℕ) (number : 
     (handle (Heard number b) (at_moment moment (record (handle (Heard number a) state).state { closes = closes })))
 after_request moment state closes number a b port body_len found door waits owed whole =
     let body : List ℕ = front_body body_len (port.heard ++ a) in
-    let served : Served = serve (request_of body) (asker_at state.moment port) state.held state.under_way in
+    let served : Served = serve (agent_request_of body) (asker_at state.moment port) state.held state.under_way in
     let take_first : Port → Port = take_frame body_len (attempts state.held.lock body) in
     let told : Port → Port = tell served.work.verdict in
     let is_number : port.number ≡ number = found_number number state.ports port found in
@@ -84,7 +84,7 @@ after_request moment state closes number a b port body_len found door waits owed
     find_port-change_port number gave state.ports (λ p. refl) ∙ ap (option_map gave) found in
     let still : due (heard_more b (gave port)) ≡ More =
     ap (λ (bytes : List ℕ). due_at (gave port).waits (bytes ++ verdict_text served.work.verdict) ((gave port).heard ++ b)) owed
-    ∙ told_more (serve-ends (asker_at state.moment port) state.held state.under_way (request_of body)) ((gave port).heard ++ b) in
+    ∙ told_more (serve-ends (asker_at state.moment port) state.held state.under_way body) ((gave port).heard ++ b) in
     let second : handle (Heard number b) next ≡ stay (changed number (heard_more b) next) =
     handle-heard number b (gave port) next there door
     ∙ looked-found number (heard_more b (gave port)) (changed number (heard_more b) next) More (found_more number b next.ports (gave port) there) still in

@@ -1,7 +1,6 @@
 -- The greatest second of the table, which no request changes.
-use Rattle.std.proofs.Common.{◌≡◌, refl, Result}
-use Rattle.agent_msg.specs.declared.fault.MsgFault.{MsgFault}
-use Rattle.agent_msg.specs.Requests.{ClientRequest}
+use Rattle.std.proofs.Common.{◌≡◌, ℕ, List, refl}
+use Rattle.agent_model.specs.Binds.{agent_request_of}
 use Rattle.agent_model.specs.Dispatch.{Asker, Served, serve}
 use Rattle.agent_model.specs.KeyStates.{KeyState}
 use Rattle.agent_model.specs.State.{UnderWay}
@@ -10,9 +9,9 @@ use Rattle.agent_model.proofs.ServeLemmas.{IsServed, answered, asked, raised, re
 second-served : {asker : Asker} {held : KeyState} {under_way : UnderWay} {served : Served} → IsServed asker held under_way served → asker.mono ≡ held.table.greatest → served.held.table.greatest ≡ held.table.greatest
 second-served (answered reply kept keeps) same = keeps same
 second-served (refused cause) same = refl
-second-served (asked errand free) same = refl
+second-served (asked errand free right) same = refl
 second-served (raised key signing free) same = refl
 
--- at the greatest second of the table a request leaves it
-pub second-serve : (read : Result ClientRequest MsgFault) (asker : Asker) (held : KeyState) (under_way : UnderWay) → asker.mono ≡ held.table.greatest → (serve read asker held under_way).held.table.greatest ≡ held.table.greatest
-second-serve read asker held under_way = second-served (serve-ends asker held under_way read)
+-- at the greatest second of the table the request of a body leaves it
+pub second-serve : (body : List ℕ) (asker : Asker) (held : KeyState) (under_way : UnderWay) → asker.mono ≡ held.table.greatest → (serve (agent_request_of body) asker held under_way).held.table.greatest ≡ held.table.greatest
+second-serve body asker held under_way = second-served (serve-ends asker held under_way body)

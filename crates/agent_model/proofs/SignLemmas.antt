@@ -1,55 +1,65 @@
 -- A signature is put to the helper exactly where it may be, and is refused exactly for its cause.
-use Rattle.std.proofs.Common.{◌≡◌, ◌≢◌, ℕ, ◌+◌, ◌-◌, ◌^◌, ◌<◌, List, length, not, nat_lt, refl, ap, arith, sym, subst, ◌∙◌, ◌==◌, if◌then◌else◌, Option, Some, None, IsSome, Bool, true, false, Ok, ◌↔◌}
+use Rattle.std.proofs.Common.{◌≡◌, ◌≢◌, ℕ, ◌+◌, ◌-◌, ◌^◌, ◌<◌, List, length, not, nat_lt, refl, ap, arith, sym, subst, ◌∙◌, ◌==◌, if◌then◌else◌, Option, Some, None, IsSome, Bool, true, false, Ok, inl, inr, ◌↔◌}
 use Rattle.std.proofs.lemmas.Bool.Decides.{nat_tests}
 use Rattle.helper_link.specs.declared.state.LinkState.{LinkState}
 use Rattle.helper_link.specs.declared.state.LinkState.TheVariants as states
 use Rattle.identity_table.specs.Identities.{HeldKey, find_identity}
 use Rattle.agent_msg.specs.Requests.{Sign, Signing}
 use Rattle.agent_model.specs.Actions.{Work, settles}
-use Rattle.agent_model.specs.Askable.{HasRoom, IsRefusedFor, IsUsable}
-use Rattle.agent_model.specs.Dispatch.{Asker, serve, serve_by, sign_by, sign_with}
+use Rattle.agent_model.specs.Askable.{HasConfirmationRoom, HasRoom, IsJudgedAs, IsRefusedFor, IsUsable}
+use Rattle.dest_rule.specs.Rules.{denial_under}
+use Rattle.dest_rule.specs.declared.denial.Denial.{Denial}
+use Rattle.agent_model.specs.Dispatch.{Asker, serve, serve_by, sign_by, sign_unless, sign_with}
 use Rattle.agent_model.specs.Errands.{Signs, ask_fault, ask_fault_by, helper_fault, put_unless, raise_fault, raise_fault_by, raise_unless}
 use Rattle.agent_model.specs.KeyStates.{KeyState}
-use Rattle.agent_model.specs.Limits.{last_number, most_asks}
-use Rattle.agent_model.specs.State.{OnAsk, UnderWay}
-use Rattle.agent_model.specs.Verdicts.{AsksSpent, Awaits, Cause, JobsSpent, Locked, NotHeld, Refuses, TooManyAsks, TooManyConfirmations}
+use Rattle.agent_model.specs.Limits.{last_number, most_asks, most_confirmations}
+use Rattle.agent_model.specs.State.{OnAsk, OnConfirmation, UnderWay}
+use Rattle.agent_model.specs.Verdicts.{AsksSpent, Awaits, Cause, DestinationDenied, JobsSpent, Locked, NotHeld, Refuses, TooManyAsks, TooManyConfirmations}
 
 -- what comes of a signature, and why
 pub data Comes (signing : Signing) (asker : Asker) (held : KeyState) (under_way : UnderWay) : Work → Type 0 where
-  refused : (cause : Cause) → IsRefusedFor cause signing held under_way → Comes signing asker held under_way (settles (Refuses cause) under_way)
-  put : (usable : IsUsable signing false held) → HasRoom under_way → Comes signing asker held under_way (put_unless None (Signs usable.key signing) asker.port under_way)
+  refused : (cause : Cause) → IsRefusedFor cause signing asker held under_way → Comes signing asker held under_way (settles (Refuses cause) under_way)
+  raises : (usable : IsUsable signing true asker held) → HasConfirmationRoom under_way → Comes signing asker held under_way (raise_unless None usable.permitted.key signing asker.port under_way)
+  put : (usable : IsUsable signing false asker held) → HasRoom under_way → Comes signing asker held under_way (put_unless None (Signs usable.permitted.key signing) asker.port under_way)
 
 module _ (signing : Signing) (asker : Asker) (held : KeyState) (under_way : UnderWay) where
-  -- no user is asked yet
-  none_raised : raise_fault under_way ≡ Some TooManyConfirmations
-  none_raised =
-      let no_room : nat_lt (length under_way.confirmations) 0 ≡ false = grind (arith, nat_tests) in
-      ap (λ b. raise_fault_by (not b) under_way.last_job) no_room
+  module _ (usable : IsUsable signing true asker held) where
+    comes-raised : (spent : Bool) → (under_way.last_job == last_number) ≡ spent → length under_way.confirmations < 16 → Comes signing asker held under_way (raise_unless (if spent then Some JobsSpent else None) usable.permitted.key signing asker.port under_way)
+    comes-raised true is few = refused JobsSpent (inr (usable, few, grind (arith, nat_tests)))
+    comes-raised false is few = raises usable record { few = few; jobs = λ spent. grind (arith, nat_tests) }
 
-  module _ (usable : IsUsable signing false held) where
-    comes-job : (spent : Bool) → (under_way.last_job == last_number) ≡ spent → length under_way.link.asks < 256 → under_way.link.last ≢ 2 ^ 64 - 1 → under_way.link.state ≡ states.None → Comes signing asker held under_way (put_unless (if spent then Some JobsSpent else None) (Signs usable.key signing) asker.port under_way)
-    comes-job true is few numbers none = refused JobsSpent (usable, few, numbers, none, grind (arith, nat_tests))
+    comes-raise : (full : Bool) → not (nat_lt (length under_way.confirmations) most_confirmations) ≡ full → Comes signing asker held under_way (raise_unless (raise_fault_by full under_way.last_job) usable.permitted.key signing asker.port under_way)
+    comes-raise true is = refused TooManyConfirmations (usable, grind (arith, nat_tests))
+    comes-raise false is = comes-raised (under_way.last_job == last_number) refl (grind (arith, nat_tests))
+
+  module _ (usable : IsUsable signing false asker held) where
+    comes-job : (spent : Bool) → (under_way.last_job == last_number) ≡ spent → length under_way.link.asks < 256 → under_way.link.last ≢ 2 ^ 64 - 1 → under_way.link.state ≡ states.None → Comes signing asker held under_way (put_unless (if spent then Some JobsSpent else None) (Signs usable.permitted.key signing) asker.port under_way)
+    comes-job true is few numbers none = refused JobsSpent (inl (usable, few, numbers, none, grind (arith, nat_tests)))
     comes-job false is few numbers none = put usable record { few = few; numbers = numbers; jobs = λ state spent. grind (arith, nat_tests) }
 
-    comes-helper : (link : LinkState) → under_way.link.state ≡ link → length under_way.link.asks < 256 → under_way.link.last ≢ 2 ^ 64 - 1 → Comes signing asker held under_way (put_unless (helper_fault link under_way.last_job) (Signs usable.key signing) asker.port under_way)
+    comes-helper : (link : LinkState) → under_way.link.state ≡ link → length under_way.link.asks < 256 → under_way.link.last ≢ 2 ^ 64 - 1 → Comes signing asker held under_way (put_unless (helper_fault link under_way.last_job) (Signs usable.permitted.key signing) asker.port under_way)
     comes-helper states.None is few numbers = comes-job (under_way.last_job == last_number) refl few numbers is
     comes-helper (states.Starting job) is few numbers = put usable record { few = few; numbers = numbers; jobs = λ none. absurd (cc) }
     comes-helper (states.Linked port) is few numbers = put usable record { few = few; numbers = numbers; jobs = λ none. absurd (cc) }
 
-    comes-put : (full spent : Bool) → not (nat_lt (length under_way.link.asks) most_asks) ≡ full → (under_way.link.last == last_number) ≡ spent → Comes signing asker held under_way (put_unless (ask_fault_by full spent under_way) (Signs usable.key signing) asker.port under_way)
+    comes-put : (full spent : Bool) → not (nat_lt (length under_way.link.asks) most_asks) ≡ full → (under_way.link.last == last_number) ≡ spent → Comes signing asker held under_way (put_unless (ask_fault_by full spent under_way) (Signs usable.permitted.key signing) asker.port under_way)
     comes-put true spent is_full is_spent = refused TooManyAsks (usable, grind (arith, nat_tests))
     comes-put false true is_full is_spent = refused AsksSpent (usable, grind (arith, nat_tests), grind (arith, nat_tests))
     comes-put false false is_full is_spent = comes-helper under_way.link.state refl (grind (arith, nat_tests)) (λ is. grind (arith, nat_tests))
 
-  comes-with : (confirm : Bool) (key : HeldKey) → held.lock ≡ None → find_identity signing.blob held.table.identities ≡ Some key → key.confirm ≡ confirm → Comes signing asker held under_way (sign_with confirm asker key signing under_way)
-  comes-with true key unlocked found is =
-      subst (λ fault. Comes signing asker held under_way (raise_unless fault key signing asker.port under_way)) (sym none_raised)
-      (refused TooManyConfirmations record { unlocked = unlocked; key = key; found = found; confirm = is })
-  comes-with false key unlocked found is = comes-put record { unlocked = unlocked; key = key; found = found; confirm = is } _ _ refl refl
+  comes-with : (confirm : Bool) (permitted : IsJudgedAs None signing asker held) → permitted.key.confirm ≡ confirm → Comes signing asker held under_way (sign_with confirm asker permitted.key signing under_way)
+  comes-with true permitted is = comes-raise record { permitted = permitted; confirm = is } _ refl
+  comes-with false permitted is = comes-put record { permitted = permitted; confirm = is } _ _ refl refl
+
+  comes-unless : (denial : Option Denial) (key : HeldKey) → held.lock ≡ None → find_identity signing.blob held.table.identities ≡ Some key → denial_under key.rules signing.blob asker.chain signing.message asker.wall ≡ denial → Comes signing asker held under_way (sign_unless denial asker key signing under_way)
+  comes-unless (Some denial) key unlocked found is =
+      refused (DestinationDenied denial) record { unlocked = unlocked; key = key; found = found; judged = is }
+  comes-unless None key unlocked found is = comes-with key.confirm record { unlocked = unlocked; key = key; found = found; judged = is } refl
 
   comes-sign : (found : Option HeldKey) → held.lock ≡ None → find_identity signing.blob held.table.identities ≡ found → Comes signing asker held under_way (sign_by found asker signing under_way)
   comes-sign None unlocked is = refused NotHeld (unlocked, is)
-  comes-sign (Some key) unlocked is = comes-with key.confirm key unlocked is refl
+  comes-sign (Some key) unlocked is =
+      comes-unless (denial_under key.rules signing.blob asker.chain signing.message asker.wall) key unlocked is refl
 
   comes-lock : (lock : Option (List ℕ)) → held.lock ≡ lock → Comes signing asker held under_way (serve_by lock (Sign signing) asker held under_way).work
   comes-lock None is = comes-sign (find_identity signing.blob held.table.identities) is refl
@@ -61,29 +71,42 @@ module _ (signing : Signing) (asker : Asker) (held : KeyState) (under_way : Unde
 
   -- ---- the other way round
 
-  by_cause : {work : Work} (cause : Cause) → Comes signing asker held under_way work → work.verdict ≡ Refuses cause → IsRefusedFor cause signing held under_way
+  by_cause : {work : Work} (cause : Cause) → Comes signing asker held under_way work → work.verdict ≡ Refuses cause → IsRefusedFor cause signing asker held under_way
   by_cause cause (refused other why) is =
       let same : other ≡ cause = cc in
-      subst (λ c. IsRefusedFor c signing held under_way) same why
+      subst (λ c. IsRefusedFor c signing asker held under_way) same why
+  by_cause cause (raises usable room) is = absurd (cc)
   by_cause cause (put usable room) is = absurd (cc)
 
-  by_put : {work : Work} (ask : ℕ) → Comes signing asker held under_way work → work.verdict ≡ Awaits (OnAsk ask) → IsUsable signing false held × HasRoom under_way × (ask ≡ under_way.link.last + 1)
+  by_put : {work : Work} (ask : ℕ) → Comes signing asker held under_way work → work.verdict ≡ Awaits (OnAsk ask) → IsUsable signing false asker held × HasRoom under_way × (ask ≡ under_way.link.last + 1)
   by_put ask (refused cause why) is = absurd (cc)
+  by_put ask (raises usable room) is = absurd (cc)
   by_put ask (put usable room) is = let same : under_way.link.last + 1 ≡ ask = cc in (usable, room, sym same)
 
+  by_raise : {work : Work} (job : ℕ) → Comes signing asker held under_way work → work.verdict ≡ Awaits (OnConfirmation job) → IsUsable signing true asker held × HasConfirmationRoom under_way × (job ≡ under_way.last_job + 1)
+  by_raise job (refused cause why) is = absurd (cc)
+  by_raise job (raises usable room) is = let same : under_way.last_job + 1 ≡ job = cc in (usable, room, sym same)
+  by_raise job (put usable room) is = absurd (cc)
+
+  -- what the constraints say counts
+  judged-work : (result : Option Denial) (why : IsJudgedAs result signing asker held) → (serve (Ok (Sign signing)) asker held under_way).work ≡ sign_unless result asker why.key signing under_way
+  judged-work result why =
+      ap (λ lock. (serve_by lock (Sign signing) asker held under_way).work) why.unlocked
+      ∙ ap (λ found. sign_by found asker signing under_way) why.found
+      ∙ ap (λ denial. sign_unless denial asker why.key signing under_way) why.judged
+
   -- a usable key's signature is put to the helper, unless something stands against it
-  usable-put : (fault : Option Cause) (usable : IsUsable signing false held) → ask_fault under_way ≡ fault → (serve (Ok (Sign signing)) asker held under_way).work ≡ put_unless fault (Signs usable.key signing) asker.port under_way
+  usable-put : (fault : Option Cause) (usable : IsUsable signing false asker held) → ask_fault under_way ≡ fault → (serve (Ok (Sign signing)) asker held under_way).work ≡ put_unless fault (Signs usable.permitted.key signing) asker.port under_way
   usable-put fault usable is =
-      ap (λ lock. (serve_by lock (Sign signing) asker held under_way).work) usable.unlocked
-      ∙ ap (λ found. sign_by found asker signing under_way) usable.found
-      ∙ ap (λ confirm. sign_with confirm asker usable.key signing under_way) usable.confirm
-      ∙ ap (λ f. put_unless f (Signs usable.key signing) asker.port under_way) is
+      judged-work None usable.permitted
+      ∙ ap (λ confirm. sign_with confirm asker usable.permitted.key signing under_way) usable.confirm
+      ∙ ap (λ f. put_unless f (Signs usable.permitted.key signing) asker.port under_way) is
 
   fault_of : (full spent : Bool) → not (nat_lt (length under_way.link.asks) most_asks) ≡ full → (under_way.link.last == last_number) ≡ spent → ask_fault under_way ≡ ask_fault_by full spent under_way
   fault_of full spent is_full is_spent = ap (λ b. ask_fault_by b (under_way.link.last == last_number) under_way) is_full ∙ ap (λ b. ask_fault_by full b under_way) is_spent
 
   -- what may be put is
-  pub put-usable : (usable : IsUsable signing false held) → HasRoom under_way → (serve (Ok (Sign signing)) asker held under_way).work ≡ put_unless None (Signs usable.key signing) asker.port under_way
+  pub put-usable : (usable : IsUsable signing false asker held) → HasRoom under_way → (serve (Ok (Sign signing)) asker held under_way).work ≡ put_unless None (Signs usable.permitted.key signing) asker.port under_way
   put-usable usable room = usable-put None usable (fault_of false false (grind (arith, nat_tests, room.few)) (grind (arith, nat_tests, room.numbers)) ∙ by_link under_way.link.state refl)
     where
       by_link : (link : LinkState) → under_way.link.state ≡ link → helper_fault link under_way.last_job ≡ None
@@ -94,7 +117,24 @@ module _ (signing : Signing) (asker : Asker) (held : KeyState) (under_way : Unde
       by_link (states.Starting job) is = refl
       by_link (states.Linked port) is = refl
 
-  because : (cause : Cause) → IsRefusedFor cause signing held under_way → (serve (Ok (Sign signing)) asker held under_way).work.verdict ≡ Refuses cause
+  -- the user is asked, unless something stands against it
+  usable-raise : (fault : Option Cause) (usable : IsUsable signing true asker held) → raise_fault under_way ≡ fault → (serve (Ok (Sign signing)) asker held under_way).work ≡ raise_unless fault usable.permitted.key signing asker.port under_way
+  usable-raise fault usable is =
+      judged-work None usable.permitted
+      ∙ ap (λ confirm. sign_with confirm asker usable.permitted.key signing under_way) usable.confirm
+      ∙ ap (λ f. raise_unless f usable.permitted.key signing asker.port under_way) is
+
+  raise_fault_of : (full : Bool) → not (nat_lt (length under_way.confirmations) most_confirmations) ≡ full → raise_fault under_way ≡ raise_fault_by full under_way.last_job
+  raise_fault_of full is = ap (λ b. raise_fault_by b under_way.last_job) is
+
+  -- what the user may be asked for is asked for
+  pub raise-usable : (usable : IsUsable signing true asker held) → HasConfirmationRoom under_way → (serve (Ok (Sign signing)) asker held under_way).work ≡ raise_unless None usable.permitted.key signing asker.port under_way
+  raise-usable usable room =
+      let apart : under_way.last_job ≢ 2 ^ 64 - 1 = room.jobs in
+      let unspent : (under_way.last_job == last_number) ≡ false = grind (arith, nat_tests) in
+      usable-raise None usable (raise_fault_of false (grind (arith, nat_tests, room.few)) ∙ ap (λ b. if b then Some JobsSpent else None) unspent)
+
+  because : (cause : Cause) → IsRefusedFor cause signing asker held under_way → (serve (Ok (Sign signing)) asker held under_way).work.verdict ≡ Refuses cause
   because Locked why = by_lock held.lock refl why
     where
       by_lock : (lock : Option (List ℕ)) → held.lock ≡ lock → IsSome held.lock → (serve_by held.lock (Sign signing) asker held under_way).work.verdict ≡ Refuses Locked
@@ -102,25 +142,32 @@ module _ (signing : Signing) (asker : Asker) (held : KeyState) (under_way : Unde
       by_lock (Some passphrase) is some = ap (λ l. (serve_by l (Sign signing) asker held under_way).work.verdict) is
   because NotHeld why =
       ap (λ lock. (serve_by lock (Sign signing) asker held under_way).work.verdict) why.0 ∙ ap (λ found. (sign_by found asker signing under_way).verdict) why.1
-  because TooManyConfirmations why =
-      ap (λ lock. (serve_by lock (Sign signing) asker held under_way).work.verdict) why.unlocked ∙ ap (λ found. (sign_by found asker signing under_way).verdict) why.found
-      ∙ ap (λ confirm. (sign_with confirm asker why.key signing under_way).verdict) why.confirm
-      ∙ ap (λ fault. (raise_unless fault why.key signing asker.port under_way).verdict) none_raised
+  because TooManyConfirmations why = ap (λ (w : Work). w.verdict) (usable-raise (Some TooManyConfirmations) why.0 (raise_fault_of true (grind (arith, nat_tests, why.1))))
+  because (DestinationDenied denial) why = ap (λ (w : Work). w.verdict) (judged-work (Some denial) why)
   because TooManyAsks why = ap (λ (w : Work). w.verdict) (usable-put (Some TooManyAsks) why.0 (fault_of true _ (grind (arith, nat_tests, why.1)) refl))
   because AsksSpent why = ap (λ (w : Work). w.verdict) (usable-put (Some AsksSpent) why.0 (fault_of false true (grind (arith, nat_tests, why.1)) (grind (arith, nat_tests, why.2))))
-  because JobsSpent why =
+  because JobsSpent (inl why) =
       let spent : (under_way.last_job == last_number) ≡ true = grind (arith, nat_tests, why.4) in
       ap (λ (w : Work). w.verdict) (usable-put (Some JobsSpent) why.0 (fault_of false false (grind (arith, nat_tests, why.1)) (grind (arith, nat_tests, why.2))
       ∙ ap (λ l. helper_fault l under_way.last_job) why.3 ∙ ap (λ b. if b then Some JobsSpent else None) spent))
+  because JobsSpent (inr why) =
+      let spent : (under_way.last_job == last_number) ≡ true = grind (arith, nat_tests, why.2) in
+      ap (λ (w : Work). w.verdict) (usable-raise (Some JobsSpent) why.0 (raise_fault_of false (grind (arith, nat_tests, why.1)) ∙ ap (λ b. if b then Some JobsSpent else None) spent))
   because other why = absurd why
 
 -- exactly where
-pub refused-exactly : (cause : Cause) (signing : Signing) (asker : Asker) (held : KeyState) (under_way : UnderWay) → ((serve (Ok (Sign signing)) asker held under_way).work.verdict ≡ Refuses cause) ↔ IsRefusedFor cause signing held under_way
+pub refused-exactly : (cause : Cause) (signing : Signing) (asker : Asker) (held : KeyState) (under_way : UnderWay) → ((serve (Ok (Sign signing)) asker held under_way).work.verdict ≡ Refuses cause) ↔ IsRefusedFor cause signing asker held under_way
 refused-exactly cause signing asker held under_way =
     (by_cause signing asker held under_way cause (comes-of signing asker held under_way), because signing asker held under_way cause)
 
-pub put-exactly : (ask : ℕ) (signing : Signing) (asker : Asker) (held : KeyState) (under_way : UnderWay) → ((serve (Ok (Sign signing)) asker held under_way).work.verdict ≡ Awaits (OnAsk ask)) ↔ (IsUsable signing false held × HasRoom under_way × (ask ≡ under_way.link.last + 1))
+pub put-exactly : (ask : ℕ) (signing : Signing) (asker : Asker) (held : KeyState) (under_way : UnderWay) → ((serve (Ok (Sign signing)) asker held under_way).work.verdict ≡ Awaits (OnAsk ask)) ↔ (IsUsable signing false asker held × HasRoom under_way × (ask ≡ under_way.link.last + 1))
 put-exactly ask signing asker held under_way = (
   by_put signing asker held under_way ask (comes-of signing asker held under_way),
   λ why. ap (λ (w : Work). w.verdict) (put-usable signing asker held under_way why.0 why.1) ∙ ap (λ n. Awaits (OnAsk n)) (sym why.2),
+)
+
+pub raised-exactly : (job : ℕ) (signing : Signing) (asker : Asker) (held : KeyState) (under_way : UnderWay) → ((serve (Ok (Sign signing)) asker held under_way).work.verdict ≡ Awaits (OnConfirmation job)) ↔ (IsUsable signing true asker held × HasConfirmationRoom under_way × (job ≡ under_way.last_job + 1))
+raised-exactly job signing asker held under_way = (
+  by_raise signing asker held under_way job (comes-of signing asker held under_way),
+  λ why. ap (λ (w : Work). w.verdict) (raise-usable signing asker held under_way why.0 why.1) ∙ ap (λ n. Awaits (OnConfirmation n)) (sym why.2),
 )

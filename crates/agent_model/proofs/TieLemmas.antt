@@ -13,7 +13,7 @@ use Rattle.helper_link.specs.declared.ask.AskKind.{AskKind}
 use Rattle.helper_link.proofs.OrderLemmas.{differ, find-push, find-remove}
 use Rattle.agent_model.specs.Fates.{IsTold}
 use Rattle.agent_model.specs.Sound.{AreTied, IsWaiting}
-use Rattle.agent_model.specs.State.{Nothing, OnAsk, Port, change_port, find_port, new_port}
+use Rattle.agent_model.specs.State.{OnAsk, Port, change_port, find_port, new_port}
 use Rattle.agent_model.specs.Verdicts.{Verdict, verdict_waits}
 use Rattle.agent_model.proofs.PortsLemmas.{find_port-apart, find_port-change_port}
 
@@ -76,7 +76,7 @@ module _ (ports : List Port) (asks : List Ask) (tied : AreTied ports asks) where
       other (sym told.waits ∙ tied.asks ask one told.port found (ap (λ n. find_port n ports) (sym same) ∙ told.found))
 
   -- a client waits for one ask alone
-  one_ask : (a b : ℕ) (one other : Ask) (port : Port) → find_ask a asks ≡ Some one → find_ask b asks ≡ Some other → one.asker ≡ other.asker → find_port one.asker ports ≡ Some port → a ≡ b
+  pub one_ask : (a b : ℕ) (one other : Ask) (port : Port) → find_ask a asks ≡ Some one → find_ask b asks ≡ Some other → one.asker ≡ other.asker → find_port one.asker ports ≡ Some port → a ≡ b
   one_ask a b one other port this that same found =
       let first : port.waits ≡ OnAsk a = tied.asks a one port this found in
       let second : port.waits ≡ OnAsk b = tied.asks b other port that (ap (λ n. find_port n ports) (sym same) ∙ found) in
@@ -121,9 +121,9 @@ module _ (ports : List Port) (asks : List Ask) (tied : AreTied ports asks) where
           by_other differs was (here old same found is) = absurd (differs (sym (one_ask a ask one (ask_of ask asker kind) old was there same found)))
           by_other differs was (apart other found) = tied.asks a one port was found
 
-  -- a client that waits for nothing is told something, and waits for no ask
-  pub tied-silent : (number : ℕ) (port : Port) (f : Port → Port) → find_port number ports ≡ Some port → port.waits ≡ Nothing → ((p : Port) → (f p).number ≡ p.number) → ((p : Port) (a : ℕ) → (f p).waits ≢ OnAsk a) → AreTied (change_port number f ports) asks
-  tied-silent number port f there nothing keeps silent = record {
+  -- a client that doesn't wait for an ask is told something, and waits for none
+  pub tied-silent : (number : ℕ) (f : Port → Port) → ((port : Port) → find_port number ports ≡ Some port → (a : ℕ) → port.waits ≢ OnAsk a) → ((p : Port) → (f p).number ≡ p.number) → ((p : Port) (a : ℕ) → (f p).waits ≢ OnAsk a) → AreTied (change_port number f ports) asks
+  tied-silent number f before keeps silent = record {
     waits = λ n a p found is. by_port n a p (found_after n number f ports p keeps found) is;
     asks = λ a one p was found. by_ask a one p was (found_after one.asker number f ports p keeps found);
   }
@@ -134,12 +134,11 @@ module _ (ports : List Port) (asks : List Ask) (tied : AreTied ports asks) where
 
       by_ask : (a : ℕ) (one : Ask) (p : Port) → find_ask a asks ≡ Some one → IsOf one.asker number f ports p → p.waits ≡ OnAsk a
       by_ask a one p was (here old same found is) =
-          let waits : port.waits ≡ OnAsk a = tied.asks a one port was (ap (λ n. find_port n ports) same ∙ there) in
-          absurd (cc)
+          absurd (before old (ap (λ n. find_port n ports) (sym same) ∙ found) a (tied.asks a one old was found))
       by_ask a one p was (apart other found) = tied.asks a one p was found
 
-  -- a client that waits for nothing and is owed nothing puts an ask
-  pub tied-asked : (number low last : ℕ) (kind : AskKind) (port : Port) (f : Port → Port) → RiseTo low asks last → find_port number ports ≡ Some port → port.waits ≡ Nothing → port.owed ≡ [] → port.door ≡ Clients → ((p : Port) → (f p).number ≡ p.number) → ((p : Port) → (f p).door ≡ p.door) → ((p : Port) → (f p).waits ≡ OnAsk (last + 1)) → ((p : Port) → p.owed ≡ [] → (f p).owed ≡ []) → AreTied (change_port number f ports) (asks ++ ask_of (last + 1) number kind ∷ [])
+  -- a client that doesn't wait for an ask and is owed nothing puts one
+  pub tied-asked : (number low last : ℕ) (kind : AskKind) (port : Port) (f : Port → Port) → RiseTo low asks last → find_port number ports ≡ Some port → ((a : ℕ) → port.waits ≢ OnAsk a) → port.owed ≡ [] → port.door ≡ Clients → ((p : Port) → (f p).number ≡ p.number) → ((p : Port) → (f p).door ≡ p.door) → ((p : Port) → (f p).waits ≡ OnAsk (last + 1)) → ((p : Port) → p.owed ≡ [] → (f p).owed ≡ []) → AreTied (change_port number f ports) (asks ++ ask_of (last + 1) number kind ∷ [])
   tied-asked number low last kind port f rise there nothing owed door keeps doors waits owes = record {
     waits = λ n a p found is. by_port n a p (found_after n number f ports p keeps found) is;
     asks = λ a one p found at. by_ask a one p (sym (pushed a) ∙ found) (found_after one.asker number f ports p keeps at);
@@ -187,6 +186,5 @@ module _ (ports : List Port) (asks : List Ask) (tied : AreTied ports asks) where
           by_test false equal some (here old same was at) =
               let put : old.waits ≡ OnAsk a = tied.asks a one old some was in
               let old_is : old ≡ port = is_port one.asker old same was in
-              let no : OnAsk a ≡ Nothing = sym put ∙ ap (λ (q : Port). q.waits) old_is ∙ nothing in
-              absurd (cc)
+              absurd (nothing a (ap (λ (q : Port). q.waits) (sym old_is) ∙ put))
           by_test false equal some (apart other was) = tied.asks a one p some was

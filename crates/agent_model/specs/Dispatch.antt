@@ -3,19 +3,23 @@
 -- for the request that binds a connection. Who sees which identity, and who is asked, is ours.
 use Rattle.std.specs.Prelude.{ℕ, ◌==◌, nat_lt, Bool, true, false, List, [], ◌∷◌, map, filter, Option, Some, None, Result, Ok, Err}
 use Rattle.std.specs.Str.{bytes_eq}
-use Rattle.constraint_rec.specs.declared.constraint.Constraint.{Constraint}
 use Rattle.constraint_rec.specs.declared.fault.TermFault.{TermFault}
 use Rattle.identity_table.specs.Identities.{HeldKey, TableState, added, answer_len, find_identity, identities_with, max_answer, remove_identity}
 use Rattle.agent_msg.specs.declared.fault.MsgFault.{MsgFault}
 use Rattle.agent_msg.specs.declared.fault.MsgFault.TheVariants as fault
-use Rattle.agent_msg.specs.Requests.{Addition, ClientRequest, Signing, ListIdentities, Sign, Add, Remove, RemoveAll, Lock, Unlock, Bind, OtherExtension, Unsupported}
+use Rattle.agent_msg.specs.Requests.{Addition, BindRequest, ClientRequest, Signing, ListIdentities, Sign, Add, Remove, RemoveAll, Lock, Unlock, Bind, OtherExtension, Unsupported}
 use Rattle.agent_model.specs.KeyStates.{KeyState, shown}
 use Rattle.agent_model.specs.Actions.{Work, settles}
-use Rattle.agent_model.specs.Errands.{Signs, ask_user, put_ask}
+use Rattle.agent_model.specs.Errands.{Signs, Verifies, ask_user, put_ask}
 use Rattle.agent_model.specs.Limits.{last_number}
+use Rattle.dest_rule.specs.Chains.{judge}
+use Rattle.dest_rule.specs.declared.fault.Next.{Next as Judgement}
+use Rattle.dest_rule.specs.declared.fault.Next.TheVariants.{New, Refuse, Same}
+use Rattle.dest_rule.specs.Rules.{denial_under, visible}
+use Rattle.dest_rule.specs.declared.denial.Denial.{Denial}
 use Rattle.dest_rule.specs.declared.binding.Binding.{Binding}
 use Rattle.agent_model.specs.State.{UnderWay}
-use Rattle.agent_model.specs.Verdicts.{Cause, Identities, Malformed, Locked, Unserved, NotHeld, NotVisible, DestinationsUnserved, Constraints, ListFull, NoPassphrase, WrongPassphrase, NotLocked, AdditionsSpent, Refuses, Replies, Reply, Success}
+use Rattle.agent_model.specs.Verdicts.{Cause, Identities, Malformed, Locked, Unserved, NotHeld, NotVisible, DestinationDenied, Constraints, ListFull, NoPassphrase, WrongPassphrase, NotLocked, BindRefused, AdditionsSpent, Refuses, Replies, Reply, Success}
 
 -- who asks, and when: the port, the hosts that its connection was bound to, whether it tried to bind it, the greatest
 -- monotonic second so far, and the wall clock
@@ -45,9 +49,9 @@ keeps held work = record { held = held; work = work }
 
 -- ---- who sees what
 
--- the asker sees this identity: none that is held has destination constraints yet
+-- the asker sees this identity
 abbrev pub sees : Asker → HeldKey → Bool
-sees asker key = true
+sees asker key = visible key.rules asker.chain asker.attempted asker.wall
 
 -- the identities that it sees, as a list shows them
 abbrev pub seen_by : Asker → KeyState → List (List ℕ × List ℕ)
@@ -60,10 +64,16 @@ abbrev pub sign_with : Bool → Asker → HeldKey → Signing → UnderWay → W
 sign_with true asker key signing under_way = ask_user key signing asker.port under_way
 sign_with false asker key signing under_way = put_ask (Signs key signing) asker.port under_way
 
+-- by what the key's destination constraints say
+abbrev pub sign_unless : Option Denial → Asker → HeldKey → Signing → UnderWay → Work
+sign_unless (Some denial) asker key signing under_way = settles (Refuses (DestinationDenied denial)) under_way
+sign_unless None asker key signing under_way = sign_with key.confirm asker key signing under_way
+
 -- by the identity that has the blob
 abbrev pub sign_by : Option HeldKey → Asker → Signing → UnderWay → Work
 sign_by None asker signing under_way = settles (Refuses NotHeld) under_way
-sign_by (Some key) asker signing under_way = sign_with key.confirm asker key signing under_way
+sign_by (Some key) asker signing under_way =
+    sign_unless (denial_under key.rules signing.blob asker.chain signing.message asker.wall) asker key signing under_way
 
 -- ---- additions
 
@@ -100,12 +110,6 @@ abbrev pub add_by : Option HeldKey → Asker → Addition → KeyState → Under
 add_by None asker addition held under_way = add_seen true addition asker.mono held under_way
 add_by (Some key) asker addition held under_way = add_seen (sees asker key) addition asker.mono held under_way
 
--- by its destination constraints: none is held yet
-abbrev pub add_under : List Constraint → Asker → Addition → KeyState → UnderWay → Served
-add_under [] asker addition held under_way =
-    add_by (find_identity addition.key.blob held.table.identities) asker addition held under_way
-add_under (rule ∷ rules) asker addition held under_way = refuses DestinationsUnserved held under_way
-
 -- ---- removals
 
 -- the identities changed
@@ -135,6 +139,14 @@ abbrev pub unlock_by : Bool → KeyState → UnderWay → Served
 unlock_by true held under_way = answers Success (record held { lock = None }) under_way
 unlock_by false held under_way = refuses WrongPassphrase held under_way
 
+-- ---- bindings
+
+-- by what is to be done with the binding
+abbrev pub bind_by : Judgement → Asker → BindRequest → UnderWay → Work
+bind_by (Refuse fault) asker bind under_way = settles (Refuses (BindRefused fault)) under_way
+bind_by Same asker bind under_way = put_ask (Verifies bind false) asker.port under_way
+bind_by New asker bind under_way = put_ask (Verifies bind true) asker.port under_way
+
 -- ---- the table of requests
 
 -- of an agent that isn't locked
@@ -142,15 +154,17 @@ abbrev pub serve_unlocked : ClientRequest → Asker → KeyState → UnderWay �
 serve_unlocked ListIdentities asker held under_way = answers (Identities (seen_by asker held)) held under_way
 serve_unlocked (Sign signing) asker held under_way =
     keeps held (sign_by (find_identity signing.blob held.table.identities) asker signing under_way)
-serve_unlocked (Add addition) asker held under_way = add_under addition.terms.rules asker addition held under_way
+serve_unlocked (Add addition) asker held under_way =
+    add_by (find_identity addition.key.blob held.table.identities) asker addition held under_way
 serve_unlocked (Remove blob) asker held under_way =
     remove_by (find_identity blob held.table.identities) asker blob held under_way
 serve_unlocked RemoveAll asker held under_way = answers Success (with_identities [] held) under_way
 serve_unlocked (Lock passphrase) asker held under_way = lock_by passphrase held under_way
 serve_unlocked (Unlock passphrase) asker held under_way = refuses NotLocked held under_way
+serve_unlocked (Bind bind) asker held under_way =
+    keeps held (bind_by (judge bind.host_key bind.session asker.chain) asker bind under_way)
 serve_unlocked (OtherExtension name) asker held under_way = refuses Unserved held under_way
 serve_unlocked (Unsupported number) asker held under_way = refuses Unserved held under_way
-serve_unlocked (Bind bind) asker held under_way = refuses Unserved held under_way
 
 -- of an agent that is locked with this passphrase
 abbrev pub serve_locked : List ℕ → ClientRequest → KeyState → UnderWay → Served
@@ -161,9 +175,9 @@ serve_locked passphrase (Remove blob) held under_way = refuses Locked held under
 serve_locked passphrase RemoveAll held under_way = refuses Locked held under_way
 serve_locked passphrase (Lock other) held under_way = refuses Locked held under_way
 serve_locked passphrase (Unlock other) held under_way = unlock_by (bytes_eq passphrase other) held under_way
+serve_locked passphrase (Bind bind) held under_way = refuses Locked held under_way
 serve_locked passphrase (OtherExtension name) held under_way = refuses Locked held under_way
 serve_locked passphrase (Unsupported number) held under_way = refuses Locked held under_way
-serve_locked passphrase (Bind bind) held under_way = refuses Locked held under_way
 
 -- by the lock
 abbrev pub serve_by : Option (List ℕ) → ClientRequest → Asker → KeyState → UnderWay → Served

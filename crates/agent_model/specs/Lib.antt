@@ -2,6 +2,7 @@ pub mod Events
 pub mod Limits
 pub mod NumberLists
 pub mod KeyStates
+pub mod Binds
 pub mod State
 pub mod Verdicts
 pub mod Actions
@@ -16,6 +17,13 @@ pub mod Looks
 pub mod Budget
 pub mod Rows
 pub mod ChildRows
+pub mod ConsentRows
+pub mod Asking
 pub mod Sound
 pub mod Fates
 pub mod Askable
+pub mod Grants
+pub mod Bindings
+pub mod Bindable
+pub mod Unseen
+pub mod BindRows

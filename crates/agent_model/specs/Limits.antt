@@ -17,9 +17,9 @@ most_unnamed = 32
 abbrev pub most_asks : ℕ
 most_asks = 256
 
--- the most confirmations that the user is asked for at once: none is asked for yet
+-- the most confirmations that the user is asked for at once
 abbrev pub most_confirmations : ℕ
-most_confirmations = 0
+most_confirmations = 16
 
 -- the last number that is given: of ports, additions, jobs and asks
 abbrev pub last_number : ℕ

@@ -1,5 +1,6 @@
--- What holds of every state that events lead to: the ports' numbers rise, and not too many are open.
-use Rattle.std.specs.Prelude.{◌≡◌, ℕ, ◌<◌, ◌≤◌, List, [], ◌∷◌, Some}
+-- What holds of every state that events lead to: the ports' numbers rise and not too many are open, who waits is tied to
+-- the asks, and bindings that are verified are judged yet as they were.
+use Rattle.std.specs.Prelude.{◌≡◌, ℕ, ◌<◌, ◌≤◌, Bool, true, false, List, [], ◌∷◌, Some, None, IsSome, IsOk}
 use Rattle.std.specs.Option.{IfSome}
 use Rattle.world_ports.specs.declared.Door.TheVariants.{Clients, Children}
 use Rattle.helper_link.specs.HelperLink.{ask_of}
@@ -7,8 +8,16 @@ use Rattle.helper_link.specs.Settling.{find_ask}
 use Rattle.helper_link.specs.Sound.{RiseTo}
 use Rattle.helper_link.specs.declared.ask.Ask.{Ask}
 use Rattle.helper_link.specs.declared.ask.AskKind.{AskKind}
+use Rattle.helper_link.specs.declared.ask.AskKind.TheVariants as kinds
 use Rattle.helper_link.specs.declared.state.LinkState.TheVariants as states
-use Rattle.agent_model.specs.State.{OnAsk, Port, State, client_count, find_port}
+use Rattle.dest_rule.specs.declared.fault.Next.{Next as Judgement}
+use Rattle.dest_rule.specs.declared.fault.Next.TheVariants.{New, Same}
+use Rattle.dest_rule.specs.declared.binding.Binding.{Binding}
+use Rattle.dest_rule.specs.Chains.{IsChain, find_session, judge}
+use Rattle.key_blob.specs.PublicKeys.{public_key_of}
+use Rattle.agent_model.specs.Answers.{find_verification}
+use Rattle.agent_model.specs.Asking.{AreRaised, JobsRise}
+use Rattle.agent_model.specs.State.{OnAsk, Port, State, Verification, client_count, find_port}
 
 -- the numbers rise, each above `low` and none above `high`; so they are distinct, and the last one bounds them
 abbrev pub IsRising : ℕ → ℕ → List Port → Type 0
@@ -24,10 +33,50 @@ pub record IsSound (state : State) : Type 0 where
   pub rising : IsRising 0 state.last_port state.ports
   pub few : client_count state.ports ≤ 128
 
--- the numbers of the open ports rise up to the last one, and no confirmation is waited for
+-- the numbers of the open ports and the jobs of the confirmations rise up to the last ones
 pub record IsSteady (state : State) : Type 0 where
   pub rising : IsRising 0 state.last_port state.ports
-  pub alone : state.under_way.confirmations ≡ []
+  pub order : JobsRise 0 state.under_way.confirmations state.under_way.last_job
+
+-- ---- bindings that are verified
+
+-- what was judged of a binding as its ask was put
+abbrev pub judged : Bool → Judgement
+judged true = New
+judged false = Same
+
+-- a binding that is verified has a host key that is read, and this chain judges it as it was judged then
+pub record IsRight (one : Verification) (chain : List Binding) : Type 0 where
+  pub as_noted : judge one.binding.host_key one.binding.session chain ≡ judged one.is_new
+  pub key : IsOk (public_key_of one.binding.host_key)
+
+-- each binding whose ask is unanswered is so judged by its asker's chain, where the asker is open
+abbrev pub AreJudged : List Port → List Verification → List Ask → Type 0
+AreJudged ports verifications asks = (ask : ℕ) (what : Ask) (one : Verification) (port : Port)
+    → find_verification ask verifications ≡ Some one → find_ask ask asks ≡ Some what
+    → find_port what.asker ports ≡ Some port → IsRight one port.chain
+
+-- each ask to verify has its binding
+abbrev pub AreNoted : List Verification → List Ask → Type 0
+AreNoted verifications asks = (ask asker : ℕ) → find_ask ask asks ≡ Some (ask_of ask asker kinds.Verifying)
+    → IsSome (find_verification ask verifications)
+
+-- each binding's session is its own
+abbrev pub AreApart : List Binding → Type 0
+AreApart [] = Unit {0}
+AreApart (binding ∷ later) = (find_session binding.session later ≡ None) × AreApart later
+
+-- the bindings of every connection are few, of host keys that are read and of sessions of their own
+abbrev pub AreChains : List Port → Type 0
+AreChains ports = (number : ℕ) (port : Port) → find_port number ports ≡ Some port
+    → IsChain port.chain × AreApart port.chain
+
+-- what was judged of bindings that are verified stands yet, and their asks were put
+pub record IsJudged (state : State) : Type 0 where
+  pub verified : AreJudged state.ports state.under_way.verifications state.under_way.link.asks
+  pub noted : AreNoted state.under_way.verifications state.under_way.link.asks
+  pub given : (ask : ℕ) (one : Verification) → find_verification ask state.under_way.verifications ≡ Some one → ask ≤ state.under_way.link.last
+  pub chains : AreChains state.ports
 
 -- ---- who waits for the helper
 
@@ -45,8 +94,8 @@ pub record AreTied (ports : List Port) (pending : List Ask) : Type 0 where
   pub asks : (ask : ℕ) (one : Ask) (port : Port) → find_ask ask pending ≡ Some one → find_port one.asker ports ≡ Some port → port.waits ≡ OnAsk ask
 
 -- the numbers of the open ports and of the unanswered asks rise up to the last ones, and who waits is tied to the asks;
--- no ask is for a port that hasn't joined, the helper joined through the door of child processes, and no confirmation
--- is waited for
+-- no ask is for a port that hasn't joined, the helper joined through the door of child processes, and what is to be
+-- confirmed was raised for who waits for it
 pub record IsTied (state : State) : Type 0 where
   pub rising : IsRising 0 state.last_port state.ports
   pub order : RiseTo 0 state.under_way.link.asks state.under_way.link.last
@@ -54,4 +103,4 @@ pub record IsTied (state : State) : Type 0 where
   pub askers : (ask : ℕ) (one : Ask) → find_ask ask state.under_way.link.asks ≡ Some one → one.asker ≤ state.last_port
   pub helper : (number : ℕ) (port : Port) → state.under_way.link.state ≡ states.Linked number → find_port number state.ports ≡ Some port → port.door ≡ Children
   pub known : (number : ℕ) → state.under_way.link.state ≡ states.Linked number → number ≤ state.last_port
-  pub alone : state.under_way.confirmations ≡ []
+  pub raised : AreRaised state.under_way.confirmations state.under_way.last_job state.ports state.last_port

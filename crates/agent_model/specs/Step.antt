@@ -12,7 +12,8 @@ use Rattle.agent_model.specs.Limits.{longest_body, most_clients, most_unnamed}
 use Rattle.agent_model.specs.NumberLists.{without}
 use Rattle.agent_model.specs.Actions.{Outcome, Requested, stay}
 use Rattle.agent_model.specs.Answers.{helper_heard, lose}
-use Rattle.agent_msg.specs.Reading.{request_of}
+use Rattle.agent_msg.specs.Requests.{names_bind}
+use Rattle.agent_model.specs.Binds.{agent_request_of}
 use Rattle.agent_model.specs.Children.{changed, closed, heard_more, job_failed, job_started, unnamed_heard}
 use Rattle.confirm_desk.specs.Confirmations.{find_asker, took}
 use Rattle.agent_model.specs.Consents.{confirmer_heard, over, over_if}
@@ -22,9 +23,11 @@ use Rattle.agent_model.specs.Verdicts.{tell}
 
 -- ---- a client is looked at
 
--- whether a body makes the connection count as one that tried to bind itself: no binding is served yet
+-- whether a body makes the connection count as one that tried to bind itself, also where it then fails: a locked agent
+-- doesn't look
 abbrev pub attempts : Option (List ℕ) → List ℕ → Bool
-attempts lock body = false
+attempts None body = names_bind body
+attempts (Some passphrase) body = false
 
 -- the first frame, with a body of this length, leaves what was heard
 abbrev pub take_frame : ℕ → Bool → Port → Port
@@ -56,7 +59,7 @@ concluded number body served state = record {
 -- a request's body is taken from the client's bytes, and served
 abbrev pub taken : ℕ → List ℕ → Port → State → Outcome
 taken body_len body port state = concluded port.number body
-    (serve (request_of body) (asker_at state.moment port) state.held state.under_way)
+    (serve (agent_request_of body) (asker_at state.moment port) state.held state.under_way)
     (changed port.number (take_frame body_len (attempts state.held.lock body)) state)
 
 -- by what stands at the front of the client's bytes

@@ -28,7 +28,6 @@ pub data Cause : Type 0 where
   -- the key isn't held, or isn't for this connection to see, or not for this message
   NotHeld : Cause
   NotVisible : Cause
-  DestinationsUnserved : Cause
   DestinationDenied : (denial : Denial) → Cause
   -- the constraints don't read, or one message couldn't list all identities
   Constraints : (fault : TermFault) → Cause

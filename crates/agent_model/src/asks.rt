@@ -1,20 +1,20 @@
 //! Laws of what the helper is asked: who is told what it answers, how often, and which signatures are put to it.
 
-ghost use Rattle.std.specs.Prelude.{◌≡◌, ◌≢◌, ◌↔◌, ◌+◌, ◌++◌, ◌≤◌, ℕ, List, [], Option, None, Ok, Some, false};
+ghost use Rattle.std.specs.Prelude.{◌≡◌, ◌≢◌, ◌↔◌, ◌+◌, ◌++◌, ◌≤◌, ℕ, List, [], Option, None, Ok, Some, false, true};
 ghost use Rattle.helper_link.specs.Settling.{find_ask};
 ghost use Rattle.helper_link.specs.Telling.{telling};
 ghost use Rattle.helper_link.specs.declared.state.LinkState.TheVariants as states;
 ghost use Rattle.world_ports.specs.declared.Door.TheVariants.{Children};
 ghost use Rattle.agent_msg.specs.Requests.{Sign, Signing};
-ghost use Rattle.agent_model.specs.Askable.{HasRoom, IsRefusedFor, IsUsable};
+ghost use Rattle.agent_model.specs.Askable.{HasConfirmationRoom, HasRoom, IsRefusedFor, IsUsable};
 ghost use Rattle.agent_model.specs.Dispatch.{Asker, serve};
-ghost use Rattle.agent_model.specs.Errands.{Signs, put_unless};
+ghost use Rattle.agent_model.specs.Errands.{Signs, put_unless, raise_unless};
 ghost use Rattle.agent_model.specs.Events.{Ended, Happening, Heard, Timed};
 ghost use Rattle.agent_model.specs.Fates.{Fails, IsTold, NoneEnds, Unanswered, actions_of, fate_of, fate_verdict, fault_fate, or_later, settled_fate, times_answered, times_asked};
 ghost use Rattle.agent_model.specs.KeyStates.{KeyState};
 ghost use Rattle.agent_model.specs.Runs.{forget_closes, run};
 ghost use Rattle.agent_model.specs.Sound.{IsSound, IsTied};
-ghost use Rattle.agent_model.specs.State.{OnAsk, Port, State, UnderWay, find_port, first_state};
+ghost use Rattle.agent_model.specs.State.{OnAsk, OnConfirmation, Port, State, UnderWay, find_port, first_state};
 ghost use Rattle.agent_model.specs.Step.{at_moment, step};
 ghost use Rattle.agent_model.specs.Verdicts.{Awaits, Cause, Refuses};
 ghost use Rattle.world_ports.specs.declared.Moment.{Moment};
@@ -60,19 +60,28 @@ pub fn an_ask_is_answered_at_most_once()
 {}
 
 /// A request for a signature is put to the helper exactly where the agent is unlocked, the key is held and asks for no
-/// confirmation, fewer than 256 asks are unanswered and the numbers are not spent; and it is refused for a cause
-/// exactly where that cause holds.
+/// confirmation, its destination constraints permit the signature for the asker's chain at the wall clock of this
+/// event, fewer than 256 asks are unanswered and the numbers are not spent. The user is asked exactly where the same
+/// holds of a key that asks for confirmation, fewer than 16 confirmations are waited for and the jobs are not spent. And
+/// it is refused for a cause exactly where that cause holds.
 pub fn a_signature_is_asked_for_exactly_where_it_may_be()
     ensures put { (ask : ℕ) (signing : Signing) (asker : Asker) (held : KeyState) (under_way : UnderWay)
         → ((serve (Ok (Sign signing)) asker held under_way).work.verdict ≡ Awaits (OnAsk ask))
-        ↔ (IsUsable signing false held × HasRoom under_way × (ask ≡ under_way.link.last + 1)) }
+        ↔ (IsUsable signing false asker held × HasRoom under_way × (ask ≡ under_way.link.last + 1)) }
     ensures message { (signing : Signing) (asker : Asker) (held : KeyState) (under_way : UnderWay)
-        (usable : IsUsable signing false held) → HasRoom under_way
+        (usable : IsUsable signing false asker held) → HasRoom under_way
         → (serve (Ok (Sign signing)) asker held under_way).work
-        ≡ put_unless None (Signs usable.key signing) asker.port under_way }
+        ≡ put_unless None (Signs usable.permitted.key signing) asker.port under_way }
+    ensures raised { (job : ℕ) (signing : Signing) (asker : Asker) (held : KeyState) (under_way : UnderWay)
+        → ((serve (Ok (Sign signing)) asker held under_way).work.verdict ≡ Awaits (OnConfirmation job))
+        ↔ (IsUsable signing true asker held × HasConfirmationRoom under_way × (job ≡ under_way.last_job + 1)) }
+    ensures question { (signing : Signing) (asker : Asker) (held : KeyState) (under_way : UnderWay)
+        (usable : IsUsable signing true asker held) → HasConfirmationRoom under_way
+        → (serve (Ok (Sign signing)) asker held under_way).work
+        ≡ raise_unless None usable.permitted.key signing asker.port under_way }
     ensures refused { (cause : Cause) (signing : Signing) (asker : Asker) (held : KeyState) (under_way : UnderWay)
         → ((serve (Ok (Sign signing)) asker held under_way).work.verdict ≡ Refuses cause)
-        ↔ IsRefusedFor cause signing held under_way }
+        ↔ IsRefusedFor cause signing asker held under_way }
 {}
 
 /// Where the helper's bytes are cut does not matter: a piece in two parts leads to the state of the whole piece, as the

@@ -4,7 +4,11 @@
 #![tactic(auto)]
 
 mod asks;
+mod bind_rows;
+mod bindings;
 mod child_rows;
+mod consent_rows;
+mod consents;
 mod laws;
 mod rows;
 
@@ -12,9 +16,27 @@ pub use asks::{
     a_client_gets_its_own_answer, a_piece_of_the_helper_in_two_parts,
     a_signature_is_asked_for_exactly_where_it_may_be, an_ask_is_answered_at_most_once,
 };
+pub use bind_rows::{
+    a_binding_is_its_connections_own, a_binding_is_refused_for_its_cause,
+    a_binding_waits_for_the_helper, a_certificate_counts_while_it_is_valid,
+    a_key_is_seen_where_its_constraints_lead, a_key_signs_where_its_constraints_permit,
+};
+pub use bindings::{
+    a_binding_is_added_where_it_is_right, a_binding_is_verified_exactly_where_it_may_be,
+    bindings_are_those_that_were_proved, what_is_not_seen_changes_no_reply,
+};
 pub use child_rows::{
     a_lost_helper_fails_its_asks, a_signature_goes_through_the_helper, a_ticket_names_a_job_once,
     an_answer_goes_to_its_ask, jobs_and_child_processes_are_bounded,
+};
+pub use consent_rows::{
+    a_client_that_leaves_ends_its_confirmation, a_confirmation_ends_without_consent,
+    a_signature_waits_for_the_user, confirmations_are_bounded, consent_is_tested_again,
+};
+pub use consents::{
+    a_client_waits_for_its_own_consent, a_piece_of_a_confirmer_in_two_parts,
+    a_signature_has_a_consent_of_its_own, an_addition_that_left_is_never_used,
+    consent_counts_exactly_where_it_may, who_waits_for_the_user_is_open,
 };
 pub use laws::{
     a_closed_port_brings_nothing, a_failure_has_a_cause, a_lost_helper_answers_nothing,

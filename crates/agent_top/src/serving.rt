@@ -3,7 +3,7 @@ ghost use Rattle.std.specs.Prelude.{◌≡◌, ◌⊎◌, true};
 ghost use Rattle.ready_loop.specs.Serving.{Setting};
 ghost use Rattle.agent_top.specs.ServeProgram.{ServesExactly, status_of_serving};
 ghost use Rattle.agent_top.specs.Words.{IsServe, texts_of};
-ghost use Rattle.serve_words.specs.Serve.{begins, is_usage};
+ghost use Rattle.serve_words.specs.Serve.{is_usage};
 ghost use Rattle.world_ports.specs.Causes.{Rose};
 
 use crate::status::Status;
@@ -24,16 +24,6 @@ fn status_of_serving(end: ServeEnd) -> Status
         ServeEnd::BindFault => Status::BindFault,
         ServeEnd::PollFault => Status::PollFault,
         ServeEnd::Memory => Status::Memory,
-    }
-}
-
-// Whether the first word is that of the command.
-pub fn begins_serve(words: &[String]) -> bool
-    ensures { result ≡ begins (texts_of words.now) }
-{
-    match words.first() {
-        Some(word) => word.as_str() == "serve",
-        None => false,
     }
 }
 

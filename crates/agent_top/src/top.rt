@@ -9,8 +9,9 @@ ghost use Rattle.world_ports.specs.Causes.{Rose};
 ghost use Rattle.world_ports.specs.Streams.{OnlyReads, OnlyWrites};
 
 use crate::agent::replay_main;
-use crate::serving::{begins_serve, serve_by};
+use crate::serving::serve_by;
 use crate::status::Status;
+use serve_words::begins_with_serve;
 use std::alloc::Global;
 use std::sync::Wait;
 use world_ports::{Sink, Source, World};
@@ -55,7 +56,7 @@ pub fn agent_main<R: Wait, W: World, I: Source, O: Sink>(
     ensures input_only { OnlyReads (I.seen input.old) (I.seen input.new) }
     ensures output_only { OnlyWrites (O.seen output.old) (O.seen output.new) }
 {
-    if begins_serve(words) {
+    if begins_with_serve(words) {
         return serve_by(rt, alloc, words, world);
     }
     replay_main(alloc, words, input, output)

@@ -1,2 +1,9 @@
+pub mod Answers
+pub mod Calls
 pub mod Confirmations
+pub mod Cuts
+pub mod Grants
+pub mod Places
 pub mod Prompt
+pub mod Samples
+pub mod Sound

@@ -1,3 +1,30 @@
-//! Signatures that wait for the user's consent, each with the child process that asks.
-//! Stands on child_msg and key_blob.
+//! Signatures that wait for the user's consent, each with the child process that asks, and what the user is asked
+//! (ours; docs/PROTOCOL.md, "Child frames").
+//! Stands on `child_msg` (messages), `frame_core`, `secret_buf` (buffers), `key_blob` (fingerprints) and `plain_lists`.
 #![tactic(auto)]
+
+mod consent;
+mod desk;
+mod fault;
+mod held;
+mod laws;
+mod list;
+mod pending;
+mod question;
+mod rows;
+#[cfg(test)]
+mod tests;
+
+pub use desk::Desk;
+pub use fault::DeskFault;
+pub use held::{Held, Verdict};
+pub use laws::{
+    a_decision_is_taken_once, confirmations_stay_in_order, cuts_of_the_bytes_do_not_matter,
+    desks_stay_sound,
+};
+pub use pending::Pending;
+pub use question::{prompt, prompt_for};
+pub use rows::{
+    a_decision_ends_one_confirmation, confirmations_are_kept_in_order,
+    only_a_grant_of_the_job_is_a_yes, prompts_are_printable, the_least_port_is_owed_first,
+};

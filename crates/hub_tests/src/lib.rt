@@ -3,6 +3,12 @@
 #![tactic(auto)]
 
 #[cfg(test)]
+mod counted;
+#[cfg(test)]
+mod crowd_tests;
+#[cfg(test)]
+mod helper_tests;
+#[cfg(test)]
 mod scripts;
 #[cfg(test)]
 mod tests;

@@ -1,15 +1,30 @@
 // Scripts of worlds, and what was done there.
-ghost use Rattle.std.specs.Prelude.{◌≡◌, IfOk};
+ghost use Rattle.std.specs.Prelude.{◌≡◌};
 
 use agent_core::{Agent, Settings};
 use plain_lists::Bytes;
-use ready_loop::{ServeEnd, serve};
+use ready_loop::{Core, ServeEnd, serve};
 use std::alloc::{AllocError, Global};
 use std::sync::Wait;
 use world_ports::{Cue, Door, Entry, Got, ScriptWorld, Wrote};
 
 // A request for the identities: its length, and its number.
 pub const LIST: &[u8] = b"\x00\x00\x00\x01\x0b";
+
+// The answer where there are none: its length, its number, and a count of 0.
+pub const EMPTY: &[u8] = b"\x00\x00\x00\x05\x0c\x00\x00\x00\x00";
+
+// An addition of an Ed25519 key of 32 bytes 31 and 64 bytes 32 under the comment `user@host`, as in the agent
+// protocol: number 17, the key type, the public key, the private one, the comment.
+pub fn addition(alloc: Global) -> Result<Vec<u8>, AllocError> {
+    let mut frame = Vec::from_slice(alloc, b"\x00\x00\x00\x85\x11\x00\x00\x00\x0bssh-ed25519")?;
+    frame.extend_from_slice(b"\x00\x00\x00\x20")?;
+    frame.extend_from_slice(&[0x31; 32])?;
+    frame.extend_from_slice(b"\x00\x00\x00\x40")?;
+    frame.extend_from_slice(&[0x32; 64])?;
+    frame.extend_from_slice(b"\x00\x00\x00\x09user@host")?;
+    Ok(frame)
+}
 
 // Somebody connects as a client.
 pub fn connect() -> Cue {
@@ -24,7 +39,22 @@ pub fn send(alloc: Global, port: u64, bytes: &[u8]) -> Result<Cue, AllocError> {
     })
 }
 
-// The loop over a script, with a new agent: how it ended, and the world then.
+// The loop over a script, with this agent: how it ended, and the world then.
+pub fn play_with<R: Wait, A: Core>(
+    rt: &R,
+    alloc: Global,
+    agent: &mut A,
+    script: (Vec<Vec<Cue>>, Vec<u64>),
+    until_idle: bool,
+) -> (ServeEnd, ScriptWorld)
+    requires { (A.state agent.old).last_port ≡ 0 }
+{
+    let mut world = ScriptWorld::new(alloc, script.0, script.1);
+    let end = serve(rt, alloc, agent, &mut world, "agent", until_idle);
+    (end, world)
+}
+
+// The same with a new agent.
 pub fn play<R: Wait>(
     rt: &R,
     alloc: Global,
@@ -32,11 +62,9 @@ pub fn play<R: Wait>(
     failing: Vec<u64>,
     until_idle: bool,
 ) -> (ServeEnd, ScriptWorld) {
-    let mut world = ScriptWorld::new(alloc, turns, failing);
     let settings = Settings { default_life: None };
     let mut agent = Agent::new(alloc, settings);
-    let end = serve(rt, alloc, &mut agent, &mut world, "agent", until_idle);
-    (end, world)
+    play_with(rt, alloc, &mut agent, (turns, failing), until_idle)
 }
 
 // What a port took, in order.

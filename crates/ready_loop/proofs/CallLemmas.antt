@@ -1,5 +1,5 @@
 -- What each call leaves of the readings, by its answer.
-use Rattle.std.proofs.Common.{◌≡◌, ◌∙◌, ℕ, suc, ◌+◌, ◌-◌, ◌^◌, ◌<◌, Bool, true, false, List, [], ◌∷◌, length, drop, get_or, Option, Some, None, Result, Ok, Err, refl, sym, ap, ◌&&◌, ◌||◌, ◌==◌, add-one, arith}
+use Rattle.std.proofs.Common.{◌≡◌, ◌∙◌, ℕ, suc, ◌+◌, ◌-◌, ◌^◌, ◌<◌, Bool, true, false, List, [], ◌∷◌, length, drop, get_or, Option, Some, None, Result, Ok, refl, sym, ap, ◌&&◌, ◌||◌, ◌==◌, add-one, arith}
 use Rattle.std.proofs.Math.Seq.{drop-cons}
 use Rattle.std.specs.Prelude.{IsSome, is_some}
 use Rattle.std.specs.declared.alloc.AllocError.{AllocError}
@@ -9,20 +9,17 @@ use Rattle.std.proofs.lemmas.Bool.Decides.{Decides-eqb, Decides-ltb, nat_tests}
 use Rattle.world_ports.specs.declared.answers.Accepted.{Accepted}
 use Rattle.world_ports.specs.declared.answers.Accepted.TheVariants as accepted
 use Rattle.world_ports.specs.declared.answers.Got.{Got}
-use Rattle.world_ports.specs.declared.answers.Got.TheVariants as got
 use Rattle.world_ports.specs.declared.answers.Polled.{Polled}
 use Rattle.world_ports.specs.declared.answers.Polled.TheVariants as polled
 use Rattle.world_ports.specs.declared.answers.Ready.{Ready}
 use Rattle.world_ports.specs.declared.answers.WorldFault.{WorldFault}
-use Rattle.world_ports.specs.declared.answers.WorldFault.TheVariants.{Failed, Memory}
 use Rattle.world_ports.specs.declared.answers.Wrote.{Wrote}
-use Rattle.world_ports.specs.declared.answers.Wrote.TheVariants as wrote
 use Rattle.world_ports.specs.declared.entry.Entry.{Entry}
 use Rattle.world_ports.specs.declared.entry.Entry.TheVariants as entry
 use Rattle.world_ports.specs.declared.events.Door.{Door}
 use Rattle.world_ports.specs.declared.events.Job.{Job}
 use Rattle.world_ports.specs.declared.events.Moment.{Moment}
-use Rattle.agent_model.specs.Events.{Happening, Joined, Heard, Ended, Took, Started, StartFailed, Tick}
+use Rattle.agent_model.specs.Events.{Happening, Joined, Tick}
 use Rattle.agent_model.specs.State.{State, find_port, find_to_start, is_client, owed_of, starts}
 use Rattle.agent_model.specs.Step.{step}
 use Rattle.ready_hub.specs.Answered as hub

@@ -1,8 +1,7 @@
 -- What waits is overtaken by nothing that was served since.
-use Rattle.std.proofs.Common.{◌≡◌, ◌∙◌, ℕ, Bool, true, false, List, [], ◌∷◌, ◌++◌, Option, Some, None, Result, Ok, Err, refl, sym, ap, cond, not, ◌&&◌, ◌||◌, if◌then◌else◌}
+use Rattle.std.proofs.Common.{◌≡◌, ◌∙◌, ℕ, Bool, true, false, List, [], ◌∷◌, ◌++◌, Option, Some, None, Ok, Err, refl, sym, ap, cond, not, ◌&&◌, ◌||◌, if◌then◌else◌}
 use Rattle.std.specs.Prelude.{option_and_then, option_map}
 use Rattle.std.specs.List.{list_any}
-use Rattle.world_ports.specs.declared.answers.Accepted.{Accepted}
 use Rattle.world_ports.specs.declared.answers.Accepted.TheVariants as accepted
 use Rattle.world_ports.specs.declared.answers.Got.TheVariants as got
 use Rattle.world_ports.specs.declared.answers.Polled.TheVariants as polled
@@ -147,7 +146,7 @@ ahead_after state (entry.Now answer) other thing queue apart has is = is
 
 -- ---- a service puts the thing behind all others
 
-gone_at : (thing : Thing) (queue : List Thing) → set_of (dropped thing queue) thing ≡ false
+pub gone_at : (thing : Thing) (queue : List Thing) → set_of (dropped thing queue) thing ≡ false
 gone_at thing queue =
     ap (λ (hot : Hot). hot thing) (set_of-dropped thing queue)
     ∙ ap (λ (b : Bool). not b && set_of queue thing) (same_thing-refl thing)
@@ -230,7 +229,7 @@ out_of_turn state (entry.Now answer) other thing queue service waits apart is = 
 -- ---- between two services
 
 -- the queue that an entry leaves, where it may come
-after_is : (turning after : Turning) (next : Entry) → taken turning next ≡ Some after → after.line ≡ line_after turning.reading.state next turning.line
+pub after_is : (turning after : Turning) (next : Entry) → taken turning next ≡ Some after → after.line ≡ line_after turning.reading.state next turning.line
 after_is turning after next is =
     elim (is_in_turn turning.reading.state turning.line.queue next) as (λ b. taken_if b turning next ≡ Some after → after.line ≡ line_after turning.reading.state next turning.line) [
       | true ↦ λ here. elim (allowed turning.reading next) as (λ r. option_map (λ (reading : Reading). record { reading = reading; line = line_after turning.reading.state next turning.line }) r ≡ Some after → after.line ≡ line_after turning.reading.state next turning.line) [

@@ -1,11 +1,11 @@
 -- The first thing of a queue that can be served, and that there is none.
-use Rattle.std.proofs.Common.{◌≡◌, ◌∙◌, ℕ, Bool, true, false, List, [], ◌∷◌, Option, Some, None, suc, length, refl, sym, ap, subst, cond, not, ◌&&◌, ◌||◌, ◌==◌, if◌then◌else◌, arith}
+use Rattle.std.proofs.Common.{◌≡◌, ◌∙◌, ℕ, Bool, true, false, List, [], ◌∷◌, Option, Some, None, suc, length, refl, sym, ap, not, ◌&&◌, ◌||◌, ◌==◌, if◌then◌else◌, arith}
 use Rattle.std.specs.Prelude.{is_some, slice_get}
 use Rattle.std.specs.List.{list_any}
 use Rattle.std.proofs.lemmas.Bool.Decides.{nat_tests}
 use Rattle.world_ports.specs.declared.events.Door.TheVariants.{Clients, Children}
 use Rattle.world_ports.specs.declared.events.Job.{Job}
-use Rattle.agent_model.specs.State.{Port, State, find_port, is_some_bytes, owed_by, owed_of, starts, wants, wants_by}
+use Rattle.agent_model.specs.State.{Port, State, find_port, is_some_bytes, owed_by, starts, wants_by}
 use Rattle.ready_hub.specs.Servable.{has_job, is_idle, is_servable, may_serve, things_of, things_of_ports}
 use Rattle.ready_hub.specs.Things.{same_thing, set_of}
 use Rattle.ready_hub.specs.declared.thing.Thing.{Thing}

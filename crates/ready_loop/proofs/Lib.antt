@@ -3,6 +3,9 @@ pub mod SetLemmas
 pub mod IdleLemmas
 pub mod TurningLemmas
 pub mod CallLemmas
+pub mod OwingLemmas
+pub mod AsideLemmas
 pub mod RoomLemmas
 pub mod ServingLemmas
 pub mod FairnessLemmas
+pub mod LastLemmas

@@ -15,15 +15,13 @@ use Rattle.world_ports.specs.declared.entry.Entry.TheVariants as entry
 use Rattle.world_ports.specs.declared.answers.Ready.{Ready}
 use Rattle.world_ports.specs.declared.events.Door.TheVariants.{Clients, Children}
 use Rattle.world_ports.specs.declared.events.Moment.{Moment}
-use Rattle.agent_model.specs.Events.{Tick}
 use Rattle.agent_model.specs.State.{State}
-use Rattle.agent_model.specs.Step.{step}
 use Rattle.ready_hub.specs.Answered.{Free, Reading, after_look, only_if}
 use Rattle.ready_hub.specs.Servable.{is_idle}
 use Rattle.ready_hub.specs.Things.{set_of}
 use Rattle.ready_loop.specs.InTurn.{Line, Turning, in_state, taken, turned}
-use Rattle.ready_loop.specs.Moves.{Advances, Looks, Stops, Turns, WaitsOnce, is_poll}
-use Rattle.ready_loop.specs.Serving.{HalfBound, Opens, Refused, Running, Runs, RunsOut, RunsUpTo, RunsUpToBind, RunsUpToPoll, RunsUntilIdle, Serves, Setting, Stage, Unbound, begun, children_path, gone_on, is_deserted, may_come, ran, running_if, stage_if}
+use Rattle.ready_loop.specs.Moves.{Advances, Looks, Stops, Turns, is_poll}
+use Rattle.ready_loop.specs.Serving.{HalfBound, Opens, Refused, Running, Runs, RunsUpTo, Serves, Setting, Stage, Unbound, begun, children_path, gone_on, is_deserted, may_come, ran, running_if, stage_if}
 use Rattle.ready_loop.specs.declared.outcome.HubFault.{HubFault}
 use Rattle.ready_loop.specs.declared.outcome.HubFault.TheVariants as faults
 use Rattle.ready_loop.specs.declared.outcome.Turn.{Turn}

@@ -1,5 +1,5 @@
 -- Calls one after another.
-use Rattle.std.proofs.Common.{◌≡◌, ◌∙◌, ◌⊎◌, inl, inr, ℕ, ◌<◌, Bool, true, false, List, [], ◌∷◌, ◌++◌, length, Option, Some, None, Result, Ok, Err, refl, sym, ap, subst, append_assoc, length-append, arith}
+use Rattle.std.proofs.Common.{◌≡◌, ◌∙◌, ◌⊎◌, inl, inr, ℕ, Bool, true, false, List, [], ◌∷◌, ◌++◌, Option, Some, None, Result, Ok, Err, refl, sym, ap, subst, append_assoc, length-append, arith}
 use Rattle.std.proofs.lemmas.List.{append-nil}
 use Rattle.std.specs.Prelude.{option_and_then, option_map, ◌||◌}
 use Rattle.std.specs.List.{list_any}
@@ -20,7 +20,7 @@ use Rattle.ready_loop.specs.declared.outcome.HubFault.TheVariants as faults
 use Rattle.ready_loop.specs.declared.outcome.Turn.{Turn}
 use Rattle.ready_loop.specs.declared.outcome.Turn.TheVariants as turns
 use Rattle.ready_loop.specs.InTurn.{Line, Turning, in_state, is_in_turn, line_after, taken, taken_if, turned}
-use Rattle.ready_loop.specs.Moves.{Advances, Continues, Goes, GoesBy, Looks, PollsOr, Serves, ServesBy, Stops, Turns, Waits, WaitsLast, WaitsOnce, is_poll, served_by}
+use Rattle.ready_loop.specs.Moves.{Advances, Continues, Goes, GoesBy, PollsOr, Serves, ServesBy, Stops, Turns, Waits, WaitsOnce, is_poll, served_by}
 
 -- ---- the journal grows
 

@@ -1,12 +1,14 @@
 -- Who waits while others are served (ours).
-use Rattle.std.specs.Prelude.{Bool, true, false, List, [], ◌∷◌, Option, Some, None, ◌&&◌}
+use Rattle.std.specs.Prelude.{◌≡◌, Bool, true, false, List, [], ◌∷◌, ◌++◌, Option, Some, None, ◌&&◌}
 use Rattle.world_ports.specs.declared.entry.Entry.{Entry}
 use Rattle.world_ports.specs.declared.entry.Entry.TheVariants as entry
+use Rattle.agent_model.specs.State.{State}
 use Rattle.ready_hub.specs.Servable.{is_servable}
 use Rattle.ready_hub.specs.Things.{same_thing, set_of}
 use Rattle.ready_hub.specs.declared.thing.Thing.{Thing}
 use Rattle.ready_hub.specs.declared.thing.Thing.TheVariants.{Accept, Read, Write}
 use Rattle.ready_loop.specs.InTurn.{Turning, taken}
+use Rattle.ready_loop.specs.Queues.{dropped, is_next}
 
 -- the call serves this thing
 abbrev pub is_service : Thing → Entry → Bool
@@ -33,3 +35,11 @@ abbrev pub waits_on : Thing → Turning → List Entry → Bool
 waits_on thing turning [] = is_waiting thing turning
 waits_on thing turning (next ∷ later) =
     is_waiting thing turning && if_any (λ after. waits_on thing after later) (taken turning next)
+
+-- what is served stood first of all that could be served; the others keep their order, before what is new; and what was
+-- served, where it is still ready, stands last
+pub record GoesLast (state : State) (thing : Thing) (before after : List Thing) : Type 0 where
+  pub first : is_next state before thing ≡ true
+  pub new : List Thing
+  pub others : dropped thing after ≡ dropped thing before ++ new
+  pub last : set_of after thing ≡ true → after ≡ dropped thing after ++ thing ∷ []

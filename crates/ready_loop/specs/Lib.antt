@@ -1,5 +1,6 @@
 pub mod Happenings
 pub mod Queues
+pub mod Owing
 pub mod Rooms
 pub mod InTurn
 pub mod Moves

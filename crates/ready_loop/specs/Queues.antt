@@ -4,7 +4,6 @@ use Rattle.std.specs.List.{filter}
 use Rattle.world_ports.specs.declared.answers.Ready.{Ready}
 use Rattle.world_ports.specs.declared.answers.Spot.{Spot}
 use Rattle.world_ports.specs.declared.answers.Spot.TheVariants as spot
-use Rattle.world_ports.specs.declared.events.Door.{Door}
 use Rattle.agent_model.specs.State.{State, is_open}
 use Rattle.ready_hub.specs.Servable.{is_servable}
 use Rattle.ready_hub.specs.Things.{same_thing, set_of}

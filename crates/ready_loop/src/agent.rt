@@ -1,6 +1,7 @@
 // The agent as the loop sees it.
 ghost use Rattle.std.specs.Prelude.{◌≡◌, OnOk};
-ghost use Rattle.agent_model.specs.State.{Fits, State, client_count, is_open, next_due, owed_of, starts, wants};
+ghost use Rattle.agent_model.specs.Sound.{IsRising};
+ghost use Rattle.agent_model.specs.State.{Fits, State, client_count, is_open, next_due, next_owed, owed_of, starts, wants};
 ghost use Rattle.agent_model.specs.Step.{step};
 ghost use Rattle.agent_core.specs.Happenings.{happening};
 
@@ -22,6 +23,11 @@ pub trait Core {
     /// What the port is owed: nothing where it isn't open.
     fn owed(&self, port: u64) -> &[u8]
         ensures { result.now ≡ owed_of port (state self.now) };
+
+    /// The open port of the least number above `after` that is owed bytes. The numbers of the open ports rise.
+    fn next_owed(&self, after: u64) -> Option<u64>
+        ensures next { result ≡ next_owed after (state self.now) }
+        ensures rising { IsRising 0 (state self.now).last_port (state self.now).ports };
 
     /// Whether the port is to be read: not where it isn't open.
     fn wants(&self, port: u64) -> bool
@@ -65,6 +71,10 @@ impl Core for Agent {
 
     fn owed(&self, port: u64) -> &[u8] {
         Agent::owed(self, port)
+    }
+
+    fn next_owed(&self, after: u64) -> Option<u64> {
+        Agent::next_owed(self, after)
     }
 
     fn wants(&self, port: u64) -> bool {

@@ -1,7 +1,8 @@
 // The hub: what is ready, and a turn of the loop.
-ghost use Rattle.std.specs.Prelude.{◌≡◌, ◌↔◌, ◌≤◌, Err, IsTrue, MatchResult, OnOk, [], false, length, true};
+ghost use Rattle.std.specs.Prelude.{◌≡◌, ◌≤◌, Err, MatchOption, OnOk, [], false, length, true};
+ghost use Rattle.agent_model.specs.State.{starts};
 ghost use Rattle.ready_hub.specs.Answered.{Free, Polling};
-ghost use Rattle.ready_hub.specs.LegalJournal.{read_room};
+ghost use Rattle.ready_hub.specs.LegalJournal.{is_first_job, read_room};
 ghost use Rattle.ready_hub.specs.Servable.{is_idle};
 ghost use Rattle.ready_hub.specs.Things.{set_of};
 ghost use Rattle.ready_loop.specs.InTurn.{in_state};
@@ -17,7 +18,7 @@ use agent_core::CoreMemory;
 use ready_hub::Thing;
 use std::alloc::{AllocError, Global};
 use std::marker::Model;
-use world_ports::{Ready, World};
+use world_ports::{Job, Ready, World};
 
 /// What is ready to be served: what a poll or an accept said, until a call found otherwise.
 ///
@@ -44,6 +45,17 @@ fn served(outcome: Result<(), CoreMemory>) -> Result<Turn, HubFault>
     match outcome {
         Ok(()) => Ok(Turn::Served),
         Err(_) => Err(HubFault::Memory),
+    }
+}
+
+// The first job that waits.
+fn next_job<A: Core>(agent: &A) -> Option<Job>
+    ensures { MatchOption result (starts (A.state agent.now) ≡ [])
+        (λ job. is_first_job job (starts (A.state agent.now)) ≡ true) }
+{
+    match agent.starts().first() {
+        Some(job) => Some(*job),
+        None => None,
     }
 }
 
@@ -86,11 +98,13 @@ impl Hub {
         ensures cause { result ≡ Err HubFault.Poll → Rose (W.faults world.old) (W.faults world.new) }
         ensures later { W.faults world.old ≤ W.faults world.new }
     {
-        if let Some(job) = agent.starts().first() {
-            let job = *job;
+        if let Some(job) = next_job(agent) {
             return served(start(&mut self.queue, agent, world, job));
         }
-        match self.queue.first(agent) {
+        let Ok(first) = self.queue.next(agent) else {
+            return Err(HubFault::Memory);
+        };
+        match first {
             Some(Thing::Accept(door)) => served(accept(&mut self.queue, agent, world, door)),
             Some(Thing::Read(port)) => {
                 let Ok(()) = self.room.take() else {

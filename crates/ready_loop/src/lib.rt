@@ -3,11 +3,13 @@
 #![tactic(auto)]
 
 mod agent;
+mod aside;
 mod hub;
 mod laws;
 mod listeners;
 mod look;
 mod outcome;
+mod owing;
 mod queue;
 mod room;
 mod serving;
@@ -16,7 +18,7 @@ mod turn;
 
 pub use agent::Core;
 pub use hub::Hub;
-pub use laws::{all_wait_their_turn, what_comes_in_turn_is_legal};
+pub use laws::{all_wait_their_turn, what_comes_in_turn_is_legal, what_is_served_goes_last};
 pub use listeners::children_path;
 pub use outcome::{HubFault, ServeEnd, Turn};
 pub use serving::serve;

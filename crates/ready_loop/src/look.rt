@@ -1,5 +1,5 @@
 // A look at the clock, and a poll.
-ghost use Rattle.std.specs.Prelude.{◌≡◌, ◌≤◌, ◌-◌, Err, OnOk, Option, option_map, true};
+ghost use Rattle.std.specs.Prelude.{◌≡◌, ◌≤◌, ◌-◌, Err, IfOk, OnOk, Option, option_map, true};
 ghost use Rattle.ready_hub.specs.Answered.{Free, Polling, wait_of};
 ghost use Rattle.ready_hub.specs.Servable.{is_idle};
 ghost use Rattle.ready_hub.specs.Things.{set_of};
@@ -11,6 +11,7 @@ use crate::queue::Queue;
 use crate::turn::close_all;
 use crate::{Core, HubFault, Turn};
 use agent_core::Event;
+use std::alloc::AllocError;
 use world_ports::{Polled, Ready, World, WorldFault};
 
 // Whether nothing can be served, and no job waits.
@@ -18,6 +19,15 @@ pub fn is_idle<A: Core>(queue: &Queue, agent: &A) -> bool
     ensures { result ≡ is_idle (A.state agent.now) (set_of queue.now.queue) }
 {
     agent.starts().is_empty() && queue.first(agent).is_none()
+}
+
+// The same, by which ports are owed bytes.
+fn is_idle_now<A: Core>(queue: &mut Queue, agent: &A) -> Result<bool, AllocError>
+    ensures idle { IfOk result (λ idle. idle ≡ is_idle (A.state agent.now) (set_of queue.old.queue)) }
+    ensures unchanged { queue.new ≡ queue.old }
+{
+    let first = queue.next(agent)?;
+    Ok(agent.starts().is_empty() && first.is_none())
 }
 
 // How long a poll waits: until the next identity dies.
@@ -83,7 +93,10 @@ pub fn look<A: Core, W: World>(
         };
         return Ok(Turn::Served);
     }
-    if !is_idle(queue, agent) {
+    let Ok(idle) = is_idle_now(queue, agent) else {
+        return Err(HubFault::Memory);
+    };
+    if !idle {
         return Ok(Turn::Served);
     }
     poll(queue, agent, world, ready)

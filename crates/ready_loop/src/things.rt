@@ -1,13 +1,14 @@
 // What is ready, as a list of things.
-ghost use Rattle.std.specs.Prelude.{◌≡◌, OnOk};
+ghost use Rattle.std.specs.Prelude.{◌≡◌};
 ghost use Rattle.ready_hub.specs.Servable.{is_servable};
 ghost use Rattle.ready_hub.specs.Things.{same_door, same_thing, set_of};
-ghost use Rattle.ready_loop.specs.Queues.{dropped, first_servable, put_back, queued, queued_all, queued_by, queued_if};
+ghost use Rattle.ready_loop.specs.Owing.{ListsOwed};
+ghost use Rattle.ready_loop.specs.Queues.{dropped, first_servable};
 
 use crate::Core;
+use crate::owing::has_number;
 use ready_hub::Thing;
-use std::alloc::AllocError;
-use world_ports::{Door, Ready, Spot};
+use world_ports::Door;
 
 // Whether both are the same listener.
 fn is_same_door(door: Door, other: Door) -> bool
@@ -51,54 +52,6 @@ pub fn drop_thing(things: &mut Vec<Thing>, thing: Thing)
     things.retain(|other| !is_same(thing, *other));
 }
 
-// Puts the thing behind all others.
-pub fn put_last(things: &mut Vec<Thing>, thing: Thing) -> Result<(), AllocError>
-    ensures { OnOk result (things.new.items ≡ put_back thing things.old.items) }
-{
-    drop_thing(things, thing);
-    things.push(thing)?;
-    Ok(())
-}
-
-// Puts the thing behind the others where it is new and the test holds.
-pub fn add_if(things: &mut Vec<Thing>, test: bool, thing: Thing) -> Result<(), AllocError>
-    ensures { OnOk result (things.new.items ≡ queued_if test thing things.old.items) }
-{
-    if test && !has_thing(things, thing) {
-        things.push(thing)?;
-    }
-    Ok(())
-}
-
-// Adds what a poll's item makes ready.
-fn add_item<A: Core>(things: &mut Vec<Thing>, agent: &A, item: Ready) -> Result<(), AllocError>
-    ensures { OnOk result (things.new.items
-        ≡ queued_by (A.state agent.now) item.spot item.readable item.writable things.old.items) }
-{
-    match item.spot {
-        Spot::Door(door) => add_if(things, item.readable, Thing::Accept(door)),
-        Spot::Port(port) => {
-            let is_open = agent.is_port(port);
-            add_if(things, item.readable && is_open, Thing::Read(port))?;
-            add_if(things, item.writable && is_open, Thing::Write(port))
-        }
-    }
-}
-
-// Adds what a poll's items make ready.
-pub fn add_all<A: Core>(
-    things: &mut Vec<Thing>,
-    agent: &A,
-    items: &[Ready],
-) -> Result<(), AllocError>
-    ensures { OnOk result (things.new.items ≡ queued_all (A.state agent.now) items.now things.old.items) }
-{
-    'items: for item in items {
-        add_item(things, agent, *item)?;
-    }
-    Ok(())
-}
-
 // Whether the thing can be served.
 fn can_serve<A: Core>(agent: &A, thing: Thing) -> bool
     ensures { result ≡ is_servable (A.state agent.now) thing }
@@ -110,12 +63,37 @@ fn can_serve<A: Core>(agent: &A, thing: Thing) -> bool
     }
 }
 
+// The same, where these ports are owed bytes: what is ready to be written to is found among them, and the agent isn't
+// asked.
+fn can_serve_by<A: Core>(agent: &A, owed: &[u64], thing: Thing) -> bool
+    requires { ListsOwed (A.state agent.now) owed.now }
+    ensures { result ≡ is_servable (A.state agent.now) thing }
+{
+    match thing {
+        Thing::Write(port) => has_number(owed, port),
+        _ => can_serve(agent, thing),
+    }
+}
+
 // The first thing that can be served.
 pub fn first_of<A: Core>(things: &[Thing], agent: &A) -> Option<Thing>
     ensures { result ≡ first_servable (A.state agent.now) things.now }
 {
     'things: for thing in things {
         if can_serve(agent, *thing) {
+            return Some(*thing);
+        }
+    }
+    None
+}
+
+// The same, where these ports are owed bytes.
+pub fn first_by<A: Core>(things: &[Thing], agent: &A, owed: &[u64]) -> Option<Thing>
+    requires { ListsOwed (A.state agent.now) owed.now }
+    ensures { result ≡ first_servable (A.state agent.now) things.now }
+{
+    'things: for thing in things {
+        if can_serve_by(agent, owed, *thing) {
             return Some(*thing);
         }
     }

@@ -5,6 +5,7 @@
 mod errors;
 mod files;
 mod peer;
+mod room;
 mod spawner;
 #[cfg(test)]
 mod tests;

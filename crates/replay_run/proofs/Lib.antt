@@ -9,3 +9,4 @@ pub mod FeedLemmas
 pub mod FeedsLemmas
 pub mod EndLemmas
 pub mod RoundLemmas
+pub mod BroughtLemmas

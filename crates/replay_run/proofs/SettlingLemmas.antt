@@ -6,11 +6,11 @@ use Rattle.agent_model.specs.Budget.{budget}
 use Rattle.agent_model.specs.Events.{Took}
 use Rattle.agent_model.specs.Sound.{IsSteady}
 use Rattle.agent_model.specs.State.{State, is_some_bytes, owed_by_port, owed_of}
-use Rattle.agent_model.proofs.RunLemmas.{step_keeps-rising, step-last_port}
+use Rattle.agent_model.proofs.RunLemmas.{step-last_port}
 use Rattle.replay_run.specs.Holding.{is_held}
 use Rattle.replay_run.specs.Settling.{Settled, next_to_take, delivered, delivery_lines, after_output, settled_from, settled_by, settled}
 use Rattle.replay_run.proofs.HoldingLemmas.{found_unheld, nothing_unheld}
-use Rattle.agent_model.proofs.BudgetLemmas.{taking_lowers, taking_stays_alone}
+use Rattle.agent_model.proofs.BudgetLemmas.{step_keeps-steady, taking_lowers}
 
 -- a taking lowers the budget
 pub delivered_lowers : (moment : Moment) (held : List ℕ) (port : ℕ) (state : State) → IsSteady state
@@ -21,10 +21,7 @@ delivered_lowers moment held port state steady next =
 
 -- a taking keeps steady numbers
 pub delivered-steady : (moment : Moment) (port : ℕ) (state : State) → IsSteady state → IsSteady (delivered moment port state)
-delivered-steady moment port state steady = record {
-  rising = step_keeps-rising state moment (Took port (length (owed_of port state))) steady.rising;
-  alone = taking_stays_alone port (length (owed_of port state)) moment state steady.alone;
-}
+delivered-steady moment port state = step_keeps-steady state moment (Took port (length (owed_of port state)))
 
 -- nothing is taken where nothing is owed
 settled_by-none : (moment : Moment) (held : List ℕ) (fuel : ℕ) (state : State) → next_to_take held state ≡ None

@@ -2,7 +2,7 @@
 use Rattle.std.specs.Prelude.{◌≡◌, ℕ, ◌+◌, ◌≤◌, None}
 use Rattle.replay_run.specs.Replay.{Run, longest_schedule}
 
--- a run that goes on: every line had a byte, and no more clients joined than lines were run
+-- a run that goes on: every line had a byte, and no more ports joined than lines were run
 pub record IsCounted (run : Run) : Type 0 where
   pub accepted : run.refused ≡ None
   pub ports : run.agent.last_port ≤ run.line

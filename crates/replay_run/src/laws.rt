@@ -8,7 +8,7 @@ ghost use Rattle.replay_run.specs.Holding.{is_held};
 ghost use Rattle.replay_run.specs.Settling.{settled};
 
 /// After a settling nothing is owed to a port that isn't held, in every state whose ports have
-/// numbers that rise and in which no confirmation is waited for.
+/// numbers that rise, and whose confirmations have jobs that rise.
 pub fn nothing_is_owed_after_settling()
     ensures { (moment : Moment) (held : List ℕ) (state : State) (port : ℕ)
         → IsSteady state → is_held port held ≡ false

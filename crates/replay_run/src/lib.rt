@@ -5,6 +5,7 @@
 
 mod feed;
 mod held;
+mod lawful;
 mod laws;
 mod limits;
 mod replay;
@@ -13,6 +14,7 @@ mod run_end;
 mod settle;
 
 use feed::Feed;
+pub use lawful::a_schedule_is_lawful;
 pub use laws::nothing_is_owed_after_settling;
 use replay::Replay;
 pub use run::run_replay;

@@ -8,4 +8,4 @@ mod command;
 mod tests;
 mod words;
 
-pub use words::{ServeFault, ServeWords, read_serve};
+pub use words::{ServeFault, ServeWords, begins_with_serve, read_serve};

@@ -90,8 +90,8 @@ pub fn read_serve(alloc: Global, words: &[String]) -> Result<ServeWords, ServeFa
     })
 }
 
-// The first word is the command's.
-fn begins_with_serve(words: &[String]) -> bool
+/// Whether the first word is the command's.
+pub fn begins_with_serve(words: &[String]) -> bool
     ensures { result ≡ begins (map string_bytes words.now) }
 {
     match words.first() {

@@ -1,1 +1,4 @@
+pub mod KeepLemmas
+pub mod KeptLemmas
 pub mod PlaceLemmas
+pub mod VerificationLemmas

@@ -1,5 +1,5 @@
 -- Where a job of a number stands in a list of jobs.
-use Rattle.std.proofs.Common.{◌≡◌, ◌==◌, ℕ, zero, suc, ◌+◌, ◌<◌, Bool, true, false, List, [], ◌∷◌, length, get_or, Option, Some, None, MatchOption, refl, sym, ap, ◌∙◌, cond, arith, replicate}
+use Rattle.std.proofs.Common.{◌≡◌, ◌==◌, ℕ, zero, suc, ◌+◌, ◌<◌, Bool, true, false, List, [], ◌∷◌, length, get_or, Option, Some, None, IsSome, MatchOption, refl, sym, ap, ◌∙◌, cond, arith, replicate}
 use Rattle.std.specs.List.{position, position_from, remove}
 use Rattle.std.proofs.lemmas.List.Quantifiers.{position-Some}
 use Rattle.std.proofs.lemmas.Iterator.Adapters.{position_from-zero}
@@ -67,6 +67,10 @@ is_place number jobs (Some place) is =
       found = λ other. found_there number jobs place other (at other).0 (at other).1 (at other).2;
       removed = removed_there number jobs place no_job (at no_job).0 (at no_job).1 (at no_job).2;
     }
+
+-- so there is one
+pub is_there : (number : ℕ) (jobs : List Job) (place : ℕ) → IsJobAt number jobs place → IsSome (find_to_start number jobs)
+is_there number jobs place at = rw (at.found no_job) refl
 
 -- ---- started jobs
 

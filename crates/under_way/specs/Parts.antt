@@ -1,59 +1,153 @@
 -- What is under way, from its parts in storage (ours).
 use Rattle.std.specs.Prelude.{◌≡◌, ℕ, ◌+◌, ◌≤◌, List, [], ◌∷◌, length, Option, Some, None}
 use Rattle.world_ports.specs.declared.Job.{Job}
+use Rattle.world_ports.specs.declared.JobKind.{JobKind}
 use Rattle.world_ports.specs.declared.JobKind.TheVariants as kinds
 use Rattle.agent_msg.specs.Replies.{failure}
 use Rattle.helper_link.specs.HelperLink.{HelperLink, IsStarting}
 use Rattle.helper_link.specs.declared.state.LinkState.{LinkState}
 use Rattle.helper_link.specs.declared.state.LinkState.TheVariants as states
-use Rattle.agent_model.specs.State.{Nothing, OnAsk, StartedJob, UnderWay}
+use Rattle.confirm_desk.specs.Calls.{Telling, telling}
+use Rattle.confirm_desk.specs.Confirmations.{Confirmation, find_job, find_linked}
+use Rattle.confirm_desk.specs.declared.held.Verdict.{Verdict as DeskVerdict}
+use Rattle.confirm_desk.specs.declared.held.Verdict.TheVariants as verdicts
+use Rattle.agent_model.specs.Asking.{JobsRise}
+use Rattle.agent_model.specs.Consents.{without_confirmation}
+use Rattle.agent_model.specs.Limits.{longest_body}
+use Rattle.agent_model.specs.State.{Nothing, OnAsk, OnConfirmation, StartedJob, UnderWay, find_to_start}
 use Rattle.agent_model.specs.Verdicts.{Awaits, Verdict, verdict_text, verdict_waits}
 use Rattle.under_way.specs.Jobs.{all_started}
+use Rattle.under_way.specs.Verifications.{all_verifications}
 use Rattle.under_way.specs.declared.jobs.Started.{Started}
+use Rattle.under_way.specs.declared.verification.Verification.{Verification}
 
--- no verification and no confirmation is waited for
-abbrev pub under_way_of : HelperLink → List Job → List Started → ℕ → UnderWay
-under_way_of link to_start started last_job = record {
+-- its parts together
+abbrev pub under_way_of : HelperLink → List Job → List Started → List Verification → List Confirmation → ℕ → UnderWay
+under_way_of link to_start started verifications confirmations last_job = record {
   link = link;
   to_start = to_start;
   started = all_started started;
-  verifications = [];
-  confirmations = [];
+  verifications = all_verifications verifications;
+  confirmations = confirmations;
   last_job = last_job;
 }
 
--- no job, or a helper's alone
-abbrev pub IsOneHelper : List Job → List Started → Type 0
-IsOneHelper [] [] = Unit {0}
-IsOneHelper [] (one ∷ []) = one.job.kind ≡ kinds.Helper
-IsOneHelper [] (one ∷ other ∷ others) = ⊥
-IsOneHelper (job ∷ []) [] = job.kind ≡ kinds.Helper
-IsOneHelper (job ∷ []) (one ∷ others) = ⊥
-IsOneHelper (job ∷ other ∷ others) started = ⊥
+-- ---- the jobs
 
--- a job is to be started, or was, only while a helper is being started: that helper's
-abbrev pub AreJobs : LinkState → List Job → List Started → Type 0
-AreJobs states.None to_start started = (to_start ≡ []) × (started ≡ [])
-AreJobs (states.Starting job) to_start started = IsOneHelper to_start started
-AreJobs (states.Linked port) to_start started = (to_start ≡ []) × (started ≡ [])
+-- the jobs of those that were started
+abbrev pub jobs_of : List StartedJob → List Job
+jobs_of [] = []
+jobs_of (one ∷ others) = one.job ∷ jobs_of others
 
--- so is it of what is under way, and each job that is to be started finds room among the started ones
-pub record IsKept (state : LinkState) (to_start : List Job) (started : List Started) (places : ℕ) : Type 0 where
-  pub jobs : AreJobs state to_start started
-  pub room : length to_start + length started ≤ places
+-- no child process came for it yet, where there is one
+abbrev pub IsUnlinked : Option Confirmation → Type 0
+IsUnlinked None = Unit {0}
+IsUnlinked (Some confirmation) = confirmation.port ≡ None
 
--- no verification and no confirmation is waited for
-pub record IsAlone (under_way : UnderWay) : Type 0 where
-  pub verifications : under_way.verifications ≡ []
-  pub confirmations : under_way.confirmations ≡ []
+-- there is one, and no child process came for it yet
+abbrev pub IsAwaited : Option Confirmation → Type 0
+IsAwaited None = ⊥
+IsAwaited (Some confirmation) = confirmation.port ≡ None
 
--- this started job is the helper's, under its number, and the helper is being started
-pub record IsHelpers (job : ℕ) (one : StartedJob) (state : LinkState) : Type 0 where
-  pub kind : one.job.kind ≡ kinds.Helper
-  pub number : one.job.number ≡ job
-  pub starting : IsStarting state
+-- what is waited for under the number of a job to start
+abbrev pub FitsToStart : JobKind → Option Confirmation → Type 0
+FitsToStart kinds.Helper found = found ≡ None
+FitsToStart kinds.Confirm found = IsUnlinked found
+
+-- the same of a started job
+abbrev pub FitsStarted : JobKind → Option Confirmation → Type 0
+FitsStarted kinds.Helper found = found ≡ None
+FitsStarted kinds.Confirm found = IsAwaited found
+
+-- each has a number of its own, which was given, and fits the confirmations
+abbrev pub AreGiven : (JobKind → Option Confirmation → Type 0) → ℕ → List Confirmation → List Job → Type 0
+AreGiven Fits last confirmations [] = Unit {0}
+AreGiven Fits last confirmations (job ∷ jobs) =
+    (job.number ≤ last) × (find_to_start job.number jobs ≡ None) × Fits job.kind (find_job job.number confirmations)
+    × AreGiven Fits last confirmations jobs
+
+-- the jobs to start and the started ones have numbers of their own, and fit the confirmations, which rise by their jobs
+pub record AreKept (last : ℕ) (confirmations : List Confirmation) (due begun : List Job) : Type 0 where
+  pub order : JobsRise 0 confirmations last
+  pub to_start : AreGiven FitsToStart last confirmations due
+  pub started : AreGiven FitsStarted last confirmations begun
+  pub apart : (number : ℕ) (job : Job) → find_to_start number due ≡ Some job → find_to_start number begun ≡ None
+
+-- ---- the helper's job
+
+-- 1 for that of a helper
+abbrev pub is_helper : JobKind → ℕ
+is_helper kinds.Helper = 1
+is_helper kinds.Confirm = 0
+
+-- how many of the jobs are a helper's
+abbrev pub helpers : List Job → ℕ
+helpers [] = 0
+helpers (job ∷ jobs) = is_helper job.kind + helpers jobs
+
+-- and how many there may be: one while it is being started
+abbrev pub helpers_coming : LinkState → ℕ
+helpers_coming states.None = 0
+helpers_coming (states.Starting job) = 1
+helpers_coming (states.Linked port) = 0
+
+-- what waits for consent is no longer than a client's message
+abbrev pub AreShort : List Confirmation → Type 0
+AreShort [] = Unit {0}
+AreShort (one ∷ others) = (length one.message ≤ longest_body) × AreShort others
+
+-- what holds of what is under way
+pub record IsKept (under_way : UnderWay) : Type 0 where
+  pub jobs : AreKept under_way.last_job under_way.confirmations under_way.to_start (jobs_of under_way.started)
+  pub coming : helpers under_way.to_start + helpers (jobs_of under_way.started) ≤ helpers_coming under_way.link.state
+  pub short : AreShort under_way.confirmations
+
+-- no job of a helper is to be started or was
+abbrev pub HasNoHelper : UnderWay → Type 0
+HasNoHelper under_way = helpers under_way.to_start + helpers (jobs_of under_way.started) ≡ 0
+
+-- ---- what is told
+
+-- what a started job is for: the helper that is being started, or a confirmation that no child process came for yet
+abbrev pub IsFor : JobKind → ℕ → UnderWay → Type 0
+IsFor kinds.Helper job under_way = IsStarting under_way.link.state
+IsFor kinds.Confirm job under_way = IsAwaited (find_job job under_way.confirmations)
+
+-- the start of a job that is its helper's failed: that helper was being started, and has no job any more
+abbrev pub HasFailed : JobKind → UnderWay → Type 0
+HasFailed kinds.Helper under_way = IsStarting under_way.link.state × HasNoHelper under_way
+HasFailed kinds.Confirm under_way = Unit {0}
 
 -- what is told of a verdict: the number of the ask that is waited for, or nothing where it is a refusal
 abbrev pub TellsOf : Verdict → Option ℕ → Type 0
 TellsOf verdict (Some ask) = verdict ≡ Awaits (OnAsk ask)
 TellsOf verdict None = (verdict_text verdict ≡ failure) × (verdict_waits verdict ≡ Nothing)
+
+-- the same of the job by which the user is asked
+abbrev pub TellsOfUser : Verdict → Option ℕ → Type 0
+TellsOfUser verdict (Some job) = verdict ≡ Awaits (OnConfirmation job)
+TellsOfUser verdict None = (verdict_text verdict ≡ failure) × (verdict_waits verdict ≡ Nothing)
+
+-- ---- what a confirmer's bytes bring
+
+-- by what the user decided: the confirmation goes on, or is over
+abbrev pub told_by : DeskVerdict → ℕ → List Confirmation → UnderWay → UnderWay
+told_by verdicts.NotYet job confirmations under_way = record under_way { confirmations = confirmations }
+told_by (verdicts.Granted held) job confirmations under_way = without_confirmation job under_way
+told_by (verdicts.Denied held) job confirmations under_way = without_confirmation job under_way
+
+-- of the confirmation that is found at the port
+abbrev pub told_if : Option Confirmation → Telling → UnderWay → UnderWay
+told_if None telling under_way = under_way
+told_if (Some confirmation) telling under_way = told_by telling.verdict confirmation.job telling.desk under_way
+
+-- a piece of what the child process at this port sends
+abbrev pub confirmer_told : ℕ → List ℕ → UnderWay → UnderWay
+confirmer_told port piece under_way =
+    told_if (find_linked port under_way.confirmations) (telling port piece under_way.confirmations) under_way
+
+-- what a decision hands back is no longer than a client's message
+abbrev pub IsShortIn : DeskVerdict → Type 0
+IsShortIn verdicts.NotYet = Unit {0}
+IsShortIn (verdicts.Granted held) = length held.message ≤ longest_body
+IsShortIn (verdicts.Denied held) = length held.message ≤ longest_body

@@ -1,9 +1,9 @@
 //! Jobs by their numbers.
 
-ghost use Rattle.std.specs.Prelude.{◌≡◌, ◌==◌, None, MatchOption};
+ghost use Rattle.std.specs.Prelude.{◌≡◌, ◌↔◌, ◌≤◌, ◌==◌, IsSome, IsTrue, None, MatchOption, length, vec_capacity};
 ghost use Rattle.std.specs.List.{position};
 ghost use Rattle.world_ports.specs.declared.Job.{Job as AJob};
-ghost use Rattle.agent_model.specs.Consents.{find_started};
+ghost use Rattle.agent_model.specs.Consents.{find_started, remove_started};
 ghost use Rattle.agent_model.specs.State.{find_to_start};
 ghost use Rattle.under_way.specs.Jobs.{IsJobAt, IsStartedAt, all_started};
 ghost use Rattle.under_way.specs.declared.jobs.Started.{Started as AStarted};
@@ -31,6 +31,17 @@ fn first_of(jobs: &[Job], number: u64) -> Option<usize>
     jobs.iter().position(|job| job.number == number)
 }
 
+/// Whether there is a job of this number.
+#[tactic(auto, using(crate::proofs::PlaceLemmas::is_there))]
+pub fn is_among(jobs: &[Job], number: u64) -> bool
+    ensures { IsTrue result ↔ IsSome (find_to_start number jobs.now) }
+{
+    match place_of(jobs, number) {
+        Some(_) => true,
+        None => false,
+    }
+}
+
 /// Where the started job of this number stands.
 pub fn place_of_started(started: &[Started], number: u64) -> Option<usize>
     ensures { MatchOption result (find_started number (all_started started.now) ≡ None)
@@ -43,4 +54,16 @@ fn first_of_started(started: &[Started], number: u64) -> Option<usize>
     ensures { result ≡ position (λ (one : AStarted). one.job.number == number) started.now }
 {
     started.iter().position(|one| one.job.number == number)
+}
+
+/// Takes out the started job of this number, where there is one.
+#[tactic(auto, using(crate::proofs::KeptLemmas::not_begun))]
+pub fn forget(started: &mut Vec<Started>, number: u64)
+    ensures left { all_started started.new.items ≡ remove_started number (all_started started.old.items) }
+    ensures fewer { length started.new.items ≤ length started.old.items }
+    ensures room { vec_capacity started.new ≡ vec_capacity started.old }
+{
+    if let Some(place) = place_of_started(started, number) {
+        started.remove(place);
+    }
 }

@@ -77,3 +77,75 @@ fn the_first_ask_starts_a_helper(rt: HostRuntime) -> Result<(), Fail> {
     assert!(rt; under_way.owed().is_empty());
     Ok(())
 }
+
+// An ask of the client of port 7 for the verification of a signature of two bytes by that key, which is a host's here.
+fn verify(under_way: &mut UnderWay) -> Option<u64>
+    requires { under_way.old.link.failed ≡ [] }
+{
+    match under_way.put_verify(7, BLOB, &[1, 2, 3], &[4, 5], true, true) {
+        Ok(ask) => ask,
+        Err(JobMemory) => None,
+    }
+}
+
+#[test]
+fn a_binding_is_kept_until_it_is_taken_out(rt: HostRuntime) -> Result<(), Fail> {
+    let mut under_way = UnderWay::new(rt.alloc());
+    assert_eq!(rt; verify(&mut under_way), Some(1));
+    assert!(rt; under_way.take_verification(2).is_none());
+    let one = under_way.take_verification(1);
+    assert!(rt; one.is_some());
+    let Some(one) = one else {
+        return Ok(());
+    };
+    assert_eq!(rt; one.host_key.as_slice(), BLOB);
+    assert_eq!(rt; one.session.as_slice(), [1, 2, 3].as_slice());
+    assert!(rt; one.forwarding && one.is_new);
+    assert!(rt; under_way.take_verification(1).is_none());
+    Ok(())
+}
+
+// A question for the client of port 7, about a signature of two bytes with that key, where it waits for none yet.
+fn ask_for(under_way: &mut UnderWay, table: &Table) -> Option<u64> {
+    let key = table.find(BLOB)?;
+    if under_way.find_asker(7).is_some() {
+        return None;
+    }
+    match under_way.ask_user(7, key, &[1, 2], 0) {
+        Ok(job) => job,
+        Err(JobMemory) => None,
+    }
+}
+
+// Ends the confirmation of this job, where there is one: the addition that it was for.
+fn end(under_way: &mut UnderWay, job: u64) -> Option<u64> {
+    match under_way.find_confirmation(job) {
+        Some(_) => Some(under_way.end_confirmation(job).addition),
+        None => None,
+    }
+}
+
+#[test]
+fn the_user_is_asked_by_a_job_of_its_own(rt: HostRuntime) -> Result<(), Fail> {
+    let table = one_key(rt.alloc());
+    assert!(rt; table.is_some());
+    let Some(table) = table else {
+        return Ok(());
+    };
+    let mut under_way = UnderWay::new(rt.alloc());
+    assert_eq!(rt; ask_for(&mut under_way, &table), Some(1));
+    assert_eq!(rt; ask_for(&mut under_way, &table), None);
+    let confirm = Job {
+        number: 1,
+        kind: JobKind::Confirm,
+    };
+    assert_eq!(rt; under_way.starts(), [confirm].as_slice());
+    assert_eq!(rt; under_way.link_state(), LinkState::None);
+    // No child process is there yet.
+    assert_eq!(rt; under_way.next_confirmer_owed(0), None);
+    assert_eq!(rt; end(&mut under_way, 1), Some(1));
+    assert_eq!(rt; end(&mut under_way, 1), None);
+    // Its job is still to be started.
+    assert_eq!(rt; under_way.starts(), [confirm].as_slice());
+    Ok(())
+}

@@ -1,4 +1,4 @@
-use Rattle.std.proofs.Common.{◌≡◌, List, ℕ, Ok, Err, subst, rules}
+use Rattle.std.proofs.Common.{List, ℕ, Ok, Err, subst, rules}
 use Rattle.agent_msg.specs.ReplyReading.{reply_of}
 use Rattle.add_core.specs.declared.fault.AddFault.TheVariants.{OutputFault}
 use Rattle.add_core.specs.declared.fault.Stop.TheVariants.{Fault}

@@ -1,4 +1,4 @@
-use Rattle.std.proofs.Common.{◌≡◌, List, ℕ, Ok, Err, sym, ap, ◌∙◌, rules}
+use Rattle.std.proofs.Common.{List, ℕ, Ok, Err, sym, ap, ◌∙◌, rules}
 use Rattle.add_core.specs.Exchanges.{stepped, requested}
 use Rattle.add_core.specs.Sendings.{place_of, text_held, sent_for}
 use Rattle.add_core.specs.Steps.{Step}
@@ -13,13 +13,14 @@ returns-in_err-text-clause-told g c = λ held replies files_known peer_known.
     (g.P.Stream.seen c.args.peer.now) (g.E.Stream.seen c.args.errors.now) (c.in_err-text.ensures.told held files_known) in
     search rules
 
-pub returns-in-Err-clause-told : goal.returns-in-Err-clause-told
-returns-in-Err-clause-told g c = λ held replies files_known peer_known.
-    let stop = c.in-Err.stop in
-    let text = c.deref.result.now in
+pub returns-in_err-sending-clause-told : goal.returns-in_err-sending-clause-told
+returns-in_err-sending-clause-told g c = λ held replies files_known peer_known.
+    let stop = c.in_err-sending.field-0.0 in
+    let text = c.of.result in
+    let read = c.in_ok-text.ensures.told held files_known ∙ ap (λ (l : List ℕ). Ok l) (sym c.of.ensures) in
     let p = g.P.Stream.seen c.args.peer.now in
     let e = g.E.Stream.seen c.args.errors.now in
-    let read = c.in_ok-text.ensures.told held files_known ∙ ap (λ (l : List ℕ). Ok l) (sym c.deref.ensures.value) in
     let then_sent : List ℕ → Step = λ t. stepped (sent_for c.args.task.now c.args.path.now t) (λ made. requested made.0 made.1 replies) in
-    tells_ok {T = Unit {0}} (Err stop) text (text_held (place_of c.args.place) 1048576 (held c.args.path.now)) then_sent p p e e read
-    (tells_stops stop (sent_for c.args.task.now c.args.path.now text) (λ made. requested made.0 made.1 replies) p e c.in-Err.ensures.told)
+    let stops = tells_ok {T = Unit {0}} (Err stop) text (text_held (place_of c.args.place) 1048576 (held c.args.path.now)) then_sent p p e e read
+    (tells_stops stop (sent_for c.args.task.now c.args.path.now text) (λ made. requested made.0 made.1 replies) p e c.in_err-sending.ensures.told) in
+    search rules

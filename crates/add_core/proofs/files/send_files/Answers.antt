@@ -1,4 +1,4 @@
-use Rattle.std.proofs.Common.{◌≡◌, ◌+◌, List, ℕ, refl, ap, ◌∙◌, rules, arith}
+use Rattle.std.proofs.Common.{◌+◌, ℕ, refl, ap, ◌∙◌, rules, arith}
 use Rattle.add_core.specs.Sendings.{each_file}
 use Rattle.add_core.specs.Steps.{nothing}
 use Rattle.add_core.proofs.FileLemmas.{lent, stopped_file, made_file, no_file}

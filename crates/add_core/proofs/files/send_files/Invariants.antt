@@ -1,5 +1,4 @@
 use Rattle.std.proofs.Common.{◌≡◌, ◌≤◌, ℕ, List, Option, Some, drop, map}
-use Rattle.world_ports.specs.Streams.{StreamView}
 use Rattle.add_core.specs.Sendings.{each_file}
 use Rattle.add_core.specs.Steps.{Step, IsWhole, followed}
 use Rattle.add_core.proofs.files.send_files.Given as goal

@@ -1,4 +1,4 @@
-use Rattle.std.proofs.Common.{◌≡◌, ◌∷◌, [], ◌++◌, List, ℕ, Result, Err, Ok, sym, ap, subst, ◌∙◌, rules}
+use Rattle.std.proofs.Common.{◌≡◌, ◌∷◌, [], ◌++◌, List, ℕ, Result, sym, ap, subst, ◌∙◌, rules}
 use Rattle.wire_text.specs.Wire.{string}
 use Rattle.agent_msg.specs.declared.agent_reply.ReplyFault.{ReplyFault}
 use Rattle.agent_msg.specs.ReplyReading.{AgentReply, reply_of}

@@ -1,9 +1,9 @@
-use Rattle.std.proofs.Common.{◌≡◌, List, ℕ, Ok, Err, ap, subst, ◌∙◌, rules}
+use Rattle.std.proofs.Common.{◌≡◌, List, ℕ, ap, subst, ◌∙◌, rules}
 use Rattle.wire_text.specs.Wire.{string}
 use Rattle.add_core.specs.Exchanges.{requested}
 use Rattle.add_core.specs.Locks.{lock_body, lock_line, lock_step}
 use Rattle.add_core.specs.Passphrases.{passphrase_of}
-use Rattle.add_core.specs.Steps.{Step, Follows}
+use Rattle.add_core.specs.Steps.{Follows}
 use Rattle.add_core.proofs.StepLemmas.{none_is_cut, tells_stops, tells_ok}
 use Rattle.add_core.proofs.locking.lock.Goals as goal
 

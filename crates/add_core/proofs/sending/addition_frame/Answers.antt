@@ -1,4 +1,4 @@
-use Rattle.std.proofs.Common.{◌≡◌, ◌≢◌, ◌++◌, [], List, ℕ, length, Ok, refl, sym, ap, ◌∙◌, arith}
+use Rattle.std.proofs.Common.{◌≡◌, ◌++◌, [], List, ℕ, Ok, refl, sym, ap, ◌∙◌, arith}
 use Rattle.std.proofs.lemmas.Bool.Decides.{nat_tests}
 use Rattle.wire_text.specs.Wire.{string}
 use Rattle.agent_msg.specs.Writing.{addition_text}
@@ -11,7 +11,7 @@ pub returns-then-saturating_add-clause-told : goal.returns-then-saturating_add-c
 returns-then-saturating_add-clause-told c = λ not. (
   refl,
   long_addition c.args.key.private c.args.comment.now (constraints_bytes c.args.terms.now) []
-      (grind (arith, nat_tests, c.len.ensures, c.saturating_add-fields.ensures, c.saturating_add.ensures, c.in_ok-constraints.ensures)),
+      (grind (arith, nat_tests, c.len.ensures, c.saturating_add-fields.ensures, c.saturating_add.ensures, c.constraints_len.ensures.value)),
 )
 
 pub returns-clause-told : goal.returns-clause-told
@@ -23,7 +23,7 @@ returns-clause-told c =
     c.in_ok-write_request.ensures.ok ∙ ap (λ (l : List ℕ). l ++ lent) (ap (λ b. b.live) c.new-frame.ensures)
     ∙ ap (λ (t : Terms). string (addition_text private comment (constraints_bytes t))) c.replace.ensures.value in
     short_addition private comment (constraints_bytes c.args.terms.now) []
-    (grind (arith, nat_tests, c.len.ensures, c.saturating_add-fields.ensures, c.saturating_add.ensures, c.in_ok-constraints.ensures))
+    (grind (arith, nat_tests, c.len.ensures, c.saturating_add-fields.ensures, c.saturating_add.ensures, c.constraints_len.ensures.value))
     ∙ ap (λ (l : List ℕ). Ok (l, [])) (sym frame)
 
 pub returns-clause-kept : goal.returns-clause-kept

@@ -1,7 +1,6 @@
-use Rattle.std.proofs.Common.{◌≡◌, ◌≤◌, List, ℕ, ap, sym, ◌∙◌, arith, ◌∷◌, ◌++◌, [], length, Result, Ok}
+use Rattle.std.proofs.Common.{◌≡◌, List, ℕ, ap, sym, ◌∙◌, arith, ◌∷◌, ◌++◌, Ok}
 use Rattle.std.proofs.lemmas.Bool.Decides.{nat_tests}
 use Rattle.wire_text.specs.Wire.{string}
-use Rattle.add_core.specs.declared.fault.AddFault.{AddFault}
 use Rattle.add_core.specs.Sendings.{removed_line}
 use Rattle.add_core.proofs.SendingLemmas.{long_removal, short_removal}
 use Rattle.add_core.proofs.sending.removal.Goals as goal

@@ -11,7 +11,7 @@ invariant-askers l =
     (record l.ports { ports = tell_each (Refuses HelperLost) l.under_way.link.failed l.ports.ports }
     ≡ record l.fn.ports { ports = tell_each (Refuses HelperLost) (askers l.fn.under_way.link.asks) l.fn.ports.ports })
     × (record l.under_way { link = record l.under_way.link { failed = [] } }
-    ≡ record l.fn.under_way { link = link_lost l.fn.under_way.link })
+    ≡ record l.fn.under_way { link = link_lost l.fn.under_way.link; verifications = [] })
     × AreSilent l.under_way.link.failed l.ports.ports
 
 abbrev pub decreases-askers : goal.decreases-askers

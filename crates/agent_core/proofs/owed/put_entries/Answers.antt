@@ -1,32 +1,29 @@
 use Rattle.std.proofs.Common.{◌∙◌, ◌++◌, arith, ap, sym, map, drop, append_assoc, ◌+◌}
 use Rattle.identity_table.proofs.PlaceLemmas.{entries_len-more}
-use Rattle.agent_msg.specs.Replies.{entries, entry}
+use Rattle.agent_msg.specs.Replies.{entries}
 use Rattle.agent_model.specs.KeyStates.{shown}
-use Rattle.agent_core.proofs.HeldLemmas.{entries-more, entry_of}
+use Rattle.agent_core.specs.Seen.{entry_if, is_seen, seen}
+use Rattle.agent_core.proofs.SeenLemmas.{seen-more}
 use Rattle.agent_core.proofs.owed.put_entries.Goals as goal
 
-pub put_list_entry-requires-clause-blob_fits : goal.put_list_entry-requires-clause-blob_fits
-put_list_entry-requires-clause-blob_fits c =
+pub put_entry-requires : goal.put_entry-requires
+put_entry-requires c =
     let l = c.loop-identity in
     let more = entries_len-more c.args.identities.now l.identity-index c.identity-item.result c.loop-identity-test.true c.identity-item.is in
-    rw c.blob.ensures (omega (arith, more, l.invariant.2))
-
-pub put_list_entry-requires-clause-comment_fits : goal.put_list_entry-requires-clause-comment_fits
-put_list_entry-requires-clause-comment_fits c =
-    let l = c.loop-identity in
-    let more = entries_len-more c.args.identities.now l.identity-index c.identity-item.result c.loop-identity-test.true c.identity-item.is in
-    rw c.comment.ensures (omega (arith, more, l.invariant.2))
+    omega (arith, more, l.invariant.2)
 
 pub loop-identity-preserved : goal.loop-identity-preserved
 loop-identity-preserved c =
     let l = c.loop-identity in
-    let more = entries_len-more c.args.identities.now l.identity-index c.identity-item.result c.loop-identity-test.true c.identity-item.is in
-    let shown_more = entries-more c.args.identities.now l.identity-index c.identity-item.result c.loop-identity-test.true c.identity-item.is in
-    let rest = entries (map shown (drop (l.identity-index + 1) c.args.identities.now)) in (
-      ap (λ bytes. bytes ++ rest) (c.in_ok-put_list_entry.ensures.ok ∙ ap (λ e. l.out.live ++ e) (entry_of c.identity-item.result c.blob.result.now c.comment.result.now c.blob.ensures c.comment.ensures))
-          ∙ append_assoc l.out.live (entry (shown c.identity-item.result)) rest
-          ∙ ap (λ bytes. l.out.live ++ bytes) (sym shown_more)
+    let f = is_seen c.args.asker.now in
+    let key = c.identity-item.result in
+    let more = entries_len-more c.args.identities.now l.identity-index key c.loop-identity-test.true c.identity-item.is in
+    let adds = seen-more f c.args.identities.now l.identity-index key c.loop-identity-test.true c.identity-item.is in
+    let rest = entries (map shown (seen c.args.asker.now (drop (l.identity-index + 1) c.args.identities.now))) in (
+      ap (λ bytes. bytes ++ rest) c.in_ok-put_entry.ensures.ok
+          ∙ append_assoc l.out.live (entry_if (f key) key) rest
+          ∙ ap (λ bytes. l.out.live ++ bytes) (sym adds.entries)
           ∙ l.invariant.0,
-      omega (arith, l.invariant.1, c.put_list_entry.ensures.keeps_room),
+      omega (arith, l.invariant.1, c.put_entry.ensures.keeps_room),
       omega (arith, more, l.invariant.2),
     )

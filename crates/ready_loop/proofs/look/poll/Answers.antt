@@ -1,4 +1,4 @@
-use Rattle.std.proofs.Common.{Ok, Err, Result, Some, List, ap, sym, ◌∙◌, true, inr}
+use Rattle.std.proofs.Common.{Ok, Err, Result, Some, List, ap, sym, ◌∙◌, inr}
 use Rattle.world_ports.specs.declared.answers.Polled.{Polled}
 use Rattle.world_ports.specs.declared.answers.Polled.TheVariants as polled
 use Rattle.world_ports.specs.declared.answers.Ready.{Ready}

@@ -1,4 +1,4 @@
-use Rattle.std.proofs.Common.{◌≡◌, ◌∙◌, Ok, Err, true, ap, sym, arith, ◌&&◌}
+use Rattle.std.proofs.Common.{◌∙◌, Ok, Err, ap, sym, arith, ◌&&◌}
 use Rattle.ready_hub.specs.Answered.{Free}
 use Rattle.ready_hub.specs.Servable.{is_idle}
 use Rattle.ready_hub.specs.Things.{set_of}

@@ -1,4 +1,4 @@
-use Rattle.std.proofs.Common.{refl, ◌≡◌, ◌∙◌, Ok, Some, List, ℕ, ◌+◌, ap, sym, subst, drop, get_or, arith}
+use Rattle.std.proofs.Common.{refl, ◌∙◌, Ok, Some, ◌+◌, ap, sym, drop, get_or, arith}
 use Rattle.std.specs.Prelude.{is_err}
 use Rattle.world_ports.specs.declared.entry.Entry.TheVariants as entry
 use Rattle.ready_hub.specs.Answered as hub

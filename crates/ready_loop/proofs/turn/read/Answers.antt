@@ -1,24 +1,20 @@
-use Rattle.std.proofs.Common.{Ok, Err, Result, List, ℕ, [], refl, take, drop, length, arith, rules, subst, ap, sym, ◌∙◌, true, Some}
+use Rattle.std.proofs.Common.{Ok, Err, Result, [], refl, take, length, arith, rules, subst, ap, ◌∙◌, true}
 use Rattle.std.proofs.lemmas.List.{length-take}
-use Rattle.world_ports.specs.Journal.{got_of, is_short}
+use Rattle.world_ports.specs.Journal.{got_of}
 use Rattle.world_ports.specs.Worlds.{GotWithin, KeepsRest}
-use Rattle.world_ports.specs.declared.answers.Accepted.{Accepted}
-use Rattle.world_ports.specs.declared.answers.Accepted.TheVariants as accepted
 use Rattle.world_ports.specs.declared.answers.Got.{Got}
 use Rattle.world_ports.specs.declared.answers.Got.TheVariants as got
-use Rattle.world_ports.specs.declared.answers.Wrote.{Wrote}
-use Rattle.world_ports.specs.declared.answers.Wrote.TheVariants as wrote
 use Rattle.world_ports.specs.declared.answers.WorldFault.{WorldFault}
 use Rattle.world_ports.specs.declared.answers.WorldFault.TheVariants.{Failed, Memory}
 use Rattle.world_ports.specs.declared.entry.Entry.TheVariants as entry
-use Rattle.agent_model.specs.Events.{Ended, Heard, Joined, Took, Started, StartFailed}
+use Rattle.agent_model.specs.Events.{Ended, Heard}
 use Rattle.ready_hub.specs.Answered as hub
 use Rattle.ready_hub.specs.Answered.{Free, NowFor}
 use Rattle.ready_hub.specs.Things.{set_of}
-use Rattle.ready_hub.specs.declared.thing.Thing.TheVariants.{Accept, Read, Write}
-use Rattle.ready_loop.specs.InTurn.{Line, in_state}
+use Rattle.ready_hub.specs.declared.thing.Thing.TheVariants.{Read}
+use Rattle.ready_loop.specs.InTurn.{in_state}
 use Rattle.ready_loop.proofs.CallLemmas as calls
-use Rattle.ready_loop.proofs.TurningLemmas.{advances_once, one_call, serves_then, stops_short, stops_there, told_at}
+use Rattle.ready_loop.proofs.TurningLemmas.{advances_once, serves_then, stops_short, told_at}
 use Rattle.ready_loop.proofs.RoomLemmas.{wiped_again}
 use Rattle.ready_loop.proofs.turn.read.Goals as goal
 

@@ -1,22 +1,13 @@
-use Rattle.std.proofs.Common.{refl, Ok, Err, Result, List, ℕ, ap, sym, ◌∙◌, true, Some}
-use Rattle.world_ports.specs.Journal.{got_of, is_short}
-use Rattle.world_ports.specs.declared.answers.Accepted.{Accepted}
-use Rattle.world_ports.specs.declared.answers.Accepted.TheVariants as accepted
-use Rattle.world_ports.specs.declared.answers.Got.{Got}
-use Rattle.world_ports.specs.declared.answers.Got.TheVariants as got
-use Rattle.world_ports.specs.declared.answers.Wrote.{Wrote}
-use Rattle.world_ports.specs.declared.answers.Wrote.TheVariants as wrote
+use Rattle.std.proofs.Common.{refl, Ok, Err, Result, List, ℕ, ap, ◌∙◌, true}
 use Rattle.world_ports.specs.declared.answers.WorldFault.{WorldFault}
 use Rattle.world_ports.specs.declared.answers.WorldFault.TheVariants.{Failed, Memory}
 use Rattle.world_ports.specs.declared.entry.Entry.TheVariants as entry
-use Rattle.agent_model.specs.Events.{Ended, Heard, Joined, Took, Started, StartFailed}
 use Rattle.ready_hub.specs.Answered as hub
 use Rattle.ready_hub.specs.Answered.{Free, NowFor}
 use Rattle.ready_hub.specs.Things.{set_of}
-use Rattle.ready_hub.specs.declared.thing.Thing.TheVariants.{Accept, Read, Write}
-use Rattle.ready_loop.specs.InTurn.{Line, in_state}
+use Rattle.ready_loop.specs.InTurn.{in_state}
 use Rattle.ready_loop.proofs.CallLemmas as calls
-use Rattle.ready_loop.proofs.TurningLemmas.{advances_once, one_call, serves_then, stops_short, stops_there, told_at}
+use Rattle.ready_loop.proofs.TurningLemmas.{serves_then, stops_short, told_at}
 use Rattle.ready_loop.proofs.turn.start.Goals as goal
 
 pub returns-in-Ok-clause-legal : goal.returns-in-Ok-clause-legal

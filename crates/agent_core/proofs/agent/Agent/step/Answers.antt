@@ -1,6 +1,9 @@
 use Rattle.std.proofs.Common.{◌∙◌, subst, sym}
-use Rattle.agent_model.specs.Sound.{IsTied}
+use Rattle.agent_model.specs.Sound.{IsJudged, IsTied}
 use Rattle.agent_model.proofs.FatedLemmas.{step-fated}
+use Rattle.agent_model.specs.Asking.{IsAttended}
+use Rattle.agent_model.proofs.AttendedLemmas.{step-attended}
+use Rattle.agent_model.proofs.JudgedRunLemmas.{step-judged}
 use Rattle.agent_core.specs.Happenings.{happening}
 use Rattle.agent_core.proofs.BoundLemmas.{when_ok}
 use Rattle.agent_core.proofs.agent.Agent.step.Goals as goal
@@ -9,7 +12,10 @@ pub invariant_of-self-else-is_err : goal.invariant_of-self-else-is_err
 invariant_of-self-else-is_err c =
     let none = sym c.is_err.ensures.value ∙ c.if-is_err.false in
     let stepped = when_ok c.take-stepped.result none c.take-stepped.ensures.stepped in
+    let fated = step-fated _ c.args.moment (happening c.args.event.now) c.self.invariant.tied in
     record {
-      tied = subst IsTied (sym stepped) (step-fated _ c.args.moment (happening c.args.event.now) c.self.invariant.tied).tied;
+      tied = subst IsTied (sym stepped) fated.tied;
+      attended = subst IsAttended (sym stepped) (step-attended _ c.args.moment (happening c.args.event.now) c.self.invariant.tied c.self.invariant.attended);
+      judged = subst IsJudged (sym stepped) (step-judged _ c.args.moment (happening c.args.event.now) c.self.invariant.tied c.self.invariant.judged).judged;
       failed = when_ok c.take-stepped.result none c.take-stepped.ensures.failed;
     }

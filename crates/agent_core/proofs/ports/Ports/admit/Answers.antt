@@ -9,12 +9,12 @@ pub invariant_of-self-2 : goal.invariant_of-self-2
 invariant_of-self-2 c =
     let last = ap (λ (v : OpenPorts). v.last) c.self.view_is in
     let below : suc c.self.inside.last < 2 ^ 64 = omega (arith, c.requires, last) in
-    let new = joined_port c.self.inside.last (suc c.self.inside.last) c.args.door c.new-2.result c.in_ok-owed.owed refl c.new-2.ensures c.in_ok-owed.ensures in
+    let new = joined_port c.self.inside.last (suc c.self.inside.last) c.args.door c.new-2.result c.in_ok-owed.owed c.new-3.result refl c.new-2.ensures c.in_ok-owed.ensures c.new-3.ensures in
     rw (c.in_default.ensures.items, c.in_ok-reserve.ensures.items, c.in_ok-reserve-2.ensures.items, add-one) (kept-joined _ _ _ _ _ _ _ _ _ _ c.self.invariant new (omega (arith, c.in_ok-reserve.ensures.ok)) (omega (arith, c.in_ok-reserve-2.ensures.ok)) below)
 
 pub returns-clause-gone : goal.returns-clause-gone
 returns-clause-gone c =
-    let new = joined_port c.self.inside.last (c.self.inside.last + 1) c.args.door c.new-2.result c.in_ok-owed.owed (add-one c.self.inside.last) c.new-2.ensures c.in_ok-owed.ensures in
+    let new = joined_port c.self.inside.last (c.self.inside.last + 1) c.args.door c.new-2.result c.in_ok-owed.owed c.new-3.result (add-one c.self.inside.last) c.new-2.ensures c.in_ok-owed.ensures c.new-3.ensures in
     let same : ports_of c.push.new.self.items ≡ ports_of c.self.inside.slots.items ++ new_port (suc c.self.inside.last) c.args.door ∷ [] =
     ap ports_of c.in_default.ensures.items ∙ ports_of-push _ _ ∙ ap (λ port. ports_of c.self.inside.slots.items ++ port ∷ []) new in
     rw (← c.self.view_is, same, add-one) (gone-admitted true c.self.inside.last c.args.door _ c.self.invariant.rising)

@@ -2,7 +2,7 @@ use Rattle.std.proofs.Common.{◌≡◌, ◌∙◌, sym, ap}
 use Rattle.agent_core.specs.Slots.{OpenPorts, ports_of}
 use Rattle.agent_model.specs.State.{remove_port}
 use Rattle.agent_model.proofs.ClosesLemmas.{gone-removed}
-use Rattle.agent_core.proofs.KeptLemmas.{are_plain, closed_room, found_port, kept-removed, kept_numbers, kept_rising, ports_of-remove}
+use Rattle.agent_core.proofs.KeptLemmas.{closed_room, found_port, kept-removed, kept_numbers, kept_rising, ports_of-remove}
 use Rattle.agent_core.proofs.ports.Ports.close.Goals as goal
 
 pub place_of-requires : goal.place_of-requires
@@ -36,9 +36,6 @@ returns-clause-gone c =
     ap ports_of c.remove.ensures.items ∙ ports_of-remove _ c.in-Some.place ∙ sym is.removed in
     let found = found_port _ _ _ is in
     rw (← c.self.view_is, same) (gone-removed c.args.number c.self.inside.last _ _ found c.self.invariant.rising)
-
-pub returns-clause-plain : goal.returns-clause-plain
-returns-clause-plain c = rw (← c.self.view_is) (are_plain c.self.inside.slots.items)
 
 pub returns-clause-rising : goal.returns-clause-rising
 returns-clause-rising c = rw (← c.self.view_is) c.self.invariant.rising

@@ -2,7 +2,7 @@ use Rattle.std.proofs.Common.{ap}
 use Rattle.agent_model.specs.Step.{took_some}
 use Rattle.agent_model.proofs.PortsLemmas.{found_number}
 use Rattle.agent_core.specs.Slots.{OpenPorts, port_of, ports_of}
-use Rattle.agent_core.proofs.KeptLemmas.{are_plain, found_slot, kept-changed, kept_numbers, kept_rising, kept_room, set_changed}
+use Rattle.agent_core.proofs.KeptLemmas.{found_slot, kept-changed, kept_numbers, kept_rising, kept_room, set_changed}
 use Rattle.agent_core.proofs.ports.Ports.drop_sent.Goals as goal
 
 pub place_of-requires : goal.place_of-requires
@@ -31,12 +31,11 @@ invariant_of-self c =
     let same = found_number c.args.number (ports_of c.self.inside.slots.items) (port_of c.index_mut.result.now) found in
     rw (c.drop_sent_at.ensures.items, same) (kept-changed _ _ _ _ _ _ c.args.number c.in-Some.place _ c.drop_sent_at.new.slot c.index_mut.result.now c.self.invariant is found c.drop_sent_at.ensures.number c.drop_sent_at.ensures.door c.drop_sent_at.ensures.room)
 
-pub returns-clause-ports : goal.returns-clause-ports
-returns-clause-ports c =
+pub returns : goal.returns
+returns c =
     let is = rw c.deref.ensures.value at c.in-Some.ensures in
     let found = found_slot _ _ _ _ is c.index_mut.ensures.value in
-    rw (← c.self.view_is) (ap (λ ports. let v : OpenPorts = record { ports = ports; last = c.self.inside.last; closed = c.self.inside.closed.items } in v)
-    (set_changed c.self.inside.slots.items c.args.number c.in-Some.place c.drop_sent_at.new.slot (port_of c.index_mut.result.now) (took_some c.args.count) is found c.drop_sent_at.ensures.port))
-
-pub returns-clause-plain : goal.returns-clause-plain
-returns-clause-plain c = rw (← c.self.view_is) (are_plain c.self.inside.slots.items)
+    record {
+      ports = rw (← c.self.view_is) (ap (λ ports. let v : OpenPorts = record { ports = ports; last = c.self.inside.last; closed = c.self.inside.closed.items } in v)
+          (set_changed c.self.inside.slots.items c.args.number c.in-Some.place c.drop_sent_at.new.slot (port_of c.index_mut.result.now) (took_some c.args.count) is found c.drop_sent_at.ensures.port));
+    }

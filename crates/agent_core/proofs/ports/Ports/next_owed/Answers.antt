@@ -1,6 +1,6 @@
 use Rattle.std.proofs.Common.{◌∙◌, ap}
 use Rattle.agent_core.specs.Rising.{first_above}
-use Rattle.agent_core.proofs.KeptLemmas.{are_plain, kept_numbers}
+use Rattle.agent_core.proofs.KeptLemmas.{kept_numbers}
 use Rattle.agent_core.proofs.ports.Ports.next_owed.Goals as goal
 
 pub next_above-requires : goal.next_above-requires
@@ -9,6 +9,3 @@ next_above-requires c = rw c.deref.ensures.value (kept_numbers _ _ _ _ _ _ c.sel
 pub returns-clause-next : goal.returns-clause-next
 returns-clause-next c =
     rw (← c.self.view_is) (c.next_above.ensures ∙ ap (first_above c.args.after) (c.deref.ensures.value ∙ c.self.invariant.listed))
-
-pub returns-clause-plain : goal.returns-clause-plain
-returns-clause-plain c = rw (← c.self.view_is) (are_plain c.self.inside.slots.items)

@@ -2,7 +2,7 @@ use Rattle.std.proofs.Common.{ap}
 use Rattle.agent_model.specs.Children.{heard_more}
 use Rattle.agent_core.specs.Slots.{OpenPorts, port_of}
 use Rattle.agent_core.proofs.HeldLemmas.{after_ok}
-use Rattle.agent_core.proofs.KeptLemmas.{are_plain, found_slot, kept-heard, kept_rising, set_changed}
+use Rattle.agent_core.proofs.KeptLemmas.{found_slot, kept-heard, kept_rising, set_changed}
 use Rattle.agent_core.proofs.ports.Ports.push.Goals as goal
 
 pub place_of-requires : goal.place_of-requires
@@ -14,13 +14,12 @@ invariant_of-self c =
     let found = found_slot _ _ _ _ is c.index_mut.ensures.value in
     kept-heard _ _ _ _ _ _ c.args.number c.in-Some.place c.push.new.slot c.index_mut.result.now c.self.invariant is found c.push.ensures.number c.push.ensures.door c.push.ensures.owed
 
-pub returns-clause-ports : goal.returns-clause-ports
-returns-clause-ports c =
+pub returns : goal.returns
+returns c =
     let is = rw c.deref.ensures.value at c.in-Some.ensures in
     let found = found_slot _ _ _ _ is c.index_mut.ensures.value in
-    rw (← c.self.view_is) (after_ok c.push.result (λ same.
-    ap (λ ports. let v : OpenPorts = record { ports = ports; last = c.self.inside.last; closed = c.self.inside.closed.items } in v)
-    (set_changed c.self.inside.slots.items c.args.number c.in-Some.place c.push.new.slot (port_of c.index_mut.result.now) (heard_more c.args.piece.now) is found same)) c.push.ensures.port)
-
-pub returns-clause-plain : goal.returns-clause-plain
-returns-clause-plain c = rw (← c.self.view_is) (are_plain c.self.inside.slots.items)
+    record {
+      ports = rw (← c.self.view_is) (after_ok c.push.result (λ same.
+          ap (λ ports. let v : OpenPorts = record { ports = ports; last = c.self.inside.last; closed = c.self.inside.closed.items } in v)
+          (set_changed c.self.inside.slots.items c.args.number c.in-Some.place c.push.new.slot (port_of c.index_mut.result.now) (heard_more c.args.piece.now) is found same)) c.push.ensures.port);
+    }

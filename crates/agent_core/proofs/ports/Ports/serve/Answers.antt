@@ -1,10 +1,11 @@
-use Rattle.std.proofs.Common.{◌≡◌, ◌∙◌, ℕ, Some, ap}
-use Rattle.agent_model.specs.Dispatch.{Served}
+use Rattle.std.proofs.Common.{◌≡◌, ◌∙◌, Some, ap}
 use Rattle.agent_model.specs.State.{Port, find_port}
 use Rattle.agent_model.proofs.PortsLemmas.{found_number}
+use Rattle.confirm_desk.specs.Confirmations.{find_asker}
+use Rattle.agent_core.specs.Served.{served_at}
 use Rattle.agent_core.specs.Slots.{OpenPorts, port_of, ports_of}
 use Rattle.agent_core.proofs.HeldLemmas.{after_ok}
-use Rattle.agent_core.proofs.KeptLemmas.{are_plain, found_slot, kept-changed, kept_numbers, kept_rising, kept_room, same_served, serve_changed}
+use Rattle.agent_core.proofs.KeptLemmas.{found_slot, kept-changed, kept_numbers, kept_rising, kept_room, same_found, serve_changed}
 use Rattle.agent_core.proofs.ports.Ports.serve.Goals as goal
 
 pub place_of-requires : goal.place_of-requires
@@ -37,26 +38,30 @@ pub returns-clause-ports : goal.returns-clause-ports
 returns-clause-ports c =
     let is = rw c.deref.ensures.value at c.in-Some.ensures in
     let found = found_slot _ _ _ _ is c.index_mut.ensures.value in
-    rw (← c.self.view_is) (λ (wall : ℕ) (port : Port) (there : find_port c.args.number (ports_of c.self.inside.slots.items) ≡ Some port).
+    rw (← c.self.view_is) (λ (port : Port) (there : find_port c.args.number (ports_of c.self.inside.slots.items) ≡ Some port).
     after_ok c.serve_at.result (λ told.
     ap (λ ports. let v : OpenPorts = record { ports = ports; last = c.self.inside.last; closed = c.self.inside.closed.items } in v)
-    (serve_changed c.self.inside.slots.items c.args.number c.in-Some.place c.serve_at.new.slot c.index_mut.result.now wall c.args.body_len c.args.keys.now c.args.under_way.now port is found there told)) (c.serve_at.ensures.port wall))
+    (serve_changed c.self.inside.slots.items c.args.number c.in-Some.place c.serve_at.new.slot c.index_mut.result.now c.args.wall c.args.body_len c.args.keys.now c.args.under_way.now port is found there told)) c.serve_at.ensures.port)
 
 pub returns-clause-keys : goal.returns-clause-keys
 returns-clause-keys c =
     let is = rw c.deref.ensures.value at c.in-Some.ensures in
     let found = found_slot _ _ _ _ is c.index_mut.ensures.value in
-    rw (← c.self.view_is) (λ (wall : ℕ) (port : Port) (there : find_port c.args.number (ports_of c.self.inside.slots.items) ≡ Some port).
+    rw (← c.self.view_is) (λ (port : Port) (there : find_port c.args.number (ports_of c.self.inside.slots.items) ≡ Some port).
     after_ok c.serve_at.result (λ kept.
-    kept ∙ ap (λ (served : Served). served.held) (same_served c.self.inside.slots.items c.args.number c.index_mut.result.now wall c.args.body_len c.args.keys.now c.args.under_way.now port found there)) (c.serve_at.ensures.keys wall))
+    kept ∙ ap (λ (p : Port). (served_at c.args.body_len c.args.wall p c.args.keys.now c.args.under_way.now).held) (same_found c.self.inside.slots.items c.args.number c.index_mut.result.now port found there)) c.serve_at.ensures.keys)
 
 pub returns-clause-under_way : goal.returns-clause-under_way
 returns-clause-under_way c =
     let is = rw c.deref.ensures.value at c.in-Some.ensures in
     let found = found_slot _ _ _ _ is c.index_mut.ensures.value in
-    rw (← c.self.view_is) (λ (wall : ℕ) (port : Port) (there : find_port c.args.number (ports_of c.self.inside.slots.items) ≡ Some port).
+    rw (← c.self.view_is) (λ (port : Port) (there : find_port c.args.number (ports_of c.self.inside.slots.items) ≡ Some port).
     after_ok c.serve_at.result (λ left.
-    left ∙ ap (λ (served : Served). served.work.under_way) (same_served c.self.inside.slots.items c.args.number c.index_mut.result.now wall c.args.body_len c.args.keys.now c.args.under_way.now port found there)) (c.serve_at.ensures.under_way wall))
+    left ∙ ap (λ (p : Port). (served_at c.args.body_len c.args.wall p c.args.keys.now c.args.under_way.now).work.under_way) (same_found c.self.inside.slots.items c.args.number c.index_mut.result.now port found there)) c.serve_at.ensures.under_way)
 
-pub returns-clause-plain : goal.returns-clause-plain
-returns-clause-plain c = rw (← c.self.view_is) (are_plain c.self.inside.slots.items)
+pub serve_at-requires-clause-alone : goal.serve_at-requires-clause-alone
+serve_at-requires-clause-alone c =
+    let is = rw c.deref.ensures.value at c.in-Some.ensures in
+    let found = found_slot _ _ _ _ is c.index_mut.ensures.value in
+    let same = found_number c.args.number (ports_of c.self.inside.slots.items) (port_of c.index_mut.result.now) found in
+    ap (λ n. find_asker n c.args.under_way.now.confirmations) same ∙ c.requires.alone

@@ -1,0 +1,68 @@
+// The constraints of keys that are added.
+ghost use Rattle.std.specs.Prelude.{◌≡◌, ℕ, List, Option, Some, Ok, All, IfOk, map};
+ghost use Rattle.add_core.specs.Exchanges.{Tells};
+ghost use Rattle.add_core.specs.Restrictions.{IsOwnOfTerms, hosts_held, terms_by, terms_for};
+ghost use Rattle.add_core.specs.Steps.{HasFileCause, IsOwn, IsOwnOfFiles};
+ghost use Rattle.add_words.specs.Words.{plain_words};
+ghost use Rattle.constraint_rec.specs.Hops.{IsDestination};
+
+use crate::fault::{AddFault, Stop};
+use crate::files::read_text;
+use add_rules::destination_rules;
+use add_words::AddWords;
+use constraint_rec::Terms;
+use plain_lists::Bytes;
+use std::alloc::Global;
+use world_ports::Files;
+
+/// The most bytes that a file of known hosts has.
+const LONGEST_HOSTS: u64 = 16_777_216;
+
+/// Reads files of known hosts.
+fn read_hosts<F: Files>(alloc: Global, files: &mut F, paths: &[&str]) -> Result<Vec<Bytes>, Stop>
+    ensures told { (held : List ℕ → Option (List ℕ)) → (F.seen files.old).held ≡ Some held
+        → Tells (λ hosts. hosts.items) result
+        (hosts_held held 0 (map (λ path. path.now) paths.now)) }
+    ensures kept { (F.seen files.new).held ≡ (F.seen files.old).held }
+    ensures cause { HasFileCause result (F.seen files.old) (F.seen files.new) }
+    ensures own { IsOwnOfFiles result }
+{
+    let mut hosts = Vec::new(alloc);
+    let mut place = 0;
+    'paths: for path in paths {
+        let text = read_text(alloc, files, path, place, LONGEST_HOSTS)?;
+        hosts.push(Bytes::from_vec(text))?;
+        place += 1;
+    }
+    Ok(hosts)
+}
+
+/// The constraints, by the texts of the files of known hosts.
+fn terms_by(alloc: Global, words: &AddWords<'_>, hosts: &[Bytes]) -> Result<Terms, Stop>
+    ensures told { Tells (λ terms. terms) result
+        (terms_by (plain_words words.now) (Ok hosts.now)) }
+    ensures writable { IfOk result (λ terms. All IsDestination terms.rules) }
+    ensures own { IsOwn result }
+{
+    match destination_rules(alloc, hosts, &words.destinations)? {
+        Ok(rules) => Ok(Terms {
+            life: words.life,
+            confirm: words.confirm,
+            rules,
+        }),
+        Err(fault) => Err(Stop::Fault(AddFault::Destination(fault))),
+    }
+}
+
+/// The constraints that the words ask for.
+pub fn terms<F: Files>(alloc: Global, files: &mut F, words: &AddWords<'_>) -> Result<Terms, Stop>
+    ensures told { (held : List ℕ → Option (List ℕ)) → (F.seen files.old).held ≡ Some held
+        → Tells (λ terms. terms) result (terms_for (plain_words words.now) held) }
+    ensures writable { IfOk result (λ terms. All IsDestination terms.rules) }
+    ensures kept { (F.seen files.new).held ≡ (F.seen files.old).held }
+    ensures cause { HasFileCause result (F.seen files.old) (F.seen files.new) }
+    ensures own { IsOwnOfTerms result }
+{
+    let hosts = read_hosts(alloc, files, &words.hosts)?;
+    terms_by(alloc, words, &hosts)
+}

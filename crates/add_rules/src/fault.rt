@@ -1,0 +1,12 @@
+/// Why a destination is none.
+#[derive(Clone, Copy, Debug, PartialEq, Eq)]
+pub enum DestFault {
+    /// The host that is left has a user.
+    SourceUser,
+    /// A host is empty.
+    EmptyHost,
+    /// A user is empty.
+    EmptyUser,
+    /// The files of known hosts have no key for a host.
+    NoKeys,
+}

@@ -1,0 +1,238 @@
+-- What a user's consent is in the agent's parts.
+use Rattle.std.proofs.Common.{◌≡◌, ℕ, ◌+◌, ◌≤◌, ◌==◌, List, [], ◌∷◌, ◌++◌, length, refl, ap, arith, sym, subst, ◌∙◌, Option, Some, None, Bool, true, false, if◌then◌else◌}
+use Rattle.std.specs.Option.{IsSomeAnd, option_map}
+use Rattle.std.proofs.lemmas.Bool.Decides.{nat_tests}
+use Rattle.dest_rule.specs.Rules.{denial_under}
+use Rattle.dest_rule.specs.declared.binding.Binding.{Binding}
+use Rattle.dest_rule.specs.declared.denial.Denial.{Denial}
+use Rattle.helper_link.specs.declared.state.LinkState.{LinkState}
+use Rattle.confirm_desk.specs.Confirmations.{Confirmation, Consent, No, NotYet, Yes, consent, find_asker, find_job, find_linked}
+use Rattle.confirm_desk.specs.Calls.{Telling, given_back, job_of, telling, telling_by, telling_if}
+use Rattle.confirm_desk.specs.declared.held.Verdict.{Verdict as DeskVerdict}
+use Rattle.confirm_desk.specs.declared.held.Verdict.TheVariants as verdicts
+use Rattle.confirm_desk.specs.declared.held.Held.{Held as CodeHeld}
+use Rattle.identity_table.specs.Identities.{AreShort, HeldKey, answer_len, entries_len, entry_len, find_number, longest_private, max_answer}
+use Rattle.agent_model.specs.Actions.{Work}
+use Rattle.agent_model.specs.Asking.{AreAsking, AreAttended, JobsRise}
+use Rattle.agent_model.specs.Consents.{close_confirmer, confirmer_heard, consent_by, grant_by, grant_concluded, grant_to, grant_unless, grant_with, over, signing_of, without_confirmation}
+use Rattle.agent_model.specs.Errands.{Signs, put_ask}
+use Rattle.agent_model.specs.KeyStates.{KeyState}
+use Rattle.agent_model.specs.Children.{closed}
+use Rattle.agent_model.specs.Sound.{IsRising}
+use Rattle.agent_model.specs.State.{OnAsk, Port, State, UnderWay, change_port, find_port, remove_port}
+use Rattle.agent_model.specs.Verdicts.{Awaits, NotConfirmed, Refuses, Verdict, tell}
+use Rattle.agent_model.proofs.PortsLemmas.{find_port-left, find_port-remove_port}
+use Rattle.agent_model.proofs.JobLemmas.{in-by_asker, in-by_port, in-found}
+use Rattle.under_way.specs.Parts.{TellsOf, confirmer_told, told_by, told_if}
+use Rattle.agent_core.specs.Parts.{state_of}
+use Rattle.agent_core.specs.Slots.{OpenPorts}
+use Rattle.agent_core.specs.Confirmers.{AreQuiet, IsGrant, IsHeldFor, IsShortKey, grant_of, granted_by, granted_key, granted_unless, granted_with}
+
+-- ---- the second test
+
+-- a key that may sign is put to the helper
+asked_unless : (denial : Option Denial) (key found : HeldKey) (one : Confirmation) (going : UnderWay) → granted_unless denial found ≡ Some key → grant_unless denial found one going ≡ put_ask (Signs key (signing_of key one)) one.asker going
+asked_unless (Some denial) key found one going is = absurd (cc)
+asked_unless None key found one going is =
+    let same : found ≡ key = cc in
+    ap (λ (k : HeldKey). put_ask (Signs k (signing_of k one)) one.asker going) same
+
+asked_with : (found : Option HeldKey) (key : HeldKey) (chain : List Binding) (one : Confirmation) (wall : ℕ) (going : UnderWay) → granted_with found chain one.message wall ≡ Some key → grant_with found chain one wall going ≡ put_ask (Signs key (signing_of key one)) one.asker going
+asked_with None key chain one wall going is = absurd (cc)
+asked_with (Some found) key chain one wall going is =
+    asked_unless (denial_under found.rules found.blob chain one.message wall) key found one going is
+
+asked_by : (lock : Option (List ℕ)) (key : HeldKey) (chain : List Binding) (one : Confirmation) (wall : ℕ) (held : KeyState) (going : UnderWay) → granted_by lock one.addition held.table.identities chain one.message wall ≡ Some key → grant_by lock held chain one wall going ≡ put_ask (Signs key (signing_of key one)) one.asker going
+asked_by (Some passphrase) key chain one wall held going is = absurd (cc)
+asked_by None key chain one wall held going is =
+    asked_with (find_number one.addition held.table.identities) key chain one wall going is
+
+pub granted-asks : (key : HeldKey) (chain : List Binding) (one : Confirmation) (wall : ℕ) (held : KeyState) (going : UnderWay) → granted_key one.addition chain one.message wall held ≡ Some key → grant_of chain one wall held going ≡ put_ask (Signs key (signing_of key one)) one.asker going
+granted-asks key chain one wall held going is = asked_by held.lock key chain one wall held going is
+
+-- for any other the client is refused
+refused_unless : (denial : Option Denial) (found : HeldKey) (one : Confirmation) (going : UnderWay) → granted_unless denial found ≡ None → IsGrant None going (grant_unless denial found one going)
+refused_unless (Some denial) found one going is = record { under_way = refl; told = (refl, refl) }
+refused_unless None found one going is = absurd (cc)
+
+refused_with : (found : Option HeldKey) (chain : List Binding) (one : Confirmation) (wall : ℕ) (going : UnderWay) → granted_with found chain one.message wall ≡ None → IsGrant None going (grant_with found chain one wall going)
+refused_with None chain one wall going is = record { under_way = refl; told = (refl, refl) }
+refused_with (Some found) chain one wall going is =
+    refused_unless (denial_under found.rules found.blob chain one.message wall) found one going is
+
+refused_by : (lock : Option (List ℕ)) (chain : List Binding) (one : Confirmation) (wall : ℕ) (held : KeyState) (going : UnderWay) → granted_by lock one.addition held.table.identities chain one.message wall ≡ None → IsGrant None going (grant_by lock held chain one wall going)
+refused_by (Some passphrase) chain one wall held going is = record { under_way = refl; told = (refl, refl) }
+refused_by None chain one wall held going is =
+    refused_with (find_number one.addition held.table.identities) chain one wall going is
+
+pub granted-refuses : (chain : List Binding) (one : Confirmation) (wall : ℕ) (held : KeyState) (going : UnderWay) → granted_key one.addition chain one.message wall held ≡ None → IsGrant None going (grant_of chain one wall held going)
+granted-refuses chain one wall held going is = refused_by held.lock chain one wall held going is
+
+-- ---- what fits a message to the helper
+
+-- the key of an addition is short
+numbered_short : (number : ℕ) (keys : List HeldKey) (key : HeldKey) → find_number number keys ≡ Some key → AreShort keys → (length key.private ≤ longest_private) × (length key.blob ≤ entries_len keys)
+unfolding find_number AreShort entries_len
+numbered_short number [] key found short = absurd (cc)
+numbered_short number (other ∷ keys) key found short =
+    by_test (λ later. numbered_short number keys key later short.1) (other.number == number) found
+  where
+    by_test : (find_number number keys ≡ Some key → (length key.private ≤ longest_private) × (length key.blob ≤ entries_len keys)) → (test : Bool) → (if test then Some other else find_number number keys) ≡ Some key → (length key.private ≤ longest_private) × (length key.blob ≤ entry_len other + entries_len keys)
+    by_test rest true is =
+        let same : other ≡ key = cc in
+        rw (← same) (short.0, omega arith)
+    by_test rest false is = ((rest is).0, omega (arith, (rest is).1))
+
+pub short_key : (number : ℕ) (keys : List HeldKey) (key : HeldKey) → find_number number keys ≡ Some key → AreShort keys → answer_len keys ≤ max_answer → IsShortKey key
+short_key number keys key found short fits =
+    let parts = numbered_short number keys key found short in
+    omega (arith, parts.0, parts.1, fits)
+
+-- ---- what is told
+
+-- some verdict is told by the number of an ask, or by none
+pub told_so : (asked : Option ℕ) → (verdict : Verdict) × TellsOf verdict asked
+told_so (Some ask) = (Awaits (OnAsk ask), refl)
+told_so None = (Refuses NotConfirmed, (refl, refl))
+
+-- ---- what a decision is
+
+-- nothing yet
+pub told_nothing : (k : Consent) (one : Confirmation) (piece : List ℕ) (wall : ℕ) (keys : KeyState) (going : UnderWay) (ports : OpenPorts) (closes : List ℕ) → (telling_by k one piece going.confirmations).verdict ≡ verdicts.NotYet → state_of wall keys (told_by (telling_by k one piece going.confirmations).verdict one.job (telling_by k one piece going.confirmations).desk going) ports closes ≡ (consent_by k one piece (state_of wall keys going ports closes)).state
+told_nothing NotYet one piece wall keys going ports closes is = refl
+told_nothing Yes one piece wall keys going ports closes is = absurd (cc)
+told_nothing No one piece wall keys going ports closes is = absurd (cc)
+
+-- a yes, to what the confirmation held
+pub told_yes : (k : Consent) (one : Confirmation) (piece : List ℕ) (confirmations : List Confirmation) (held : CodeHeld) → (telling_by k one piece confirmations).verdict ≡ verdicts.Granted held → (k ≡ Yes) × (given_back one ≡ held)
+told_yes NotYet one piece confirmations held is = absurd (cc)
+told_yes Yes one piece confirmations held is = (refl, cc)
+told_yes No one piece confirmations held is = absurd (cc)
+
+-- a no
+pub told_no : (k : Consent) (one : Confirmation) (piece : List ℕ) (confirmations : List Confirmation) (held : CodeHeld) → (telling_by k one piece confirmations).verdict ≡ verdicts.Denied held → (k ≡ No) × (given_back one ≡ held)
+told_no NotYet one piece confirmations held is = absurd (cc)
+told_no Yes one piece confirmations held is = absurd (cc)
+told_no No one piece confirmations held is = (refl, cc)
+
+-- ---- what a decision does to the state
+
+-- the client gets what comes of a consent
+pub concluded_state : (wall : ℕ) (keys : KeyState) (going left : UnderWay) (old new : OpenPorts) (closes : List ℕ) (work : Work) (one : Confirmation) (confirmer : Option ℕ) (asker : ℕ) → left ≡ work.under_way → new.ports ≡ change_port asker (tell work.verdict) (close_confirmer confirmer old.ports) → new.last ≡ old.last → one.asker ≡ asker → one.port ≡ confirmer → state_of wall keys left new closes ≡ (grant_concluded work one (state_of wall keys going old closes)).state
+concluded_state wall keys going left old new closes work one confirmer asker left_is ports_is last_is asker_is port_is =
+    let to : UnderWay → List Port → ℕ → State = λ u ps l. state_of wall keys u (record old { ports = ps; last = l }) closes in
+    ap (λ u. to u new.ports new.last) left_is
+    ∙ ap (λ ps. to work.under_way ps new.last) ports_is
+    ∙ ap (λ l. to work.under_way (change_port asker (tell work.verdict) (close_confirmer confirmer old.ports)) l) last_is
+    ∙ ap (λ a. to work.under_way (change_port a (tell work.verdict) (close_confirmer confirmer old.ports)) old.last) (sym asker_is)
+    ∙ ap (λ p. to work.under_way (change_port one.asker (tell work.verdict) (close_confirmer p old.ports)) old.last) (sym port_is)
+
+-- the client is told that there is none
+pub over_state : (wall : ℕ) (keys : KeyState) (going left : UnderWay) (old new : OpenPorts) (closes : List ℕ) (one : Confirmation) (confirmer : Option ℕ) (asker : ℕ) → left ≡ without_confirmation one.job going → new.ports ≡ change_port asker (tell (Refuses NotConfirmed)) (close_confirmer confirmer old.ports) → new.last ≡ old.last → one.asker ≡ asker → one.port ≡ confirmer → state_of wall keys left new closes ≡ (over one (state_of wall keys going old closes)).state
+over_state wall keys going left old new closes one confirmer asker left_is ports_is last_is asker_is port_is =
+    let to : UnderWay → List Port → ℕ → State = λ u ps l. state_of wall keys u (record old { ports = ps; last = l }) closes in
+    let without : UnderWay = without_confirmation one.job going in
+    ap (λ u. to u new.ports new.last) left_is
+    ∙ ap (λ ps. to without ps new.last) ports_is
+    ∙ ap (λ l. to without (change_port asker (tell (Refuses NotConfirmed)) (close_confirmer confirmer old.ports)) l) last_is
+    ∙ ap (λ a. to without (change_port a (tell (Refuses NotConfirmed)) (close_confirmer confirmer old.ports)) old.last) (sym asker_is)
+    ∙ ap (λ p. to without (change_port one.asker (tell (Refuses NotConfirmed)) (close_confirmer p old.ports)) old.last) (sym port_is)
+
+-- ---- confirmations that are found
+
+-- by its job
+pub job_own : (job : ℕ) (confirmations : List Confirmation) (one : Confirmation) → find_job job confirmations ≡ Some one → one.job ≡ job
+job_own job [] one found = absurd (cc)
+job_own job (other ∷ confirmations) one found = by_test (job_own job confirmations one) (other.job == job) refl found
+  where
+    by_test : (find_job job confirmations ≡ Some one → one.job ≡ job) → (test : Bool) → (other.job == job) ≡ test → (if test then Some other else find_job job confirmations) ≡ Some one → one.job ≡ job
+    by_test rest true same is =
+        let here : other ≡ one = cc in
+        ap (λ (c : Confirmation). c.job) (sym here) ∙ (grind (arith, nat_tests))
+    by_test rest false same is = rest is
+
+-- by its port, in the order of the jobs
+pub found_linked : (number last : ℕ) (confirmations : List Confirmation) (one : Confirmation) → JobsRise 0 confirmations last → find_linked number confirmations ≡ Some one → find_job one.job confirmations ≡ Some one
+found_linked number last confirmations one order found =
+    in-found one 0 last order (in-by_port number confirmations one found)
+
+-- by its client
+pub found_asker : (number last : ℕ) (confirmations : List Confirmation) (one : Confirmation) → JobsRise 0 confirmations last → find_asker number confirmations ≡ Some one → find_job one.job confirmations ≡ Some one
+found_asker number last confirmations one order found =
+    in-found one 0 last order (in-by_asker number confirmations one found)
+
+-- ---- who waits
+
+-- between two events whoever a confirmation is for is owed nothing
+pub quiet-asking : (ports : List Port) (confirmations : List Confirmation) → AreAsking ports confirmations → AreQuiet confirmations ports
+quiet-asking ports confirmations asking = λ job one port found there.
+    (asking.waits one.asker job port there (asking.asks job one port found there)).owed
+
+-- and is open
+pub held_for : (number last : ℕ) (link : LinkState) (ports : List Port) (confirmations : List Confirmation) (one : Confirmation) → JobsRise 0 confirmations last → AreAsking ports confirmations → AreAttended confirmations link ports → find_linked number confirmations ≡ Some one → IsHeldFor one ports
+held_for number last link ports confirmations one order asking attended found =
+    let there = found_linked number last confirmations one order found in
+    record {
+      is_open = attended.askers one.job one there;
+      silent = λ port at. quiet-asking ports confirmations asking one.job one port there at;
+    }
+
+-- ---- what is handed back
+
+-- the client of a confirmation
+pub given_asker : (found : Option Confirmation) (one : Confirmation) (held : CodeHeld) → found ≡ Some one → Some held ≡ option_map given_back found → one.asker ≡ held.asker
+given_asker found one held there is =
+    let both : Some held ≡ Some (given_back one) = is ∙ ap (option_map given_back) there in
+    let same : held ≡ given_back one = cc in
+    ap (λ (h : CodeHeld). h.asker) (sym same)
+
+-- the job of the one that is found
+pub given_job : (found : Option Confirmation) (job : ℕ) → Some job ≡ option_map job_of found → (one : Confirmation) × (found ≡ Some one) × (one.job ≡ job)
+given_job None job is = absurd (cc)
+given_job (Some one) job is =
+    let same : job ≡ one.job = cc in
+    (one, refl, sym same)
+
+-- ---- a port that was closed before
+
+-- the state without it
+pub closed_state : (wall : ℕ) (keys : KeyState) (going : UnderWay) (old new : OpenPorts) (closes : List ℕ) (number : ℕ) → new.ports ≡ remove_port number old.ports → new.last ≡ old.last → state_of wall keys going new closes ≡ closed number (state_of wall keys going old closes)
+closed_state wall keys going old new closes number ports_is last_is =
+    let to : List Port → ℕ → State = λ ps l. state_of wall keys going (record old { ports = ps; last = l }) closes in
+    ap (λ ps. to ps new.last) ports_is ∙ ap (λ l. to (remove_port number old.ports) l) last_is
+
+-- the client that has left is told nothing
+pub silent-left : (job number last : ℕ) (confirmations : List Confirmation) (ports left : List Port) (one : Confirmation) → find_job job confirmations ≡ Some one → one.asker ≡ number → IsRising 0 last ports → left ≡ remove_port number ports → IsSomeAnd (find_job job confirmations) (λ c. (port : Port) → find_port c.asker left ≡ Some port → port.owed ≡ [])
+silent-left job number last confirmations ports left one found asker rising left_is =
+    let none : find_port number (remove_port number ports) ≡ None = find_port-remove_port number 0 last ports rising in
+    let P : Option Confirmation → Type 0 = λ f. IsSomeAnd f (λ c. (port : Port) → find_port c.asker left ≡ Some port → port.owed ≡ []) in
+    subst P (sym found) (λ (port : Port) there.
+    let gone : Some port ≡ None = sym there ∙ ap (λ a. find_port a left) asker ∙ ap (find_port number) left_is ∙ none in
+    absurd (cc))
+
+-- so is another one that is owed nothing
+pub silent-kept : (job number last : ℕ) (confirmations : List Confirmation) (ports left : List Port) (one : Confirmation) → find_job job confirmations ≡ Some one → AreQuiet confirmations ports → IsRising 0 last ports → left ≡ remove_port number ports → IsSomeAnd (find_job job confirmations) (λ c. (port : Port) → find_port c.asker left ≡ Some port → port.owed ≡ [])
+silent-kept job number last confirmations ports left one found quiet rising left_is =
+    let P : Option Confirmation → Type 0 = λ f. IsSomeAnd f (λ c. (port : Port) → find_port c.asker left ≡ Some port → port.owed ≡ []) in
+    subst P (sym found) (λ (port : Port) there.
+    quiet job one port found (find_port-left one.asker number 0 last ports port rising (subst (λ ps. find_port one.asker ps ≡ Some port) left_is there)))
+
+-- ---- what the child process sent
+
+-- the desk's telling, of the confirmation that is found at the port
+pub told_of : (number : ℕ) (piece : List ℕ) (confirmations : List Confirmation) (one : Confirmation) → find_linked number confirmations ≡ Some one → telling number piece confirmations ≡ telling_by (consent one.job (one.heard ++ piece)) one piece confirmations
+told_of number piece confirmations one found = ap (λ f. telling_if f piece confirmations) found
+
+-- a decision ends the confirmation
+pub ended_by : (number : ℕ) (piece : List ℕ) (going : UnderWay) (one : Confirmation) (verdict : DeskVerdict) → find_linked number going.confirmations ≡ Some one → verdict ≡ (telling number piece going.confirmations).verdict → confirmer_told number piece going ≡ told_by verdict one.job (telling number piece going.confirmations).desk going
+ended_by number piece going one verdict found is =
+    let told : Telling = telling number piece going.confirmations in
+    ap (λ f. told_if f told going) found ∙ ap (λ v. told_by v one.job told.desk going) (sym is)
+
+-- a yes is a grant
+pub granted_state : (piece : List ℕ) (wall : ℕ) (keys : KeyState) (going mid : UnderWay) (ports : OpenPorts) (closes : List ℕ) (one : Confirmation) (port : Port) → consent one.job (one.heard ++ piece) ≡ Yes → find_port one.asker ports.ports ≡ Some port → mid ≡ without_confirmation one.job going → (grant_concluded (grant_of port.chain one wall keys mid) one (state_of wall keys going ports closes)).state ≡ (confirmer_heard one piece (state_of wall keys going ports closes)).state
+granted_state piece wall keys going mid ports closes one port agreed found mid_is =
+    let state : State = state_of wall keys going ports closes in
+    ap (λ u. (grant_concluded (grant_of port.chain one wall keys u) one state).state) mid_is
+    ∙ ap (λ f. (grant_to f one state).state) (sym found)
+    ∙ ap (λ k. (consent_by k one piece state).state) (sym agreed)

@@ -1,0 +1,69 @@
+-- Lists of the identities that are seen.
+use Rattle.std.proofs.Common.{◌≡◌, ℕ, ◌+◌, ◌<◌, ◌≤◌, List, [], ◌∷◌, ◌++◌, length, map, drop, get_or, refl, ap, sym, arith, ◌∙◌, filter, cond, Bool, true, false, Option, Some, None, is_some}
+use Rattle.std.proofs.lemmas.List.{drop_more, drop_all}
+use Rattle.identity_table.specs.Identities.{HeldKey, TableState, entries_len, entry_len}
+use Rattle.agent_msg.specs.Requests.{ListIdentities}
+use Rattle.agent_msg.specs.Replies.{entries, entry, identities_answer}
+use Rattle.agent_model.specs.KeyStates.{shown}
+use Rattle.agent_model.specs.State.{UnderWay}
+use Rattle.agent_model.specs.Verdicts.{verdict_text}
+use Rattle.agent_core.specs.Seen.{count_if, entry_if, len_if, seen}
+use Rattle.agent_core.specs.Served.{keys_of, served_by}
+use Rattle.agent_core.specs.declared.asker.Asker.{Asker as CoreAsker}
+
+-- ---- one identity
+
+-- what an identity adds to the count of those that are seen, the length of their entries, and the entries
+pub record Adds (f : HeldKey → Bool) (key : HeldKey) (keys all : List HeldKey) : Type 0 where
+  pub count : length (filter f all) ≡ count_if (f key) + length (filter f keys)
+  pub len : entries_len (filter f all) ≡ len_if (f key) key + entries_len (filter f keys)
+  pub entries : entries (map shown (filter f all)) ≡ entry_if (f key) key ++ entries (map shown (filter f keys))
+
+-- by whether it is seen
+adds_by : (test : Bool) (key : HeldKey) (keys : List HeldKey) →
+    (length (cond test (key ∷ keys) keys) ≡ count_if test + length keys)
+    × (entries_len (cond test (key ∷ keys) keys) ≡ len_if test key + entries_len keys)
+    × (entries (map shown (cond test (key ∷ keys) keys)) ≡ entry_if test key ++ entries (map shown keys))
+unfolding entries_len
+adds_by true key keys = (omega arith, refl, refl)
+adds_by false key keys = (omega arith, omega arith, refl)
+
+-- from place i on they are that of the one there and those behind it
+pub seen-more : (f : HeldKey → Bool) (keys : List HeldKey) (i : ℕ) (key : HeldKey) → i < length keys → key ≡ get_or keys i key → Adds f key (drop (i + 1) keys) (drop i keys)
+seen-more f keys i key inside is =
+    let all : drop i keys ≡ key ∷ drop (i + 1) keys =
+    drop_more keys i key inside ∙ ap (λ (k : HeldKey). k ∷ drop (i + 1) keys) (sym is) in
+    let parts = adds_by (f key) key (filter f (drop (i + 1) keys)) in
+    record {
+      count = ap (λ ks. length (filter f ks)) all ∙ parts.0;
+      len = ap (λ ks. entries_len (filter f ks)) all ∙ parts.1;
+      entries = ap (λ ks. entries (map shown (filter f ks))) all ∙ parts.2;
+    }
+
+-- what it adds isn't more than its entry, and some of it where it counts
+pub adds-bound : (test : Bool) (key : HeldKey) → (len_if test key ≤ entry_len key) × (count_if test ≤ len_if test key)
+adds-bound true key = (omega arith, omega arith)
+adds-bound false key = (omega arith, omega arith)
+
+-- behind the last there are none
+pub seen-end : (f : HeldKey → Bool) (keys : List HeldKey) (i : ℕ) → length keys ≤ i → entries_len (filter f (drop i keys)) ≡ 0
+unfolding entries_len
+seen-end f keys i past = ap (λ ks. entries_len (filter f ks)) (drop_all i keys past)
+
+-- ---- all of them
+
+-- the entries of those that are seen aren't longer than those of all, by whether the first is
+shorter_by : (test : Bool) (key : HeldKey) (some all : List HeldKey) → entries_len some ≤ entries_len all → entries_len (cond test (key ∷ some) some) ≤ entries_len (key ∷ all)
+unfolding entries_len
+shorter_by true key some all rest = omega (arith, rest)
+shorter_by false key some all rest = omega (arith, rest)
+
+-- so that a list of them is a message where a list of all is
+pub seen-shorter : (f : HeldKey → Bool) (keys : List HeldKey) → entries_len (filter f keys) ≤ entries_len keys
+seen-shorter f [] = omega arith
+seen-shorter f (key ∷ keys) = shorter_by (f key) key (filter f keys) keys (seen-shorter f keys)
+
+-- the answer of an agent that isn't locked
+pub listed-seen : (table : TableState) (lock : Option (List ℕ)) (asker : CoreAsker) (going : UnderWay) → is_some lock ≡ false → identities_answer (map shown (seen asker table.identities)) ≡ verdict_text (served_by asker ListIdentities (keys_of table lock) going).work.verdict
+listed-seen table None asker going unlocked = refl
+listed-seen table (Some passphrase) asker going unlocked = absurd (cc)

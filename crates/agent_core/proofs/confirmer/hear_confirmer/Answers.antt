@@ -1,0 +1,46 @@
+use Rattle.std.proofs.Common.{◌≡◌, ◌∙◌, ◌++◌, ℕ, List, Option, Some, ap, refl, subst, sym}
+use Rattle.std.specs.Option.{IsSomeAnd}
+use Rattle.confirm_desk.specs.Calls.{Telling, telling}
+use Rattle.confirm_desk.specs.Confirmations.{Confirmation, consent, find_linked}
+use Rattle.confirm_desk.specs.declared.held.Held.{Held as CodeHeld}
+use Rattle.agent_model.specs.Consents.{consent_by}
+use Rattle.agent_model.specs.State.{State, find_port}
+use Rattle.agent_model.specs.Verdicts.{NotConfirmed, Refuses}
+use Rattle.agent_model.proofs.AttendedLemmas.{some_port}
+use Rattle.agent_model.proofs.JobLemmas.{linked_port}
+use Rattle.agent_core.specs.Confirmers.{IsHeldFor}
+use Rattle.agent_core.specs.Parts.{state_of}
+use Rattle.agent_core.proofs.ConfirmerLemmas.{ended_by, granted_state, over_state, told_no, told_of, told_yes}
+use Rattle.agent_core.proofs.HeldLemmas.{after_ok}
+use Rattle.agent_core.proofs.confirmer.hear_confirmer.Goals as goal
+
+pub returns-in-Granted-clause-state : goal.returns-in-Granted-clause-state
+returns-in-Granted-clause-state c = λ (closes : List ℕ) (one : Confirmation) found.
+    let going = c.args.under_way.now in
+    let ports = c.args.ports.now in
+    let number = c.args.number in
+    let piece = c.args.piece.now in
+    let said = sym c.in_ok-confirmer_told.ensures.verdict ∙ c.in-Granted.is in
+    let agreed = told_yes (consent one.job (one.heard ++ piece)) one piece going.confirmations c.in-Granted.held (sym (ap (λ (t : Telling). t.verdict) (told_of number piece going.confirmations one found)) ∙ said) in
+    let mid = c.in_ok-confirmer_told.ensures.under_way ∙ ended_by number piece going one _ found (sym said) in
+    let P : Option Confirmation → Type 0 = λ f. IsSomeAnd f (λ o. IsHeldFor o ports.ports) in
+    let held : IsHeldFor one ports.ports = subst P found c.requires.asker in
+    let there = some_port one.asker ports.ports held.is_open in
+    let asker = ap (λ (h : CodeHeld). h.asker) agreed.1 in
+    after_ok c.grant.result
+    (λ is. is ∙ granted_state piece c.args.wall c.args.keys.now going c.confirmer_told.new.self ports closes one there.0 agreed.0 there.1 mid)
+    (c.grant.ensures.state closes going there.0 one (ap (λ a. find_port a ports.ports) (sym asker) ∙ there.1) agreed.1 (linked_port number going.confirmations one found))
+
+pub returns-in-Denied-clause-state : goal.returns-in-Denied-clause-state
+returns-in-Denied-clause-state c = λ (closes : List ℕ) (one : Confirmation) found.
+    let going = c.args.under_way.now in
+    let number = c.args.number in
+    let piece = c.args.piece.now in
+    let said = sym c.in_ok-confirmer_told.ensures.verdict ∙ c.in-Denied.is in
+    let refused = told_no (consent one.job (one.heard ++ piece)) one piece going.confirmations c.in-Denied.held (sym (ap (λ (t : Telling). t.verdict) (told_of number piece going.confirmations one found)) ∙ said) in
+    let mid = c.in_ok-confirmer_told.ensures.under_way ∙ ended_by number piece going one _ found (sym said) in
+    let state : State = state_of c.args.wall c.args.keys.now going c.args.ports.now closes in
+    over_state c.args.wall c.args.keys.now going c.confirmer_told.new.self c.args.ports.now c.conclude.new.ports closes one (Some number) c.in-Denied.held.asker mid
+    (c.conclude.ensures.ports (Refuses NotConfirmed) (refl, refl)) c.conclude.ensures.last
+    (ap (λ (h : CodeHeld). h.asker) refused.1) (linked_port number going.confirmations one found)
+    ∙ ap (λ k. (consent_by k one piece state).state) (sym refused.0)

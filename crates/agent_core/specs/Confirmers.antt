@@ -1,0 +1,63 @@
+-- What is tested again when the user consents, and what comes of a confirmation (ours).
+use Rattle.std.specs.Prelude.{◌≡◌, ℕ, ◌+◌, ◌≤◌, List, [], Option, Some, None, IsSome, length}
+use Rattle.dest_rule.specs.Rules.{denial_under}
+use Rattle.dest_rule.specs.declared.denial.Denial.{Denial}
+use Rattle.dest_rule.specs.declared.binding.Binding.{Binding}
+use Rattle.confirm_desk.specs.Confirmations.{Confirmation, find_job}
+use Rattle.confirm_desk.specs.Calls.{given_back}
+use Rattle.confirm_desk.specs.declared.held.Held.{Held as CodeHeld}
+use Rattle.identity_table.specs.Identities.{HeldKey, find_number}
+use Rattle.agent_model.specs.Actions.{Work}
+use Rattle.agent_model.specs.Consents.{grant_by}
+use Rattle.agent_model.specs.KeyStates.{KeyState}
+use Rattle.agent_model.specs.State.{Port, UnderWay, find_port}
+use Rattle.under_way.specs.Parts.{TellsOf}
+
+-- ---- the second test
+
+-- by what the key's destination constraints say by now
+abbrev pub granted_unless : Option Denial → HeldKey → Option HeldKey
+granted_unless (Some denial) key = None
+granted_unless None key = Some key
+
+-- by whether the addition is held yet
+abbrev pub granted_with : Option HeldKey → List Binding → List ℕ → ℕ → Option HeldKey
+granted_with None chain message wall = None
+granted_with (Some key) chain message wall =
+    granted_unless (denial_under key.rules key.blob chain message wall) key
+
+-- by the lock
+abbrev pub granted_by : Option (List ℕ) → ℕ → List HeldKey → List Binding → List ℕ → ℕ → Option HeldKey
+granted_by (Some passphrase) addition keys chain message wall = None
+granted_by None addition keys chain message wall = granted_with (find_number addition keys) chain message wall
+
+-- the key of an addition, where it may sign the message now, for a connection with this chain
+abbrev pub granted_key : ℕ → List Binding → List ℕ → ℕ → KeyState → Option HeldKey
+granted_key addition chain message wall held = granted_by held.lock addition held.table.identities chain message wall
+
+-- a key that fits a message to the helper, with what a client may send
+abbrev pub IsShortKey : HeldKey → Type 0
+IsShortKey key = length key.private + length key.blob ≤ 524288
+
+-- ---- what comes of it
+
+-- what comes of the consent for what was held, for a client with this chain
+abbrev pub grant_of : List Binding → Confirmation → ℕ → KeyState → UnderWay → Work
+grant_of chain confirmation wall held under_way = grant_by held.lock held chain confirmation wall under_way
+
+-- it changes what is under way so, and so much is told of it
+pub record IsGrant (asked : Option ℕ) (new : UnderWay) (work : Work) : Type 0 where
+  pub under_way : new ≡ work.under_way
+  pub told : TellsOf work.verdict asked
+
+-- ---- who waits
+
+-- whoever a confirmation is for is owed nothing, where its port is open
+abbrev pub AreQuiet : List Confirmation → List Port → Type 0
+AreQuiet confirmations ports = (job : ℕ) (one : Confirmation) (port : Port) → find_job job confirmations ≡ Some one
+    → find_port one.asker ports ≡ Some port → port.owed ≡ []
+
+-- the client that this confirmation is for is open, and owed nothing
+pub record IsHeldFor (one : Confirmation) (ports : List Port) : Type 0 where
+  pub is_open : IsSome (find_port one.asker ports)
+  pub silent : (port : Port) → find_port one.asker ports ≡ Some port → port.owed ≡ []

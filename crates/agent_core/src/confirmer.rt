@@ -1,0 +1,172 @@
+//! What comes of a confirmation: the user's consent, or its end without it.
+
+ghost use Rattle.std.specs.Prelude.{◌≡◌, ◌≤◌, ℕ, List, [], IsSome, IsSomeAnd, OnOk, Some, length};
+ghost use Rattle.std.specs.Option.{option_map};
+ghost use Rattle.confirm_desk.specs.Calls.{given_back, job_of};
+ghost use Rattle.confirm_desk.specs.Confirmations.{Confirmation, find_asker, find_job, find_linked};
+ghost use Rattle.agent_model.specs.Asking.{JobsRise};
+ghost use Rattle.agent_model.specs.Children.{closed};
+ghost use Rattle.agent_model.specs.Consents.{confirmer_heard, grant_concluded, over, over_if};
+ghost use Rattle.agent_model.specs.KeyStates.{KeyState};
+ghost use Rattle.agent_model.specs.Limits.{longest_body};
+ghost use Rattle.agent_model.specs.State.{Port, UnderWay as AnUnderWay, find_port};
+ghost use Rattle.agent_core.specs.Closed.{IsClosedSince};
+ghost use Rattle.agent_core.specs.Confirmers.{AreQuiet, IsHeldFor, grant_of};
+ghost use Rattle.agent_core.specs.Parts.{state_of};
+
+use crate::CoreMemory;
+use crate::granted::{conclude, put_granted};
+use crate::keys::Keys;
+use crate::ports::Ports;
+use confirm_desk::{Held, Verdict};
+use under_way::UnderWay;
+
+/// The child process at this port, which asks the user, sent more: nothing yet, or the user's decision.
+pub fn hear_confirmer(
+    ports: &mut Ports,
+    under_way: &mut UnderWay,
+    keys: &Keys,
+    wall: u64,
+    number: u64,
+    piece: &[u8],
+) -> Result<(), CoreMemory>
+    requires asker { IsSomeAnd (find_linked number under_way.old.confirmations)
+        (λ one. IsHeldFor one ports.old.ports) }
+    requires failed { under_way.old.link.failed ≡ [] }
+
+    ensures state { (c : List ℕ) (one : Confirmation) → find_linked number under_way.old.confirmations ≡ Some one
+        → OnOk result (state_of wall keys.now under_way.new ports.new c
+        ≡ (confirmer_heard one piece.now (state_of wall keys.now under_way.old ports.old c)).state) }
+    ensures closed { (last : ℕ) (began : List Port) → IsClosedSince last began ports.old
+        → OnOk result (IsClosedSince last began ports.new) }
+    ensures failed { OnOk result (under_way.new.link.failed ≡ []) }
+{
+    match under_way.confirmer_told(number, piece)? {
+        Verdict::NotYet => Ok(()),
+        Verdict::Granted(held) => grant(ports, under_way, keys, wall, number, &held),
+        Verdict::Denied(held) => {
+            conclude(ports, Some(number), held.asker, None);
+            Ok(())
+        }
+    }
+}
+
+// The user consents, by the child process at this port, to what was held: that is put to the helper, where it may be.
+fn grant(
+    ports: &mut Ports,
+    under_way: &mut UnderWay,
+    keys: &Keys,
+    wall: u64,
+    number: u64,
+    held: &Held,
+) -> Result<(), CoreMemory>
+    requires is_open { IsSome (find_port held.now.asker ports.old.ports) }
+    requires silent { (port : Port) → find_port held.now.asker ports.old.ports ≡ Some port → port.owed ≡ [] }
+    requires short { length held.now.message ≤ longest_body }
+    requires failed { under_way.old.link.failed ≡ [] }
+
+    ensures state { (c : List ℕ) (going : AnUnderWay) (port : Port) (one : Confirmation)
+        → find_port held.now.asker ports.old.ports ≡ Some port → given_back one ≡ held.now → one.port ≡ Some number
+        → OnOk result (state_of wall keys.now under_way.new ports.new c
+        ≡ (grant_concluded (grant_of port.chain one wall keys.now under_way.old) one
+        (state_of wall keys.now going ports.old c)).state) }
+    ensures closed { (last : ℕ) (began : List Port) → IsClosedSince last began ports.old
+        → OnOk result (IsClosedSince last began ports.new) }
+    ensures failed { OnOk result (under_way.new.link.failed ≡ []) }
+{
+    let asked = put_granted(ports, under_way, keys, wall, held)?;
+    conclude(ports, Some(number), held.asker, asked);
+    Ok(())
+}
+
+/// The confirmation of this job is over without consent: its child process's port is closed where it came, and its
+/// client is told where it is open. Takes no memory.
+pub fn end_confirmation(ports: &mut Ports, under_way: &mut UnderWay, job: u64)
+    requires silent { IsSomeAnd (find_job job under_way.old.confirmations) (λ one. (port : Port)
+        → find_port one.asker ports.old.ports ≡ Some port → port.owed ≡ []) }
+
+    ensures state { (wall : ℕ) (keys : KeyState) (c : List ℕ) (one : Confirmation)
+        → find_job job under_way.old.confirmations ≡ Some one → state_of wall keys under_way.new ports.new c
+        ≡ (over one (state_of wall keys under_way.old ports.old c)).state }
+    ensures closed { (last : ℕ) (began : List Port) → IsClosedSince last began ports.old
+        → IsClosedSince last began ports.new }
+    ensures link { under_way.new.link ≡ under_way.old.link }
+{
+    let confirmer = confirmer_of(under_way, job);
+    let held = under_way.end_confirmation(job);
+    conclude(ports, confirmer, held.asker, None);
+}
+
+// The port where the child process of this job came.
+fn confirmer_of(under_way: &UnderWay, job: u64) -> Option<u64>
+    ensures { (one : Confirmation) → find_job job under_way.now.confirmations ≡ Some one → one.port ≡ result }
+{
+    match under_way.find_confirmation(job) {
+        Some(one) => one.port(),
+        None => None,
+    }
+}
+
+/// A client's port has ended, and with it the confirmation that it waits for, where there is one. Takes no memory.
+pub fn lose_client(ports: &mut Ports, under_way: &mut UnderWay, number: u64)
+    requires order { JobsRise 0 under_way.old.confirmations under_way.old.last_job }
+
+    ensures state { (wall : ℕ) (keys : KeyState) (c : List ℕ) → state_of wall keys under_way.new ports.new c
+        ≡ (over_if (find_asker number under_way.old.confirmations)
+        (closed number (state_of wall keys under_way.old ports.old c))).state }
+    ensures closed { (last : ℕ) (began : List Port) → IsClosedSince last began ports.old
+        → IsClosedSince last began ports.new }
+    ensures link { under_way.new.link ≡ under_way.old.link }
+{
+    ports.close_open(number);
+    if let Some(job) = job_of_asker(under_way, number) {
+        end_confirmation(ports, under_way, job);
+    }
+}
+
+// The job of the confirmation that this client waits for.
+fn job_of_asker(under_way: &UnderWay, number: u64) -> Option<u64>
+    ensures { result ≡ option_map job_of (find_asker number under_way.now.confirmations) }
+{
+    match under_way.find_asker(number) {
+        Some(one) => Some(one.job()),
+        None => None,
+    }
+}
+
+/// The port of a child process that asks the user has ended, and with it the confirmation. Takes no memory.
+pub fn lose_confirmer(ports: &mut Ports, under_way: &mut UnderWay, number: u64)
+    requires there { IsSome (find_linked number under_way.old.confirmations) }
+    requires order { JobsRise 0 under_way.old.confirmations under_way.old.last_job }
+    requires quiet { AreQuiet under_way.old.confirmations ports.old.ports }
+
+    ensures state { (wall : ℕ) (keys : KeyState) (c : List ℕ) (one : Confirmation)
+        → find_linked number under_way.old.confirmations ≡ Some one → state_of wall keys under_way.new ports.new c
+        ≡ (over one (closed number (state_of wall keys under_way.old ports.old c))).state }
+    ensures closed { (last : ℕ) (began : List Port) → IsClosedSince last began ports.old
+        → IsClosedSince last began ports.new }
+    ensures link { under_way.new.link ≡ under_way.old.link }
+{
+    ports.close_open(number);
+    let Some(one) = under_way.find_confirmer(number) else {
+        unreachable!()
+    };
+    let job = one.job();
+    end_confirmation(ports, under_way, job);
+}
+
+/// The confirmation of this job is over, where there is one: its child process could not be started. Takes no memory.
+pub fn end_if(ports: &mut Ports, under_way: &mut UnderWay, job: u64)
+    requires quiet { AreQuiet under_way.old.confirmations ports.old.ports }
+
+    ensures state { (wall : ℕ) (keys : KeyState) (c : List ℕ) → state_of wall keys under_way.new ports.new c
+        ≡ (over_if (find_job job under_way.old.confirmations) (state_of wall keys under_way.old ports.old c)).state }
+    ensures closed { (last : ℕ) (began : List Port) → IsClosedSince last began ports.old
+        → IsClosedSince last began ports.new }
+    ensures link { under_way.new.link ≡ under_way.old.link }
+{
+    match under_way.find_confirmation(job) {
+        Some(_) => end_confirmation(ports, under_way, job),
+        None => {}
+    }
+}

@@ -1,0 +1,110 @@
+//! What is tested again when the user consents.
+
+ghost use Rattle.std.specs.Prelude.{◌≡◌, ◌≤◌, ℕ, List, [], IfOk, IfSome, IsSome, OnOk, Some, is_some, length};
+ghost use Rattle.std.specs.Option.{option_copied};
+ghost use Rattle.dest_rule.specs.Rules.{denial_under};
+ghost use Rattle.confirm_desk.specs.Calls.{given_back};
+ghost use Rattle.confirm_desk.specs.Confirmations.{Confirmation};
+ghost use Rattle.agent_model.specs.Consents.{close_confirmer};
+ghost use Rattle.agent_model.specs.Limits.{longest_body};
+ghost use Rattle.agent_model.specs.State.{Port, change_port, find_port};
+ghost use Rattle.agent_model.specs.Verdicts.{Verdict, tell};
+ghost use Rattle.under_way.specs.Parts.{TellsOf};
+ghost use Rattle.agent_core.specs.Closed.{IsClosedSince};
+ghost use Rattle.agent_core.specs.Confirmers.{IsGrant, IsShortKey, grant_of, granted_by};
+
+use crate::CoreMemory;
+use crate::keys::Keys;
+use crate::ports::Ports;
+use confirm_desk::Held;
+use dest_rule::{Chain, may_sign};
+use identity_table::{Identity, Lock, Table};
+use under_way::UnderWay;
+
+/// The key of an addition, where it is held yet, the agent isn't locked and the key may sign the message now.
+pub fn find_granted<'a>(
+    table: &'a Table,
+    lock: &Lock,
+    addition: u64,
+    chain: &Chain,
+    message: &[u8],
+    wall: u64,
+) -> Option<&'a Identity>
+    ensures value { option_copied result
+        ≡ granted_by lock.now addition table.now.identities chain.now.bindings message.now wall }
+    ensures short { IfSome result (λ key. IsShortKey key.now) }
+{
+    if lock.is_locked() {
+        return None;
+    }
+    let key = table.by_number(addition)?;
+    if is_denied(key, chain, message, wall) {
+        return None;
+    }
+    Some(key)
+}
+
+// Whether the key's destination constraints deny the signature. A key without any isn't asked about.
+fn is_denied(key: &Identity, chain: &Chain, message: &[u8], wall: u64) -> bool
+    ensures { result ≡ is_some (denial_under key.now.rules key.now.blob chain.now.bindings message.now wall) }
+{
+    let rules = key.rules();
+    !rules.is_empty() && may_sign(rules, key.blob(), chain, message, wall).is_err()
+}
+
+/// Puts what was held to the helper, where it may be signed yet, and gives the ask's number.
+pub fn put_granted(
+    ports: &Ports,
+    under_way: &mut UnderWay,
+    keys: &Keys,
+    wall: u64,
+    held: &Held,
+) -> Result<Option<u64>, CoreMemory>
+    requires is_open { IsSome (find_port held.now.asker ports.now.ports) }
+    requires short { length held.now.message ≤ longest_body }
+    requires failed { under_way.old.link.failed ≡ [] }
+
+    ensures put { (port : Port) (one : Confirmation) → find_port held.now.asker ports.now.ports ≡ Some port
+        → given_back one ≡ held.now → IfOk result (λ asked. IsGrant asked under_way.new
+        (grant_of port.chain one wall keys.now under_way.old)) }
+    ensures failed { OnOk result (under_way.new.link.failed ≡ []) }
+{
+    let Some(chain) = ports.chain(held.asker) else {
+        unreachable!()
+    };
+    let message = held.message.as_slice();
+    match keys.find_granted(held.addition, chain, message, wall) {
+        Some(key) => Ok(under_way.put_sign(held.asker, key, message, held.flags)?),
+        None => Ok(None),
+    }
+}
+
+/// The confirmation of this asker is over: its child process's port is closed where it came, and the asker waits for an
+/// ask, or is told that there is none. Takes no memory.
+pub fn conclude(ports: &mut Ports, confirmer: Option<u64>, asker: u64, asked: Option<u64>)
+    requires silent { (port : Port) → find_port asker ports.old.ports ≡ Some port → port.owed ≡ [] }
+
+    ensures ports { (verdict : Verdict) → TellsOf verdict asked → ports.new.ports
+        ≡ change_port asker (tell verdict) (close_confirmer confirmer ports.old.ports) }
+    ensures last { ports.new.last ≡ ports.old.last }
+    ensures closed { (last : ℕ) (began : List Port) → IsClosedSince last began ports.old
+        → IsClosedSince last began ports.new }
+{
+    close_confirmer(ports, confirmer);
+    ports.conclude(asker, asked);
+}
+
+// Closes the port of a confirmer, where that came and is open.
+fn close_confirmer(ports: &mut Ports, confirmer: Option<u64>)
+    ensures ports { ports.new.ports ≡ close_confirmer confirmer ports.old.ports }
+    ensures last { ports.new.last ≡ ports.old.last }
+    ensures closed { (last : ℕ) (began : List Port) → IsClosedSince last began ports.old
+        → IsClosedSince last began ports.new }
+    ensures left { (number : ℕ) (port : Port) → find_port number ports.new.ports ≡ Some port
+        → find_port number ports.old.ports ≡ Some port }
+{
+    match confirmer {
+        Some(number) => ports.close_open(number),
+        None => {}
+    }
+}

@@ -1,0 +1,79 @@
+//! Which identities a client sees, and how long a list of them is.
+
+ghost use Rattle.std.specs.Prelude.{◌≡◌, ◌+◌, ◌≤◌, [], length, OnOk};
+ghost use Rattle.agent_msg.specs.Requests.{ListIdentities};
+ghost use Rattle.identity_table.specs.Identities.{answer_len, max_answer};
+ghost use Rattle.agent_model.specs.State.{UnderWay as AnUnderWay};
+ghost use Rattle.agent_model.specs.Verdicts.{verdict_text};
+ghost use Rattle.agent_core.specs.Seen.{count_if, is_seen, len_if, seen};
+ghost use Rattle.agent_core.specs.Served.{keys_of, served_by};
+
+use crate::CoreMemory;
+use crate::asker::Asker;
+use crate::owed::Owed;
+use dest_rule::visible;
+use identity_table::{Identity, Lock, Table};
+
+/// Whether the asker sees this identity. One without destination constraints is seen by all.
+pub fn sees(asker: &Asker<'_>, identity: &Identity) -> bool
+    ensures { result ≡ is_seen asker.now identity.now }
+{
+    visible(identity.rules(), asker.chain, asker.wall)
+}
+
+/// How many identities a list shows, and how many bytes its body has.
+#[derive(Clone, Copy)]
+pub struct ListSize {
+    pub count: usize,
+    pub body: usize,
+}
+
+/// The size of the list of those of these identities that the asker sees.
+pub fn seen_size(asker: &Asker<'_>, identities: &[Identity]) -> ListSize
+    requires { answer_len identities.now ≤ max_answer }
+    ensures count { result.count ≡ length (seen asker.now identities.now) }
+    ensures body { result.body ≡ answer_len (seen asker.now identities.now) }
+{
+    let mut size = ListSize { count: 0, body: 5 };
+    for identity in identities {
+        size = with_entry(size, asker, identity);
+    }
+    size
+}
+
+// The size with one identity more, which counts where it is seen.
+fn with_entry(size: ListSize, asker: &Asker<'_>, identity: &Identity) -> ListSize
+    requires count { size.count ≤ size.body }
+    requires body { size.body + 8 + length identity.now.blob + length identity.now.comment ≤ max_answer }
+    ensures count { result.count ≡ size.count + count_if (is_seen asker.now identity.now) }
+    ensures body { result.body ≡ size.body + len_if (is_seen asker.now identity.now) identity.now }
+{
+    if sees(asker, identity) {
+        ListSize {
+            count: size.count + 1,
+            body: size.body + 8 + identity.blob().len() + identity.comment().len(),
+        }
+    } else {
+        size
+    }
+}
+
+/// Owes the list of the identities that the asker sees, which is empty while the agent is locked.
+#[tactic(auto, unfolding(identity_table::specs::Identities::entries_len))]
+pub fn list(
+    asker: &Asker<'_>,
+    table: &Table,
+    lock: &Lock,
+    owed: &mut Owed,
+) -> Result<(), CoreMemory>
+    requires { owed.old ≡ [] }
+    ensures { (under_way : AnUnderWay) → OnOk result (owed.new ≡ verdict_text
+        (served_by asker.now ListIdentities (keys_of table.now lock.now) under_way).work.verdict) }
+{
+    if lock.is_locked() {
+        owed.put_list(asker, &[])?;
+    } else {
+        owed.put_list(asker, table.as_slice())?;
+    }
+    Ok(())
+}

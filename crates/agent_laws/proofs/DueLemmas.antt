@@ -1,0 +1,241 @@
+-- What a request puts to the helper is what is due behind it.
+use Rattle.std.proofs.Common.{◌≡◌, ℕ, ◌+◌, ◌-◌, ◌^◌, ◌≤◌, ◌<◌, List, [], ◌∷◌, map, length, refl, ap, arith, sym, subst, ◌∙◌, Option, Some, None, IsSome, IsSomeAnd, Bool, true, false, cond, is_some, nat_lt, not, ◌&&◌, ◌==◌, Result, Ok, Err, inl, inr, if◌then◌else◌}
+use Rattle.std.specs.Option.{option_map}
+use Rattle.std.specs.Str.{bytes_eq}
+use Rattle.std.proofs.lemmas.Bool.Decides.{nat_tests}
+use Rattle.std.proofs.lemmas.List.{length-map}
+use Rattle.agent_msg.specs.declared.fault.MsgFault.{MsgFault}
+use Rattle.agent_msg.specs.Requests.{Addition, BindRequest, ClientRequest, Signing, ListIdentities, Sign, Add, Remove, RemoveAll, Lock, Unlock, Bind, OtherExtension, Unsupported}
+use Rattle.dest_rule.specs.Chains.{judge}
+use Rattle.dest_rule.specs.Rules.{denial_under}
+use Rattle.dest_rule.specs.declared.binding.Binding.{Binding}
+use Rattle.dest_rule.specs.declared.denial.Denial.{Denial}
+use Rattle.dest_rule.specs.declared.fault.Next.{Next as Judgement}
+use Rattle.dest_rule.specs.declared.fault.Next.TheVariants.{New, Refuse, Same}
+use Rattle.helper_link.specs.declared.ask.Ask.{Ask}
+use Rattle.identity_table.specs.Identities.{HeldKey, find_identity, max_answer}
+use Rattle.identity_table.proofs.FindLemmas.{if_alive}
+use Rattle.agent_model.specs.Actions.{Work, settles}
+use Rattle.agent_model.specs.Askable.{HasRoom, IsJudgedAs, IsRefusedFor, IsUsable}
+use Rattle.agent_model.specs.Dispatch.{Asker, add_by, add_fault, add_seen, add_unless, bind_by, length_with, lock_by, remove_by, remove_seen, seen_by, sees, serve, serve_by, serve_locked, serve_unlocked, unlock_by, unread}
+use Rattle.agent_model.specs.Errands.{Errand, Signs, Verifies, ask_fault, purpose_of, put_unless, raise_unless}
+use Rattle.agent_model.specs.KeyStates.{KeyState}
+use Rattle.agent_model.specs.Limits.{last_number}
+use Rattle.agent_model.specs.State.{UnderWay}
+use Rattle.agent_model.specs.Verdicts.{AsksSpent, BindRefused, Cause, DestinationDenied, Identities, JobsSpent, Locked, NoPassphrase, NotHeld, NotLocked, NotVisible, Refuses, Replies, Success, TooManyAsks, TooManyConfirmations, Unserved, Verdict, WrongPassphrase}
+use Rattle.agent_model.proofs.SignLemmas.{Comes, comes-of, put, raises, refused}
+use Rattle.agent_laws.specs.Dues.{Claim, claim_of_request, is_consented, is_met, is_permitted}
+use Rattle.agent_laws.specs.History.{IsDue}
+use Rattle.agent_laws.specs.Past.{PastAddition, done_of_request, held_by}
+use Rattle.agent_laws.proofs.HoldsLemmas.{Facts, Holds, facts_after, key_of}
+
+-- what comes of a request behind which this is due: it is put to the helper, or the user is asked, or neither
+pub data Acts (due : Option Claim) (asker : Asker) (held : KeyState) (under_way : UnderWay) : Work → Type 0 where
+  silent : (verdict : Verdict) → due ≡ None → Acts due asker held under_way (settles verdict under_way)
+  asks : (errand : Errand) → IsDue (purpose_of errand) asker.port due → Acts due asker held under_way (put_unless None errand asker.port under_way)
+  raises_it : (key : HeldKey) (signing : Signing) → find_identity signing.blob held.table.identities ≡ Some key → due ≡ None → Acts due asker held under_way (raise_unless None key signing asker.port under_way)
+
+-- the claim, where it is met by what the past tells
+abbrev pub met_with : Option Claim → Option ℕ → ℕ → ℕ → Facts → (ℕ → List Binding) → List ℕ → Option Claim
+met_with None life second wall facts chains opens = None
+met_with (Some claim) life second wall facts chains opens =
+    if is_met (held_by (facts.last claim.signing.blob) life second) claim (chains claim.port) wall opens facts.locked then Some claim else None
+
+-- ---- four tests
+
+pub all_pass : (a b c d : Bool) → a ≡ true → b ≡ true → c ≡ true → d ≡ true → (a && (b && (c && d))) ≡ true
+all_pass a b c d a_is b_is c_is d_is = rw (a_is, b_is, c_is, d_is) refl
+
+first_fails : (a b c d : Bool) → a ≡ false → (a && (b && (c && d))) ≡ false
+first_fails a b c d is = rw is refl
+
+second_fails : (a b c d : Bool) → b ≡ false → (a && (b && (c && d))) ≡ false
+second_fails true b c d is = rw is refl
+second_fails false b c d is = refl
+
+pub third_fails : (a b c d : Bool) → c ≡ false → (a && (b && (c && d))) ≡ false
+third_fails true true c d is = rw is refl
+third_fails true false c d is = refl
+third_fails false b c d is = refl
+
+fourth_fails : (a b c d : Bool) → d ≡ false → (a && (b && (c && d))) ≡ false
+fourth_fails true true true d is = is
+fourth_fails true true false d is = refl
+fourth_fails true false c d is = refl
+fourth_fails false b c d is = refl
+
+module _ (life : Option ℕ) (asker : Asker) (facts : Facts) (held : KeyState) (under_way : UnderWay) (opens : List ℕ) (holds : Holds life asker.mono facts held) (fresh : (blob : List ℕ) → if_alive asker.mono (find_identity blob held.table.identities) ≡ find_identity blob held.table.identities) (same : opens ≡ map (λ (one : Ask). one.number) under_way.link.asks) where
+  -- ---- a signature
+
+  module _ (signing : Signing) where
+    abbrev claim : Claim
+    claim = record { port = asker.port; addition = None; signing = signing }
+
+    abbrev held_now : Option PastAddition
+    held_now = held_by (facts.last signing.blob) life asker.mono
+
+    abbrev is_due : Option PastAddition → Bool
+    is_due past = is_met past claim asker.chain asker.wall opens facts.locked
+
+    abbrev due : Option Claim
+    due = if is_due held_now then Some claim else None
+
+    -- what is held is what the past tells
+    told : find_identity signing.blob held.table.identities ≡ option_map (key_of life) held_now
+    told = sym (fresh signing.blob) ∙ holds.found signing.blob asker.mono (omega arith)
+
+    -- the addition that made the key
+    pub record Made (key : HeldKey) : Type 0 where
+      pub past : PastAddition
+      pub now : held_now ≡ Some past
+      pub is : key_of life past ≡ key
+
+    made_by : (key : HeldKey) (now : Option PastAddition) → held_now ≡ now → Some key ≡ option_map (key_of life) now → Made key
+    made_by key None is some = absurd (cc)
+    made_by key (Some past) is some = let same_key : key ≡ key_of life past = cc in record { past = past; now = is; is = sym same_key }
+
+    made : (key : HeldKey) → find_identity signing.blob held.table.identities ≡ Some key → Made key
+    made key found = made_by key held_now refl (sym found ∙ told)
+
+    not_due : is_due held_now ≡ false → due ≡ None
+    not_due fails = ap (λ b. if b then Some claim else None) fails
+
+    -- the four tests, the first two by the key
+    abbrev permits : HeldKey → Bool
+    permits key = is_permitted (denial_under key.rules signing.blob asker.chain signing.message asker.wall)
+
+    abbrev few : Bool
+    few = nat_lt (length opens) 256
+
+    -- what is due is by the parts of the key
+    by_made : (key : HeldKey) (made : Made key) → is_due held_now ≡ (not key.confirm && (permits key && (few && not facts.locked)))
+    by_made key made = ap is_due made.now ∙ ap (λ (k : HeldKey). not k.confirm && (permits k && (few && not facts.locked))) made.is
+
+    open_count : length opens ≡ length under_way.link.asks
+    open_count = ap length same ∙ length-map under_way.link.asks (λ (one : Ask). one.number)
+
+    usable-due : (usable : IsUsable signing false asker held) → HasRoom under_way → due ≡ Some claim
+    usable-due usable room =
+        let key : HeldKey = usable.permitted.key in
+        let unlocked : facts.locked ≡ false = holds.locked ∙ ap is_some usable.permitted.unlocked in
+        let some : few ≡ true = ap (λ n. nat_lt n 256) open_count ∙ grind (arith, nat_tests, room.few) in
+        ap (λ b. if b then Some claim else None) (by_made key (made key usable.permitted.found)
+        ∙ all_pass (not key.confirm) (permits key) few (not facts.locked) (ap not usable.confirm) (ap is_permitted usable.permitted.judged) some (ap not unlocked))
+
+    locked_fails : (past : Option PastAddition) → facts.locked ≡ true → is_due past ≡ false
+    locked_fails None is = refl
+    locked_fails (Some past) is = fourth_fails (is_consented None past) (permits (key_of life past)) few (not facts.locked) (ap not is)
+
+    -- a key that asks for confirmation isn't used by a request
+    consent_first : (usable : IsUsable signing true asker held) → due ≡ None
+    consent_first usable =
+        let key : HeldKey = usable.permitted.key in
+        not_due (by_made key (made key usable.permitted.found) ∙ first_fails (not key.confirm) (permits key) few (not facts.locked) (ap not usable.confirm))
+
+    refused-not : under_way.link.last < 2 ^ 64 - 1 → under_way.last_job < 2 ^ 64 - 1 → (cause : Cause) → IsRefusedFor cause signing asker held under_way → due ≡ None
+    refused-not left jobs Locked why = not_due (locked_fails held_now (holds.locked ∙ why))
+    refused-not left jobs NotHeld why = not_due (by_none held_now refl (sym why.1 ∙ told))
+      where
+        by_none : (now : Option PastAddition) → held_now ≡ now → None ≡ option_map (key_of life) now → is_due held_now ≡ false
+        by_none None is none = ap is_due is
+        by_none (Some past) is none = absurd (cc)
+    refused-not left jobs (DestinationDenied denial) why =
+        not_due (by_made why.key (made why.key why.found) ∙ second_fails (not why.key.confirm) (permits why.key) few (not facts.locked) (ap is_permitted why.judged))
+    refused-not left jobs TooManyConfirmations why = consent_first why.0
+    refused-not left jobs TooManyAsks why =
+        let key : HeldKey = why.0.permitted.key in
+        let many : few ≡ false = ap (λ n. nat_lt n 256) open_count ∙ grind (arith, nat_tests, why.1) in
+        not_due (by_made key (made key why.0.permitted.found)
+        ∙ third_fails (not key.confirm) (permits key) few (not facts.locked) many)
+    refused-not left jobs AsksSpent why = absurd (omega (arith, left, why.2))
+    refused-not left jobs JobsSpent (inl why) = absurd (omega (arith, jobs, why.4))
+    refused-not left jobs JobsSpent (inr why) = absurd (omega (arith, jobs, why.2))
+    refused-not left jobs other why = absurd why
+
+    acts-sign : under_way.link.last < 2 ^ 64 - 1 → under_way.last_job < 2 ^ 64 - 1 → {work : Work} → Comes signing asker held under_way work → Acts due asker held under_way work
+    acts-sign left jobs (refused cause why) = silent (Refuses cause) (refused-not left jobs cause why)
+    acts-sign left jobs (raises usable room) = raises_it usable.permitted.key signing usable.permitted.found (consent_first usable)
+    acts-sign left jobs (put usable room) =
+        asks (Signs usable.permitted.key signing) (subst (λ d. IsSomeAnd d (λ one. (one.port ≡ asker.port) × (one.signing ≡ signing))) (sym (usable-due usable room)) (refl, refl))
+
+  -- ---- the other requests
+
+  abbrev Quiet : Work → Type 0
+  Quiet work = Acts None asker held under_way work
+
+  quiet-unless : (fault : Option Cause) (addition : Addition) → Quiet (add_unless fault addition asker.mono held under_way).work
+  quiet-unless (Some cause) addition = silent (Refuses cause) refl
+  quiet-unless None addition = silent (Replies Success) refl
+
+  quiet-seen : (seen : Bool) (addition : Addition) → Quiet (add_seen seen addition asker.mono held under_way).work
+  quiet-seen false addition = silent (Refuses NotVisible) refl
+  quiet-seen true addition = quiet-unless (add_fault (nat_lt max_answer (length_with addition asker.mono held.table)) (held.table.last == last_number)) addition
+
+  quiet-add : (found : Option HeldKey) (addition : Addition) → Quiet (add_by found asker addition held under_way).work
+  quiet-add None addition = quiet-seen true addition
+  quiet-add (Some key) addition = quiet-seen (sees asker key) addition
+
+  quiet-remove_seen : (seen : Bool) (blob : List ℕ) → Quiet (remove_seen seen blob held under_way).work
+  quiet-remove_seen false blob = silent (Refuses NotVisible) refl
+  quiet-remove_seen true blob = silent (Replies Success) refl
+
+  quiet-remove : (found : Option HeldKey) (blob : List ℕ) → Quiet (remove_by found asker blob held under_way).work
+  quiet-remove None blob = silent (Refuses NotHeld) refl
+  quiet-remove (Some key) blob = quiet-remove_seen (sees asker key) blob
+
+  quiet-lock : (passphrase : List ℕ) → Quiet (lock_by passphrase held under_way).work
+  quiet-lock [] = silent (Refuses NoPassphrase) refl
+  quiet-lock (byte ∷ bytes) = silent (Replies Success) refl
+
+  quiet-unlock : (equal : Bool) → Quiet (unlock_by equal held under_way).work
+  quiet-unlock true = silent (Replies Success) refl
+  quiet-unlock false = silent (Refuses WrongPassphrase) refl
+
+  acts-put : (fault : Option Cause) (bind : BindRequest) (is_new : Bool) → Quiet (put_unless fault (Verifies bind is_new) asker.port under_way)
+  acts-put (Some cause) bind is_new = silent (Refuses cause) refl
+  acts-put None bind is_new = asks (Verifies bind is_new) refl
+
+  acts-bind : (judgement : Judgement) (bind : BindRequest) → Quiet (bind_by judgement asker bind under_way)
+  acts-bind (Refuse fault) bind = silent (Refuses (BindRefused fault)) refl
+  acts-bind Same bind = acts-put (ask_fault under_way) bind false
+  acts-bind New bind = acts-put (ask_fault under_way) bind true
+
+  -- what is due behind a request
+  abbrev pub due_read : Result ClientRequest MsgFault → Verdict → Option Claim
+  due_read read verdict = met_with (claim_of_request read asker.port) life asker.mono asker.wall (facts_after (done_of_request read verdict) asker.mono facts) (λ port. asker.chain) opens
+
+  module _ (left : under_way.link.last < 2 ^ 64 - 1) (jobs : under_way.last_job < 2 ^ 64 - 1) where
+    acts-unlocked : (request : ClientRequest) → held.lock ≡ None → Acts (due_read (Ok request) (serve_unlocked request asker held under_way).work.verdict) asker held under_way (serve_unlocked request asker held under_way).work
+    acts-unlocked ListIdentities unlocked = silent (Replies (Identities (seen_by asker held))) refl
+    acts-unlocked (Sign signing) unlocked =
+        subst (λ lock. Acts (due signing) asker held under_way (serve_by lock (Sign signing) asker held under_way).work) unlocked (acts-sign signing left jobs (comes-of signing asker held under_way))
+    acts-unlocked (Add addition) unlocked = quiet-add (find_identity addition.key.blob held.table.identities) addition
+    acts-unlocked (Remove blob) unlocked = quiet-remove (find_identity blob held.table.identities) blob
+    acts-unlocked RemoveAll unlocked = silent (Replies Success) refl
+    acts-unlocked (Lock passphrase) unlocked = quiet-lock passphrase
+    acts-unlocked (Unlock passphrase) unlocked = silent (Refuses NotLocked) refl
+    acts-unlocked (Bind bind) unlocked = acts-bind (judge bind.host_key bind.session asker.chain) bind
+    acts-unlocked (OtherExtension name) unlocked = silent (Refuses Unserved) refl
+    acts-unlocked (Unsupported number) unlocked = silent (Refuses Unserved) refl
+
+    acts-locked : (passphrase : List ℕ) (request : ClientRequest) → held.lock ≡ Some passphrase → Acts (due_read (Ok request) (serve_locked passphrase request held under_way).work.verdict) asker held under_way (serve_locked passphrase request held under_way).work
+    acts-locked passphrase ListIdentities is = silent (Replies (Identities [])) refl
+    acts-locked passphrase (Sign signing) is =
+        subst (λ lock. Acts (due signing) asker held under_way (serve_by lock (Sign signing) asker held under_way).work) is (acts-sign signing left jobs (comes-of signing asker held under_way))
+    acts-locked passphrase (Add addition) is = silent (Refuses Locked) refl
+    acts-locked passphrase (Remove blob) is = silent (Refuses Locked) refl
+    acts-locked passphrase RemoveAll is = silent (Refuses Locked) refl
+    acts-locked passphrase (Lock other) is = silent (Refuses Locked) refl
+    acts-locked passphrase (Unlock other) is = quiet-unlock (bytes_eq passphrase other)
+    acts-locked passphrase (Bind bind) is = silent (Refuses Locked) refl
+    acts-locked passphrase (OtherExtension name) is = silent (Refuses Locked) refl
+    acts-locked passphrase (Unsupported number) is = silent (Refuses Locked) refl
+
+    acts-by : (lock : Option (List ℕ)) (request : ClientRequest) → held.lock ≡ lock → Acts (due_read (Ok request) (serve_by lock request asker held under_way).work.verdict) asker held under_way (serve_by lock request asker held under_way).work
+    acts-by None request is = acts-unlocked request is
+    acts-by (Some passphrase) request is = acts-locked passphrase request is
+
+    -- whatever is asked, what it puts to the helper is what is due behind it
+    pub acts-served : (read : Result ClientRequest MsgFault) → Acts (due_read read (serve read asker held under_way).work.verdict) asker held under_way (serve read asker held under_way).work
+    acts-served (Ok request) = acts-by held.lock request refl
+    acts-served (Err fault) = silent (Refuses (unread fault held.lock)) refl

@@ -1,0 +1,238 @@
+-- The user's consent puts what is due behind it, and the end of a confirmation agrees with the past.
+use Rattle.std.proofs.Common.{◌≡◌, ◌≢◌, ℕ, ◌+◌, ◌-◌, ◌^◌, ◌<◌, ◌≤◌, List, [], ◌∷◌, ◌++◌, map, length, refl, ap, arith, sym, subst, ◌∙◌, Option, Some, None, IsSomeAnd, Bool, true, false, cond, is_some, nat_lt, not, ◌&&◌, ◌==◌, if◌then◌else◌}
+use Rattle.std.specs.Option.{option_map}
+use Rattle.std.proofs.lemmas.Bool.Decides.{nat_tests}
+use Rattle.std.proofs.lemmas.List.{length-map}
+use Rattle.agent_msg.specs.Requests.{Signing}
+use Rattle.confirm_desk.specs.Confirmations.{Confirmation, find_job, remove_job}
+use Rattle.dest_rule.specs.Rules.{denial_under}
+use Rattle.dest_rule.specs.declared.binding.Binding.{Binding}
+use Rattle.dest_rule.specs.declared.denial.Denial.{Denial}
+use Rattle.helper_link.specs.declared.ask.Ask.{Ask}
+use Rattle.identity_table.specs.Identities.{HeldKey, find_identity, find_number}
+use Rattle.identity_table.proofs.FindLemmas.{found_has, if_alive}
+use Rattle.identity_table.proofs.NumberLaws.{blob_of_numbered, number_of_found}
+use Rattle.identity_table.proofs.NumberLemmas.{found_has_number}
+use Rattle.agent_model.specs.Actions.{Asked, Granted, Outcome, Over, Raising, Work, settles}
+use Rattle.agent_model.specs.Askable.{IsGrantable}
+use Rattle.agent_model.specs.Asking.{JobsRise}
+use Rattle.agent_model.specs.Consents.{grant_concluded, over, signing_of, without_confirmation}
+use Rattle.agent_model.specs.Errands.{Signs, ask_fault, put_unless}
+use Rattle.agent_model.specs.KeyStates.{KeyState}
+use Rattle.agent_model.specs.Runs.{Stamped}
+use Rattle.agent_model.specs.State.{Port, State, UnderWay, find_port}
+use Rattle.agent_model.specs.Verdicts.{Cause, NoLongerAllowed, Refuses}
+use Rattle.agent_model.proofs.GrantLemmas.{IsGranted, allowed, disallowed, unasked}
+use Rattle.agent_model.proofs.JobLemmas.{IsIn, in-found}
+use Rattle.agent_model.proofs.RoomLemmas.{RoomFor, free, full, no_ask, no_job, room-of}
+use Rattle.agent_laws.specs.Dues.{Claim, claim_of_raising, due_signing, is_consented, is_met, is_permitted, met_by, open_asks, proved_of, raised_at}
+use Rattle.agent_laws.specs.History.{IsLawful, onto}
+use Rattle.agent_laws.specs.Past.{PastAddition, held_by}
+use Rattle.agent_laws.proofs.DueLemmas.{all_pass, met_with, third_fails}
+use Rattle.agent_laws.proofs.HoldsLemmas.{Facts, Holds, facts_of, key_of}
+use Rattle.agent_laws.proofs.PastLemmas.{stamp, stamps}
+use Rattle.agent_laws.proofs.RaisedLemmas.{AllRaised, IsRaised, all_raised-more, all_raised-over}
+use Rattle.agent_laws.proofs.StepLemmas.{Agrees, Goes, Opened, due_as, numbers-append, numbers_of}
+
+-- ---- a confirmation ends
+
+not_over : (over job : ℕ) → over ≢ job → (over == job) ≡ false
+not_over over job other = grind (arith, nat_tests)
+
+pub over-agrees : (life : Option ℕ) (past : List Stamped) (confirmation : Confirmation) (state : State) → JobsRise 0 state.under_way.confirmations state.under_way.last_job → Opened life past state → Agrees life state.moment.mono (stamp state.moment (Over confirmation.job) ∷ past) state.held state.under_way.link.asks (remove_job confirmation.job state.under_way.confirmations)
+over-agrees life past confirmation state order opened =
+    let holds = opened.agrees.holds in
+    record {
+      holds = record { locked = holds.locked; count = holds.count; default = holds.default; own = holds.own; numbers = holds.numbers; found = holds.found };
+      opens = opened.agrees.opens;
+      raised = all_raised-over past _ state.held confirmation.job 0 state.under_way.last_job state.under_way.confirmations order
+          (λ job other. ap (λ b. if b then None else raised_at job past) (not_over confirmation.job job other)) opened.agrees.raised;
+      idle = refl;
+    }
+
+-- ---- consent
+
+pub all_parts : (a b c d : Bool) → (a && (b && (c && d))) ≡ true → (a ≡ true) × (b ≡ true) × (c ≡ true) × (d ≡ true)
+all_parts true true true true is = (refl, refl, refl, refl)
+all_parts true true true false is = absurd (cc)
+all_parts true true false d is = absurd (cc)
+all_parts true false c d is = absurd (cc)
+all_parts false b c d is = absurd (cc)
+
+pub none_if_permitted : (result : Option Denial) → is_permitted result ≡ true → result ≡ None
+none_if_permitted None is = refl
+none_if_permitted (Some denial) is = absurd (cc)
+
+none_if_not : (lock : Option (List ℕ)) → not (is_some lock) ≡ true → lock ≡ None
+none_if_not None is = refl
+none_if_not (Some passphrase) is = absurd (cc)
+
+true_or_not : (b : Bool) → (b ≡ true → ⊥) → b ≡ false
+true_or_not true never = absurd (never refl)
+true_or_not false never = refl
+
+module _ (life : Option ℕ) (second wall : ℕ) (facts : Facts) (held : KeyState) (under_way : UnderWay) (opens : List ℕ) (chain : List Binding) (confirmation : Confirmation) (holds : Holds life second facts held) (fresh : (blob : List ℕ) → if_alive second (find_identity blob held.table.identities) ≡ find_identity blob held.table.identities) (same : opens ≡ map (λ (one : Ask). one.number) under_way.link.asks) (raising : Raising) (addition : raising.addition ≡ confirmation.addition) (message : raising.signing.message ≡ confirmation.message) (flags : raising.signing.flags ≡ confirmation.flags) (blob : (key : HeldKey) → find_number confirmation.addition held.table.identities ≡ Some key → key.blob ≡ raising.signing.blob) where
+  abbrev claim : Claim
+  claim = record { port = raising.port; addition = Some raising.addition; signing = raising.signing }
+
+  abbrev held_now : Option PastAddition
+  held_now = held_by (facts.last raising.signing.blob) life second
+
+  abbrev is_due : Option PastAddition → Bool
+  is_due past = is_met past claim chain wall opens facts.locked
+
+  abbrev due : Option Claim
+  due = if is_due held_now then Some claim else None
+
+  abbrev permits : HeldKey → Bool
+  permits key = is_permitted (denial_under key.rules raising.signing.blob chain raising.signing.message wall)
+
+  abbrev few : Bool
+  few = nat_lt (length opens) 256
+
+  told : find_identity raising.signing.blob held.table.identities ≡ option_map (key_of life) held_now
+  told = sym (fresh raising.signing.blob) ∙ holds.found raising.signing.blob second (omega arith)
+
+  -- the addition that made the key
+  pub record Made (key : HeldKey) : Type 0 where
+    pub past : PastAddition
+    pub now : held_now ≡ Some past
+    pub is : key_of life past ≡ key
+
+  made_by : (key : HeldKey) (now : Option PastAddition) → held_now ≡ now → Some key ≡ option_map (key_of life) now → Made key
+  made_by key None is some = absurd (cc)
+  made_by key (Some past) is some = let same_key : key ≡ key_of life past = cc in record { past = past; now = is; is = sym same_key }
+
+  -- what the addition's number finds was so made, and is of that addition
+  made : (key : HeldKey) → find_number confirmation.addition held.table.identities ≡ Some key → Made key
+  made key found =
+      made_by key held_now refl
+      (sym (ap (λ b. find_identity b held.table.identities) (sym (blob key found)) ∙ blob_of_numbered confirmation.addition held.table.identities key holds.own found) ∙ told)
+
+  numbered : (key : HeldKey) → find_number confirmation.addition held.table.identities ≡ Some key → (made : Made key) → (made.past.number == raising.addition) ≡ true
+  numbered key found made =
+      let is : made.past.number ≡ key.number = ap (λ (k : HeldKey). k.number) made.is in
+      let of_key : key.number ≡ confirmation.addition = found_has_number confirmation.addition held.table.identities key found in
+      grind (arith, nat_tests, is, of_key, addition)
+
+  by_made : (key : HeldKey) (made : Made key) → is_due held_now ≡ ((made.past.number == raising.addition) && (permits key && (few && not facts.locked)))
+  by_made key made = ap is_due made.now ∙ ap (λ (k : HeldKey). (made.past.number == raising.addition) && (permits k && (few && not facts.locked))) made.is
+
+  open_count : length opens ≡ length under_way.link.asks
+  open_count = ap length same ∙ length-map under_way.link.asks (λ (one : Ask). one.number)
+
+  denies_as : (key : HeldKey) → key.blob ≡ raising.signing.blob → denial_under key.rules raising.signing.blob chain raising.signing.message wall ≡ denial_under key.rules key.blob chain confirmation.message wall
+  denies_as key is = ap (λ b. denial_under key.rules b chain raising.signing.message wall) (sym is) ∙ ap (λ m. denial_under key.rules key.blob chain m wall) message
+
+  -- what may be granted is due
+  grantable-due : (key : HeldKey) → IsGrantable key chain confirmation.addition confirmation.message wall held → length under_way.link.asks < 256 → due ≡ Some claim
+  grantable-due key may room =
+      let by = made key may.found in
+      let unlocked : facts.locked ≡ false = holds.locked ∙ ap is_some may.unlocked in
+      let some : few ≡ true = ap (λ n. nat_lt n 256) open_count ∙ grind (arith, nat_tests, room) in
+      ap (λ b. if b then Some claim else None) (by_made key by
+      ∙ all_pass (by.past.number == raising.addition) (permits key) few (not facts.locked) (numbered key may.found by)
+      (ap is_permitted (denies_as key (blob key may.found) ∙ may.permitted)) some (ap not unlocked))
+
+  -- what is due may be granted
+  due-grantable : (now : Option PastAddition) → held_now ≡ now → is_due now ≡ true → (key : HeldKey) × IsGrantable key chain confirmation.addition confirmation.message wall held
+  due-grantable None is met = absurd (cc)
+  due-grantable (Some past) is met =
+      let key : HeldKey = key_of life past in
+      let parts = all_parts (past.number == raising.addition) (permits key) few (not facts.locked) met in
+      let found : find_identity raising.signing.blob held.table.identities ≡ Some key = told ∙ ap (option_map (key_of life)) is in
+      let by_number = number_of_found raising.signing.blob held.table.last held.table.identities key holds.numbers found in
+      let number : past.number ≡ confirmation.addition = grind (arith, nat_tests, parts.0, addition) in
+      let its_blob : key.blob ≡ raising.signing.blob = found_has raising.signing.blob held.table.identities key found in (
+        key,
+        record {
+          unlocked = none_if_not held.lock (ap not (sym holds.locked) ∙ parts.3);
+          found = ap (λ n. find_number n held.table.identities) (sym number) ∙ by_number.1;
+          permitted = sym (denies_as key its_blob) ∙ none_if_permitted _ parts.1;
+        },
+      )
+
+  never-due : ((key : HeldKey) → IsGrantable key chain confirmation.addition confirmation.message wall held → ⊥) → due ≡ None
+  never-due never =
+      ap (λ b. if b then Some claim else None) (true_or_not (is_due held_now) (λ met. let may = due-grantable held_now refl met in never may.0 may.1))
+
+  -- where an ask can't be put it is for want of room alone
+  full-not : under_way.link.last < 2 ^ 64 - 1 → under_way.last_job < 2 ^ 64 - 1 → (key : HeldKey) → IsGrantable key chain confirmation.addition confirmation.message wall held → {cause : Cause} → RoomFor under_way (Some cause) → due ≡ None
+  full-not left jobs key may (full more) =
+      let by = made key may.found in
+      let many : few ≡ false = ap (λ n. nat_lt n 256) open_count ∙ grind (arith, nat_tests, more) in
+      ap (λ b. if b then Some claim else None) (by_made key by ∙ third_fails (by.past.number == raising.addition) (permits key) few (not facts.locked) many)
+  full-not left jobs key may (no_ask few_asks spent) = absurd (omega (arith, left, spent))
+  full-not left jobs key may (no_job few_asks numbers none spent) = absurd (omega (arith, jobs, spent))
+
+module _ (life : Option ℕ) (past : List Stamped) (confirmation : Confirmation) (port : Port) (state : State) (order : JobsRise 0 state.under_way.confirmations state.under_way.last_job) (there : IsIn confirmation state.under_way.confirmations) (found : find_port confirmation.asker state.ports ≡ Some port) (opened : Opened life past state) where
+  abbrev left_over : UnderWay
+  left_over = without_confirmation confirmation.job state.under_way
+
+  abbrev raised : IsRaised past state.held confirmation
+  raised = opened.agrees.raised confirmation.job confirmation (in-found confirmation 0 state.under_way.last_job order there)
+
+  abbrev behind : List Stamped
+  behind = stamp state.moment (Granted confirmation.job) ∷ past
+
+  abbrev due_now : Option Claim
+  due_now = due life state.moment.mono state.moment.wall (facts_of past) state.held left_over (open_asks past) port.chain confirmation opened.agrees.holds opened.fresh opened.agrees.opens raised.raising raised.addition raised.message raised.flags raised.blob
+
+  -- what is due behind the consent is what was raised
+  due_behind : due_signing life behind ≡ due_now
+  due_behind =
+      let one : Claim = record { port = raised.raising.port; addition = Some raised.raising.addition; signing = raised.raising.signing } in
+      let chain : proved_of raised.raising.port past ≡ port.chain = ap (λ n. proved_of n past) raised.port ∙ opened.chains confirmation.asker port found in
+      ap (λ r. met_by (claim_of_raising r) life state.moment behind) raised.is
+      ∙ due_as (Some one) life state.moment behind
+      ∙ ap (λ c. met_with (Some one) life state.moment.mono state.moment.wall (facts_of past) (λ n. c) (open_asks past)) chain
+
+  holds_behind : Holds life state.moment.mono (facts_of behind) state.held
+  holds_behind = let holds = opened.agrees.holds in
+      record { locked = holds.locked; count = holds.count; default = holds.default; own = holds.own; numbers = holds.numbers; found = holds.found }
+
+  raised_behind : AllRaised behind state.held (remove_job confirmation.job state.under_way.confirmations)
+  raised_behind =
+      all_raised-over past behind state.held confirmation.job 0 state.under_way.last_job state.under_way.confirmations order
+      (λ job other. ap (λ b. if b then None else raised_at job past) (not_over confirmation.job job other)) opened.agrees.raised
+
+  -- nothing is put, as nothing is due
+  goes-refused : (cause : Cause) → due_now ≡ None → Goes life past state (grant_concluded (settles (Refuses cause) left_over) confirmation state)
+  goes-refused cause none = record {
+    lawful = (opened.agrees.idle, due_behind ∙ none);
+    agrees = record { holds = holds_behind; opens = opened.agrees.opens; raised = raised_behind; idle = due_behind ∙ none };
+    moment = refl;
+  }
+
+  -- what is put is what was raised
+  same_signing : (key : HeldKey) → key.blob ≡ raised.raising.signing.blob → raised.raising.signing ≡ signing_of key confirmation
+  same_signing key is =
+      let s : Signing = raised.raising.signing in
+      ap (λ b. let t : Signing = record { blob = b; message = s.message; flags = s.flags } in t) (sym is)
+      ∙ ap (λ m. let t : Signing = record { blob = key.blob; message = m; flags = s.flags } in t) raised.message
+      ∙ ap (λ f. let t : Signing = record { blob = key.blob; message = confirmation.message; flags = f } in t) raised.flags
+
+  few_asks : RoomFor left_over None → length state.under_way.link.asks < 256
+  few_asks (free room) = room.few
+
+  goes-put : (key : HeldKey) → IsGrantable key port.chain confirmation.addition confirmation.message state.moment.wall state.held → length state.under_way.link.asks < 256 → Goes life past state (grant_concluded (put_unless None (Signs key (signing_of key confirmation)) confirmation.asker left_over) confirmation state)
+  goes-put key may room =
+      let is = grantable-due life state.moment.mono state.moment.wall (facts_of past) state.held left_over (open_asks past) port.chain confirmation opened.agrees.holds opened.fresh opened.agrees.opens raised.raising raised.addition raised.message raised.flags raised.blob key may room in
+      let holds = holds_behind in
+      record {
+        lawful = (opened.agrees.idle, (subst (λ d. IsSomeAnd d (λ one. (one.port ≡ confirmation.asker) × (one.signing ≡ signing_of key confirmation))) (sym (due_behind ∙ is)) (raised.port, same_signing key (raised.blob key may.found)), refl));
+        agrees = record {
+          holds = record { locked = holds.locked; count = holds.count; default = holds.default; own = holds.own; numbers = holds.numbers; found = holds.found };
+          opens = ap (λ all. all ++ (state.under_way.link.last + 1) ∷ []) opened.agrees.opens ∙ sym (numbers-append state.under_way.link.asks _);
+          raised = all_raised-more behind _ state.held _ (λ job. refl) raised_behind;
+          idle = refl;
+        };
+        moment = refl;
+      }
+
+  pub goes-granted : {work : Work} → IsGranted port.chain confirmation state.moment.wall state.held left_over work → Goes life past state (grant_concluded work confirmation state)
+  goes-granted (disallowed never) =
+      goes-refused NoLongerAllowed (never-due life state.moment.mono state.moment.wall (facts_of past) state.held left_over (open_asks past) port.chain confirmation opened.agrees.holds opened.fresh opened.agrees.opens raised.raising raised.addition raised.message raised.flags raised.blob never)
+  goes-granted (unasked cause key may fault) =
+      goes-refused cause (full-not life state.moment.mono state.moment.wall (facts_of past) state.held left_over (open_asks past) port.chain confirmation opened.agrees.holds opened.fresh opened.agrees.opens raised.raising raised.addition raised.message raised.flags raised.blob opened.left opened.jobs key may (subst (RoomFor left_over) fault (room-of left_over)))
+  goes-granted (allowed key may unspent) = goes-put key may (few_asks (subst (RoomFor left_over) unspent (room-of left_over)))

@@ -1,0 +1,11 @@
+pub mod PastLemmas
+pub mod HoldsLemmas
+pub mod RaisedLemmas
+pub mod DueLemmas
+pub mod StepLemmas
+pub mod GrantedLemmas
+pub mod MadeLemmas
+pub mod HistoryLemmas
+pub mod ConsequenceLemmas
+pub mod ConsentLemmas
+pub mod HostLemmas

@@ -1,0 +1,131 @@
+-- Which signature is to be put to the helper, by the actions so far: searches in the past, the newest action first
+-- (ours).
+use Rattle.std.specs.Prelude.{ℕ, Bool, true, false, List, [], ◌∷◌, ◌++◌, length, Option, Some, None, Result, Ok, Err, nat_lt, ◌==◌, ◌&&◌, not, if◌then◌else◌}
+use Rattle.world_ports.specs.declared.Moment.{Moment}
+use Rattle.agent_msg.specs.declared.fault.MsgFault.{MsgFault}
+use Rattle.agent_msg.specs.Requests.{ClientRequest, Signing, ListIdentities, Sign, Add, Remove, RemoveAll, Lock, Unlock, Bind, OtherExtension, Unsupported}
+use Rattle.dest_rule.specs.Rules.{denial_under}
+use Rattle.dest_rule.specs.declared.binding.Binding.{Binding}
+use Rattle.dest_rule.specs.declared.denial.Denial.{Denial}
+use Rattle.agent_model.specs.Actions.{Action, Answered, Asked, Granted, Lost, Over, Proved, Raised, Raising, Requested}
+use Rattle.agent_model.specs.Bindings.{bound_by}
+use Rattle.agent_model.specs.Binds.{agent_request_of}
+use Rattle.agent_model.specs.Runs.{Stamped}
+use Rattle.agent_laws.specs.Past.{PastAddition, held_by, last_addition, was_locked}
+
+-- ---- bindings, asks and confirmations
+
+-- the bindings that were proved of this port, the oldest first, each session once
+abbrev pub proved_of : ℕ → List Stamped → List Binding
+proved_of port [] = []
+proved_of port (one ∷ before) = bound_by port one.action (proved_of port before)
+
+-- without the first such number
+abbrev pub without_number : ℕ → List ℕ → List ℕ
+without_number number [] = []
+without_number number (other ∷ others) = if other == number then others else other ∷ without_number number others
+
+-- an action's part in the open asks
+abbrev pub open_by : Action → List ℕ → List ℕ
+open_by (Requested requesting) before = before
+open_by (Asked asking) before = before ++ asking.ask ∷ []
+open_by (Answered settled) before = without_number settled.ask before
+open_by (Proved proving) before = before
+open_by (Raised raising) before = before
+open_by (Granted job) before = before
+open_by (Over job) before = before
+open_by Lost before = []
+
+-- the asks since the last loss of the helper that it hasn't answered
+abbrev pub open_asks : List Stamped → List ℕ
+open_asks [] = []
+open_asks (one ∷ before) = open_by one.action (open_asks before)
+
+-- an action's part in what the user is asked for by this job
+abbrev pub raised_by : Action → ℕ → Option Raising → Option Raising
+raised_by (Requested requesting) job before = before
+raised_by (Asked asking) job before = before
+raised_by (Answered settled) job before = before
+raised_by (Proved proving) job before = before
+raised_by (Raised raising) job before = if raising.job == job then Some raising else before
+raised_by (Granted other) job before = if other == job then None else before
+raised_by (Over other) job before = if other == job then None else before
+raised_by Lost job before = before
+
+-- what the user is asked for by this job, if it isn't over
+abbrev pub raised_at : ℕ → List Stamped → Option Raising
+raised_at job [] = None
+raised_at job (one ∷ before) = raised_by one.action job (raised_at job before)
+
+-- ---- claims
+
+-- what is to be signed, for whom, and of which addition, where a consent says so
+pub record Claim : Type 0 where
+  pub port : ℕ
+  pub addition : Option ℕ
+  pub signing : Signing
+
+-- a request to sign claims by itself; the addition is the one that is held
+abbrev pub claim_of_request : Result ClientRequest MsgFault → ℕ → Option Claim
+claim_of_request (Err fault) port = None
+claim_of_request (Ok ListIdentities) port = None
+claim_of_request (Ok (Sign signing)) port = Some (record { port = port; addition = None; signing = signing })
+claim_of_request (Ok (Add addition)) port = None
+claim_of_request (Ok (Remove blob)) port = None
+claim_of_request (Ok RemoveAll) port = None
+claim_of_request (Ok (Lock passphrase)) port = None
+claim_of_request (Ok (Unlock passphrase)) port = None
+claim_of_request (Ok (Bind bind)) port = None
+claim_of_request (Ok (OtherExtension name)) port = None
+claim_of_request (Ok (Unsupported number)) port = None
+
+-- a consent claims what the user was asked for, of the very addition
+abbrev pub claim_of_raising : Option Raising → Option Claim
+claim_of_raising None = None
+claim_of_raising (Some raising) =
+    Some (record { port = raising.port; addition = Some raising.addition; signing = raising.signing })
+
+-- what an action claims
+abbrev pub claim_of : Action → List Stamped → Option Claim
+claim_of (Requested requesting) before = claim_of_request (agent_request_of requesting.body) requesting.port
+claim_of (Asked asking) before = None
+claim_of (Answered settled) before = None
+claim_of (Proved proving) before = None
+claim_of (Raised raising) before = None
+claim_of (Granted job) before = claim_of_raising (raised_at job before)
+claim_of (Over job) before = None
+claim_of Lost before = None
+
+-- ---- which claims are met
+
+-- a key that asks for confirmation is used by a consent alone, and by one for the very addition
+abbrev pub is_consented : Option ℕ → PastAddition → Bool
+is_consented None past = not past.addition.terms.confirm
+is_consented (Some addition) past = past.number == addition
+
+-- no denial
+abbrev pub is_permitted : Option Denial → Bool
+is_permitted None = true
+is_permitted (Some denial) = false
+
+-- the key is held and used so, its destination constraints permit it, fewer than 256 asks are open, and the agent isn't
+-- locked
+abbrev pub is_met : Option PastAddition → Claim → List Binding → ℕ → List ℕ → Bool → Bool
+is_met None claim chain wall asks locked = false
+is_met (Some past) claim chain wall asks locked = is_consented claim.addition past
+    && (is_permitted (denial_under past.addition.terms.rules claim.signing.blob chain claim.signing.message wall)
+    && (nat_lt (length asks) 256 && not locked))
+
+-- the claim, where it is met at this moment
+abbrev pub met_by : Option Claim → Option ℕ → Moment → List Stamped → Option Claim
+met_by None life moment past = None
+met_by (Some claim) life moment past =
+    if is_met (held_by (last_addition claim.signing.blob past) life moment.mono) claim (proved_of claim.port past)
+    moment.wall (open_asks past) (was_locked past)
+    then Some claim else None
+
+-- the signature that is to be put to the helper directly behind the newest action, if any, where additions without a
+-- lifetime live for so long
+abbrev pub due_signing : Option ℕ → List Stamped → Option Claim
+due_signing life [] = None
+due_signing life (one ∷ before) = met_by (claim_of one.action before) life one.moment (one ∷ before)

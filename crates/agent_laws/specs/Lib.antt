@@ -1,0 +1,5 @@
+pub mod Past
+pub mod Dues
+pub mod History
+pub mod PastRows
+pub mod Deciding

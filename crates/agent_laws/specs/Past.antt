@@ -1,0 +1,124 @@
+-- What the actions so far tell of the lock and of the keys, without a state: searches in the past, the newest action
+-- first (ours).
+use Rattle.std.specs.Prelude.{ℕ, ◌+◌, Bool, true, false, List, [], ◌∷◌, Option, Some, None, Result, Ok, Err, if◌then◌else◌}
+use Rattle.std.specs.Str.{bytes_eq}
+use Rattle.agent_msg.specs.declared.fault.MsgFault.{MsgFault}
+use Rattle.agent_msg.specs.Requests.{Addition, ClientRequest, ListIdentities, Sign, Add, Remove, RemoveAll, Lock, Unlock, Bind, OtherExtension, Unsupported}
+use Rattle.identity_table.specs.Deaths.{death_of, lives_at}
+use Rattle.agent_model.specs.Actions.{Action, Answered, Asked, Granted, Lost, Over, Proved, Raised, Requested}
+use Rattle.agent_model.specs.Binds.{agent_request_of}
+use Rattle.agent_model.specs.Runs.{Stamped}
+use Rattle.agent_model.specs.Verdicts.{Awaits, Identities, Refuses, Replies, Reply, Signature, Success, Verdict}
+
+-- ---- what requests did
+
+-- what a request did that was answered SSH_AGENT_SUCCESS
+pub data Done : Type 0 where
+  DidNothing : Done
+  DidAdd : (addition : Addition) → Done
+  DidRemove : (blob : List ℕ) → Done
+  DidRemoveAll : Done
+  DidLock : Done
+  DidUnlock : Done
+
+-- by the reply
+abbrev pub done_by : Reply → Done → Done
+done_by Success done = done
+done_by (Identities identities) done = DidNothing
+done_by (Signature signature) done = DidNothing
+
+-- only where it was answered so
+abbrev pub done_if : Verdict → Done → Done
+done_if (Replies reply) done = done_by reply done
+done_if (Refuses cause) done = DidNothing
+done_if (Awaits waits) done = DidNothing
+
+-- what such a request is for
+abbrev pub done_of_request : Result ClientRequest MsgFault → Verdict → Done
+done_of_request (Err fault) verdict = DidNothing
+done_of_request (Ok ListIdentities) verdict = DidNothing
+done_of_request (Ok (Sign signing)) verdict = DidNothing
+done_of_request (Ok (Add addition)) verdict = done_if verdict (DidAdd addition)
+done_of_request (Ok (Remove blob)) verdict = done_if verdict (DidRemove blob)
+done_of_request (Ok RemoveAll) verdict = done_if verdict DidRemoveAll
+done_of_request (Ok (Lock passphrase)) verdict = done_if verdict DidLock
+done_of_request (Ok (Unlock passphrase)) verdict = done_if verdict DidUnlock
+done_of_request (Ok (Bind bind)) verdict = DidNothing
+done_of_request (Ok (OtherExtension name)) verdict = DidNothing
+done_of_request (Ok (Unsupported number)) verdict = DidNothing
+
+-- what an action did to what is held
+abbrev pub done_of : Action → Done
+done_of (Requested requesting) = done_of_request (agent_request_of requesting.body) requesting.verdict
+done_of (Asked asking) = DidNothing
+done_of (Answered settled) = DidNothing
+done_of (Proved proving) = DidNothing
+done_of (Raised raising) = DidNothing
+done_of (Granted job) = DidNothing
+done_of (Over job) = DidNothing
+done_of Lost = DidNothing
+
+-- ---- the lock
+
+-- behind something done
+abbrev pub locked_by : Done → Bool → Bool
+locked_by DidNothing before = before
+locked_by (DidAdd addition) before = before
+locked_by (DidRemove blob) before = before
+locked_by DidRemoveAll before = before
+locked_by DidLock before = true
+locked_by DidUnlock before = false
+
+-- of the locks and unlocks that succeeded, the last is a lock
+abbrev pub was_locked : List Stamped → Bool
+was_locked [] = false
+was_locked (one ∷ before) = locked_by (done_of one.action) (was_locked before)
+
+-- ---- what is held
+
+-- one more where it is an addition
+abbrev pub counted_by : Done → ℕ → ℕ
+counted_by DidNothing before = before
+counted_by (DidAdd addition) before = before + 1
+counted_by (DidRemove blob) before = before
+counted_by DidRemoveAll before = before
+counted_by DidLock before = before
+counted_by DidUnlock before = before
+
+-- how many additions succeeded
+abbrev pub addition_count : List Stamped → ℕ
+addition_count [] = 0
+addition_count (one ∷ before) = counted_by (done_of one.action) (addition_count before)
+
+-- an addition that succeeded: its number, the second, and what was added
+pub record PastAddition : Type 0 where
+  pub number : ℕ
+  pub second : ℕ
+  pub addition : Addition
+
+-- behind something done at this second, of the key of this blob, by what was there before
+abbrev pub added_by : Done → List ℕ → ℕ → ℕ → Option PastAddition → Option PastAddition
+added_by DidNothing blob second number before = before
+added_by (DidAdd addition) blob second number before =
+    if bytes_eq addition.key.blob blob
+    then Some (record { number = number; second = second; addition = addition })
+    else before
+added_by (DidRemove other) blob second number before = if bytes_eq other blob then None else before
+added_by DidRemoveAll blob second number before = None
+added_by DidLock blob second number before = before
+added_by DidUnlock blob second number before = before
+
+-- the last addition of this blob, if nothing removed it later
+abbrev pub last_addition : List ℕ → List Stamped → Option PastAddition
+last_addition blob [] = None
+last_addition blob (one ∷ before) =
+    added_by (done_of one.action) blob one.moment.mono (addition_count before + 1) (last_addition blob before)
+
+-- its lifetime has not run out at this second, where additions without one live for so long
+abbrev pub is_alive : Option ℕ → ℕ → PastAddition → Bool
+is_alive life now past = lives_at now (death_of past.second past.addition.terms.life life)
+
+-- it is held at this second
+abbrev pub held_by : Option PastAddition → Option ℕ → ℕ → Option PastAddition
+held_by None life now = None
+held_by (Some past) life now = if is_alive life now past then Some past else None

@@ -1,0 +1,64 @@
+-- Literal rows of the searches: actions of a short past, the newest first (ours).
+use Rattle.std.specs.Prelude.{ℕ, List, [], ◌∷◌, codes, drop, Option, Some, None, true, map}
+use Rattle.std.specs.Option.{option_map}
+use Rattle.agent_msg.specs.Requests.{Signing}
+use Rattle.dest_rule.specs.declared.binding.Binding.{Binding}
+use Rattle.helper_link.specs.declared.answer.Answer.TheVariants as answers
+use Rattle.agent_model.specs.Actions.{Action, Answered, Asked, ForSignature, Granted, Lost, Over, Proved, Raised, Requested}
+use Rattle.agent_model.specs.Events.{Happening, Timed}
+use Rattle.agent_model.specs.Rows.{add, add_asking, add_for_ten, blob, lock, moment_at, remove, remove_all, sign, unlock}
+use Rattle.agent_model.specs.Runs.{Stamped, history}
+use Rattle.agent_model.specs.State.{OnAsk, first_state}
+use Rattle.agent_model.specs.Verdicts.{Awaits, Locked, Refuses, Replies, Success, Verdict}
+use Rattle.agent_laws.specs.Dues.{Claim}
+use Rattle.agent_laws.specs.History.{onto}
+use Rattle.agent_laws.specs.Past.{PastAddition, held_by, last_addition}
+
+-- at this second of both clocks
+abbrev pub at : ℕ → Action → Stamped
+at second action = record { moment = moment_at second; action = action }
+
+-- the client of port 1 sent this message, and got this; it was answered SSH_AGENT_SUCCESS, or refused
+abbrev pub got : Verdict → List ℕ → Action
+got verdict frame = Requested (record { port = 1; body = drop 4 frame; verdict = verdict })
+
+abbrev pub did : List ℕ → Stamped
+did frame = at 0 (got (Replies Success) frame)
+
+abbrev pub failed_to : List ℕ → Stamped
+failed_to frame = at 0 (got (Refuses Locked) frame)
+
+abbrev pub waits_for : List ℕ → Stamped
+waits_for frame = at 0 (got (Awaits (OnAsk 1)) frame)
+
+-- what `sign` of this key asks for
+abbrev pub signing : ℕ → Signing
+signing tag = record { blob = blob tag; message = 1 ∷ 2 ∷ []; flags = 0 }
+
+-- asks, answers, bindings and consents of port 1
+abbrev pub asked : ℕ → Stamped
+asked ask = at 0 (Asked (record { ask = ask; port = 1; purpose = ForSignature (signing 17) }))
+
+abbrev pub answered : ℕ → Stamped
+answered ask = at 0 (Answered (record { ask = ask; asker = 1; answer = answers.Refused }))
+
+abbrev pub host : ℕ → Binding
+host session = record { host_key = 9 ∷ []; session = session ∷ []; forwarding = true }
+
+abbrev pub proved : ℕ → ℕ → Stamped
+proved port session = at 0 (Proved (record { port = port; binding = host session }))
+
+abbrev pub raised : ℕ → ℕ → Stamped
+raised job number = at 0 (Raised (record { job = job; port = 1; addition = number; signing = signing 17 }))
+
+-- the number of the addition that is held at a second
+abbrev pub number_at : ℕ → ℕ → List Stamped → Option ℕ
+number_at second tag past = option_map (λ (one : PastAddition). one.number) (held_by (last_addition (blob tag) past) None second)
+
+-- the past behind events at second 0, from the first state on
+abbrev pub past_of : List Happening → List Stamped
+past_of events = onto [] (history (first_state None) (map (λ event. let one : Timed = record { moment = moment_at 0; event = event } in one) events))
+
+-- the claim of a request of port 1, and of a consent
+abbrev pub claim : ℕ → Option ℕ → Claim
+claim tag number = record { port = 1; addition = number; signing = signing tag }

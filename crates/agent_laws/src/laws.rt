@@ -1,0 +1,18 @@
+//! The law of history.
+
+ghost use Rattle.std.specs.Prelude.{ℕ, List, [], Option};
+ghost use Rattle.agent_model.specs.Events.{Timed};
+ghost use Rattle.agent_model.specs.Runs as runs;
+ghost use Rattle.agent_model.specs.State.{first_state};
+ghost use Rattle.agent_laws.specs.History.{HasNumbers, IsLawful};
+
+/// Whatever happened, and while the numbers of asks and jobs are not spent: a signature is put to the helper directly
+/// behind a request or a consent exactly where what was done before says so, and nowhere else. It says so where, by the
+/// locks and unlocks that succeeded, the agent isn't locked; by the additions and removals that succeeded and by its
+/// lifetime, the key is held; its destination constraints permit the signature for the bindings that were proved on that
+/// connection; fewer than 256 asks are open; and either the key asks for no confirmation, or the user consented to this
+/// very request and addition.
+pub fn history()
+    ensures lawful { (life : Option ℕ) (events : List Timed) → HasNumbers (runs.run (first_state life) events)
+        → IsLawful life [] (runs.history (first_state life) events) }
+{}

@@ -1,0 +1,18 @@
+//! Laws of the whole agent over its actions alone: which signatures are put to the helper, said by searches in what was
+//! done before, without a state. It stands on agent_model, whose definitions it checks by other words.
+#![tactic(auto)]
+
+mod consequences;
+mod laws;
+mod rows;
+mod runs;
+
+pub use consequences::{
+    a_confirmed_key_signs_with_consent, a_constrained_key_signs_where_permitted,
+    a_key_for_one_host_signs_for_it, nothing_is_signed_while_locked, only_what_was_added_signs,
+};
+pub use laws::history;
+pub use rows::{
+    the_past_tells_of_keys, the_past_tells_of_what_is_open, what_is_due_is_what_was_asked,
+};
+pub use runs::these_runs_are_lawful;

@@ -1,0 +1,241 @@
+-- Where a confirmer's bytes are cut does not matter.
+use Rattle.std.proofs.Common.{◌≡◌, ◌≢◌, ℕ, List, [], ◌∷◌, ◌++◌, refl, ap, sym, ◌∙◌, ◌==◌, Option, Some, None, Bool, true, false, cond}
+use Rattle.std.proofs.lemmas.List.{append-nil, append_assoc}
+use Rattle.world_ports.specs.declared.Door.{Door}
+use Rattle.world_ports.specs.declared.Door.TheVariants.{Clients, Children}
+use Rattle.world_ports.specs.declared.Moment.{Moment}
+use Rattle.wire_text.specs.Frames.{Front, front, Whole, Bad, More}
+use Rattle.wire_text.proofs.FrontLemmas.{front-append_bad, front-append_whole}
+use Rattle.child_msg.specs.Reading.{from_child_of}
+use Rattle.confirm_desk.specs.Confirmations.{Confirmation, Consent, No, NotYet, Yes, consent, consent_at, consent_in, find_linked, heard_more, remove_job, told}
+use Rattle.dest_rule.specs.Rules.{denial_under}
+use Rattle.dest_rule.specs.declared.binding.Binding.{Binding}
+use Rattle.dest_rule.specs.declared.denial.Denial.{Denial}
+use Rattle.identity_table.specs.Identities.{HeldKey, find_number}
+use Rattle.agent_model.specs.Actions.{Outcome, stay}
+use Rattle.agent_model.specs.Asking.{IsAttended}
+use Rattle.agent_model.specs.Consents.{close_confirmer, confirmer_heard, consent_by, grant, grant_by, grant_concluded, grant_to, grant_unless, grant_with, grant_work, over, with_heard, without_confirmation}
+use Rattle.agent_model.specs.Events.{Heard}
+use Rattle.agent_model.specs.KeyStates.{KeyState}
+use Rattle.agent_model.specs.Runs.{forget_closes}
+use Rattle.agent_model.specs.Sound.{IsTied}
+use Rattle.agent_model.specs.State.{Confirmer, Port, State, UnderWay, change_port, find_port, is_linked_to, role_by_helper, role_of}
+use Rattle.agent_model.specs.Step.{at_moment, handle, heard_at, heard_by_role, step}
+use Rattle.agent_model.specs.Verdicts.{NotConfirmed, Refuses, tell}
+use Rattle.agent_model.proofs.AttendedLemmas.{some_port}
+use Rattle.agent_model.proofs.BudgetLemmas.{confirmer_role}
+use Rattle.agent_model.proofs.FatedLemmas.{tied-opened}
+use Rattle.agent_model.proofs.JobLemmas.{in-by_port, in-found, linked-changed, linked_port}
+use Rattle.agent_model.proofs.LeadLemmas.{changes, same}
+use Rattle.agent_model.proofs.MakeLemmas.{role-confirmer, role-door}
+use Rattle.agent_model.proofs.PartsLemmas.{same_body}
+use Rattle.agent_model.proofs.PiecesLemmas.{Agree}
+use Rattle.agent_model.proofs.PortsLemmas.{find_port-remove_port, found_number}
+use Rattle.agent_model.proofs.RunLemmas.{at_moment-twice, leads-absent}
+
+-- ---- what the user says
+
+said_at : (job : ℕ) (a b : List ℕ) (answer : Front) → front 262144 a ≡ answer → consent_at job answer a ≢ NotYet → consent_at job (front 262144 (a ++ b)) (a ++ b) ≡ consent_at job answer a
+said_at job a b (Whole body_len) is decided =
+    ap (λ f. consent_at job f (a ++ b)) (front-append_whole 262144 a b body_len is) ∙ ap (λ body. consent_in job (from_child_of body)) (same_body a b body_len is)
+said_at job a b (Bad announced) is decided = ap (λ f. consent_at job f (a ++ b)) (front-append_bad 262144 a b announced is)
+said_at job a b More is decided = absurd (decided refl)
+
+-- once it is said, more bytes change nothing
+pub said : (job : ℕ) (a b : List ℕ) → consent job a ≢ NotYet → consent job (a ++ b) ≡ consent job a
+unfolding consent
+said job a b decided = said_at job a b (front 262144 a) refl decided
+
+-- ---- confirmations
+
+-- two parts are heard as one
+told-twice : (job : ℕ) (a b : List ℕ) (confirmations : List Confirmation) → told job b (told job a confirmations) ≡ told job (a ++ b) confirmations
+told-twice job a b [] = refl
+told-twice job a b (one ∷ others) = by_test (one.job == job) refl (told-twice job a b others)
+  where
+    by_test : (test : Bool) → (one.job == job) ≡ test → told job b (told job a others) ≡ told job (a ++ b) others → told job b (cond test (heard_more a one ∷ others) (one ∷ told job a others)) ≡ cond test (heard_more (a ++ b) one ∷ others) (one ∷ told job (a ++ b) others)
+    by_test true is rest =
+        ap (λ t. cond t (heard_more b (heard_more a one) ∷ others) (heard_more a one ∷ told job b others)) is
+        ∙ ap (λ bytes. let c : Confirmation = record one { heard = bytes } in c ∷ others) (append_assoc one.heard a b)
+    by_test false is rest =
+        ap (λ t. cond t (heard_more b one ∷ told job a others) (one ∷ told job b (told job a others))) is ∙ ap (λ more. one ∷ more) rest
+
+-- it doesn't matter what was heard of one that ends
+remove-told : (job : ℕ) (piece : List ℕ) (confirmations : List Confirmation) → remove_job job (told job piece confirmations) ≡ remove_job job confirmations
+remove-told job piece [] = refl
+remove-told job piece (one ∷ others) = by_test (one.job == job) refl (remove-told job piece others)
+  where
+    by_test : (test : Bool) → (one.job == job) ≡ test → remove_job job (told job piece others) ≡ remove_job job others → remove_job job (cond test (heard_more piece one ∷ others) (one ∷ told job piece others)) ≡ cond test others (one ∷ remove_job job others)
+    by_test true is rest = ap (λ t. cond t others (heard_more piece one ∷ remove_job job others)) is
+    by_test false is rest = ap (λ t. cond t (told job piece others) (one ∷ remove_job job (told job piece others))) is ∙ ap (λ more. one ∷ more) rest
+
+module _ (piece : List ℕ) (confirmation : Confirmation) (chain : List Binding) (wall : ℕ) (held : KeyState) (under_way : UnderWay) where
+  unless-alike : (denial : Option Denial) (key : HeldKey) → grant_unless denial key (heard_more piece confirmation) under_way ≡ grant_unless denial key confirmation under_way
+  unless-alike (Some denial) key = refl
+  unless-alike None key = refl
+
+  with-alike : (found : Option HeldKey) → grant_with found chain (heard_more piece confirmation) wall under_way ≡ grant_with found chain confirmation wall under_way
+  with-alike None = refl
+  with-alike (Some key) = unless-alike (denial_under key.rules key.blob chain confirmation.message wall) key
+
+  -- nor what was heard before it is granted
+  granted-alike : (lock : Option (List ℕ)) → grant_by lock held chain (heard_more piece confirmation) wall under_way ≡ grant_by lock held chain confirmation wall under_way
+  granted-alike (Some passphrase) = refl
+  granted-alike None = with-alike (find_number confirmation.addition held.table.identities)
+
+-- ---- the confirmer's port
+
+role-unhelped : (door : Door) (number : ℕ) (under_way : UnderWay) (confirmation : Confirmation) → role_of door number under_way ≡ Confirmer confirmation → is_linked_to number under_way.link.state ≡ false
+role-unhelped Clients number under_way confirmation is = absurd (cc)
+role-unhelped Children number under_way confirmation is = by_test (is_linked_to number under_way.link.state) refl is
+  where
+    by_test : (linked : Bool) → is_linked_to number under_way.link.state ≡ linked → role_by_helper linked number under_way.confirmations ≡ Confirmer confirmation → is_linked_to number under_way.link.state ≡ false
+    by_test true at helper = absurd (cc)
+    by_test false at other = at
+
+-- bytes there are the confirmer's
+pub handle-confirmer : (number : ℕ) (piece : List ℕ) (port : Port) (confirmation : Confirmation) (state : State) → find_port number state.ports ≡ Some port → role_of port.door port.number state.under_way ≡ Confirmer confirmation → handle (Heard number piece) state ≡ confirmer_heard confirmation piece state
+handle-confirmer number piece port confirmation state found role =
+    ap (λ o. heard_at o piece state) found ∙ ap (λ r. heard_by_role r port piece state) role
+
+module _ (moment : Moment) (state : State) (closes : List ℕ) (number : ℕ) (a b : List ℕ) (port : Port) (confirmation : Confirmation) (taken_in : at_moment moment state ≡ state) (tied : IsTied state) (attended : IsAttended state) (found : find_port number state.ports ≡ Some port) (role : role_of port.door port.number state.under_way ≡ Confirmer confirmation) where
+  abbrev uw : UnderWay
+  uw = state.under_way
+
+  numbered : port.number ≡ number
+  numbered = found_number number state.ports port found
+
+  linked : find_linked port.number uw.confirmations ≡ Some confirmation
+  linked = role-confirmer port.door port.number uw confirmation role
+
+  place : confirmation.port ≡ Some number
+  place = linked_port port.number uw.confirmations confirmation linked ∙ ap Some numbered
+
+  -- its client is open
+  asker : (client : Port) × (find_port confirmation.asker state.ports ≡ Some client)
+  asker =
+      some_port confirmation.asker state.ports
+      (attended.askers confirmation.job confirmation (in-found confirmation 0 uw.last_job tied.raised.order (in-by_port port.number uw.confirmations confirmation linked)))
+
+  -- its own port is closed with it
+  shut : (f : Port → Port) → ((p : Port) → (f p).number ≡ p.number) → ((p : Port) → (f p).door ≡ p.door) → find_port number (change_port confirmation.asker f (close_confirmer confirmation.port state.ports)) ≡ None
+  shut f keeps doors =
+      leads-absent number (close_confirmer confirmation.port state.ports) (changes confirmation.asker f _ keeps doors same)
+      (ap (λ at. find_port number (close_confirmer at state.ports)) place ∙ find_port-remove_port number 0 state.last_port state.ports tied.rising)
+
+  granted : grant confirmation state ≡ grant_concluded (grant_work asker.0.chain confirmation state) confirmation state
+  granted = ap (λ o. grant_to o confirmation state) asker.1
+
+  -- nothing comes of what is sent behind
+  decided : (first : Outcome) → find_port number first.state.ports ≡ None → Agree moment first first (handle (Heard number b) (at_moment moment (record first.state { closes = closes })))
+  decided first gone =
+      let then : State = at_moment moment (record first.state { closes = closes }) in
+      let second : handle (Heard number b) then ≡ stay then = ap (λ o. heard_at o b then) gone in
+      record {
+        state = ap forget_closes (sym (at_moment-twice first.state moment)) ∙ ap (λ (o : Outcome). forget_closes (at_moment moment o.state)) (sym second);
+        actions = sym (append-nil first.actions) ∙ ap (λ (o : Outcome). first.actions ++ o.actions) (sym second);
+        put = sym (append-nil first.put) ∙ ap (λ (o : Outcome). first.put ++ o.put) (sym second);
+      }
+
+  -- the first part was heard, and the next event begins
+  abbrev next : State
+  next = record (with_heard confirmation.job a state) { closes = closes }
+
+  next_is : at_moment moment next ≡ next
+  next_is = ap (λ s. let t : State = record s { ports = state.ports; under_way = next.under_way; closes = closes } in t) taken_in
+
+  next_role : role_of port.door port.number next.under_way ≡ Confirmer (heard_more a confirmation)
+  next_role =
+      confirmer_role port next.under_way (heard_more a confirmation) (role-door port.door port.number uw (Confirmer confirmation) role (λ no. absurd (cc))) (role-unhelped port.door port.number uw confirmation role)
+      (linked-changed port.number 0 (heard_more a) uw.confirmations uw.last_job confirmation (λ c. refl) tied.raised.order linked)
+
+  left_same : without_confirmation confirmation.job next.under_way ≡ without_confirmation confirmation.job uw
+  left_same =
+      ap (λ confirmations. let u : UnderWay = record (without_confirmation confirmation.job uw) { confirmations = confirmations } in u) (remove-told confirmation.job a uw.confirmations)
+
+  work_same : grant_work asker.0.chain (heard_more a confirmation) next ≡ grant_work asker.0.chain confirmation state
+  work_same =
+      granted-alike a confirmation asker.0.chain state.moment.wall state.held (without_confirmation confirmation.job next.under_way) state.held.lock
+      ∙ ap (λ u. grant_by state.held.lock state.held asker.0.chain confirmation state.moment.wall u) left_same
+
+  granted_next : grant (heard_more a confirmation) next ≡ grant_concluded (grant_work asker.0.chain confirmation state) (heard_more a confirmation) next
+  granted_next =
+      ap (λ o. grant_to o (heard_more a confirmation) next) asker.1 ∙ ap (λ w. grant_concluded w (heard_more a confirmation) next) work_same
+
+  over_next : over (heard_more a confirmation) next ≡ record (over confirmation state) { state = record (over confirmation state).state { closes = closes } }
+  over_next =
+      ap (λ u. let o : Outcome = record (over confirmation state) { state = record (over confirmation state).state { under_way = u; closes = closes } } in o) left_same
+
+  -- by what is said then, the rest brings what the whole brings
+  rest_alike : (says : Consent) → (forget_closes (consent_by says confirmation (a ++ b) state).state ≡ forget_closes (consent_by says (heard_more a confirmation) b next).state)
+      × ((consent_by says confirmation (a ++ b) state).actions ≡ (consent_by says (heard_more a confirmation) b next).actions)
+      × ((consent_by says confirmation (a ++ b) state).put ≡ (consent_by says (heard_more a confirmation) b next).put)
+  rest_alike NotYet = (
+    ap (λ confirmations. let s : State = record state { under_way = record uw { confirmations = confirmations }; closes = [] } in s) (sym (told-twice confirmation.job a b uw.confirmations)),
+    refl,
+    refl,
+  )
+  rest_alike Yes = (
+    ap (λ (o : Outcome). forget_closes o.state) granted ∙ ap (λ (o : Outcome). forget_closes o.state) (sym granted_next),
+    ap (λ (o : Outcome). o.actions) granted ∙ ap (λ (o : Outcome). o.actions) (sym granted_next),
+    ap (λ (o : Outcome). o.put) granted ∙ ap (λ (o : Outcome). o.put) (sym granted_next),
+  )
+  rest_alike No = (
+    ap (λ (o : Outcome). forget_closes o.state) (sym over_next),
+    ap (λ (o : Outcome). o.actions) (sym over_next),
+    ap (λ (o : Outcome). o.put) (sym over_next),
+  )
+
+  whole_decided : (says : Consent) → consent confirmation.job (confirmation.heard ++ a) ≡ says → says ≢ NotYet → consent confirmation.job (confirmation.heard ++ (a ++ b)) ≡ says
+  whole_decided says is other =
+      ap (consent confirmation.job) (sym (append_assoc confirmation.heard a b))
+      ∙ said confirmation.job (confirmation.heard ++ a) b (λ not_yet. other (sym is ∙ not_yet)) ∙ is
+
+  confirmer_parts : (says : Consent) → consent confirmation.job (confirmation.heard ++ a) ≡ says →
+      Agree moment (confirmer_heard confirmation (a ++ b) state) (consent_by says confirmation a state)
+      (handle (Heard number b) (at_moment moment (record (consent_by says confirmation a state).state { closes = closes })))
+  confirmer_parts Yes is =
+      let whole : confirmer_heard confirmation (a ++ b) state ≡ grant confirmation state = ap (λ c. consent_by c confirmation (a ++ b) state) (whole_decided Yes is (λ no. absurd (cc))) in
+      let agree = decided (grant confirmation state) (ap (λ (o : Outcome). find_port number o.state.ports) granted ∙ shut (tell (grant_work asker.0.chain confirmation state).verdict) (λ p. refl) (λ p. refl)) in
+      record {
+        state = ap (λ (o : Outcome). forget_closes (at_moment moment o.state)) whole ∙ agree.state;
+        actions = ap (λ (o : Outcome). o.actions) whole ∙ agree.actions;
+        put = ap (λ (o : Outcome). o.put) whole ∙ agree.put;
+      }
+  confirmer_parts No is =
+      let whole : confirmer_heard confirmation (a ++ b) state ≡ over confirmation state = ap (λ c. consent_by c confirmation (a ++ b) state) (whole_decided No is (λ no. absurd (cc))) in
+      let agree = decided (over confirmation state) (shut (tell (Refuses NotConfirmed)) (λ p. refl) (λ p. refl)) in
+      record {
+        state = ap (λ (o : Outcome). forget_closes (at_moment moment o.state)) whole ∙ agree.state;
+        actions = ap (λ (o : Outcome). o.actions) whole ∙ agree.actions;
+        put = ap (λ (o : Outcome). o.put) whole ∙ agree.put;
+      }
+  confirmer_parts NotYet is =
+      let says : Consent = consent confirmation.job ((confirmation.heard ++ a) ++ b) in
+      let whole : confirmer_heard confirmation (a ++ b) state ≡ consent_by says confirmation (a ++ b) state =
+      ap (λ bytes. consent_by (consent confirmation.job bytes) confirmation (a ++ b) state) (sym (append_assoc confirmation.heard a b)) in
+      let second : handle (Heard number b) (at_moment moment next) ≡ consent_by says (heard_more a confirmation) b next =
+      ap (handle (Heard number b)) next_is ∙ handle-confirmer number b port (heard_more a confirmation) next found next_role in
+      let alike = rest_alike says in
+      record {
+        state = ap (λ (o : Outcome). forget_closes (at_moment moment o.state)) whole ∙ ap (at_moment moment) alike.0 ∙ ap (λ (o : Outcome). forget_closes (at_moment moment o.state)) (sym second);
+        actions = ap (λ (o : Outcome). o.actions) whole ∙ alike.1 ∙ ap (λ (o : Outcome). o.actions) (sym second);
+        put = ap (λ (o : Outcome). o.put) whole ∙ alike.2 ∙ ap (λ (o : Outcome). o.put) (sym second);
+      }
+
+-- two parts of a confirmer's piece are the piece
+pub confirmer_parts_agree : (state : State) (moment : Moment) (number : ℕ) (a b : List ℕ) (port : Port) (confirmation : Confirmation) → IsTied state → IsAttended state → find_port number state.ports ≡ Some port → role_of port.door port.number state.under_way ≡ Confirmer confirmation →
+    Agree moment (step state moment (Heard number (a ++ b))) (step state moment (Heard number a))
+    (step (step state moment (Heard number a)).state moment (Heard number b))
+confirmer_parts_agree state moment number a b port confirmation tied attended found role =
+    let start : State = at_moment moment state in
+    let closes : List ℕ = (step state moment (Heard number a)).state.closes in
+    let first : handle (Heard number a) start ≡ confirmer_heard confirmation a start = handle-confirmer number a port confirmation start found role in
+    let whole : handle (Heard number (a ++ b)) start ≡ confirmer_heard confirmation (a ++ b) start = handle-confirmer number (a ++ b) port confirmation start found role in
+    let second : (o : Outcome) → Outcome = λ o. handle (Heard number b) (at_moment moment (record o.state { closes = closes })) in
+    let parts = confirmer_parts moment start closes number a b port confirmation (at_moment-twice state moment) (tied-opened moment state tied) attended found role _ refl in
+    record {
+      state = ap (λ (o : Outcome). forget_closes (at_moment moment o.state)) whole ∙ parts.state ∙ ap (λ (o : Outcome). forget_closes (at_moment moment (second o).state)) (sym first);
+      actions = ap (λ (o : Outcome). o.actions) whole ∙ parts.actions ∙ ap (λ (o : Outcome). o.actions ++ (second o).actions) (sym first);
+      put = ap (λ (o : Outcome). o.put) whole ∙ parts.put ∙ ap (λ (o : Outcome). o.put ++ (second o).put) (sym first);
+    }

@@ -1,0 +1,186 @@
+-- Over events, what was judged of bindings stands, and connections are bound to what was proved on them.
+use Rattle.std.proofs.Common.{◌≡◌, ℕ, suc, ◌<◌, ◌≤◌, List, [], ◌∷◌, ◌++◌, refl, ap, arith, sym, subst, ◌∙◌, nat_lt, Option, Some, None, Bool, true, false, inl, inr}
+use Rattle.std.proofs.lemmas.Bool.Decides.{nat_tests}
+use Rattle.world_ports.specs.declared.Door.{Door}
+use Rattle.world_ports.specs.declared.Door.TheVariants.{Clients}
+use Rattle.world_ports.specs.declared.Moment.{Moment}
+use Rattle.wire_text.specs.Frames.{Front, Whole, Bad, More, front_body}
+use Rattle.dest_rule.specs.Chains.{IsChain}
+use Rattle.dest_rule.specs.declared.binding.Binding.{Binding}
+use Rattle.agent_model.specs.Actions.{Outcome, stay}
+use Rattle.agent_model.specs.Bindings.{bound_after, chain_at, chain_of}
+use Rattle.agent_model.specs.Children.{changed, heard_more}
+use Rattle.agent_model.specs.Events.{Happening, Heard, Timed}
+use Rattle.agent_model.specs.Fates.{actions_of}
+use Rattle.agent_model.specs.Looks.{due}
+use Rattle.agent_model.specs.Runs.{run}
+use Rattle.agent_model.specs.Sound.{AreApart, IsJudged, IsRising, IsTied}
+use Rattle.agent_model.specs.State.{Port, State, find_port, first_state, new_port}
+use Rattle.agent_model.specs.Step.{admitted, asker_at, at_moment, has_room, look_front, look_port, looked, step}
+use Rattle.agent_model.proofs.BindLemmas.{bound_after-append}
+use Rattle.agent_model.proofs.ClientLemmas.{handle-heard, looked-found}
+use Rattle.agent_model.proofs.FatedLemmas.{step-fated, tied-opened}
+use Rattle.agent_model.proofs.JudgeLemmas.{no_bindings}
+use Rattle.agent_model.proofs.JudgedLemmas.{Judges, judges-makes, silent_served}
+use Rattle.agent_model.proofs.MakeLemmas.{by_event}
+use Rattle.agent_model.proofs.PortsLemmas.{found_number, found_within}
+use Rattle.agent_model.proofs.RunLemmas.{run-unused, step-rises}
+use Rattle.agent_model.proofs.ServeLemmas.{serve-ends}
+use Rattle.agent_model.proofs.TieLemmas.{found_joined}
+
+-- ---- an event
+
+-- whoever is open is bound to what it was bound to and to what was proved besides; and nothing is proved for a port that
+-- isn't open
+pub record Adds (number : ℕ) (old : List Port) (outcome : Outcome) : Type 0 where
+  pub bound : (port : Port) → find_port number outcome.state.ports ≡ Some port → port.chain ≡ bound_after number outcome.actions (chain_at number old)
+  pub silent : (chain : List Binding) → find_port number old ≡ None → bound_after number outcome.actions chain ≡ chain
+
+pub record Goes (old : State) (outcome : Outcome) : Type 0 where
+  pub judged : IsJudged outcome.state
+  pub adds : (number : ℕ) → Adds number old.ports outcome
+
+goes-made : (old : State) (outcome : Outcome) → Judges old outcome → Goes old outcome
+goes-made old outcome judges = record {
+  judged = judges.judged;
+  adds = λ number. record {
+    bound = λ port found.
+        let was = (judges.binds number).bound port found in
+        was.2 ∙ ap (λ opened. bound_after number outcome.actions (chain_of opened)) (sym was.1);
+    silent = (judges.binds number).silent;
+  };
+}
+
+-- no port has a number above the last
+absent_above : (number low high : ℕ) (ports : List Port) → IsRising low high ports → high < number → find_port number ports ≡ None
+absent_above number low high ports rising above = by_found (find_port number ports) refl
+  where
+    by_found : (found : Option Port) → find_port number ports ≡ found → find_port number ports ≡ None
+    by_found None is = is
+    by_found (Some port) is = absurd (omega (arith, above, found_within number low high ports port rising is))
+
+module _ (door : Door) (state : State) (tied : IsTied state) (judged : IsJudged state) where
+  -- one more port
+  abbrev with_port : Bool → State
+  with_port room = record state { ports = admitted room (suc state.last_port) door state.ports; last_port = suc state.last_port }
+
+  known_port : (number : ℕ) (port : Port) → number ≤ state.last_port → find_port number (state.ports ++ new_port (suc state.last_port) door ∷ []) ≡ Some port → find_port number state.ports ≡ Some port
+  known_port number port known found = elim (found_joined number (suc state.last_port) door state.ports port found) [
+    | inl was ↦ was
+    | inr new ↦
+        (let numbered : port.number ≡ number = found_number number _ port found in
+        let is : port.number ≡ suc state.last_port = ap (λ (p : Port). p.number) new in
+        absurd (omega (arith, numbered, is, known)))
+  ]
+
+  goes-admitted : (room : Bool) → Goes state (stay (with_port room))
+  goes-admitted false = record {
+    judged = record { verified = judged.verified; noted = judged.noted; given = judged.given; chains = judged.chains };
+    adds = λ number. record { bound = λ port found. ap chain_of (sym found); silent = λ chain none. refl };
+  }
+  goes-admitted true = record {
+    judged = record {
+      verified = λ ask what one port noted there found. judged.verified ask what one port noted there (known_port what.asker port (tied.askers ask what there) found);
+      noted = judged.noted;
+      given = judged.given;
+      chains = λ number port found. elim (found_joined number (suc state.last_port) door state.ports port found) [
+        | inl was ↦ judged.chains number port was
+        | inr new ↦ subst (λ (p : Port). IsChain p.chain × AreApart p.chain) (sym new) no_bindings
+      ];
+    };
+    adds = λ number. record {
+      bound = λ port found. elim (found_joined number (suc state.last_port) door state.ports port found) [
+        | inl was ↦ ap chain_of (sym was)
+        | inr new ↦
+            (let numbered : port.number ≡ number = found_number number _ port found in
+            let is : port.number ≡ suc state.last_port = ap (λ (p : Port). p.number) new in
+            let none : find_port number state.ports ≡ None = absent_above number 0 state.last_port state.ports tied.rising (omega (arith, numbered, is)) in
+            ap (λ (p : Port). p.chain) new ∙ ap chain_of (sym none))
+      ];
+      silent = λ chain none. refl;
+    };
+  }
+
+-- each event
+pub step-judged : (state : State) (moment : Moment) (event : Happening) → IsTied state → IsJudged state → Goes state (step state moment event)
+step-judged state moment event tied judged =
+    let opened : State = at_moment moment state in
+    let at = tied-opened moment state tied in
+    let judged_at : IsJudged opened = record { verified = judged.verified; noted = judged.noted; given = judged.given; chains = judged.chains } in
+    let goes = by_event (Goes opened) event opened (λ door. goes-admitted door opened at judged_at (has_room door state.ports state.under_way)) (λ outcome makes. goes-made opened outcome (judges-makes makes at judged_at)) in
+    let left = goes.judged in
+    record {
+      judged = record { verified = left.verified; noted = left.noted; given = left.given; chains = left.chains };
+      adds = λ number. record { bound = (goes.adds number).bound; silent = (goes.adds number).silent };
+    }
+
+-- ---- runs
+
+pub first-judged : (life : Option ℕ) → IsJudged (first_state life)
+first-judged life = record {
+  verified = λ ask what one port noted there found. absurd (cc);
+  noted = λ ask asker there. absurd (cc);
+  given = λ ask one noted. absurd (cc);
+  chains = λ number port found. absurd (cc);
+}
+
+pub run-judged : (state : State) (events : List Timed) → IsTied state → IsJudged state → IsJudged (run state events)
+run-judged state [] tied judged = judged
+run-judged state (timed ∷ later) tied judged =
+    run-judged (step state timed.moment timed.event).state later (step-fated state timed.moment timed.event tied).tied (step-judged state timed.moment timed.event tied judged).judged
+
+-- the bindings of a connection are those that were proved
+pub run-bound : (number : ℕ) (state : State) (events : List Timed) → IsTied state → IsJudged state → (port : Port) → find_port number (run state events).ports ≡ Some port → port.chain ≡ bound_after number (actions_of state events) (chain_at number state.ports)
+run-bound number state [] tied judged port found = ap chain_of (sym found)
+run-bound number state (timed ∷ later) tied judged port found =
+    run-bound number mid later tied_mid goes.judged port found
+    ∙ ap (bound_after number (actions_of mid later)) (by_found (find_port number mid.ports) refl)
+    ∙ sym (bound_after-append number (step state timed.moment timed.event).actions (actions_of mid later) (chain_at number state.ports))
+  where
+    mid : State
+    mid = (step state timed.moment timed.event).state
+
+    tied_mid : IsTied mid
+    tied_mid = (step-fated state timed.moment timed.event tied).tied
+
+    goes : Goes state (step state timed.moment timed.event)
+    goes = step-judged state timed.moment timed.event tied judged
+
+    by_test : (above : Bool) → nat_lt mid.last_port number ≡ above → find_port number mid.ports ≡ None → [] ≡ bound_after number (step state timed.moment timed.event).actions (chain_at number state.ports)
+    by_test true is none =
+        let rises : state.last_port ≤ mid.last_port = step-rises state timed.moment timed.event in
+        let over : mid.last_port < number = grind (arith, nat_tests) in
+        let before : find_port number state.ports ≡ None = absent_above number 0 state.last_port state.ports tied.rising (omega (arith, rises, over)) in
+        sym ((goes.adds number).silent [] before) ∙ ap (λ opened. bound_after number (step state timed.moment timed.event).actions (chain_of opened)) (sym before)
+    by_test false is none =
+        let under : number ≤ mid.last_port = grind (arith, nat_tests) in
+        let gone : None ≡ Some port = sym (run-unused mid later number under none) ∙ found in
+        absurd (cc)
+
+    by_found : (opened : Option Port) → find_port number mid.ports ≡ opened → chain_of opened ≡ bound_after number (step state timed.moment timed.event).actions (chain_at number state.ports)
+    by_found None is = by_test (nat_lt mid.last_port number) refl is
+    by_found (Some between) is = (goes.adds number).bound between is
+
+-- ---- what a client sends
+
+-- nothing is proved by it
+silent_look : (number : ℕ) (chain : List Binding) (answer : Front) (port : Port) (state : State) → bound_after number (look_front answer port state).actions chain ≡ chain
+silent_look number chain (Whole body_len) port state =
+    silent_served number chain (serve-ends (asker_at state.moment port) state.held state.under_way (front_body body_len port.heard))
+silent_look number chain (Bad announced) port state = refl
+silent_look number chain More port state = refl
+
+silent_looked : (number at : ℕ) (chain : List Binding) (found : Option Port) (state : State) → find_port at state.ports ≡ found → bound_after number (looked at state).actions chain ≡ chain
+silent_looked number at chain None state is = ap (λ (o : Option Port). bound_after number (look_port o state).actions chain) is
+silent_looked number at chain (Some port) state is =
+    ap (λ (o : Outcome). bound_after number o.actions chain) (looked-found at port state (due port) is refl)
+    ∙ silent_look number chain (due port) port state
+
+-- so it binds nobody
+pub client-binds_none : (state : State) (moment : Moment) (at : ℕ) (piece : List ℕ) (client : Port) (number : ℕ) (port : Port) → IsTied state → IsJudged state → find_port at state.ports ≡ Some client → client.door ≡ Clients → find_port number (step state moment (Heard at piece)).state.ports ≡ Some port → port.chain ≡ chain_at number state.ports
+client-binds_none state moment at piece client number port tied judged there door found =
+    let opened : State = at_moment moment state in
+    let goes = step-judged state moment (Heard at piece) tied judged in
+    (goes.adds number).bound port found
+    ∙ ap (λ (o : Outcome). bound_after number o.actions (chain_at number state.ports)) (handle-heard at piece client opened there door)
+    ∙ silent_looked number at (chain_at number state.ports) _ (changed at (heard_more piece) opened) refl

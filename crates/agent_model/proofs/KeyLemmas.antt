@@ -1,0 +1,232 @@
+-- Identities have blobs and numbers of their own, and no number is given to another one later.
+use Rattle.std.proofs.Common.{◌≡◌, ℕ, ◌+◌, ◌≤◌, List, [], ◌∷◌, refl, arith, sym, ◌∙◌, ◌==◌, nat_lt, eqb, cond, max, Option, Some, None, Bool, true, false, Result, Ok, Err}
+use Rattle.std.specs.Str.{bytes_eq}
+use Rattle.std.proofs.lemmas.Bool.{eqb-true}
+use Rattle.world_ports.specs.declared.Moment.{Moment}
+use Rattle.agent_msg.specs.declared.fault.MsgFault.{MsgFault}
+use Rattle.agent_msg.specs.Requests.{Addition, ClientRequest, ListIdentities, Sign, Add, Remove, RemoveAll, Lock, Unlock, Bind, OtherExtension, Unsupported}
+use Rattle.identity_table.specs.Deaths.{lives_at}
+use Rattle.identity_table.specs.Identities.{HaveOwnBlobs, HaveOwnNumbers, HeldKey, TableState, alive_at, find_identity, find_number, max_answer, new_identity, remove_identity}
+use Rattle.identity_table.proofs.FindLemmas.{if_alive, own_blobs-alive, own_blobs-put, own_blobs-remove}
+use Rattle.identity_table.proofs.NumberLaws.{find_number-alive, find_number-put, find_number-remove, unless_blob}
+use Rattle.identity_table.proofs.NumberLemmas.{own_numbers-alive, own_numbers-put, own_numbers-remove}
+use Rattle.wire_text.specs.Frames.{front_body}
+use Rattle.helper_link.specs.Telling.{telling}
+use Rattle.helper_link.specs.declared.fault.LinkFault.{LinkFault}
+use Rattle.agent_model.specs.Actions.{Outcome}
+use Rattle.agent_model.specs.Answers.{lose_if}
+use Rattle.agent_model.specs.Binds.{agent_request_of}
+use Rattle.agent_model.specs.Dispatch.{Asker, add_by, add_fault, add_seen, add_unless, length_with, lock_by, remove_by, remove_seen, sees, serve, serve_by, serve_locked, serve_unlocked, unlock_by, with_addition}
+use Rattle.agent_model.specs.Events.{Happening, Timed}
+use Rattle.agent_model.specs.Grants.{HaveOwnParts}
+use Rattle.agent_model.specs.KeyStates.{KeyState}
+use Rattle.agent_model.specs.Limits.{last_number}
+use Rattle.agent_model.specs.Runs.{run}
+use Rattle.agent_model.specs.State.{State, UnderWay, first_state}
+use Rattle.agent_model.specs.Step.{asker_at, at_moment, handle, step}
+use Rattle.agent_model.specs.Verdicts.{Cause}
+use Rattle.agent_model.proofs.MakeLemmas.{Makes, alters, by_event, closes, first, goes_on, grants, links, loses, names, overs, serves, stays, tells}
+
+-- the numbers that were given find what they found, or nothing; and identities have parts of their own yet
+pub record KeysKept (old new : TableState) : Type 0 where
+  pub own : HaveOwnParts new
+  pub last : old.last ≤ new.last
+  pub found : (number : ℕ) (key : HeldKey) → number ≤ old.last → find_number number new.identities ≡ Some key → find_number number old.identities ≡ Some key
+
+kept-same : (table : TableState) → HaveOwnParts table → KeysKept table table
+kept-same table own = record { own = own; last = omega arith; found = λ number key within is. is }
+
+kept-in_turn : {old mid new : TableState} → KeysKept old mid → KeysKept mid new → KeysKept old new
+kept-in_turn one two = record {
+  own = two.own;
+  last = omega (arith, one.last, two.last);
+  found = λ number key within is. one.found number key within (two.found number key (omega (arith, within, one.last)) is);
+}
+
+-- the dead leave
+alive_before : (second : ℕ) (found : Option HeldKey) (key : HeldKey) → if_alive second found ≡ Some key → found ≡ Some key
+alive_before second None key is = is
+alive_before second (Some one) key is = by_test (lives_at second one.death) is
+  where
+    by_test : (alive : Bool) → cond alive (Some one) None ≡ Some key → Some one ≡ Some key
+    by_test true some = some
+    by_test false some = absurd (cc)
+
+kept-alive : (second : ℕ) (table : TableState) → HaveOwnParts table → KeysKept table (record table { identities = alive_at second table.identities; greatest = second })
+kept-alive second table own = record {
+  own = record { blobs = own_blobs-alive second table.identities own.blobs; numbers = own_numbers-alive table.last second table.identities own.numbers };
+  last = omega arith;
+  found = λ number key within is.
+      alive_before second (find_number number table.identities) key (sym (find_number-alive number table.last second table.identities own.numbers) ∙ is);
+}
+
+-- one leaves
+unless_before : (blob : List ℕ) (found : Option HeldKey) (key : HeldKey) → unless_blob blob found ≡ Some key → found ≡ Some key
+unless_before blob None key is = is
+unless_before blob (Some one) key is = by_test (bytes_eq one.blob blob) is
+  where
+    by_test : (same : Bool) → cond same None (Some one) ≡ Some key → Some one ≡ Some key
+    by_test true some = absurd (cc)
+    by_test false some = some
+
+kept-removed : (blob : List ℕ) (table : TableState) → HaveOwnParts table → KeysKept table (record table { identities = remove_identity blob table.identities })
+kept-removed blob table own = record {
+  own = record { blobs = own_blobs-remove blob table.identities own.blobs; numbers = own_numbers-remove table.last blob table.identities own.numbers };
+  last = omega arith;
+  found = λ number key within is.
+      unless_before blob (find_number number table.identities) key (sym (find_number-remove number table.last blob table.identities own.blobs own.numbers) ∙ is);
+}
+
+-- all leave
+own_none : (last greatest : ℕ) (life : Option ℕ) → HaveOwnParts (record { identities = []; greatest = greatest; last = last; life = life })
+unfolding HaveOwnBlobs HaveOwnNumbers
+own_none last greatest life = record { blobs = tt; numbers = tt }
+
+none_found : (number : ℕ) (key : HeldKey) → find_number number [] ≡ Some key → ⊥
+unfolding find_number
+none_found number key is = absurd (cc)
+
+kept-emptied : (table : TableState) → KeysKept table (record table { identities = [] })
+kept-emptied table = record {
+  own = own_none table.last table.greatest table.life;
+  last = omega arith;
+  found = λ number key within is. absurd (none_found number key is);
+}
+
+-- one comes, under the next number
+kept-added : (addition : Addition) (now : ℕ) (table : TableState) → HaveOwnParts table → KeysKept table (with_addition addition now table)
+kept-added addition now table own =
+    let new : HeldKey = new_identity table addition.key addition.terms addition.comment now in
+    record {
+      own = record { blobs = own_blobs-put new table.identities own.blobs; numbers = own_numbers-put table.last new table.identities refl own.numbers };
+      last = omega arith;
+      found = λ number key within is.
+          by_test new number key within (eqb new.number number) refl refl (sym (find_number-put number table.last new table.identities own.blobs own.numbers refl) ∙ is);
+    }
+  where
+    by_test : (new : HeldKey) (number : ℕ) (key : HeldKey) → number ≤ table.last → (same : Bool) → new.number ≡ table.last + 1 → eqb new.number number ≡ same → cond same (Some new) (unless_blob new.blob (find_number number table.identities)) ≡ Some key → find_number number table.identities ≡ Some key
+    by_test new number key within true is equal some = absurd (omega (arith, is, eqb-true new.number number equal, within))
+    by_test new number key within false is equal some = unless_before new.blob (find_number number table.identities) key some
+
+-- ---- requests
+
+module _ (asker : Asker) (held : KeyState) (under_way : UnderWay) (own : HaveOwnParts held.table) where
+  abbrev Keeps : KeyState → Type 0
+  Keeps after = KeysKept held.table after.table
+
+  kept-unless : (fault : Option Cause) (addition : Addition) → Keeps (add_unless fault addition asker.mono held under_way).held
+  kept-unless (Some cause) addition = kept-same held.table own
+  kept-unless None addition = kept-added addition asker.mono held.table own
+
+  kept-seen : (seen : Bool) (addition : Addition) → Keeps (add_seen seen addition asker.mono held under_way).held
+  kept-seen false addition = kept-same held.table own
+  kept-seen true addition =
+      kept-unless (add_fault (nat_lt max_answer (length_with addition asker.mono held.table)) (held.table.last == last_number)) addition
+
+  kept-add : (found : Option HeldKey) (addition : Addition) → Keeps (add_by found asker addition held under_way).held
+  kept-add None addition = kept-seen true addition
+  kept-add (Some key) addition = kept-seen (sees asker key) addition
+
+  kept-remove_seen : (seen : Bool) (blob : List ℕ) → Keeps (remove_seen seen blob held under_way).held
+  kept-remove_seen false blob = kept-same held.table own
+  kept-remove_seen true blob = kept-removed blob held.table own
+
+  kept-remove : (found : Option HeldKey) (blob : List ℕ) → Keeps (remove_by found asker blob held under_way).held
+  kept-remove None blob = kept-same held.table own
+  kept-remove (Some key) blob = kept-remove_seen (sees asker key) blob
+
+  kept-lock : (passphrase : List ℕ) → Keeps (lock_by passphrase held under_way).held
+  kept-lock [] = kept-same held.table own
+  kept-lock (byte ∷ bytes) = kept-same held.table own
+
+  kept-unlock : (same : Bool) → Keeps (unlock_by same held under_way).held
+  kept-unlock true = kept-same held.table own
+  kept-unlock false = kept-same held.table own
+
+  kept-unlocked : (request : ClientRequest) → Keeps (serve_unlocked request asker held under_way).held
+  kept-unlocked ListIdentities = kept-same held.table own
+  kept-unlocked (Sign signing) = kept-same held.table own
+  kept-unlocked (Add addition) = kept-add (find_identity addition.key.blob held.table.identities) addition
+  kept-unlocked (Remove blob) = kept-remove (find_identity blob held.table.identities) blob
+  kept-unlocked RemoveAll = kept-emptied held.table
+  kept-unlocked (Lock passphrase) = kept-lock passphrase
+  kept-unlocked (Unlock passphrase) = kept-same held.table own
+  kept-unlocked (Bind bind) = kept-same held.table own
+  kept-unlocked (OtherExtension name) = kept-same held.table own
+  kept-unlocked (Unsupported number) = kept-same held.table own
+
+  kept-locked : (passphrase : List ℕ) (request : ClientRequest) → Keeps (serve_locked passphrase request held under_way).held
+  kept-locked passphrase ListIdentities = kept-same held.table own
+  kept-locked passphrase (Sign signing) = kept-same held.table own
+  kept-locked passphrase (Add addition) = kept-same held.table own
+  kept-locked passphrase (Remove blob) = kept-same held.table own
+  kept-locked passphrase RemoveAll = kept-same held.table own
+  kept-locked passphrase (Lock other) = kept-same held.table own
+  kept-locked passphrase (Unlock other) = kept-unlock (bytes_eq passphrase other)
+  kept-locked passphrase (Bind bind) = kept-same held.table own
+  kept-locked passphrase (OtherExtension name) = kept-same held.table own
+  kept-locked passphrase (Unsupported number) = kept-same held.table own
+
+  kept-by : (lock : Option (List ℕ)) (request : ClientRequest) → Keeps (serve_by lock request asker held under_way).held
+  kept-by None request = kept-unlocked request
+  kept-by (Some passphrase) request = kept-locked passphrase request
+
+  pub kept-serve : (read : Result ClientRequest MsgFault) → KeysKept held.table (serve read asker held under_way).held.table
+  kept-serve (Ok request) = kept-by held.lock request
+  kept-serve (Err fault) = kept-same held.table own
+
+-- ---- events
+
+kept-makes : {event : Happening} {old : State} {outcome : Outcome} → Makes event old outcome → HaveOwnParts old.held.table → KeysKept old.held.table outcome.state.held.table
+kept-makes (stays state) own = kept-same state.held.table own
+kept-makes (first (alters number f mild) rest) own = kept-makes rest own
+kept-makes (first (closes number may) rest) own = kept-makes rest own
+kept-makes (first (goes_on new asks) rest) own = kept-makes rest own
+kept-makes (first (names job number port found door free) rest) own = kept-makes rest own
+kept-makes (first (links job number port found door free other) rest) own = kept-makes rest own
+kept-makes (serves body_len port state found door waits owed) own =
+    kept-serve (asker_at state.moment port) state.held state.under_way own (agent_request_of (front_body body_len port.heard))
+kept-makes (tells piece state) own = kept-fault (telling piece state.under_way.link).fault _ own
+  where
+    kept-fault : (fault : Option LinkFault) (mid : State) → HaveOwnParts mid.held.table → KeysKept mid.held.table (lose_if fault mid).state.held.table
+    kept-fault None mid own_mid = kept-same mid.held.table own_mid
+    kept-fault (Some fault) mid own_mid = kept-same mid.held.table own_mid
+kept-makes (loses state) own = kept-same state.held.table own
+kept-makes (overs confirmation state there) own = kept-same state.held.table own
+kept-makes (grants confirmation port state there opened) own = kept-same state.held.table own
+
+-- as the moment is taken in
+pub kept-opened : (moment : Moment) (state : State) → HaveOwnParts state.held.table → KeysKept state.held.table (at_moment moment state).held.table
+kept-opened moment state own = kept-alive (max state.moment.mono moment.mono) state.held.table own
+
+-- by what the event makes
+pub kept-event : (event : Happening) (state : State) → HaveOwnParts state.held.table → KeysKept state.held.table (handle event state).state.held.table
+kept-event event state own =
+    by_event (λ outcome. KeysKept state.held.table outcome.state.held.table) event state (λ door. kept-same state.held.table own) (λ outcome makes. kept-makes makes own)
+
+pub step-kept : (state : State) (moment : Moment) (event : Happening) → HaveOwnParts state.held.table → KeysKept state.held.table (step state moment event).state.held.table
+step-kept state moment event own =
+    let opened = kept-opened moment state own in
+    let left = kept-event event (at_moment moment state) opened.own in
+    kept-in_turn opened record { own = left.own; last = left.last; found = left.found }
+
+-- ---- runs
+
+pub run-kept : (state : State) (events : List Timed) → HaveOwnParts state.held.table → KeysKept state.held.table (run state events).held.table
+run-kept state [] own = kept-same state.held.table own
+run-kept state (timed ∷ later) own =
+    let now = step-kept state timed.moment timed.event own in
+    kept-in_turn now (run-kept (step state timed.moment timed.event).state later now.own)
+
+pub first-own : (life : Option ℕ) → HaveOwnParts (first_state life).held.table
+first-own life = own_none 0 0 life
+
+-- a number that finds nothing never will
+pub never_again : (number : ℕ) (old new : TableState) → KeysKept old new → number ≤ old.last → find_number number old.identities ≡ None → find_number number new.identities ≡ None
+never_again number old new kept within none = by_found (find_number number new.identities) refl
+  where
+    by_found : (found : Option HeldKey) → find_number number new.identities ≡ found → find_number number new.identities ≡ None
+    by_found None is = is
+    by_found (Some key) is =
+        let no : None ≡ Some key = sym none ∙ kept.found number key within is in
+        absurd (cc)

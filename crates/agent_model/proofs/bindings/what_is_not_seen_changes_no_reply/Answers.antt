@@ -1,0 +1,12 @@
+use Rattle.agent_model.proofs.UnseenEventLemmas.{unseen-heard, unseen-took}
+use Rattle.agent_model.proofs.UnseenLemmas.{unseen-reply}
+use Rattle.agent_model.proofs.bindings.what_is_not_seen_changes_no_reply.Goals as goal
+
+pub returns-clause-request : goal.returns-clause-request
+returns-clause-request c = unseen-reply
+
+pub returns-clause-heard : goal.returns-clause-heard
+returns-clause-heard c = unseen-heard
+
+pub returns-clause-took : goal.returns-clause-took
+returns-clause-took c = unseen-took

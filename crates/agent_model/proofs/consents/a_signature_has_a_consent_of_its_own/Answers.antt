@@ -1,0 +1,34 @@
+use Rattle.std.proofs.Common.{arith}
+use Rattle.agent_model.specs.Fates.{actions_of}
+use Rattle.agent_model.specs.Grants.{noted, pending}
+use Rattle.agent_model.specs.Runs.{run}
+use Rattle.agent_model.specs.State.{first_state}
+use Rattle.agent_model.proofs.FatedLemmas.{first-tied, run-tied}
+use Rattle.agent_model.proofs.OnceLemmas.{unused_most}
+use Rattle.agent_model.proofs.PutLemmas.{noted_some, run-put, run-tie}
+use Rattle.agent_model.proofs.TraceLemmas.{endable_most, run-ended, run-raised, step-traces}
+use Rattle.agent_model.proofs.consents.a_signature_has_a_consent_of_its_own.Goals as goal
+
+pub returns-clause-put : goal.returns-clause-put
+returns-clause-put c = run-put
+
+pub returns-clause-granted : goal.returns-clause-granted
+returns-clause-granted c = λ life events moment event job among.
+    noted_some (noted job (run (first_state life) events).under_way.confirmations) (pending (actions_of (first_state life) events) job) (run-tie life events job)
+    ((step-traces job (run (first_state life) events) moment event (run-tied (first_state life) events (first-tied life))).granted among)
+
+pub returns-clause-over : goal.returns-clause-over
+returns-clause-over c = λ life events moment event job among.
+    noted_some (noted job (run (first_state life) events).under_way.confirmations) (pending (actions_of (first_state life) events) job) (run-tie life events job)
+    ((step-traces job (run (first_state life) events) moment event (run-tied (first_state life) events (first-tied life))).over among)
+
+pub returns-clause-ended : goal.returns-clause-ended
+returns-clause-ended c = λ life events job.
+    omega (arith, run-ended job (first_state life) events (first-tied life), endable_most job (first_state life).under_way)
+
+pub returns-clause-raised : goal.returns-clause-raised
+returns-clause-raised c = λ life events job.
+    omega (arith, run-raised job (first_state life) events (first-tied life), unused_most job 0)
+
+pub returns-clause-waits : goal.returns-clause-waits
+returns-clause-waits c = run-tie

@@ -1,0 +1,134 @@
+//! Laws of the user's consent: who waits for it, and where what a child process sends is cut.
+
+ghost use Rattle.std.specs.Prelude.{◌≡◌, ◌≢◌, ◌↔◌, ◌+◌, ◌++◌, ◌≤◌, ℕ, List, Option, None, Some, IsSome};
+ghost use Rattle.std.specs.Option.{option_map};
+ghost use Rattle.world_ports.specs.declared.Moment.{Moment};
+ghost use Rattle.confirm_desk.specs.Confirmations.{Confirmation};
+ghost use Rattle.dest_rule.specs.declared.binding.Binding.{Binding};
+ghost use Rattle.identity_table.specs.Identities.{HeldKey, find_number};
+ghost use Rattle.agent_msg.specs.Requests.{Signing};
+ghost use Rattle.agent_model.specs.Actions.{Asked, Asking, ForSignature, Granted, Over, Raising};
+ghost use Rattle.agent_model.specs.Askable.{HasRoom, IsGrantable, IsRefusedAtGrant};
+ghost use Rattle.agent_model.specs.Asking.{IsAsking, IsAttended};
+ghost use Rattle.agent_model.specs.Consents.{grant_by, signing_of};
+ghost use Rattle.agent_model.specs.Errands.{Signs, put_unless};
+ghost use Rattle.agent_model.specs.Events.{Ended, Happening, Heard, Timed};
+ghost use Rattle.agent_model.specs.Fates.{IsTold, actions_of};
+ghost use Rattle.agent_model.specs.Grants.{HaveOwnParts, IsAgreed, IsAmong, IsPut, noted, pending, times_ended, times_raised, wanted};
+ghost use Rattle.agent_model.specs.KeyStates.{KeyState};
+ghost use Rattle.agent_model.specs.Runs.{forget_closes, run};
+ghost use Rattle.agent_model.specs.Sound.{IsTied};
+ghost use Rattle.agent_model.specs.State.{Confirmer, OnAsk, OnConfirmation, Port, State, UnderWay, find_port, first_state, role_of};
+ghost use Rattle.agent_model.specs.Step.{at_moment, step};
+ghost use Rattle.agent_model.specs.Verdicts.{Awaits, Cause, Refuses};
+
+/// Whatever happened before: at most 16 confirmations are waited for, whoever waits for one is open and owed nothing,
+/// each child process that came to ask is open, and no two of these, nor the helper, share a port. A client that waits
+/// for consent has a confirmation of its own.
+pub fn who_waits_for_the_user_is_open()
+    ensures attended { (life : Option ℕ) (events : List Timed) → IsAttended (run (first_state life) events) }
+    ensures step { (state : State) (moment : Moment) (event : Happening) → IsTied state → IsAttended state
+        → IsAttended (step state moment event).state }
+    ensures waits { (state : State) (number job : ℕ) (port : Port) → IsTied state
+        → find_port number state.ports ≡ Some port → port.waits ≡ OnConfirmation job
+        → IsAsking number job port state.under_way.confirmations }
+{}
+
+/// Where the bytes of a child process that asks the user are cut does not matter: a piece in two parts leads to the
+/// state of the whole piece, as the next event at the same moment begins and but for the ports that the last event
+/// closed, and the same is done and put to the helper.
+pub fn a_piece_of_a_confirmer_in_two_parts()
+    ensures state { (state : State) (moment : Moment) (number : ℕ) (a b : List ℕ) (port : Port)
+        (confirmation : Confirmation) → IsTied state → IsAttended state → find_port number state.ports ≡ Some port
+        → role_of port.door port.number state.under_way ≡ Confirmer confirmation
+        → forget_closes (at_moment moment (step state moment (Heard number (a ++ b))).state)
+        ≡ forget_closes (at_moment moment
+        (step (step state moment (Heard number a)).state moment (Heard number b)).state) }
+    ensures actions { (state : State) (moment : Moment) (number : ℕ) (a b : List ℕ) (port : Port)
+        (confirmation : Confirmation) → IsTied state → IsAttended state → find_port number state.ports ≡ Some port
+        → role_of port.door port.number state.under_way ≡ Confirmer confirmation
+        → (step state moment (Heard number (a ++ b))).actions
+        ≡ (step state moment (Heard number a)).actions
+        ++ (step (step state moment (Heard number a)).state moment (Heard number b)).actions }
+    ensures put { (state : State) (moment : Moment) (number : ℕ) (a b : List ℕ) (port : Port)
+        (confirmation : Confirmation) → IsTied state → IsAttended state → find_port number state.ports ≡ Some port
+        → role_of port.door port.number state.under_way ≡ Confirmer confirmation
+        → (step state moment (Heard number (a ++ b))).put
+        ≡ (step state moment (Heard number a)).put
+        ++ (step (step state moment (Heard number a)).state moment (Heard number b)).put }
+{}
+
+/// Whatever happened before, and while its port stays: a client that waits for the user is owed nothing and goes on
+/// waiting until its own confirmation ends, whatever others do. Where that ends without consent it is told
+/// SSH_AGENT_FAILURE; at consent it waits for the ask that is put for it in that event, or is told SSH_AGENT_FAILURE.
+pub fn a_client_waits_for_its_own_consent()
+    ensures waits { (state : State) (number job : ℕ) (port : Port) → IsTied state
+        → find_port number state.ports ≡ Some port → port.waits ≡ OnConfirmation job
+        → IsTold number (Awaits (OnConfirmation job)) state.ports }
+    ensures agreed { (state : State) (moment : Moment) (event : Happening) (number job : ℕ) → IsTied state
+        → event ≢ Ended number → IsTold number (Awaits (OnConfirmation job)) state.ports
+        → IsAgreed number job (step state moment event).actions (step state moment event).state.ports }
+{}
+
+/// Consent leads to an ask exactly where the agent is unlocked, the very addition that the client asked for is held,
+/// its destination constraints permit the signature for the client's chain at the wall clock of this event, fewer than
+/// 256 asks are unanswered and the numbers are not spent; and it comes to nothing for a cause exactly where that cause
+/// holds.
+pub fn consent_counts_exactly_where_it_may()
+    ensures put { (ask : ℕ) (held : KeyState) (chain : List Binding) (confirmation : Confirmation) (wall : ℕ)
+        (under_way : UnderWay)
+        → ((grant_by held.lock held chain confirmation wall under_way).verdict ≡ Awaits (OnAsk ask))
+        ↔ ((key : HeldKey) × IsGrantable key chain confirmation.addition confirmation.message wall held
+        × HasRoom under_way × (ask ≡ under_way.link.last + 1)) }
+    ensures message { (key : HeldKey) (held : KeyState) (chain : List Binding) (confirmation : Confirmation)
+        (wall : ℕ) (under_way : UnderWay)
+        → IsGrantable key chain confirmation.addition confirmation.message wall held → HasRoom under_way
+        → grant_by held.lock held chain confirmation wall under_way
+        ≡ put_unless None (Signs key (signing_of key confirmation)) confirmation.asker under_way }
+    ensures refused { (cause : Cause) (held : KeyState) (chain : List Binding) (confirmation : Confirmation)
+        (wall : ℕ) (under_way : UnderWay)
+        → ((grant_by held.lock held chain confirmation wall under_way).verdict ≡ Refuses cause)
+        ↔ IsRefusedAtGrant cause chain confirmation wall held under_way }
+{}
+
+/// Over all events: each signature that is put to the helper was asked for in that very event, with a key that asks for
+/// no confirmation; or the user agreed in that event to this very request of this very client, of an addition that may
+/// be used by then. A confirmation is raised at most once under its job, and ends at most once: after it was granted, or
+/// ended otherwise, it is never granted again. What waits is what the actions so far tell.
+pub fn a_signature_has_a_consent_of_its_own()
+    ensures put { (life : Option ℕ) (events : List Timed) (moment : Moment) (event : Happening) (asking : Asking)
+        (signing : Signing) → asking.purpose ≡ ForSignature signing
+        → IsAmong (Asked asking) (step (run (first_state life) events) moment event).actions
+        → IsPut asking signing (pending (actions_of (first_state life) events))
+        (at_moment moment (run (first_state life) events)) (step (run (first_state life) events) moment event).actions }
+    ensures granted { (life : Option ℕ) (events : List Timed) (moment : Moment) (event : Happening) (job : ℕ)
+        → IsAmong (Granted job) (step (run (first_state life) events) moment event).actions
+        → IsSome (pending (actions_of (first_state life) events) job) }
+    ensures over { (life : Option ℕ) (events : List Timed) (moment : Moment) (event : Happening) (job : ℕ)
+        → IsAmong (Over job) (step (run (first_state life) events) moment event).actions
+        → IsSome (pending (actions_of (first_state life) events) job) }
+    ensures ended { (life : Option ℕ) (events : List Timed) (job : ℕ)
+        → times_ended job (actions_of (first_state life) events) ≤ 1 }
+    ensures raised { (life : Option ℕ) (events : List Timed) (job : ℕ)
+        → times_raised job (actions_of (first_state life) events) ≤ 1 }
+    ensures waits { (life : Option ℕ) (events : List Timed) (job : ℕ)
+        → noted job (run (first_state life) events).under_way.confirmations
+        ≡ option_map wanted (pending (actions_of (first_state life) events) job) }
+{}
+
+/// Over all events: no two identities have one number or one blob, and an addition that was replaced, removed or has run
+/// out is never found by its number again; so no consent that was asked for before leads to an ask.
+pub fn an_addition_that_left_is_never_used()
+    ensures own { (life : Option ℕ) (events : List Timed)
+        → HaveOwnParts (run (first_state life) events).held.table }
+    ensures found { (state : State) (events : List Timed) (number : ℕ) (key : HeldKey)
+        → HaveOwnParts state.held.table → number ≤ state.held.table.last
+        → find_number number (run state events).held.table.identities ≡ Some key
+        → find_number number state.held.table.identities ≡ Some key }
+    ensures gone { (state : State) (events : List Timed) (number : ℕ) → HaveOwnParts state.held.table
+        → number ≤ state.held.table.last → find_number number state.held.table.identities ≡ None
+        → find_number number (run state events).held.table.identities ≡ None }
+    ensures given { (life : Option ℕ) (events : List Timed) (job : ℕ) (raising : Raising)
+        → pending (actions_of (first_state life) events) job ≡ Some raising
+        → raising.addition ≤ (run (first_state life) events).held.table.last }
+{}

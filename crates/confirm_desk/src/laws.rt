@@ -1,0 +1,67 @@
+//! What stands of a desk over many calls.
+
+ghost use Rattle.std.specs.Prelude.{◌≡◌, ◌≢◌, ◌^◌, ◌<◌, ℕ, List, [], None, Some, length};
+ghost use Rattle.wire_text.specs.Wire.{IsBytes};
+ghost use Rattle.confirm_desk.specs.Calls.{telling, took_at};
+ghost use Rattle.confirm_desk.specs.Confirmations.{Confirmation, Held, Yes, consent, find_asker, find_job, find_linked, leave, linked, lose, most_confirmations, raise, told, took};
+ghost use Rattle.confirm_desk.specs.Cuts.{joined, told_in_turn};
+ghost use Rattle.confirm_desk.specs.Grants.{StartsWithGrant};
+ghost use Rattle.confirm_desk.specs.Sound.{IsSound, RiseTo};
+ghost use Rattle.confirm_desk.specs.declared.held.Verdict.TheVariants as verdicts;
+
+/// Pieces that are told one after another, up to the decision, tell what they tell as one piece, and leave the desk as
+/// it would.
+pub fn cuts_of_the_bytes_do_not_matter()
+    ensures { (port : ℕ) (piece : List ℕ) (pieces : List (List ℕ)) (desk : List Confirmation) → IsSound desk
+        → told_in_turn port piece pieces desk ≡ telling port (joined piece pieces) desk }
+{}
+
+/// What holds of the first desk holds after each call that may be made: at most 16 confirmations are waited for, each
+/// has a job, a client and a port of its own, and no whole frame was heard of it.
+pub fn desks_stay_sound()
+    ensures first { IsSound [] }
+    ensures raised { (job : ℕ) (held : Held) (prompt : List ℕ) (desk : List Confirmation)
+        → length desk < most_confirmations → find_job job desk ≡ None → find_asker held.asker desk ≡ None
+        → IsSound desk → IsSound (raise job held prompt desk) }
+    ensures linked { (job port : ℕ) (desk : List Confirmation) → find_linked port desk ≡ None
+        → IsSound desk → IsSound (linked job port desk) }
+    ensures took { (port count : ℕ) (desk : List Confirmation) → IsSound desk → IsSound (took_at port count desk) }
+    ensures told { (port : ℕ) (piece : List ℕ) (desk : List Confirmation)
+        → IsSound desk → IsSound (telling port piece desk).desk }
+    ensures lost { (job : ℕ) (desk : List Confirmation) → IsSound desk → IsSound (lose job desk) }
+    ensures left { (asker : ℕ) (desk : List Confirmation) → IsSound desk → IsSound (leave asker desk) }
+{}
+
+/// Where each job that is raised is above the last, the confirmations stand in the order of their jobs.
+pub fn confirmations_stay_in_order()
+    ensures first { RiseTo 0 [] 0 }
+    ensures raised { (job last : ℕ) (held : Held) (prompt : List ℕ) (desk : List Confirmation) → last < job
+        → RiseTo 0 desk last → RiseTo 0 (raise job held prompt desk) job }
+    ensures linked { (job port last : ℕ) (desk : List Confirmation)
+        → RiseTo 0 desk last → RiseTo 0 (linked job port desk) last }
+    ensures took { (job count last : ℕ) (desk : List Confirmation)
+        → RiseTo 0 desk last → RiseTo 0 (took job count desk) last }
+    ensures told { (job last : ℕ) (piece : List ℕ) (desk : List Confirmation)
+        → RiseTo 0 desk last → RiseTo 0 (told job piece desk) last }
+    ensures lost { (job last : ℕ) (desk : List Confirmation) → RiseTo 0 desk last → RiseTo 0 (lose job desk) last }
+{}
+
+/// What was decided is over: its job names no confirmation any more, nothing is owed at its port, and all others are
+/// left. So no second answer is taken.
+pub fn a_decision_is_taken_once()
+    ensures job { (port : ℕ) (piece : List ℕ) (desk : List Confirmation) (one : Confirmation) → IsSound desk
+        → find_linked port desk ≡ Some one → (telling port piece desk).verdict ≢ verdicts.NotYet
+        → find_job one.job (telling port piece desk).desk ≡ None }
+    ensures port { (port : ℕ) (piece : List ℕ) (desk : List Confirmation) (one : Confirmation) → IsSound desk
+        → find_linked port desk ≡ Some one → (telling port piece desk).verdict ≢ verdicts.NotYet
+        → find_linked port (telling port piece desk).desk ≡ None }
+    ensures others { (port other : ℕ) (piece : List ℕ) (desk : List Confirmation) (one : Confirmation)
+        → find_linked port desk ≡ Some one → (telling port piece desk).verdict ≢ verdicts.NotYet → other ≢ one.job
+        → find_job other (telling port piece desk).desk ≡ find_job other desk }
+{}
+
+/// The user says yes exactly where the bytes begin with the frame of GRANTED for the job itself.
+pub fn a_yes_is_the_grant_of_the_job()
+    ensures yes { (job : ℕ) (heard : List ℕ) → IsBytes heard → consent job heard ≡ Yes → StartsWithGrant job heard }
+    ensures grant { (job : ℕ) (heard : List ℕ) → job < 2 ^ 64 → StartsWithGrant job heard → consent job heard ≡ Yes }
+{}

@@ -1,0 +1,201 @@
+//! Confirmations by their jobs and clients.
+
+ghost use Rattle.std.specs.Prelude.{◌≡◌, ◌==◌, ◌≤◌, ◌++◌, IsSome, IfOk, MatchOption, None, OnErr, OnOk, Some, length};
+ghost use Rattle.std.specs.List.{position};
+ghost use Rattle.std.specs.Option.{option_map};
+ghost use Rattle.confirm_desk.specs.Answers.{consent_told};
+ghost use Rattle.confirm_desk.specs.Calls.{given_back, job_of, lesser, next_owed, owed_port, telling, took_at};
+ghost use Rattle.confirm_desk.specs.Confirmations.{Confirmation, consent, find_asker, find_job, find_linked, is_at, leave, linked, lose, owed_to, told, took};
+ghost use Rattle.confirm_desk.specs.Places.{IsFirst};
+ghost use Rattle.confirm_desk.specs.Sound.{AreApart};
+
+use crate::consent::Answer;
+use crate::held::{Held, Verdict};
+use crate::pending::Pending;
+use std::alloc::AllocError;
+
+/// Where the confirmation of this job stands.
+pub fn place_of(pending: &[Pending], job: u64) -> Option<usize>
+    ensures { MatchOption result (find_job job pending.now ≡ None)
+        (IsFirst (λ (one : Confirmation). one.job == job) pending.now) }
+{
+    first_of(pending, job)
+}
+
+fn first_of(pending: &[Pending], job: u64) -> Option<usize>
+    ensures { result ≡ position (λ (one : Confirmation). one.job == job) pending.now }
+{
+    pending.iter().position(|one| one.job() == job)
+}
+
+/// Where that of this client stands.
+pub fn place_of_asker(pending: &[Pending], asker: u64) -> Option<usize>
+    ensures { MatchOption result (find_asker asker pending.now ≡ None)
+        (IsFirst (λ (one : Confirmation). one.asker == asker) pending.now) }
+{
+    first_of_asker(pending, asker)
+}
+
+fn first_of_asker(pending: &[Pending], asker: u64) -> Option<usize>
+    ensures { result ≡ position (λ (one : Confirmation). one.asker == asker) pending.now }
+{
+    pending.iter().position(|one| one.asker() == asker)
+}
+
+/// Where that stands whose child process came to this port.
+pub fn place_linked(pending: &[Pending], port: u64) -> Option<usize>
+    ensures { MatchOption result (find_linked port pending.now ≡ None)
+        (IsFirst (λ (one : Confirmation). is_at port one.port) pending.now) }
+{
+    first_linked(pending, port)
+}
+
+fn first_linked(pending: &[Pending], port: u64) -> Option<usize>
+    ensures { result ≡ position (λ (one : Confirmation). is_at port one.port) pending.now }
+{
+    pending.iter().position(|one| one.port() == Some(port))
+}
+
+/// The child process of this job came to this port.
+
+pub fn link(pending: &mut Vec<Pending>, job: u64, port: u64)
+    requires { IsSome (find_job job pending.old.items) }
+    ensures { pending.new.items ≡ linked job port pending.old.items }
+{
+    let Some(place) = place_of(pending, job) else {
+        unreachable!()
+    };
+    let one = &mut pending[place];
+    one.link(port);
+}
+
+/// The first bytes that the child process of this job was owed are sent.
+#[tactic(auto, using(crate::proofs::PlaceLemmas::found_there))]
+pub fn take(pending: &mut Vec<Pending>, job: u64, count: usize)
+    requires there { IsSome (find_job job pending.old.items) }
+    requires owed { count ≤ length (owed_to (find_job job pending.old.items)) }
+    ensures { pending.new.items ≡ took job count pending.old.items }
+{
+    let Some(place) = place_of(pending, job) else {
+        unreachable!()
+    };
+    let one = &mut pending[place];
+    one.take(count);
+}
+
+/// The child process of this job sent more. What the user says by now.
+#[tactic(auto, using(crate::proofs::PlaceLemmas::found_there))]
+pub fn hear(pending: &mut Vec<Pending>, job: u64, piece: &[u8]) -> Result<Answer, AllocError>
+    requires { IsSome (find_job job pending.old.items) }
+    ensures told { OnOk result (pending.new.items ≡ told job piece.now pending.old.items) }
+    ensures answer { IfOk result (λ answer. (one : Confirmation) → find_job job pending.old.items ≡ Some one
+        → consent_told answer ≡ consent job (one.heard ++ piece.now)) }
+    ensures unchanged { OnErr result (pending.new.items ≡ pending.old.items) }
+{
+    let Some(place) = place_of(pending, job) else {
+        unreachable!()
+    };
+    let one = &mut pending[place];
+    one.hear(piece)?;
+    Ok(one.consent())
+}
+
+/// Ends the confirmation of this job, and gives what it held.
+#[tactic(auto, using(crate::proofs::PlaceLemmas::removed_there, crate::proofs::PlaceLemmas::found_there, crate::proofs::PlaceLemmas::removed_nowhere))]
+pub fn end(pending: &mut Vec<Pending>, job: u64) -> Option<Held>
+    ensures left { pending.new.items ≡ lose job pending.old.items }
+    ensures held { result ≡ option_map given_back (find_job job pending.old.items) }
+{
+    let place = place_of(pending, job)?;
+    Some(pending.remove(place).into_held())
+}
+
+/// Ends the confirmation of this client, and gives its job.
+#[tactic(auto, using(crate::proofs::PlaceLemmas::left_there, crate::proofs::PlaceLemmas::asker_there, crate::proofs::PlaceLemmas::left_nowhere))]
+pub fn end_of(pending: &mut Vec<Pending>, asker: u64) -> Option<u64>
+    ensures left { pending.new.items ≡ leave asker pending.old.items }
+    ensures job { result ≡ option_map job_of (find_asker asker pending.old.items) }
+{
+    let place = place_of_asker(pending, asker)?;
+    Some(pending.remove(place).job())
+}
+
+/// The first bytes that the child process at this port was owed are sent.
+pub fn take_at(pending: &mut Vec<Pending>, port: u64, count: usize)
+    requires there { IsSome (find_linked port pending.old.items) }
+    requires owed { count ≤ length (owed_to (find_linked port pending.old.items)) }
+    requires apart { AreApart pending.old.items }
+    ensures { pending.new.items ≡ took_at port count pending.old.items }
+{
+    let Some(place) = place_linked(pending, port) else {
+        unreachable!()
+    };
+    let job = pending[place].job();
+    take(pending, job, count);
+}
+
+/// The child process at this port sent more. What the user decided by now ends the confirmation.
+pub fn tell(pending: &mut Vec<Pending>, port: u64, piece: &[u8]) -> Result<Verdict, AllocError>
+    requires there { IsSome (find_linked port pending.old.items) }
+    requires apart { AreApart pending.old.items }
+    ensures desk { OnOk result (pending.new.items ≡ (telling port piece.now pending.old.items).desk) }
+    ensures verdict { IfOk result (λ verdict.
+        verdict ≡ (telling port piece.now pending.old.items).verdict) }
+    ensures unchanged { OnErr result (pending.new.items ≡ pending.old.items) }
+{
+    let Some(place) = place_linked(pending, port) else {
+        unreachable!()
+    };
+    let job = pending[place].job();
+    match hear(pending, job, piece)? {
+        Answer::NotYet => Ok(Verdict::NotYet),
+        Answer::Yes => Ok(Verdict::Granted(end_there(pending, job))),
+        Answer::No => Ok(Verdict::Denied(end_there(pending, job))),
+    }
+}
+
+// Ends the confirmation of this job, which is there.
+fn end_there(pending: &mut Vec<Pending>, job: u64) -> Held
+    requires { IsSome (find_job job pending.old.items) }
+    ensures left { pending.new.items ≡ lose job pending.old.items }
+    ensures held { Some result ≡ option_map given_back (find_job job pending.old.items) }
+{
+    let Some(held) = end(pending, job) else {
+        unreachable!()
+    };
+    held
+}
+
+/// The least port above `after` where bytes are owed.
+pub fn next_owed(pending: &[Pending], after: u64) -> Option<u64>
+    ensures { result ≡ next_owed after pending.now }
+{
+    let mut least = None;
+    for one in pending {
+        least = lesser(least, owed_port(one, after));
+    }
+    least
+}
+
+// The lesser of two ports, where there are two.
+fn lesser(port: Option<u64>, other: Option<u64>) -> Option<u64>
+    ensures { result ≡ lesser port other }
+{
+    match (port, other) {
+        (Some(port), Some(other)) => Some(port.min(other)),
+        (port, None) => port,
+        (None, other) => other,
+    }
+}
+
+// Its port, where that is above `after` and bytes are owed there.
+fn owed_port(one: &Pending, after: u64) -> Option<u64>
+    ensures { result ≡ owed_port after one.now.port one.now.owed }
+{
+    let port = one.port()?;
+    if port > after && !one.owed().is_empty() {
+        Some(port)
+    } else {
+        None
+    }
+}

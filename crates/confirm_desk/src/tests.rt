@@ -1,0 +1,168 @@
+//! What no clause says: bytes written out, a fingerprint of OpenSSH's, and each call with ample memory.
+
+ghost use Rattle.std.specs.Prelude.{◌≡◌, IfOk};
+ghost use Rattle.confirm_desk.specs.Samples.{two_linked};
+
+use crate::*;
+use plain_lists::Bytes;
+use std::alloc::{AllocError, Global};
+use std::test::Fail;
+
+// An Ed25519 key that ssh-keygen made, and what `ssh-keygen -lf` prints of it.
+const BLOB: &[u8] = b"\0\0\0\x0bssh-ed25519\0\0\0\x20\
+    \xcd\x8b\xd5\xed\x1f\xc2\xde\x46\xfc\xa3\x17\x47\x75\xca\x65\x00\
+    \x52\x6c\x85\x0c\x5a\x27\x28\x7e\x19\xde\x1d\x3c\x21\xe0\xf3\xa1";
+
+const SHOWN: &[u8] = b"SHA256:dRg+pAY8SGAwSeRmUsEEql1iGIcNUjRYFfS+x1Xe0WI";
+
+fn held(
+    alloc: Global,
+    asker: u64,
+    addition: u64,
+    message: &[u8],
+    flags: u32,
+) -> Result<Held, AllocError>
+    ensures { IfOk result (λ held. held ≡ record {
+      asker = asker;
+      addition = addition;
+      message = message.now;
+      flags = flags;
+    }) }
+{
+    Ok(Held {
+        asker,
+        addition,
+        message: Bytes::from_vec(Vec::from_slice(alloc, message)?),
+        flags,
+    })
+}
+
+// A desk with two confirmations, whose child processes came to ports 5 and 6.
+fn two(alloc: Global) -> Result<Desk, AllocError>
+    ensures { IfOk result (λ desk. desk ≡ two_linked) }
+{
+    let mut desk = Desk::new(alloc);
+    let first = held(alloc, 70, 2, b"abc", 0)?;
+    let Ok(()) = desk.raise(1, first, b"ok?") else {
+        return Err(AllocError);
+    };
+    let second = held(alloc, 80, 3, b"de", 2)?;
+    let Ok(()) = desk.raise(4, second, b"no?") else {
+        return Err(AllocError);
+    };
+    desk.linked(1, 5);
+    desk.linked(4, 6);
+    Ok(desk)
+}
+
+// What a piece brings at a port, where a child process is there.
+fn tell(desk: &mut Desk, port: u64, piece: &[u8]) -> Result<Verdict, AllocError> {
+    match desk.find_linked(port) {
+        Some(_) => desk.told(port, piece),
+        None => Ok(Verdict::NotYet),
+    }
+}
+
+// One more is waited for, where its job and its client are new.
+fn raise(desk: &mut Desk, job: u64, held: Held) -> Option<DeskFault> {
+    if desk.find_job(job).is_some() || desk.find_asker(held.asker).is_some() {
+        return None;
+    }
+    desk.raise(job, held, b"ok?").err()
+}
+
+#[test]
+fn a_question_is_owed_to_the_port_of_its_job(rt: HostRuntime) -> Result<(), Fail> {
+    let mut desk = two(rt.alloc())?;
+    assert_eq!(rt; desk.as_slice().len(), 2);
+    assert_eq!(rt; desk.next_owed(0), Some(5));
+    let question = [
+        0, 0, 0, 16, 3, 0, 0, 0, 0, 0, 0, 0, 4, 0, 0, 0, 3, 110, 111, 63,
+    ];
+    assert_eq!(rt; desk.owed(6), question.as_slice());
+    desk.took(6, 3);
+    assert_eq!(rt; desk.owed(6), &question[3..]);
+    desk.took(6, 17);
+    assert_eq!(rt; desk.next_owed(5), None);
+    let one = desk.find_asker(80);
+    assert_eq!(rt; one.map(|one| one.job()), Some(4));
+    assert_eq!(rt; one.and_then(|one| one.port()), Some(6));
+    Ok(())
+}
+
+#[test]
+fn a_grant_in_pieces_of_one_byte_is_a_grant(rt: HostRuntime) -> Result<(), Fail> {
+    let mut desk = two(rt.alloc())?;
+    let answer = [0, 0, 0, 9, 105, 0, 0, 0, 0, 0, 0, 0, 1];
+    for byte in answer[..12].chunks(1) {
+        assert_eq!(rt; tell(&mut desk, 5, byte)?, Verdict::NotYet);
+    }
+    let want = Verdict::Granted(held(rt.alloc(), 70, 2, b"abc", 0)?);
+    assert_eq!(rt; tell(&mut desk, 5, &answer[12..])?, want);
+    // It is over, and what was owed with it.
+    assert!(rt; desk.find_linked(5).is_none());
+    assert_eq!(rt; desk.next_owed(0), Some(6));
+    assert_eq!(rt; tell(&mut desk, 5, &answer)?, Verdict::NotYet);
+    Ok(())
+}
+
+#[test]
+fn there_are_four_ways_to_end_one(rt: HostRuntime) -> Result<(), Fail> {
+    let first = held(rt.alloc(), 70, 2, b"abc", 0)?;
+    let mut desk = two(rt.alloc())?;
+    assert_eq!(rt; desk.lose(1), Some(first));
+    assert_eq!(rt; desk.lose(1), None);
+    assert_eq!(rt; desk.leave(80), Some(4));
+    assert_eq!(rt; desk.leave(80), None);
+    assert!(rt; desk.as_slice().is_empty());
+    // DENIED, and no frame at all.
+    for bytes in [[0, 0, 0, 9, 106, 0, 0, 0, 0, 0, 0, 0, 1], [0; 13]] {
+        let mut desk = two(rt.alloc())?;
+        let want = Verdict::Denied(held(rt.alloc(), 70, 2, b"abc", 0)?);
+        assert_eq!(rt; tell(&mut desk, 5, &bytes)?, want, "at {bytes:?}");
+    }
+    Ok(())
+}
+
+#[test]
+fn sixteen_may_be_waited_for(rt: HostRuntime) -> Result<(), Fail> {
+    let mut desk = Desk::new(rt.alloc());
+    for job in 1..17 {
+        let one = held(rt.alloc(), job, 1, b"", 0)?;
+        assert_eq!(rt; raise(&mut desk, job, one), None);
+    }
+    assert_eq!(rt; desk.as_slice().len(), 16);
+    let one = held(rt.alloc(), 17, 1, b"", 0)?;
+    assert_eq!(rt; raise(&mut desk, 17, one), Some(DeskFault::Full));
+    Ok(())
+}
+
+#[test]
+fn a_prompt_fools_no_terminal(rt: HostRuntime) -> Result<(), Fail> {
+    let mut want = Vec::from_slice(
+        rt.alloc(),
+        b"Allow use of key ?[1A?[2Kcaf??.?\nKey fingerprint ",
+    )?;
+    want.extend_from_slice(SHOWN)?;
+    want.extend_from_slice(b".")?;
+    let text = prompt_for(rt.alloc(), b"\x1b[1A\x1b[2Kcaf\xc3\xa9.", BLOB)?;
+    assert_eq!(rt; text.as_slice(), want.as_slice());
+    let text = prompt(rt.alloc(), b"", b"F")?;
+    assert_eq!(rt;
+        text.as_slice(),
+        b"Allow use of key ?\nKey fingerprint F.".as_slice()
+    );
+    let text = prompt(rt.alloc(), &[10; 300], b"F")?;
+    assert_eq!(rt; text.len(), 293);
+    let mut want = Vec::from_slice(rt.alloc(), b"Allow use of key ")?;
+    want.extend_from_slice(&[b'?'; 256])?;
+    want.extend_from_slice(b"?\nKey fingerprint F.")?;
+    assert_eq!(rt; text.as_slice(), want.as_slice());
+    // A blob that is no key has no fingerprint.
+    let text = prompt_for(rt.alloc(), b"one", b"")?;
+    assert_eq!(rt;
+        text.as_slice(),
+        b"Allow use of key one?\nKey fingerprint .".as_slice()
+    );
+    Ok(())
+}

@@ -1,0 +1,51 @@
+// A signature through the whole loop: the helper's process is started, connects and answers.
+use crate::scripts::{addition, connect, play, send, taken};
+use ready_loop::ServeEnd;
+use std::alloc::{AllocError, Global};
+use std::test::Fail;
+use world_ports::{Cue, Door, Entry, ScriptWorld};
+
+// The one-time token of the helper's process.
+const TICKET: [u8; 16] = *b"0123456789abcdef";
+
+// What the process says first: its length, number 1, the job, and the token.
+const HELLO: &[u8] = b"\0\0\0\x1d\x01\0\0\0\0\0\0\0\x01\0\0\0\x100123456789abcdef";
+
+// Its answer to ask 1: its length, number 101, the ask, and the signature "sig".
+const SIGNED: &[u8] = b"\0\0\0\x10\x65\0\0\0\0\0\0\0\x01\0\0\0\x03sig";
+
+// What the client gets: success for its key, and then number 14 with the signature.
+const REPLIES: &[u8] = b"\0\0\0\x01\x06\0\0\0\x08\x0e\0\0\0\x03sig";
+
+// A request for a signature of two bytes with that key, as in the agent protocol: number 13, the key, the bytes, flags.
+fn sign_request(alloc: Global) -> Result<Vec<u8>, AllocError> {
+    let mut frame = Vec::from_slice(alloc, b"\0\0\0\x42\x0d\0\0\0\x33\0\0\0\x0bssh-ed25519")?;
+    frame.extend_from_slice(b"\0\0\0\x20")?;
+    frame.extend_from_slice(&[0x31; 32])?;
+    frame.extend_from_slice(b"\0\0\0\x02\x01\x02\0\0\0\0")?;
+    Ok(frame)
+}
+
+// How many helpers were started.
+fn helpers(world: &ScriptWorld) -> usize {
+    world
+        .journal()
+        .iter()
+        .filter(|entry| matches!(entry, Entry::Start { .. }))
+        .count()
+}
+
+#[test]
+fn a_client_gets_a_signature_of_the_helper(rt: HostRuntime) -> Result<(), Fail> {
+    let alloc = rt.alloc();
+    let adds = vec![in alloc; connect(), send(alloc, 1, &addition(alloc)?)?]?;
+    let asks = vec![in alloc; Cue::Ticket(TICKET), send(alloc, 1, &sign_request(alloc)?)?]?;
+    let joins = vec![in alloc; Cue::Connect(Door::Children), send(alloc, 2, HELLO)?]?;
+    let answers = vec![in alloc; send(alloc, 2, SIGNED)?]?;
+    let turns = vec![in alloc; adds, asks, joins, answers]?;
+    let (end, world) = play(&rt, alloc, turns, Vec::new(alloc), false);
+    assert_eq!(rt; end, ServeEnd::Over);
+    assert_eq!(rt; taken(alloc, &world, 1)?.as_slice(), REPLIES);
+    assert_eq!(rt; helpers(&world), 1);
+    Ok(())
+}

@@ -1,6 +1,0 @@
-use Rattle.std.proofs.Common.{◌≡◌, []}
-use Rattle.helper_link.specs.HelperLink.{IsLinked}
-use Rattle.link_bench.proofs.answered.Given as goal
-
-abbrev pub invariant-batches : goal.invariant-batches
-invariant-batches l = IsLinked l.link.state × (l.link.failed ≡ [])

@@ -1,6 +1,0 @@
-use Rattle.std.proofs.Common.{◌≡◌, []}
-use Rattle.helper_link.specs.HelperLink.{IsLinked}
-use Rattle.link_bench.proofs.batch.Given as goal
-
-abbrev pub invariant-asks : goal.invariant-asks
-invariant-asks l = IsLinked l.link.state × (l.link.failed ≡ [])

@@ -1,9 +1,0 @@
-use Rattle.std.proofs.Common.{◌≡◌, drop}
-use Rattle.ready_loop.specs.Queues.{queued_all}
-use Rattle.ready_loop.proofs.things.add_all.Given as goal
-
--- the items from the index on are to be added
-abbrev pub invariant-items : goal.invariant-items
-invariant-items g l =
-    queued_all (g.A.Core.state l.agent) (drop l.item-index l.items) l.things.items
-    ≡ queued_all (g.A.Core.state l.agent) l.items l.fn.things.items

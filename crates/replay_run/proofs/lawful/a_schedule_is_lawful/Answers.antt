@@ -1,0 +1,8 @@
+use Rattle.replay_run.proofs.BroughtLemmas.{run-schedule, schedule-lawful}
+use Rattle.replay_run.proofs.lawful.a_schedule_is_lawful.Goals as goal
+
+pub returns-clause-run : goal.returns-clause-run
+returns-clause-run c = run-schedule
+
+pub returns-clause-lawful : goal.returns-clause-lawful
+returns-clause-lawful c = schedule-lawful
