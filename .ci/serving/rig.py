@@ -368,7 +368,7 @@ def asks_the_user(program):
 
 
 # What the agent may lack yet. Checks of it are left out where it does; without a word here they are always made.
-LACKING = {"destinations", "confirmations"}
+LACKING = set()
 
 
 def needs_destinations(program):
