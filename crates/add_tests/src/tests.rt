@@ -1,0 +1,377 @@
+// Outside vectors, each fault with its word, and replies in pieces.
+use crate::fixtures::{ADD_ONE, ADD_ONE_RESTRICTED, ENTRY, FINGERPRINT_LINE, PUBLIC};
+use crate::play::{Failing, NOTHING, Played, play, play_words, words};
+use add_core::{AddFault, AddStatus, DestFault, add_main, read_life};
+use key_file::{KeyFileFault, PubFault};
+use std::alloc::Global;
+use std::test::Fail;
+use world_ports::{MapFiles, MemPeer, SliceSource, VecSink};
+
+const SUCCESS: &[u8] = b"\x00\x00\x00\x01\x06";
+
+const NO_IDENTITIES: &[u8] = b"\x00\x00\x00\x05\x0c\x00\x00\x00\x00";
+
+#[test]
+fn a_key_is_added_for_a_way_between_hosts(rt: HostRuntime) -> Result<(), Fail> {
+    let alloc = rt.alloc();
+    let text = "-H kh -h scylla.example.org>medea@charybdis.example.org f1";
+    let played = play(alloc, text, b"", SUCCESS)?;
+    assert!(rt; played.status == AddStatus::Done);
+    let wanted = hex::decode(alloc, ADD_ONE_RESTRICTED)?;
+    assert_eq!(rt; played.sent.as_slice(), wanted.as_slice());
+    assert_eq!(rt;
+        played.errors.as_slice(),
+        b"Identity added: f1 (one)\n".as_slice()
+    );
+    Ok(())
+}
+
+#[test]
+fn an_empty_list_says_so(rt: HostRuntime) -> Result<(), Fail> {
+    let played = play(rt.alloc(), "-l", b"", NO_IDENTITIES)?;
+    assert!(rt; played.status == AddStatus::Failed(AddFault::NoIdentities));
+    assert_eq!(rt; played.sent.as_slice(), b"\x00\x00\x00\x01\x0b".as_slice());
+    assert_eq!(rt;
+        played.output.as_slice(),
+        b"The agent has no identities.\n".as_slice()
+    );
+    assert!(rt; played.errors.is_empty());
+    Ok(())
+}
+
+#[test]
+fn lifetimes_are_read(rt: HostRuntime) {
+    let cases: [(&str, Option<u32>); 7] = [
+        ("90", Some(90)),
+        ("1h30", Some(3630)),
+        ("1H30M", Some(5400)),
+        ("2w", Some(1_209_600)),
+        ("4294967296", None),
+        ("10x", None),
+        ("", None),
+    ];
+    for (text, seconds) in cases {
+        assert!(rt; read_life(text.as_bytes()) == seconds, "at {text}");
+    }
+}
+
+// Words, the agent's bytes, the fault, and all that stands on the errors. Nothing is sent in these.
+const UNSENT: [(&str, AddFault, &str); 15] = [
+    ("-l -L", AddFault::Usage, "ssh-add: usage\n"),
+    (
+        "-h scylla.example.org f1",
+        AddFault::Usage,
+        "ssh-add: usage\n",
+    ),
+    ("missing", AddFault::File { place: 0 }, "ssh-add: file\n"),
+    (
+        "-H kh -H missing f1",
+        AddFault::File { place: 1 },
+        "ssh-add: file\n",
+    ),
+    (
+        "big f1",
+        AddFault::FileTooLong { place: 0 },
+        "ssh-add: filetoolong\n",
+    ),
+    (
+        "kh",
+        AddFault::Body(KeyFileFault::Base64),
+        "ssh-add: body\n",
+    ),
+    (
+        "-d f1",
+        AddFault::Public(PubFault::Words),
+        "ssh-add: public\n",
+    ),
+    (
+        "-H kh -h a@scylla.example.org>charybdis.example.org f1",
+        AddFault::Destination(DestFault::SourceUser),
+        "ssh-add: destination\n",
+    ),
+    (
+        "-H kh -h a@>@ f1",
+        AddFault::Destination(DestFault::SourceUser),
+        "ssh-add: destination\n",
+    ),
+    (
+        "-H kh -h >@ f1",
+        AddFault::Destination(DestFault::EmptyUser),
+        "ssh-add: destination\n",
+    ),
+    (
+        "-H kh -h >scylla.example.org f1",
+        AddFault::Destination(DestFault::EmptyHost),
+        "ssh-add: destination\n",
+    ),
+    (
+        "-H kh -h other> f1",
+        AddFault::Destination(DestFault::EmptyHost),
+        "ssh-add: destination\n",
+    ),
+    (
+        "-H kh -h bad.example.org f1",
+        AddFault::Destination(DestFault::NoKeys),
+        "ssh-add: destination\n",
+    ),
+    (
+        "-H kh -h scylla.example.org -h @ missing",
+        AddFault::Destination(DestFault::EmptyUser),
+        "ssh-add: destination\n",
+    ),
+    (
+        "-x",
+        AddFault::EmptyPassphrase,
+        "ssh-add: emptypassphrase\n",
+    ),
+];
+
+#[test]
+fn faults_before_a_request_have_their_words(rt: HostRuntime) -> Result<(), Fail> {
+    for (text, fault, errors) in UNSENT {
+        let played = play(rt.alloc(), text, b"\nsecret", SUCCESS)?;
+        assert!(rt;
+            played.status == AddStatus::Failed(fault),
+            "status at {text}"
+        );
+        assert!(rt;
+            played.errors.as_slice() == errors.as_bytes(),
+            "errors at {text}"
+        );
+        assert!(rt; played.sent.is_empty(), "sent at {text}");
+        assert!(rt; played.output.is_empty(), "output at {text}");
+    }
+    Ok(())
+}
+
+// Words, the agent's bytes, the fault, and all that stands on the errors, after a request.
+const SENT: [(&str, &[u8], AddFault, &str); 9] = [
+    (
+        "f1",
+        b"\x00\x00\x00\x01\x05",
+        AddFault::Refused,
+        "ssh-add: refused\n",
+    ),
+    ("-D", b"", AddFault::BadReply, "ssh-add: badreply\n"),
+    (
+        "-l",
+        b"\x00\x00\x00\x05\x0c\x00",
+        AddFault::BadReply,
+        "ssh-add: badreply\n",
+    ),
+    (
+        "-D",
+        b"\x00\x00\x00\x00",
+        AddFault::BadReply,
+        "ssh-add: badreply\n",
+    ),
+    (
+        "-D",
+        b"\x00\x04\x00\x01",
+        AddFault::BadReply,
+        "ssh-add: badreply\n",
+    ),
+    (
+        "-D",
+        NO_IDENTITIES,
+        AddFault::BadReply,
+        "ssh-add: badreply\n",
+    ),
+    ("-L", SUCCESS, AddFault::BadReply, "ssh-add: badreply\n"),
+    (
+        "-l",
+        b"\x00\x00\x00\x01\x0c",
+        AddFault::BadReply,
+        "ssh-add: badreply\n",
+    ),
+    (
+        "f1 missing",
+        SUCCESS,
+        AddFault::File { place: 1 },
+        "Identity added: f1 (one)\nssh-add: file\n",
+    ),
+];
+
+#[test]
+fn faults_after_a_request_have_their_words(rt: HostRuntime) -> Result<(), Fail> {
+    for (text, replies, fault, errors) in SENT {
+        let played = play(rt.alloc(), text, b"", replies)?;
+        assert!(rt;
+            played.status == AddStatus::Failed(fault),
+            "status at {text}"
+        );
+        assert!(rt;
+            played.errors.as_slice() == errors.as_bytes(),
+            "errors at {text}"
+        );
+        assert!(rt; !played.sent.is_empty(), "sent at {text}");
+    }
+    Ok(())
+}
+
+#[test]
+fn a_second_file_waits_for_the_first_reply(rt: HostRuntime) -> Result<(), Fail> {
+    let alloc = rt.alloc();
+    let played = play(
+        alloc,
+        "f1 f2",
+        b"",
+        b"\x00\x00\x00\x01\x05\x00\x00\x00\x01\x06",
+    )?;
+    assert!(rt; played.status == AddStatus::Failed(AddFault::Refused));
+    let wanted = hex::decode(alloc, ADD_ONE)?;
+    assert_eq!(rt; played.sent.as_slice(), wanted.as_slice());
+    Ok(())
+}
+
+#[test]
+fn a_long_passphrase_is_refused(rt: HostRuntime) -> Result<(), Fail> {
+    let alloc = rt.alloc();
+    let long = vec![in alloc; b'x'; 1025]?;
+    let played = play(alloc, "-x", &long, SUCCESS)?;
+    assert!(rt; played.status == AddStatus::Failed(AddFault::LongPassphrase));
+    let played = play(alloc, "-x", b"a b\nmore", SUCCESS)?;
+    assert!(rt; played.status == AddStatus::Done);
+    assert_eq!(rt;
+        played.sent.as_slice(),
+        b"\x00\x00\x00\x08\x16\x00\x00\x00\x03a b".as_slice()
+    );
+    Ok(())
+}
+
+#[test]
+fn a_request_of_many_destinations_is_too_long(rt: HostRuntime) -> Result<(), Fail> {
+    let alloc = rt.alloc();
+    let mut all = words(alloc, "-H kh f1")?;
+    for _ in 0..1400 {
+        all.push(String::from_str(alloc, "-h")?)?;
+        all.push(String::from_str(alloc, "scylla.example.org")?)?;
+    }
+    let played = play_words(alloc, &all, b"", SUCCESS, 4096, NOTHING)?;
+    assert!(rt; played.status == AddStatus::Failed(AddFault::TooLong));
+    assert!(rt; played.sent.is_empty());
+    assert_eq!(rt; played.errors.as_slice(), b"ssh-add: toolong\n".as_slice());
+    Ok(())
+}
+
+// A list of so many identities of the first key.
+fn list(alloc: Global, count: u16) -> Result<Vec<u8>, Fail> {
+    let mut body = vec![in alloc; 12]?;
+    body.extend_from_slice(&u32::from(count).to_be_bytes())?;
+    let entry = hex::decode(alloc, ENTRY)?;
+    for _ in 0..count {
+        body.extend_from_slice(&entry)?;
+    }
+    let mut reply = Vec::from_slice(alloc, &u32::try_from(body.len())?.to_be_bytes())?;
+    reply.extend_from_slice(&body)?;
+    Ok(reply)
+}
+
+fn lines(alloc: Global, line: &str, count: usize) -> Result<Vec<u8>, Fail> {
+    let mut lines = Vec::new(alloc);
+    for _ in 0..count {
+        lines.extend_from_slice(line.as_bytes())?;
+    }
+    Ok(lines)
+}
+
+#[test]
+fn a_thousand_identities_are_listed_once_each(rt: HostRuntime) -> Result<(), Fail> {
+    let alloc = rt.alloc();
+    let reply = list(alloc, 1000)?;
+    let played = play(alloc, "-l", b"", &reply)?;
+    assert!(rt; played.status == AddStatus::Done);
+    let wanted = lines(alloc, FINGERPRINT_LINE, 1000)?;
+    assert!(rt; played.output.as_slice() == wanted.as_slice());
+    let played = play(alloc, "-L", b"", &reply)?;
+    let wanted = lines(alloc, PUBLIC, 1000)?;
+    assert!(rt; played.output.as_slice() == wanted.as_slice());
+    Ok(())
+}
+
+#[test]
+fn a_reply_of_single_bytes_is_whole(rt: HostRuntime) -> Result<(), Fail> {
+    let alloc = rt.alloc();
+    let reply = list(alloc, 2)?;
+    let played = play_words(alloc, &words(alloc, "-l")?, b"", &reply, 1, NOTHING)?;
+    assert!(rt; played.status == AddStatus::Done);
+    let wanted = lines(alloc, FINGERPRINT_LINE, 2)?;
+    assert!(rt; played.output.as_slice() == wanted.as_slice());
+    Ok(())
+}
+
+// Words, what fails, and the fault.
+const FAILING: [(&str, Failing, AddFault); 5] = [
+    (
+        "f1",
+        Failing {
+            files: 1,
+            ..NOTHING
+        },
+        AddFault::File { place: 0 },
+    ),
+    (
+        "-D",
+        Failing {
+            reads: 1,
+            ..NOTHING
+        },
+        AddFault::PeerFault,
+    ),
+    (
+        "-D",
+        Failing {
+            writes: 1,
+            ..NOTHING
+        },
+        AddFault::PeerFault,
+    ),
+    (
+        "-x",
+        Failing {
+            input: 2,
+            ..NOTHING
+        },
+        AddFault::InputFault,
+    ),
+    (
+        "-D",
+        Failing {
+            outputs: 1,
+            ..NOTHING
+        },
+        AddFault::OutputFault,
+    ),
+];
+
+#[test]
+fn what_fails_is_named(rt: HostRuntime) -> Result<(), Fail> {
+    let alloc = rt.alloc();
+    for (text, failing, fault) in FAILING {
+        let played = play_words(alloc, &words(alloc, text)?, b"secret", SUCCESS, 9, failing)?;
+        assert!(rt; played.status == AddStatus::Failed(fault), "at {text}");
+    }
+    Ok(())
+}
+
+#[test]
+fn without_an_agent_nothing_is_read(rt: HostRuntime) -> Result<(), Fail> {
+    let alloc = rt.alloc();
+    let mut files = MapFiles::new(Vec::new(alloc), Vec::new(alloc));
+    let mut peer: Option<MemPeer<'_>> = None;
+    let mut input = SliceSource::new(b"", 1, Vec::new(alloc));
+    let mut output = VecSink::new(alloc, 9, Vec::new(alloc))?;
+    let mut errors = VecSink::new(alloc, 9, Vec::new(alloc))?;
+    let status = add_main(
+        alloc,
+        &words(alloc, "missing")?,
+        &mut files,
+        &mut peer,
+        &mut input,
+        &mut output,
+        &mut errors,
+    );
+    assert!(rt; status == AddStatus::NoAgent);
+    assert!(rt; errors.written().is_empty());
+    Ok(())
+}
