@@ -182,7 +182,7 @@ fn a_list_has_at_most_262144_bytes(rt: HostRuntime) -> Result<(), Fail> {
 }
 
 #[test]
-fn a_key_for_one_destination_is_not_held(rt: HostRuntime) -> Result<(), Fail> {
+fn a_key_for_one_destination_is_listed_where_nothing_is_bound(rt: HostRuntime) -> Result<(), Fail> {
     // The constraint 255 of that name (OpenSSH's PROTOCOL.agent): from the agent's own host, to the
     // host "h" as any user, where it is known by this key.
     let name = "72657374726963742d64657374696e6174696f6e2d763030406f70656e7373682e636f6d";
@@ -194,7 +194,11 @@ fn a_key_for_one_destination_is_not_held(rt: HostRuntime) -> Result<(), Fail> {
         hear 1 000000010b\n"
     )?;
     let sink = printed(rt.alloc(), schedule.as_bytes())?;
-    let output = b"to 1 0000000105\nto 1 000000050c00000000\nend\n";
-    assert_eq!(rt; sink.written(), output.as_slice());
+    let output = format!(in rt.alloc();
+        "to 1 0000000106\n\
+        to 1 000000500c0000000100000040{TYPE}{TAG_1}{ONE}\n\
+        end\n"
+    )?;
+    assert!(rt; sink.written() == output.as_bytes());
     Ok(())
 }
