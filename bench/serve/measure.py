@@ -212,7 +212,8 @@ def instructions(start, messages, keys=0, few=1000, more=10000):
 def tell_instructions():
     """What valgrind counts of both agents, each in a process of its own."""
     # valgrind runs no program with its group's rights
-    shutil.copy(shutil.which("ssh-agent"), WORK / "ssh-agent")
+    shutil.copyfile(shutil.which("ssh-agent"), WORK / "ssh-agent")
+    (WORK / "ssh-agent").chmod(0o755)
 
     def theirs(before):
         path = WORK / "t.sock"
