@@ -288,6 +288,10 @@ def try_add_tool(
     sent, status = talk([program, *words], folder, peer, random)
     output, errors = (folder / "out").read_bytes(), (folder / "err").read_bytes()
     wanted = add_tool.run(words, files, peer, typed)
+    more = errors[len(wanted.errors) :]
+    if wanted.errors and errors.startswith(wanted.errors) and more.count(b"\n") == 1:
+        # the program may tell cause and remedy in a line of its own behind the one that is fixed
+        errors = wanted.errors
     return add_tool.Talk(sent, output, errors, status), wanted, words
 
 
