@@ -1,4 +1,4 @@
--- Legal journals in which each thing is served in its turn (ours): the fold of ready_hub, with a queue beside it.
+-- Legal journals in which each thing is served in its turn (ours): the fold of ready_hub, with a line beside it.
 -- Read from the end.
 use Rattle.std.specs.Prelude.{ℕ, Bool, true, false, List, [], ◌∷◌, Option, Some, None, Result, Ok, Err, ◌||◌, ◌&&◌, option_and_then, option_map}
 use Rattle.world_ports.specs.declared.answers.Accepted.{Accepted}
@@ -14,18 +14,15 @@ use Rattle.world_ports.specs.declared.answers.Wrote.TheVariants as wrote
 use Rattle.world_ports.specs.declared.entry.Entry.{Entry}
 use Rattle.world_ports.specs.declared.entry.Entry.TheVariants as entry
 use Rattle.world_ports.specs.declared.events.Door.{Door}
+use Rattle.world_ports.specs.declared.events.Moment.{Moment}
+use Rattle.agent_model.specs.Events.{Happening, Joined, Heard, Ended, Took, Started, StartFailed, Tick}
 use Rattle.agent_model.specs.State.{State, is_client}
-use Rattle.ready_hub.specs.Answered.{Due, Reading, at}
+use Rattle.ready_hub.specs.Answered.{Closing, Due, Free, Nothing, NowFor, Polling, Reading, at}
 use Rattle.ready_hub.specs.LegalJournal.{allowed}
-use Rattle.ready_hub.specs.Things.{set_of}
 use Rattle.ready_hub.specs.declared.thing.Thing.{Thing}
 use Rattle.ready_hub.specs.declared.thing.Thing.TheVariants.{Accept, Read, Write}
-use Rattle.ready_loop.specs.Queues.{dropped, dropped_port, is_next, put_back, queued_all, queued_port}
-
--- what is ready, in the order in which it is served, and whether a client has connected
-pub record Line : Type 0 where
-  pub queue : List Thing
-  pub joined : Bool
+use Rattle.ready_loop.specs.Lines.{Line, hot_of, queued_all, queued_port, recalled, sent_back, settled, without, without_port}
+use Rattle.ready_loop.specs.Queues.{is_next}
 
 -- how a journal was read so far, and the line
 pub record Turning : Type 0 where
@@ -34,62 +31,85 @@ pub record Turning : Type 0 where
 
 -- as it reads in a state
 abbrev pub in_state : State → Line → Due → Turning
-in_state state line due = record { reading = at state (set_of line.queue) due; line = line }
+in_state state line due = record { reading = at state (hot_of line) due; line = line }
 
--- ---- the queue after a call: what was served goes to the back while it is ready
+-- ---- the line after a call: what was served goes to the back while it is ready
 
 -- a listener
-abbrev pub after_accepted : Door → Accepted → List Thing → List Thing
-after_accepted door (accepted.Port number) queue = put_back (Accept door) (queued_port number queue)
-after_accepted door accepted.NotNow queue = dropped (Accept door) queue
+abbrev pub after_accepted : Door → Accepted → Line → Line
+after_accepted door (accepted.Port number) line = sent_back (Accept door) (queued_port number line)
+after_accepted door accepted.NotNow line = without (Accept door) line
 
 -- the same, or refused
-abbrev pub after_accept : Door → Result Accepted WorldFault → List Thing → List Thing
-after_accept door (Ok answer) queue = after_accepted door answer queue
-after_accept door (Err fault) queue = dropped (Accept door) queue
+abbrev pub after_accept : Door → Result Accepted WorldFault → Line → Line
+after_accept door (Ok answer) line = after_accepted door answer line
+after_accept door (Err fault) line = without (Accept door) line
 
 -- a connection that was read
-abbrev pub after_got : ℕ → Got → List Thing → List Thing
-after_got port (got.Bytes n) queue = put_back (Read port) queue
-after_got port got.End queue = dropped (Read port) queue
-after_got port got.NotNow queue = dropped (Read port) queue
+abbrev pub after_got : ℕ → Got → Line → Line
+after_got port (got.Bytes n) line = sent_back (Read port) line
+after_got port got.End line = without (Read port) line
+after_got port got.NotNow line = without (Read port) line
 
 -- the same, or refused
-abbrev pub after_read : ℕ → Result Got WorldFault → List Thing → List Thing
-after_read port (Ok answer) queue = after_got port answer queue
-after_read port (Err fault) queue = dropped (Read port) queue
+abbrev pub after_read : ℕ → Result Got WorldFault → Line → Line
+after_read port (Ok answer) line = after_got port answer line
+after_read port (Err fault) line = without (Read port) line
 
 -- a connection that was written to
-abbrev pub after_wrote : ℕ → Wrote → List Thing → List Thing
-after_wrote port (wrote.Took n) queue = put_back (Write port) queue
-after_wrote port wrote.NotNow queue = dropped (Write port) queue
+abbrev pub after_wrote : ℕ → Wrote → Line → Line
+after_wrote port (wrote.Took n) line = sent_back (Write port) line
+after_wrote port wrote.NotNow line = without (Write port) line
 
 -- the same, or refused
-abbrev pub after_write : ℕ → Result Wrote WorldFault → List Thing → List Thing
-after_write port (Ok answer) queue = after_wrote port answer queue
-after_write port (Err fault) queue = dropped (Write port) queue
+abbrev pub after_write : ℕ → Result Wrote WorldFault → Line → Line
+after_write port (Ok answer) line = after_wrote port answer line
+after_write port (Err fault) line = without (Write port) line
 
 -- a connection that was closed
-abbrev pub after_close : {E : Type 0} → ℕ → Result Unit E → List Thing → List Thing
-after_close port (Ok unit) queue = dropped_port port queue
-after_close port (Err want) queue = queue
+abbrev pub after_close : {E : Type 0} → ℕ → Result Unit E → Line → Line
+after_close port (Ok unit) line = without_port port line
+after_close port (Err want) line = line
 
 -- a poll
-abbrev pub after_poll : State → List Ready → Result Polled WorldFault → List Thing → List Thing
-after_poll state items (Ok polled.Some) queue = queued_all state items queue
-after_poll state items (Ok polled.Over) queue = queue
-after_poll state items (Err fault) queue = queue
+abbrev pub after_poll : State → List Ready → Result Polled WorldFault → Line → Line
+after_poll state items (Ok polled.Some) line = queued_all state items line
+after_poll state items (Ok polled.Over) line = line
+after_poll state items (Err fault) line = line
 
--- any call
-abbrev pub queue_after : State → Entry → List Thing → List Thing
-queue_after state (entry.Bind door path answer) queue = queue
-queue_after state (entry.Poll wait items answer) queue = after_poll state items answer queue
-queue_after state (entry.Accept door answer) queue = after_accept door answer queue
-queue_after state (entry.Read port room bytes answer) queue = after_read port answer queue
-queue_after state (entry.Write port offered answer) queue = after_write port answer queue
-queue_after state (entry.Close port answer) queue = after_close port answer queue
-queue_after state (entry.Start job answer) queue = queue
-queue_after state (entry.Now answer) queue = queue
+-- the port of an event after which the last port that joined has this number: the one that it names, or that joined
+abbrev pub port_of : Happening → ℕ → Option ℕ
+port_of (Joined door) last = Some last
+port_of (Heard port piece) last = Some port
+port_of (Ended port) last = Some port
+port_of (Took port count) last = Some port
+port_of (Started job ticket) last = None
+port_of (StartFailed job) last = None
+port_of Tick last = None
+
+-- the port of the event whose moment has to come next
+abbrev pub own_port : Due → ℕ → Option ℕ
+own_port Free last = None
+own_port (NowFor event) last = port_of event last
+own_port (Closing port later) last = None
+own_port Polling last = None
+own_port Nothing last = None
+
+-- the moment of an event, or of a look, by the state that it leaves
+abbrev pub after_now : {E : Type 0} → State → Due → Result Moment E → Line → Line
+after_now left due (Ok moment) line = recalled left (own_port due left.last_port) line
+after_now left due (Err want) line = line
+
+-- any call: in a state, where this has to come next, and with the state that it leaves
+abbrev pub moved : State → Due → State → Entry → Line → Line
+moved state due left (entry.Bind door path answer) line = line
+moved state due left (entry.Poll wait items answer) line = after_poll state items answer (settled state line)
+moved state due left (entry.Accept door answer) line = after_accept door answer (settled state line)
+moved state due left (entry.Read port room bytes answer) line = after_read port answer (settled state line)
+moved state due left (entry.Write port offered answer) line = after_write port answer (settled state line)
+moved state due left (entry.Close port answer) line = after_close port answer line
+moved state due left (entry.Start job answer) line = line
+moved state due left (entry.Now answer) line = after_now left due answer line
 
 -- ---- clients that connect
 
@@ -123,17 +143,20 @@ is_in_turn state queue (entry.Close port answer) = true
 is_in_turn state queue (entry.Start job answer) = true
 is_in_turn state queue (entry.Now answer) = true
 
--- the line after an entry
-abbrev pub line_after : State → Entry → Line → Line
-line_after state next line =
-    record { queue = queue_after state next line.queue; joined = is_joining next || line.joined }
+-- the line after an entry that leads to this reading
+abbrev pub line_after : Reading → Entry → Line → Reading → Line
+line_after reading next line after =
+    let there = moved reading.state reading.due after.state next line in
+    record there { joined = is_joining next || line.joined }
+
+-- how it reads after an entry
+abbrev pub led : Turning → Entry → Reading → Turning
+led turning next after = record { reading = after; line = line_after turning.reading next turning.line after }
 
 -- where it is in turn, the entry may come as ready_hub says
 abbrev pub taken_if : Bool → Turning → Entry → Option Turning
 taken_if false turning next = None
-taken_if true turning next =
-    option_map (λ reading. record { reading = reading; line = line_after turning.reading.state next turning.line })
-    (allowed turning.reading next)
+taken_if true turning next = option_map (led turning next) (allowed turning.reading next)
 
 -- the entry may come, and this is how it reads then
 abbrev pub taken : Turning → Entry → Option Turning

@@ -1,6 +1,8 @@
 pub mod Happenings
+pub mod Aside
 pub mod Queues
-pub mod Owing
+pub mod Lines
+pub mod Standing
 pub mod Rooms
 pub mod InTurn
 pub mod Moves

@@ -16,7 +16,8 @@ use Rattle.agent_model.specs.State.{State, client_count}
 use Rattle.ready_hub.specs.Answered.{Free}
 use Rattle.ready_hub.specs.Servable.{is_idle}
 use Rattle.ready_hub.specs.Things.{same_door}
-use Rattle.ready_loop.specs.InTurn.{Line, Turning, in_state, taken}
+use Rattle.ready_loop.specs.InTurn.{Turning, in_state, taken}
+use Rattle.ready_loop.specs.Lines.{empty_line}
 use Rattle.ready_loop.specs.Moves.{is_poll}
 use Rattle.ready_loop.specs.declared.outcome.ServeEnd.{ServeEnd}
 use Rattle.ready_loop.specs.declared.outcome.ServeEnd.TheVariants.{Over, Idle, BindFault, PollFault, Memory}
@@ -34,10 +35,6 @@ pub data Stage : Type 0 where
   HalfBound : Stage
   Running : (turning : Turning) → Stage
   Refused : Stage
-
--- nothing is ready, and no client has connected
-abbrev pub empty_line : Line
-empty_line = record { queue = []; joined = false }
 
 -- as the loop begins
 abbrev pub begun : Setting → Stage

@@ -1,9 +1,11 @@
 // The agent as the loop sees it.
 ghost use Rattle.std.specs.Prelude.{◌≡◌, OnOk};
 ghost use Rattle.agent_model.specs.Sound.{IsRising};
-ghost use Rattle.agent_model.specs.State.{Fits, State, client_count, is_open, next_due, next_owed, owed_of, starts, wants};
+ghost use Rattle.agent_model.specs.State.{Fits, State, client_count, find_port, is_open, next_due, next_owed, owed_of, starts, wants};
 ghost use Rattle.agent_model.specs.Step.{step};
 ghost use Rattle.agent_core.specs.Happenings.{happening};
+ghost use Rattle.agent_core.specs.Owing.{next_child_owed};
+ghost use Rattle.ready_hub.specs.Elsewhere.{is_clients};
 
 use agent_core::{Agent, CoreMemory, Event};
 use world_ports::{Job, Moment};
@@ -28,6 +30,15 @@ pub trait Core {
     fn next_owed(&self, after: u64) -> Option<u64>
         ensures next { result ≡ next_owed after (state self.now) }
         ensures rising { IsRising 0 (state self.now).last_port (state self.now).ports };
+
+    /// The open port of the least number above `after` that is owed bytes and a child process's.
+    fn next_child_owed(&self, after: u64) -> Option<u64>
+        ensures next { result ≡ next_child_owed after (state self.now) }
+        ensures rising { IsRising 0 (state self.now).last_port (state self.now).ports };
+
+    /// Whether the port is open, and a client's.
+    fn is_client(&self, port: u64) -> bool
+        ensures { result ≡ is_clients (find_port port (state self.now).ports) };
 
     /// Whether the port is to be read: not where it isn't open.
     fn wants(&self, port: u64) -> bool
@@ -75,6 +86,14 @@ impl Core for Agent {
 
     fn next_owed(&self, after: u64) -> Option<u64> {
         Agent::next_owed(self, after)
+    }
+
+    fn next_child_owed(&self, after: u64) -> Option<u64> {
+        Agent::next_child_owed(self, after)
+    }
+
+    fn is_client(&self, port: u64) -> bool {
+        Agent::is_client(self, port)
     }
 
     fn wants(&self, port: u64) -> bool {

@@ -1,127 +1,114 @@
-// Ports that are set aside: each is ready to be written to, and was owed nothing when its turn came.
-ghost use Rattle.std.specs.Prelude.{◌≡◌, ◌++◌, ⊤, MatchOption, Some, slice_get};
-ghost use Rattle.ready_hub.specs.Things.{set_of};
-ghost use Rattle.ready_hub.specs.declared.thing.Thing.TheVariants.{Write};
-ghost use Rattle.ready_loop.specs.Owing.{ListsOwed, dropped_number, writes_of};
-ghost use Rattle.ready_loop.specs.Queues.{dropped, first_servable};
+// What is ready and can't be served, set aside under its door or port.
+ghost use Rattle.std.specs.Prelude.{◌≡◌, OnOk, filter, not};
+ghost use Rattle.rising_numbers.specs.Rising.{IsSorted, inserted};
+ghost use Rattle.ready_hub.specs.Things.{same_door, set_of};
+ghost use Rattle.ready_hub.specs.declared.thing.Thing.TheVariants.{Accept};
+ghost use Rattle.ready_loop.specs.Aside.{accepts_of, none_aside, put_aside, taken_back, things_aside};
 
-use crate::Core;
-use crate::owing::has_number;
-use crate::things::{first_by, first_of, has_thing};
+use crate::things::is_same_door;
 use ready_hub::Thing;
-use std::alloc::AllocError;
+use rising_numbers as rising;
+use std::alloc::{AllocError, Global};
+use std::marker::Model;
+use world_ports::Door;
 
-// The first of these ports that is owed bytes, as the agent says.
-fn first_aside<A: Core>(ports: &[u64], agent: &A) -> Option<Thing>
-    ensures { result ≡ first_servable (A.state agent.now) (writes_of ports.now) }
-{
-    'ports: for port in ports {
-        if !agent.owed(*port).is_empty() {
-            return Some(Thing::Write(*port));
+/// Things that are ready and can't be served. Each is found by its port, so that nobody looks at the others.
+#[derive(Drop)]
+pub struct Aside {
+    doors: Vec<Door>,
+    // The ports to read and those to write to, rising.
+    reads: Vec<u64>,
+    writes: Vec<u64>,
+}
+
+impl Model for Aside {
+    ghost use Rattle.rising_numbers.specs.Rising.{IsSorted};
+    ghost use Rattle.ready_loop.specs.Aside.{Aside as Things};
+
+    ghost Value = { Things };
+
+    ghost view = { λ a. record { doors = a.doors.items; reads = a.reads.items; writes = a.writes.items } };
+
+    ghost invariant = { λ a. IsSorted a.reads.items × IsSorted a.writes.items };
+}
+
+impl Aside {
+    /// Takes no memory.
+    pub fn new(alloc: Global) -> Aside
+        ensures { result ≡ none_aside }
+    {
+        Aside {
+            doors: Vec::new(alloc),
+            reads: Vec::new(alloc),
+            writes: Vec::new(alloc),
         }
     }
-    None
-}
 
-// The same, where these ports are owed bytes: they aren't looked through where none is.
-fn first_aside_by<A: Core>(ports: &[u64], agent: &A, owed: &[u64]) -> Option<Thing>
-    requires { ListsOwed (A.state agent.now) owed.now }
-    ensures { result ≡ first_servable (A.state agent.now) (writes_of ports.now) }
-{
-    if owed.is_empty() {
-        return None;
-    }
-    'ports: for port in ports {
-        if has_number(owed, *port) {
-            return Some(Thing::Write(*port));
+    // Whether the thing is set aside.
+    pub fn has(&self, thing: Thing) -> bool
+        ensures { result ≡ set_of (things_aside self.now) thing }
+    {
+        match thing {
+            Thing::Accept(door) => has_door(&self.doors, door),
+            Thing::Read(port) => rising::has(&self.reads, port),
+            Thing::Write(port) => rising::has(&self.writes, port),
         }
     }
-    None
-}
 
-// The first of these ports and things that can be served, as the agent says of each before it.
-pub fn first_of_both<A: Core>(ports: &[u64], things: &[Thing], agent: &A) -> Option<Thing>
-    ensures { result ≡ first_servable (A.state agent.now) (writes_of ports.now ++ things.now) }
-{
-    match first_aside(ports, agent) {
-        Some(thing) => Some(thing),
-        None => first_of(things, agent),
+    // Sets the thing aside.
+    pub fn put(&mut self, thing: Thing) -> Result<(), AllocError>
+        ensures { OnOk result (self.new ≡ put_aside thing self.old) }
+    {
+        match thing {
+            Thing::Accept(door) => self.doors.push(door)?,
+            Thing::Read(port) => put_in(&mut self.reads, port)?,
+            Thing::Write(port) => put_in(&mut self.writes, port)?,
+        }
+        Ok(())
+    }
+
+    // Takes the thing back, and tells whether it was there.
+    pub fn take(&mut self, thing: Thing) -> bool
+        ensures there { result ≡ set_of (things_aside self.old) thing }
+        ensures { self.new ≡ taken_back thing self.old }
+    {
+        match thing {
+            Thing::Accept(door) => take_door(&mut self.doors, door),
+            Thing::Read(port) => rising::take_out(&mut self.reads, port),
+            Thing::Write(port) => rising::take_out(&mut self.writes, port),
+        }
     }
 }
 
-// The same, where these ports are owed bytes.
-pub fn first_of_both_by<A: Core>(
-    ports: &[u64],
-    things: &[Thing],
-    agent: &A,
-    owed: &[u64],
-) -> Option<Thing>
-    requires { ListsOwed (A.state agent.now) owed.now }
-    ensures { result ≡ first_servable (A.state agent.now) (writes_of ports.now ++ things.now) }
+// Whether the listener is among these.
+fn has_door(doors: &[Door], door: Door) -> bool
+    ensures { result ≡ set_of (accepts_of doors.now) (Accept door) }
 {
-    match first_aside_by(ports, agent, owed) {
-        Some(thing) => Some(thing),
-        None => first_by(things, agent, owed),
+    'doors: for other in doors {
+        if is_same_door(*other, door) {
+            return true;
+        }
     }
+    false
 }
 
-// Whether the thing is among these ports.
-fn has_aside(ports: &[u64], thing: Thing) -> bool
-    ensures { result ≡ set_of (writes_of ports.now) thing }
+// Takes the listener out, and tells whether it was there.
+fn take_door(doors: &mut Vec<Door>, door: Door) -> bool
+    ensures there { result ≡ set_of (accepts_of doors.old.items) (Accept door) }
+    ensures left { doors.new.items ≡ filter (λ other. not (same_door door other)) doors.old.items }
 {
-    match thing {
-        Thing::Write(port) => has_number(ports, port),
-        Thing::Read(_) => false,
-        Thing::Accept(_) => false,
-    }
+    let there = has_door(doors, door);
+    doors.retain(|other| !is_same_door(door, *other));
+    there
 }
 
-// Whether the thing is among these ports and things.
-pub fn has_either(ports: &[u64], things: &[Thing], thing: Thing) -> bool
-    ensures { result ≡ set_of (writes_of ports.now ++ things.now) thing }
+// Puts the port in its place.
+fn put_in(ports: &mut Vec<u64>, port: u64) -> Result<(), AllocError>
+    requires { IsSorted ports.old.items }
+    ensures ports { OnOk result (ports.new.items ≡ inserted port ports.old.items) }
+    ensures sorted { IsSorted ports.new.items }
 {
-    has_aside(ports, thing) || has_thing(things, thing)
-}
-
-// Takes the port out.
-fn drop_number(ports: &mut Vec<u64>, port: u64)
-    ensures { ports.new.items ≡ dropped_number port ports.old.items }
-{
-    ports.retain(|other| port != *other);
-}
-
-// Takes the thing out.
-pub fn drop_aside(ports: &mut Vec<u64>, thing: Thing)
-    ensures { writes_of ports.new.items ≡ dropped thing (writes_of ports.old.items) }
-{
-    match thing {
-        Thing::Write(port) => drop_number(ports, port),
-        Thing::Read(_) => {}
-        Thing::Accept(_) => {}
-    }
-}
-
-// The port at the front of the queue, where it is ready to be written to and owed nothing.
-fn quiet_front(things: &[Thing], owed: &[u64]) -> Option<u64>
-    ensures { MatchOption result ⊤ (λ port. slice_get things.now 0 ≡ Some (Write port)) }
-{
-    match things.first() {
-        Some(Thing::Write(port)) if !has_number(owed, *port) => Some(*port),
-        _ => None,
-    }
-}
-
-// Sets aside what stands at the front of the queue, is ready to be written to and is owed nothing.
-pub fn set_aside(
-    ports: &mut Vec<u64>,
-    things: &mut Vec<Thing>,
-    owed: &[u64],
-) -> Result<(), AllocError>
-    ensures { writes_of ports.new.items ++ things.new.items ≡ writes_of ports.old.items ++ things.old.items }
-{
-    'fronts: while let Some(port) = quiet_front(things, owed) {
-        ports.push(port)?;
-        things.remove(0);
-    }
+    ports.reserve(1)?;
+    rising::put_in(ports, port);
     Ok(())
 }

@@ -4,8 +4,8 @@ ghost use Rattle.agent_model.specs.State.{starts};
 ghost use Rattle.ready_hub.specs.Answered.{Free, Polling};
 ghost use Rattle.ready_hub.specs.LegalJournal.{is_first_job, read_room};
 ghost use Rattle.ready_hub.specs.Servable.{is_idle};
-ghost use Rattle.ready_hub.specs.Things.{set_of};
 ghost use Rattle.ready_loop.specs.InTurn.{in_state};
+ghost use Rattle.ready_loop.specs.Lines.{IsQuiet, empty_line, hot_of};
 ghost use Rattle.ready_loop.specs.Moves.{Turns, served_by};
 ghost use Rattle.world_ports.specs.Causes.{Rose};
 
@@ -22,7 +22,8 @@ use world_ports::{Job, Ready, World};
 
 /// What is ready to be served: what a poll or an accept said, until a call found otherwise.
 ///
-/// What is served goes to the back of the queue while it is ready, so that nothing waits for ever behind another.
+/// What is served goes to the back of the queue while it is ready, so that nothing waits for ever behind another. What
+/// is ready and can't be served is set aside under its port, and comes back when an event lets it be served.
 #[derive(Drop)]
 pub struct Hub {
     queue: Queue,
@@ -31,7 +32,7 @@ pub struct Hub {
 }
 
 impl Model for Hub {
-    ghost use Rattle.ready_loop.specs.InTurn.{Line};
+    ghost use Rattle.ready_loop.specs.Lines.{Line};
 
     ghost Value = { Line };
 
@@ -62,7 +63,7 @@ fn next_job<A: Core>(agent: &A) -> Option<Job>
 impl Hub {
     /// Nothing is ready. Takes no memory.
     pub fn new(alloc: Global) -> Hub
-        ensures { result ≡ record { queue = []; joined = false } }
+        ensures { result ≡ empty_line }
     {
         Hub {
             queue: Queue::new(alloc),
@@ -71,9 +72,10 @@ impl Hub {
         }
     }
 
-    /// Whether nothing can be served, and no job waits.
+    /// Whether nothing can be served, and no job waits, where nothing that is set aside can be.
     pub fn idle<A: Core>(&self, agent: &A) -> bool
-        ensures { result ≡ is_idle (A.state agent.now) (set_of self.now.queue) }
+        requires { IsQuiet (A.state agent.now) self.now }
+        ensures { result ≡ is_idle (A.state agent.now) (hot_of self.now) }
     {
         is_idle(&self.queue, agent)
     }
@@ -86,25 +88,25 @@ impl Hub {
     }
 
     /// Starts the first job that waits, or serves the first thing that can be served, or looks at the clock and polls.
+    /// Nothing that is set aside can be served, before a turn and after it.
     pub fn turn<A: Core, W: World>(
         &mut self,
         agent: &mut A,
         world: &mut W,
     ) -> Result<Turn, HubFault>
-        requires { W.last_port world.old ≡ (A.state agent.old).last_port }
+        requires ports { W.last_port world.old ≡ (A.state agent.old).last_port }
+        requires quiet { IsQuiet (A.state agent.old) self.old }
         ensures legal { Turns result (in_state (A.state agent.old) self.old Free)
             (W.journal world.old) (W.journal world.new) (A.state agent.new) self.new }
         ensures ports { OnOk result (W.last_port world.new ≡ (A.state agent.new).last_port) }
+        ensures quiet { OnOk result (IsQuiet (A.state agent.new) self.new) }
         ensures cause { result ≡ Err HubFault.Poll → Rose (W.faults world.old) (W.faults world.new) }
         ensures later { W.faults world.old ≤ W.faults world.new }
     {
         if let Some(job) = next_job(agent) {
             return served(start(&mut self.queue, agent, world, job));
         }
-        let Ok(first) = self.queue.next(agent) else {
-            return Err(HubFault::Memory);
-        };
-        match first {
+        match self.queue.first(agent) {
             Some(Thing::Accept(door)) => served(accept(&mut self.queue, agent, world, door)),
             Some(Thing::Read(port)) => {
                 let Ok(()) = self.room.take() else {

@@ -9,7 +9,6 @@ mod laws;
 mod listeners;
 mod look;
 mod outcome;
-mod owing;
 mod queue;
 mod room;
 mod serving;

@@ -1,9 +1,9 @@
 // A look at the clock, and a poll.
-ghost use Rattle.std.specs.Prelude.{◌≡◌, ◌≤◌, ◌-◌, Err, IfOk, OnOk, Option, option_map, true};
+ghost use Rattle.std.specs.Prelude.{◌≡◌, ◌≤◌, ◌-◌, Err, OnOk, Option, option_map, true};
 ghost use Rattle.ready_hub.specs.Answered.{Free, Polling, wait_of};
 ghost use Rattle.ready_hub.specs.Servable.{is_idle};
-ghost use Rattle.ready_hub.specs.Things.{set_of};
 ghost use Rattle.ready_loop.specs.InTurn.{in_state};
+ghost use Rattle.ready_loop.specs.Lines.{IsQuiet, hot_of};
 ghost use Rattle.ready_loop.specs.Moves.{PollsOr, Turns};
 ghost use Rattle.world_ports.specs.Causes.{Rose};
 
@@ -11,23 +11,14 @@ use crate::queue::Queue;
 use crate::turn::close_all;
 use crate::{Core, HubFault, Turn};
 use agent_core::Event;
-use std::alloc::AllocError;
 use world_ports::{Polled, Ready, World, WorldFault};
 
 // Whether nothing can be served, and no job waits.
 pub fn is_idle<A: Core>(queue: &Queue, agent: &A) -> bool
-    ensures { result ≡ is_idle (A.state agent.now) (set_of queue.now.queue) }
+    requires { IsQuiet (A.state agent.now) queue.now }
+    ensures { result ≡ is_idle (A.state agent.now) (hot_of queue.now) }
 {
     agent.starts().is_empty() && queue.first(agent).is_none()
-}
-
-// The same, by which ports are owed bytes.
-fn is_idle_now<A: Core>(queue: &mut Queue, agent: &A) -> Result<bool, AllocError>
-    ensures idle { IfOk result (λ idle. idle ≡ is_idle (A.state agent.now) (set_of queue.old.queue)) }
-    ensures unchanged { queue.new ≡ queue.old }
-{
-    let first = queue.next(agent)?;
-    Ok(agent.starts().is_empty() && first.is_none())
 }
 
 // How long a poll waits: until the next identity dies.
@@ -55,7 +46,7 @@ fn poll<A: Core, W: World>(
 {
     match world.poll(wait_of(agent), ready) {
         Ok(Polled::Some) => {
-            let Ok(()) = queue.add(agent, ready) else {
+            let Ok(()) = queue.add_all(agent, ready) else {
                 return Err(HubFault::Memory);
             };
             Ok(Turn::Polled)
@@ -73,7 +64,8 @@ pub fn look<A: Core, W: World>(
     world: &mut W,
     ready: &mut Vec<Ready>,
 ) -> Result<Turn, HubFault>
-    requires idle { is_idle (A.state agent.old) (set_of queue.old.queue) ≡ true }
+    requires idle { is_idle (A.state agent.old) (hot_of queue.old) ≡ true }
+    requires quiet { IsQuiet (A.state agent.old) queue.old }
     requires ports { W.last_port world.old ≡ (A.state agent.old).last_port }
     ensures legal { Turns result (in_state (A.state agent.old) queue.old Free)
         (W.journal world.old) (W.journal world.new) (A.state agent.new) queue.new }
@@ -87,16 +79,16 @@ pub fn look<A: Core, W: World>(
     let Ok(()) = agent.step(moment, &Event::Tick) else {
         return Err(HubFault::Memory);
     };
+    let Ok(()) = queue.recall(agent, None, false) else {
+        return Err(HubFault::Memory);
+    };
     if !agent.closes().is_empty() {
         let Ok(()) = close_all(queue, agent, world) else {
             return Err(HubFault::Memory);
         };
         return Ok(Turn::Served);
     }
-    let Ok(idle) = is_idle_now(queue, agent) else {
-        return Err(HubFault::Memory);
-    };
-    if !idle {
+    if !is_idle(queue, agent) {
         return Ok(Turn::Served);
     }
     poll(queue, agent, world, ready)

@@ -1,49 +1,47 @@
 // What is ready, in the order in which it is served.
-ghost use Rattle.std.specs.Prelude.{◌≡◌, ◌++◌, ◌||◌, IfOk, OnOk, [], false};
+ghost use Rattle.std.specs.Prelude.{◌≡◌, ◌||◌, None, OnOk, Some, false, true};
 ghost use Rattle.agent_model.specs.State.{is_client};
-ghost use Rattle.ready_hub.specs.Things.{set_of};
 ghost use Rattle.ready_hub.specs.declared.thing.Thing.TheVariants.{Accept};
-ghost use Rattle.ready_loop.specs.Queues.{dropped, dropped_port, first_servable, put_back, queued_all, queued_by, queued_if, queued_port};
+ghost use Rattle.ready_loop.specs.Lines.{called, called_all, empty_line, queued, queued_all, queued_by, queued_if, queued_port, recalled, sent_back, settled, without, without_port};
+ghost use Rattle.ready_loop.specs.Queues.{first_servable};
+ghost use Rattle.ready_loop.specs.Standing.{IsFront, IsStirred, stuck_front};
 
 use crate::Core;
-use crate::aside::{drop_aside, first_of_both, first_of_both_by, has_either, set_aside};
-use crate::owing::list_owed;
-use crate::things::drop_thing;
+use crate::aside::Aside;
+use crate::things::{can_serve, has_thing, is_same};
 use ready_hub::Thing;
 use std::alloc::{AllocError, Global};
+use std::collections::VecDeque;
 use std::marker::Model;
 use world_ports::{Door, Ready, Spot};
 
 /// What is ready, in the order in which it is served, and whether a client has connected.
 #[derive(Drop)]
 pub struct Queue {
-    // Ports that stand before all others, each ready to be written to. Those that are owed nothing end up here, where
-    // a turn passes them over.
-    aside: Vec<u64>,
-    things: Vec<Thing>,
-    // The ports that were owed bytes at the last look, kept for its room.
-    owed: Vec<u64>,
+    // Nothing stands here twice, or both here and aside.
+    things: VecDeque<Thing>,
+    aside: Aside,
     joined: bool,
 }
 
 impl Model for Queue {
-    ghost use Rattle.std.specs.Prelude.{◌++◌};
-    ghost use Rattle.ready_loop.specs.InTurn.{Line};
-    ghost use Rattle.ready_loop.specs.Owing.{writes_of};
+    ghost use Rattle.ready_loop.specs.Lines.{Line};
+    ghost use Rattle.ready_loop.specs.Standing.{IsOnce};
 
     ghost Value = { Line };
 
-    ghost view = { λ q. record { queue = writes_of q.aside.items ++ q.things.items; joined = q.joined } };
+    ghost view = { λ q. record { queue = q.things.items; aside = q.aside; joined = q.joined } };
+
+    ghost invariant = { λ q. IsOnce q.things.items q.aside };
 }
 
 impl Queue {
     pub fn new(alloc: Global) -> Queue
-        ensures { result ≡ record { queue = []; joined = false } }
+        ensures { result ≡ empty_line }
     {
         Queue {
-            aside: Vec::new(alloc),
-            things: Vec::new(alloc),
-            owed: Vec::new(alloc),
+            things: VecDeque::new(alloc),
+            aside: Aside::new(alloc),
             joined: false,
         }
     }
@@ -55,86 +53,159 @@ impl Queue {
         self.joined
     }
 
-    // The first thing that can be served. The agent says once which ports are owed bytes, and isn't asked of those that
-    // are set aside.
-    pub fn next<A: Core>(&mut self, agent: &A) -> Result<Option<Thing>, AllocError>
-        ensures first { IfOk result (λ first. first ≡ first_servable (A.state agent.now) self.old.queue) }
-        ensures unchanged { self.new ≡ self.old }
-    {
-        list_owed(agent, &mut self.owed)?;
-        let first = first_of_both_by(&self.aside, &self.things, agent, &self.owed);
-        set_aside(&mut self.aside, &mut self.things, &self.owed)?;
-        Ok(first)
-    }
-
-    // The first thing that can be served: the agent is asked of each before it.
+    // The first thing of the queue that can be served.
     pub fn first<A: Core>(&self, agent: &A) -> Option<Thing>
         ensures { result ≡ first_servable (A.state agent.now) self.now.queue }
     {
-        first_of_both(&self.aside, &self.things, agent)
-    }
-
-    // Whether the thing is ready.
-    fn has(&self, thing: Thing) -> bool
-        ensures { result ≡ set_of self.now.queue thing }
-    {
-        has_either(&self.aside, &self.things, thing)
-    }
-
-    // The thing isn't ready any more.
-    pub fn remove(&mut self, thing: Thing)
-        ensures { self.new ≡ record self.old { queue = dropped thing self.old.queue } }
-    {
-        drop_aside(&mut self.aside, thing);
-        drop_thing(&mut self.things, thing);
-    }
-
-    // The thing was served, and is still ready.
-    pub fn put_back(&mut self, thing: Thing) -> Result<(), AllocError>
-        ensures { OnOk result (self.new ≡ record self.old { queue = put_back thing self.old.queue }) }
-    {
-        self.remove(thing);
-        self.things.push(thing)?;
-        Ok(())
-    }
-
-    // The thing is ready where the test holds.
-    fn add_if(&mut self, test: bool, thing: Thing) -> Result<(), AllocError>
-        ensures { OnOk result (self.new ≡ record self.old { queue = queued_if test thing self.old.queue }) }
-    {
-        if test && !self.has(thing) {
-            self.things.push(thing)?;
+        'things: for thing in self.things.iter() {
+            if can_serve(agent, *thing) {
+                return Some(*thing);
+            }
         }
+        None
+    }
+
+    // The thing was served, and is still ready: it goes behind all others.
+    pub fn send_back<A: Core>(&mut self, agent: &A, thing: Thing) -> Result<(), AllocError>
+        requires { first_servable (A.state agent.now) self.old.queue ≡ Some thing }
+        ensures { OnOk result (self.new ≡ sent_back thing (settled (A.state agent.now) self.old)) }
+    {
+        self.settle(agent)?;
+        self.rotate(thing)
+    }
+
+    // The thing was to be served, and isn't ready any more.
+    pub fn remove<A: Core>(&mut self, agent: &A, thing: Thing) -> Result<(), AllocError>
+        requires { first_servable (A.state agent.now) self.old.queue ≡ Some thing }
+        ensures { OnOk result (self.new ≡ without thing (settled (A.state agent.now) self.old)) }
+    {
+        self.settle(agent)?;
+        self.drop_front(thing);
         Ok(())
     }
 
-    // A connection was accepted at a listener.
-    pub fn accept(&mut self, door: Door, port: u64) -> Result<(), AllocError>
-        ensures { OnOk result (self.new ≡ record {
-          queue = put_back (Accept door) (queued_port port self.old.queue);
-          joined = is_client door || self.old.joined;
-        }) }
+    // A connection was accepted at a listener, which goes behind its two directions.
+    pub fn accept<A: Core>(&mut self, agent: &A, door: Door, port: u64) -> Result<(), AllocError>
+        requires { first_servable (A.state agent.now) self.old.queue ≡ Some (Accept door) }
+        ensures { OnOk result (self.new
+            ≡ record (sent_back (Accept door) (queued_port port (settled (A.state agent.now) self.old))) {
+              joined = is_client door || self.old.joined;
+            }) }
     {
-        self.add_if(true, Thing::Read(port))?;
-        self.add_if(true, Thing::Write(port))?;
-        self.put_back(Thing::Accept(door))?;
+        self.settle(agent)?;
+        self.add(Thing::Read(port))?;
+        self.add(Thing::Write(port))?;
+        self.rotate(Thing::Accept(door))?;
         self.joined = is_clients(door) || self.joined;
         Ok(())
     }
 
     // A port was closed.
     pub fn close(&mut self, port: u64)
-        ensures { self.new ≡ record self.old { queue = dropped_port port self.old.queue } }
+        ensures { self.new ≡ without_port port self.old }
     {
-        self.remove(Thing::Read(port));
-        self.remove(Thing::Write(port));
+        self.drop_thing(Thing::Read(port));
+        self.drop_thing(Thing::Write(port));
+    }
+
+    // A poll told of these.
+    pub fn add_all<A: Core>(&mut self, agent: &A, items: &[Ready]) -> Result<(), AllocError>
+        ensures { OnOk result (self.new
+            ≡ queued_all (A.state agent.now) items.now (settled (A.state agent.now) self.old)) }
+    {
+        self.settle(agent)?;
+        'items: for item in items {
+            self.add_item(agent, *item)?;
+        }
+        Ok(())
+    }
+
+    // An event happened, of this port: what it lets be served comes back. With `all` that may be of any port, and
+    // otherwise of child processes alone.
+    pub fn recall<A: Core>(
+        &mut self,
+        agent: &A,
+        own: Option<u64>,
+        all: bool,
+    ) -> Result<(), AllocError>
+        requires { IsStirred (A.state agent.now) own all self.old }
+        ensures { OnOk result (self.new ≡ recalled (A.state agent.now) own self.old) }
+    {
+        if let Some(port) = own {
+            self.call(agent, Thing::Read(port))?;
+            self.call(agent, Thing::Write(port))?;
+        }
+        if all {
+            self.call_owed(agent)
+        } else {
+            self.call_children(agent)
+        }
+    }
+}
+
+impl Queue {
+    // Sets aside what stands before the first thing that can be served.
+    fn settle<A: Core>(&mut self, agent: &A) -> Result<(), AllocError>
+        ensures { OnOk result (self.new ≡ settled (A.state agent.now) self.old) }
+    {
+        'fronts: while let Some(front) = stuck_front(&self.things, agent) {
+            self.things.pop_front();
+            self.aside.put(front)?;
+        }
+        Ok(())
+    }
+
+    // The thing stands at the front, and goes behind all others.
+    fn rotate(&mut self, thing: Thing) -> Result<(), AllocError>
+        requires { IsFront thing self.old.queue }
+        ensures { OnOk result (self.new ≡ sent_back thing self.old) }
+    {
+        self.things.pop_front();
+        self.things.push_back(thing)?;
+        Ok(())
+    }
+
+    // The thing stands at the front, and isn't ready any more.
+    fn drop_front(&mut self, thing: Thing)
+        requires { IsFront thing self.old.queue }
+        ensures { self.new ≡ without thing self.old }
+    {
+        self.things.pop_front();
+    }
+
+    // The thing isn't ready any more, wherever it stands.
+    fn drop_thing(&mut self, thing: Thing)
+        ensures { self.new ≡ without thing self.old }
+    {
+        if !self.aside.take(thing) {
+            self.things.retain(|other| !is_same(thing, *other));
+        }
+    }
+
+    // The thing is ready.
+    fn add(&mut self, thing: Thing) -> Result<(), AllocError>
+        ensures { OnOk result (self.new ≡ queued thing self.old) }
+    {
+        if !self.aside.has(thing) && !has_thing(&self.things, thing) {
+            self.things.push_back(thing)?;
+        }
+        Ok(())
+    }
+
+    // The thing is ready where the test holds.
+    fn add_if(&mut self, test: bool, thing: Thing) -> Result<(), AllocError>
+        ensures { OnOk result (self.new ≡ queued_if test thing self.old) }
+    {
+        if test {
+            self.add(thing)?;
+        }
+        Ok(())
     }
 
     // A poll told of this.
     fn add_item<A: Core>(&mut self, agent: &A, item: Ready) -> Result<(), AllocError>
-        ensures { OnOk result (self.new ≡ record self.old {
-          queue = queued_by (A.state agent.now) item.spot item.readable item.writable self.old.queue;
-        }) }
+        ensures { OnOk result (self.new
+            ≡ queued_by (A.state agent.now) item.spot item.readable item.writable self.old) }
     {
         match item.spot {
             Spot::Door(door) => self.add_if(item.readable, Thing::Accept(door)),
@@ -146,15 +217,54 @@ impl Queue {
         }
     }
 
-    // A poll told of these.
-    pub fn add<A: Core>(&mut self, agent: &A, items: &[Ready]) -> Result<(), AllocError>
-        ensures { OnOk result (self.new
-            ≡ record self.old { queue = queued_all (A.state agent.now) items.now self.old.queue }) }
+    // The thing comes back where it was set aside and can be served.
+    fn call<A: Core>(&mut self, agent: &A, thing: Thing) -> Result<(), AllocError>
+        ensures { OnOk result (self.new ≡ called (A.state agent.now) thing self.old) }
     {
-        'items: for item in items {
-            self.add_item(agent, *item)?;
+        if can_serve(agent, thing) && self.aside.take(thing) {
+            self.things.push_back(thing)?;
         }
         Ok(())
+    }
+
+    // Every port that is owed bytes comes back where it was set aside.
+    fn call_owed<A: Core>(&mut self, agent: &A) -> Result<(), AllocError>
+        requires { IsStirred (A.state agent.now) None true self.old }
+        ensures { OnOk result (self.new ≡ called_all (A.state agent.now) self.old) }
+    {
+        let mut after = 0;
+        'ports: while let Some(port) = agent.next_owed(after) {
+            if self.aside.take(Thing::Write(port)) {
+                self.things.push_back(Thing::Write(port))?;
+            }
+            after = port;
+        }
+        Ok(())
+    }
+
+    // Every child process that is owed bytes comes back where it was set aside.
+    fn call_children<A: Core>(&mut self, agent: &A) -> Result<(), AllocError>
+        requires { IsStirred (A.state agent.now) None false self.old }
+        ensures { OnOk result (self.new ≡ called_all (A.state agent.now) self.old) }
+    {
+        let mut after = 0;
+        'ports: while let Some(port) = agent.next_child_owed(after) {
+            if self.aside.take(Thing::Write(port)) {
+                self.things.push_back(Thing::Write(port))?;
+            }
+            after = port;
+        }
+        Ok(())
+    }
+}
+
+// The thing at the front of the queue, where it can't be served.
+fn stuck_front<A: Core>(things: &VecDeque<Thing>, agent: &A) -> Option<Thing>
+    ensures { result ≡ stuck_front (A.state agent.now) things.now.items }
+{
+    match things.front() {
+        Some(front) if !can_serve(agent, *front) => Some(*front),
+        _ => None,
     }
 }
 

@@ -3,8 +3,8 @@ ghost use Rattle.std.specs.Prelude.{◌≡◌, ◌≤◌, ◌&&◌, List, ℕ};
 ghost use Rattle.agent_model.specs.State.{State};
 ghost use Rattle.ready_hub.specs.Answered.{Free};
 ghost use Rattle.ready_hub.specs.Servable.{is_idle};
-ghost use Rattle.ready_hub.specs.Things.{set_of};
 ghost use Rattle.ready_loop.specs.InTurn.{in_state};
+ghost use Rattle.ready_loop.specs.Lines.{IsQuiet, hot_of};
 ghost use Rattle.ready_loop.specs.Serving.{Running, Serves, Unbound, is_deserted};
 ghost use Rattle.world_ports.specs.Causes.{Rose};
 
@@ -16,8 +16,9 @@ use world_ports::{World, WorldFault};
 
 // Whether the loop is to end here, as it was asked to.
 fn is_done<A: Core>(hub: &Hub, agent: &A, until_idle: bool) -> bool
+    requires { IsQuiet (A.state agent.now) hub.now }
     ensures { result ≡ (until_idle && (is_deserted (in_state (A.state agent.now) hub.now Free)
-        && is_idle (A.state agent.now) (set_of hub.now.queue))) }
+        && is_idle (A.state agent.now) (hot_of hub.now))) }
 {
     until_idle && hub.has_joined() && agent.clients() == 0 && hub.idle(agent)
 }
@@ -30,7 +31,8 @@ fn run<R: Wait, A: Core, W: World>(
     world: &mut W,
     until_idle: bool,
 ) -> ServeEnd
-    requires { W.last_port world.old ≡ (A.state agent.old).last_port }
+    requires ports { W.last_port world.old ≡ (A.state agent.old).last_port }
+    requires quiet { IsQuiet (A.state agent.old) hub.old }
     ensures serves { (path : List ℕ) (state : State) → Serves result
         (record { path = path; until_idle = until_idle; state = state })
         (Running (in_state (A.state agent.old) hub.old Free))

@@ -3,13 +3,15 @@ ghost use Rattle.std.specs.Prelude.{◌≡◌, ◌≤◌, OnOk, Some, length, tr
 ghost use Rattle.agent_model.specs.Events.{Ended, Heard, Took};
 ghost use Rattle.agent_model.specs.State.{Fits, starts};
 ghost use Rattle.ready_hub.specs.Answered.{Free, NowFor, due_of};
+ghost use Rattle.ready_hub.specs.Elsewhere.{tells_others};
 ghost use Rattle.ready_hub.specs.LegalJournal.{is_first_job, read_room};
 ghost use Rattle.ready_hub.specs.declared.thing.Thing.TheVariants.{Accept, Read, Write};
 ghost use Rattle.agent_core.specs.Happenings.{happening};
 ghost use Rattle.ready_loop.specs.Happenings.{number_after};
-ghost use Rattle.ready_loop.specs.InTurn.{in_state};
+ghost use Rattle.ready_loop.specs.InTurn.{in_state, port_of};
+ghost use Rattle.ready_loop.specs.Lines.{IsQuiet, sent_back, settled, without};
 ghost use Rattle.ready_loop.specs.Moves.{Goes, Serves};
-ghost use Rattle.ready_loop.specs.Queues.{dropped, first_servable, put_back};
+ghost use Rattle.ready_loop.specs.Queues.{first_servable};
 ghost use Rattle.ready_loop.specs.Rooms.{IsWiped};
 
 use crate::Core;
@@ -40,6 +42,28 @@ pub fn close_all<A: Core, W: World>(
     Ok(())
 }
 
+// Whether the event may let something be written to a client at another port.
+fn tells_others<A: Core>(agent: &A, event: &Event<'_>) -> bool
+    ensures { result ≡ tells_others (happening event.now) (A.state agent.now) }
+{
+    match *event {
+        Event::Heard { port, .. } | Event::Ended { port } => !agent.is_client(port),
+        Event::StartFailed { .. } => true,
+        Event::Joined(_) | Event::Took { .. } | Event::Started { .. } | Event::Tick => false,
+    }
+}
+
+// The port of an event, where `last` is the number of the last one that joined after it.
+fn port_of(event: &Event<'_>, last: u64) -> Option<u64>
+    ensures { result ≡ port_of (happening event.now) last }
+{
+    match *event {
+        Event::Joined(_) => Some(last),
+        Event::Heard { port, .. } | Event::Ended { port } | Event::Took { port, .. } => Some(port),
+        Event::Started { .. } | Event::StartFailed { .. } | Event::Tick => None,
+    }
+}
+
 // Tells the agent of an event, at the moment that it is now, and closes the ports that this closes.
 fn happen<A: Core, W: World>(
     queue: &mut Queue,
@@ -48,6 +72,7 @@ fn happen<A: Core, W: World>(
     event: &Event<'_>,
 ) -> Result<(), CoreMemory>
     requires fits { Fits (happening event.now) (A.state agent.old) }
+    requires quiet { IsQuiet (A.state agent.old) queue.old }
     requires ports { W.last_port world.old
         ≡ number_after (happening event.now) (A.state agent.old).last_port }
     ensures legal { Goes result
@@ -57,13 +82,27 @@ fn happen<A: Core, W: World>(
     ensures ports { OnOk result (W.last_port world.new ≡ (A.state agent.new).last_port) }
     ensures later { W.faults world.old ≤ W.faults world.new }
 {
+    let all = tells_others(agent, event);
     let Ok(moment) = world.now() else {
         return Err(CoreMemory);
     };
     let Ok(()) = agent.step(moment, event) else {
         return Err(CoreMemory);
     };
+    let own = port_of(event, agent.ports_so_far());
+    let Ok(()) = queue.recall(agent, own, all) else {
+        return Err(CoreMemory);
+    };
     close_all(queue, agent, world)
+}
+
+// A call found that the thing isn't ready.
+fn drop_out<A: Core>(queue: &mut Queue, agent: &A, thing: Thing) -> Result<(), CoreMemory>
+    requires { first_servable (A.state agent.now) queue.old.queue ≡ Some thing }
+    ensures { OnOk result (queue.new ≡ without thing (settled (A.state agent.now) queue.old)) }
+{
+    queue.remove(agent, thing)?;
+    Ok(())
 }
 
 // Accepts a connection.
@@ -74,6 +113,7 @@ pub fn accept<A: Core, W: World>(
     door: Door,
 ) -> Result<(), CoreMemory>
     requires next { first_servable (A.state agent.old) queue.old.queue ≡ Some (Accept door) }
+    requires quiet { IsQuiet (A.state agent.old) queue.old }
     requires ports { W.last_port world.old ≡ (A.state agent.old).last_port }
     ensures legal { Serves result (in_state (A.state agent.old) queue.old Free)
         (W.journal world.old) (W.journal world.new) (in_state (A.state agent.new) queue.new Free) }
@@ -82,19 +122,13 @@ pub fn accept<A: Core, W: World>(
 {
     match world.accept(door) {
         Ok(Accepted::Port(number)) => {
-            let Ok(()) = queue.accept(door, number) else {
+            let Ok(()) = queue.accept(agent, door, number) else {
                 return Err(CoreMemory);
             };
             happen(queue, agent, world, &Event::Joined(door))
         }
-        Ok(Accepted::NotNow) => {
-            queue.remove(Thing::Accept(door));
-            Ok(())
-        }
-        Err(WorldFault::Failed) => {
-            queue.remove(Thing::Accept(door));
-            Ok(())
-        }
+        Ok(Accepted::NotNow) => drop_out(queue, agent, Thing::Accept(door)),
+        Err(WorldFault::Failed) => drop_out(queue, agent, Thing::Accept(door)),
         Err(WorldFault::Memory) => Err(CoreMemory),
     }
 }
@@ -108,15 +142,17 @@ fn hear<A: Core, W: World>(
     piece: &[u8],
 ) -> Result<(), CoreMemory>
     requires fits { Fits (Heard port piece.now) (A.state agent.old) }
+    requires next { first_servable (A.state agent.old) queue.old.queue ≡ Some (Read port) }
+    requires quiet { IsQuiet (A.state agent.old) queue.old }
     requires ports { W.last_port world.old ≡ (A.state agent.old).last_port }
     ensures legal { Goes result
-        (in_state (A.state agent.old) (record queue.old { queue = put_back (Read port) queue.old.queue })
+        (in_state (A.state agent.old) (sent_back (Read port) (settled (A.state agent.old) queue.old))
         (NowFor (Heard port piece.now)))
         (W.journal world.old) (W.journal world.new) (in_state (A.state agent.new) queue.new Free) }
     ensures ports { OnOk result (W.last_port world.new ≡ (A.state agent.new).last_port) }
     ensures later { W.faults world.old ≤ W.faults world.new }
 {
-    let Ok(()) = queue.put_back(Thing::Read(port)) else {
+    let Ok(()) = queue.send_back(agent, Thing::Read(port)) else {
         return Err(CoreMemory);
     };
     happen(queue, agent, world, &Event::Heard { port, piece })
@@ -131,15 +167,19 @@ fn end<A: Core, W: World>(
     found: Thing,
 ) -> Result<(), CoreMemory>
     requires fits { Fits (Ended port) (A.state agent.old) }
+    requires next { first_servable (A.state agent.old) queue.old.queue ≡ Some found }
+    requires quiet { IsQuiet (A.state agent.old) queue.old }
     requires ports { W.last_port world.old ≡ (A.state agent.old).last_port }
     ensures legal { Goes result
-        (in_state (A.state agent.old) (record queue.old { queue = dropped found queue.old.queue })
+        (in_state (A.state agent.old) (without found (settled (A.state agent.old) queue.old))
         (NowFor (Ended port)))
         (W.journal world.old) (W.journal world.new) (in_state (A.state agent.new) queue.new Free) }
     ensures ports { OnOk result (W.last_port world.new ≡ (A.state agent.new).last_port) }
     ensures later { W.faults world.old ≤ W.faults world.new }
 {
-    queue.remove(found);
+    let Ok(()) = queue.remove(agent, found) else {
+        return Err(CoreMemory);
+    };
     happen(queue, agent, world, &Event::Ended { port })
 }
 
@@ -152,6 +192,7 @@ pub fn read<A: Core, W: World>(
     room: &mut [u8],
 ) -> Result<(), CoreMemory>
     requires next { first_servable (A.state agent.old) queue.old.queue ≡ Some (Read port) }
+    requires quiet { IsQuiet (A.state agent.old) queue.old }
     requires ports { W.last_port world.old ≡ (A.state agent.old).last_port }
     requires room { length room.old ≡ read_room }
     requires zero { IsWiped room.old }
@@ -168,10 +209,7 @@ pub fn read<A: Core, W: World>(
             heard
         }
         Ok(Got::End) => end(queue, agent, world, port, Thing::Read(port)),
-        Ok(Got::NotNow) => {
-            queue.remove(Thing::Read(port));
-            Ok(())
-        }
+        Ok(Got::NotNow) => drop_out(queue, agent, Thing::Read(port)),
         Err(WorldFault::Failed) => end(queue, agent, world, port, Thing::Read(port)),
         Err(WorldFault::Memory) => Err(CoreMemory),
     }
@@ -186,15 +224,17 @@ fn send<A: Core, W: World>(
     count: usize,
 ) -> Result<(), CoreMemory>
     requires fits { Fits (Took port count) (A.state agent.old) }
+    requires next { first_servable (A.state agent.old) queue.old.queue ≡ Some (Write port) }
+    requires quiet { IsQuiet (A.state agent.old) queue.old }
     requires ports { W.last_port world.old ≡ (A.state agent.old).last_port }
     ensures legal { Goes result
-        (in_state (A.state agent.old) (record queue.old { queue = put_back (Write port) queue.old.queue })
+        (in_state (A.state agent.old) (sent_back (Write port) (settled (A.state agent.old) queue.old))
         (NowFor (Took port count)))
         (W.journal world.old) (W.journal world.new) (in_state (A.state agent.new) queue.new Free) }
     ensures ports { OnOk result (W.last_port world.new ≡ (A.state agent.new).last_port) }
     ensures later { W.faults world.old ≤ W.faults world.new }
 {
-    let Ok(()) = queue.put_back(Thing::Write(port)) else {
+    let Ok(()) = queue.send_back(agent, Thing::Write(port)) else {
         return Err(CoreMemory);
     };
     happen(queue, agent, world, &Event::Took { port, count })
@@ -208,6 +248,7 @@ pub fn write<A: Core, W: World>(
     port: u64,
 ) -> Result<(), CoreMemory>
     requires next { first_servable (A.state agent.old) queue.old.queue ≡ Some (Write port) }
+    requires quiet { IsQuiet (A.state agent.old) queue.old }
     requires ports { W.last_port world.old ≡ (A.state agent.old).last_port }
     ensures legal { Serves result (in_state (A.state agent.old) queue.old Free)
         (W.journal world.old) (W.journal world.new) (in_state (A.state agent.new) queue.new Free) }
@@ -216,10 +257,7 @@ pub fn write<A: Core, W: World>(
 {
     match world.write(port, agent.owed(port)) {
         Ok(Wrote::Took(n)) => send(queue, agent, world, port, n as usize),
-        Ok(Wrote::NotNow) => {
-            queue.remove(Thing::Write(port));
-            Ok(())
-        }
+        Ok(Wrote::NotNow) => drop_out(queue, agent, Thing::Write(port)),
         Err(WorldFault::Failed) => end(queue, agent, world, port, Thing::Write(port)),
         Err(WorldFault::Memory) => Err(CoreMemory),
     }
@@ -233,6 +271,7 @@ pub fn start<A: Core, W: World>(
     job: Job,
 ) -> Result<(), CoreMemory>
     requires first { is_first_job job (starts (A.state agent.old)) ≡ true }
+    requires quiet { IsQuiet (A.state agent.old) queue.old }
     requires ports { W.last_port world.old ≡ (A.state agent.old).last_port }
     ensures legal { Serves result (in_state (A.state agent.old) queue.old Free)
         (W.journal world.old) (W.journal world.new) (in_state (A.state agent.new) queue.new Free) }
