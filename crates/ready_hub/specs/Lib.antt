@@ -4,3 +4,4 @@ pub mod Answered
 pub mod LegalJournal
 pub mod Rows
 pub mod Fronts
+pub mod Elsewhere

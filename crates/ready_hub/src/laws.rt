@@ -1,13 +1,18 @@
 //! Laws of legal journals.
 
-ghost use Rattle.std.specs.Prelude.{◌≡◌, ◌++◌, ◌∷◌, ℕ, List, Option, Result, Some};
+ghost use Rattle.std.specs.Prelude.{◌≡◌, ◌++◌, ◌∷◌, ℕ, List, Option, Result, Some, false, true};
 ghost use Rattle.world_ports.specs.declared.answers.Polled.{Polled};
 ghost use Rattle.world_ports.specs.declared.answers.Ready.{Ready};
 ghost use Rattle.world_ports.specs.declared.answers.WorldFault.{WorldFault};
 ghost use Rattle.world_ports.specs.declared.entry.Entry.{Entry};
 ghost use Rattle.world_ports.specs.declared.entry.Entry.TheVariants as entry;
-ghost use Rattle.agent_model.specs.State.{State};
+ghost use Rattle.world_ports.specs.declared.events.Moment.{Moment};
+ghost use Rattle.agent_model.specs.Events.{Happening};
+ghost use Rattle.agent_model.specs.Sound.{IsRising};
+ghost use Rattle.agent_model.specs.State.{State, wants};
+ghost use Rattle.agent_model.specs.Step.{step};
 ghost use Rattle.ready_hub.specs.Answered.{Free, Reading, at};
+ghost use Rattle.ready_hub.specs.Elsewhere.{is_of};
 ghost use Rattle.ready_hub.specs.Fronts.{HasFront, RestsAfter};
 ghost use Rattle.ready_hub.specs.LegalJournal.{read_on};
 ghost use Rattle.ready_hub.specs.Things.{Hot};
@@ -24,4 +29,12 @@ pub fn nothing_waits_at_a_poll()
         (items : List Ready) (answer : Result Polled WorldFault)
         → read_on (at state hot Free) (first ++ entry.Poll wait items answer ∷ later) ≡ Some to
         → RestsAfter (at state hot Free) first }
+{}
+
+/// An event lets no other port than its own be read that wasn't to be read before. The numbers of the open ports rise
+/// in every state that events lead to.
+pub fn an_event_wants_no_other_port()
+    ensures { (state : State) (moment : Moment) (event : Happening) (port : ℕ)
+        → IsRising 0 state.last_port state.ports → is_of event state.last_port port ≡ false
+        → wants port (step state moment event).state ≡ true → wants port state ≡ true }
 {}
