@@ -1,8 +1,8 @@
 -- What is ready and can't be served, set aside under its door or port (ours).
-use Rattle.std.specs.Prelude.{ℕ, Bool, true, false, List, [], ◌∷◌, ◌++◌, not}
+use Rattle.std.specs.Prelude.{ℕ, Bool, true, false, List, [], ◌∷◌, ◌++◌, ◌==◌, not}
 use Rattle.std.specs.List.{filter}
 use Rattle.world_ports.specs.declared.events.Door.{Door}
-use Rattle.rising_numbers.specs.Rising.{inserted, removed}
+use Rattle.rising_numbers.specs.Rising.{inserted}
 use Rattle.agent_model.specs.State.{State}
 use Rattle.ready_hub.specs.Servable.{is_servable}
 use Rattle.ready_hub.specs.Things.{same_door}
@@ -45,8 +45,8 @@ put_aside (Write port) aside = record aside { writes = inserted port aside.write
 -- without this thing
 abbrev pub taken_back : Thing → Aside → Aside
 taken_back (Accept door) aside = record aside { doors = filter (λ other. not (same_door door other)) aside.doors }
-taken_back (Read port) aside = record aside { reads = removed port aside.reads }
-taken_back (Write port) aside = record aside { writes = removed port aside.writes }
+taken_back (Read port) aside = record aside { reads = filter (λ other. not (port == other)) aside.reads }
+taken_back (Write port) aside = record aside { writes = filter (λ other. not (port == other)) aside.writes }
 
 -- those that can't be served
 abbrev pub still_aside : State → Aside → Aside

@@ -1,5 +1,5 @@
 -- What an event does to the numbers of ports (ours).
-use Rattle.std.specs.Prelude.{ℕ, suc}
+use Rattle.std.specs.Prelude.{ℕ, suc, ◌-◌, ◌^◌, ◌<◌}
 use Rattle.agent_model.specs.Events.{Happening, Joined, Heard, Ended, Took, Started, StartFailed, Tick}
 
 -- the number of the last port after an event, by that before it: one more where a port joined
@@ -11,3 +11,13 @@ number_after (Took port count) last = last
 number_after (Started job ticket) last = last
 number_after (StartFailed job) last = last
 number_after Tick last = last
+
+-- where a port joins, a number is left for it
+abbrev pub MayJoin : Happening → ℕ → Type 0
+MayJoin (Joined door) last = last < 2 ^ 64 - 1
+MayJoin (Heard port piece) last = Unit {0}
+MayJoin (Ended port) last = Unit {0}
+MayJoin (Took port count) last = Unit {0}
+MayJoin (Started job ticket) last = Unit {0}
+MayJoin (StartFailed job) last = Unit {0}
+MayJoin Tick last = Unit {0}

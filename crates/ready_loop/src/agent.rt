@@ -70,7 +70,8 @@ pub trait Core {
 
     /// The number of the last port that joined, 0 where none did.
     fn ports_so_far(&self) -> u64
-        ensures { result ≡ (state self.now).last_port };
+        ensures last { result ≡ (state self.now).last_port }
+        ensures rising { IsRising 0 (state self.now).last_port (state self.now).ports };
 }
 
 impl Core for Agent {

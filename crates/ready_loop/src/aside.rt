@@ -1,6 +1,6 @@
 // What is ready and can't be served, set aside under its door or port.
 ghost use Rattle.std.specs.Prelude.{◌≡◌, OnOk, filter, not};
-ghost use Rattle.rising_numbers.specs.Rising.{IsSorted, inserted};
+ghost use Rattle.rising_numbers.specs.Rising.{IsRisingList, inserted};
 ghost use Rattle.ready_hub.specs.Things.{same_door, set_of};
 ghost use Rattle.ready_hub.specs.declared.thing.Thing.TheVariants.{Accept};
 ghost use Rattle.ready_loop.specs.Aside.{accepts_of, none_aside, put_aside, taken_back, things_aside};
@@ -22,14 +22,14 @@ pub struct Aside {
 }
 
 impl Model for Aside {
-    ghost use Rattle.rising_numbers.specs.Rising.{IsSorted};
+    ghost use Rattle.rising_numbers.specs.Rising.{IsRisingList};
     ghost use Rattle.ready_loop.specs.Aside.{Aside as Things};
 
     ghost Value = { Things };
 
     ghost view = { λ a. record { doors = a.doors.items; reads = a.reads.items; writes = a.writes.items } };
 
-    ghost invariant = { λ a. IsSorted a.reads.items × IsSorted a.writes.items };
+    ghost invariant = { λ a. IsRisingList a.reads.items × IsRisingList a.writes.items };
 }
 
 impl Aside {
@@ -104,9 +104,9 @@ fn take_door(doors: &mut Vec<Door>, door: Door) -> bool
 
 // Puts the port in its place.
 fn put_in(ports: &mut Vec<u64>, port: u64) -> Result<(), AllocError>
-    requires { IsSorted ports.old.items }
+    requires { IsRisingList ports.old.items }
     ensures ports { OnOk result (ports.new.items ≡ inserted port ports.old.items) }
-    ensures sorted { IsSorted ports.new.items }
+    ensures sorted { IsRisingList ports.new.items }
 {
     ports.reserve(1)?;
     rising::put_in(ports, port);

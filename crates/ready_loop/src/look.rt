@@ -8,7 +8,7 @@ ghost use Rattle.ready_loop.specs.Moves.{PollsOr, Turns};
 ghost use Rattle.world_ports.specs.Causes.{Rose};
 
 use crate::queue::Queue;
-use crate::turn::close_all;
+use crate::turn::{close_all, tell};
 use crate::{Core, HubFault, Turn};
 use agent_core::Event;
 use world_ports::{Polled, Ready, World, WorldFault};
@@ -76,10 +76,7 @@ pub fn look<A: Core, W: World>(
     let Ok(moment) = world.now() else {
         return Err(HubFault::Memory);
     };
-    let Ok(()) = agent.step(moment, &Event::Tick) else {
-        return Err(HubFault::Memory);
-    };
-    let Ok(()) = queue.recall(agent, None, false) else {
+    let Ok(()) = tell(queue, agent, moment, &Event::Tick) else {
         return Err(HubFault::Memory);
     };
     if !agent.closes().is_empty() {

@@ -2,14 +2,15 @@
 ghost use Rattle.std.specs.Prelude.{◌≡◌, ◌≤◌, OnOk, Some, length, true};
 ghost use Rattle.agent_model.specs.Events.{Ended, Heard, Took};
 ghost use Rattle.agent_model.specs.State.{Fits, starts};
+ghost use Rattle.agent_model.specs.Step.{step};
 ghost use Rattle.ready_hub.specs.Answered.{Free, NowFor, due_of};
 ghost use Rattle.ready_hub.specs.Elsewhere.{tells_others};
 ghost use Rattle.ready_hub.specs.LegalJournal.{is_first_job, read_room};
 ghost use Rattle.ready_hub.specs.declared.thing.Thing.TheVariants.{Accept, Read, Write};
 ghost use Rattle.agent_core.specs.Happenings.{happening};
-ghost use Rattle.ready_loop.specs.Happenings.{number_after};
+ghost use Rattle.ready_loop.specs.Happenings.{MayJoin, number_after};
 ghost use Rattle.ready_loop.specs.InTurn.{in_state, port_of};
-ghost use Rattle.ready_loop.specs.Lines.{IsQuiet, sent_back, settled, without};
+ghost use Rattle.ready_loop.specs.Lines.{IsQuiet, recalled, sent_back, settled, without};
 ghost use Rattle.ready_loop.specs.Moves.{Goes, Serves};
 ghost use Rattle.ready_loop.specs.Queues.{first_servable};
 ghost use Rattle.ready_loop.specs.Rooms.{IsWiped};
@@ -18,7 +19,7 @@ use crate::Core;
 use crate::queue::Queue;
 use agent_core::{CoreMemory, Event};
 use ready_hub::Thing;
-use world_ports::{Accepted, Door, Got, Job, World, WorldFault, Wrote};
+use world_ports::{Accepted, Door, Got, Job, Moment, World, WorldFault, Wrote};
 
 // Closes the ports that the last event closed.
 pub fn close_all<A: Core, W: World>(
@@ -53,15 +54,37 @@ fn tells_others<A: Core>(agent: &A, event: &Event<'_>) -> bool
     }
 }
 
-// The port of an event, where `last` is the number of the last one that joined after it.
+// The port of an event, where `last` is the number of the last one that joined before it.
 fn port_of(event: &Event<'_>, last: u64) -> Option<u64>
-    ensures { result ≡ port_of (happening event.now) last }
+    requires { MayJoin (happening event.now) last }
+    ensures { result ≡ port_of (happening event.now) (number_after (happening event.now) last) }
 {
     match *event {
-        Event::Joined(_) => Some(last),
+        Event::Joined(_) => Some(last + 1),
         Event::Heard { port, .. } | Event::Ended { port } | Event::Took { port, .. } => Some(port),
         Event::Started { .. } | Event::StartFailed { .. } | Event::Tick => None,
     }
+}
+
+// Tells the agent of an event at a moment; what this lets be served comes back.
+pub fn tell<A: Core>(
+    queue: &mut Queue,
+    agent: &mut A,
+    moment: Moment,
+    event: &Event<'_>,
+) -> Result<(), CoreMemory>
+    requires fits { Fits (happening event.now) (A.state agent.old) }
+    requires quiet { IsQuiet (A.state agent.old) queue.old }
+    ensures stepped { OnOk result
+        (A.state agent.new ≡ (step (A.state agent.old) moment (happening event.now)).state) }
+    ensures recalled { OnOk result (queue.new
+        ≡ recalled (A.state agent.new) (port_of (happening event.now) (A.state agent.new).last_port) queue.old) }
+{
+    let all = tells_others(agent, event);
+    let own = port_of(event, agent.ports_so_far());
+    agent.step(moment, event)?;
+    queue.recall(agent, own, all)?;
+    Ok(())
 }
 
 // Tells the agent of an event, at the moment that it is now, and closes the ports that this closes.
@@ -82,15 +105,10 @@ fn happen<A: Core, W: World>(
     ensures ports { OnOk result (W.last_port world.new ≡ (A.state agent.new).last_port) }
     ensures later { W.faults world.old ≤ W.faults world.new }
 {
-    let all = tells_others(agent, event);
     let Ok(moment) = world.now() else {
         return Err(CoreMemory);
     };
-    let Ok(()) = agent.step(moment, event) else {
-        return Err(CoreMemory);
-    };
-    let own = port_of(event, agent.ports_so_far());
-    let Ok(()) = queue.recall(agent, own, all) else {
+    let Ok(()) = tell(queue, agent, moment, event) else {
         return Err(CoreMemory);
     };
     close_all(queue, agent, world)
