@@ -41,7 +41,7 @@ set_of-filter test [] thing = elim (test thing) as (λ b. false ≡ (b && false)
 set_of-filter test (first ∷ things) thing =
     filter_cond (test first) first thing (filter test things)
     ∙ filter_by (test first) (same_thing first thing) (test thing) (set_of things thing) (set_of (filter test things) thing)
-      (λ same. ap test (same_thing-true first thing same)) (set_of-filter test things thing)
+    (λ same. ap test (same_thing-true first thing same)) (set_of-filter test things thing)
 
 -- ---- what is set aside, by its parts
 

@@ -1,5 +1,5 @@
 -- What is set aside can't be served.
-use Rattle.std.proofs.Common.{◌≡◌, ◌∙◌, ◌⊎◌, inl, inr, ℕ, Bool, true, false, List, [], ◌∷◌, ◌++◌, Option, Some, None, Ok, Err, refl, sym, ap, subst, not, ◌&&◌, ◌||◌, if◌then◌else◌}
+use Rattle.std.proofs.Common.{◌≡◌, ◌∙◌, inl, inr, ℕ, Bool, true, false, List, [], ◌∷◌, Option, Some, None, Ok, Err, refl, sym, ap, subst, not, if◌then◌else◌}
 use Rattle.std.specs.Prelude.{option_and_then, option_map}
 use Rattle.world_ports.specs.declared.answers.Accepted.TheVariants as accepted
 use Rattle.world_ports.specs.declared.answers.Got.TheVariants as got
@@ -14,9 +14,9 @@ use Rattle.ready_hub.specs.Servable.{is_servable}
 use Rattle.ready_hub.specs.Things.{same_thing, set_of}
 use Rattle.ready_hub.specs.declared.thing.Thing.{Thing}
 use Rattle.ready_hub.specs.declared.thing.Thing.TheVariants.{Accept, Read, Write}
-use Rattle.ready_loop.specs.Aside.{Aside, put_aside, still_aside, taken_back, things_aside}
+use Rattle.ready_loop.specs.Aside.{Aside, put_aside, taken_back, things_aside}
 use Rattle.ready_loop.specs.InTurn.{Turning, is_in_turn, led, line_after, moved, own_port, taken, taken_if, turned}
-use Rattle.ready_loop.specs.Lines.{IsQuiet, Line, aside_with, called_all, called_own, queued_all, queued_port, recalled, settled, without, without_port}
+use Rattle.ready_loop.specs.Lines.{IsQuiet, Line, aside_with, called_own, queued_all, queued_port, recalled, settled, without}
 use Rattle.ready_loop.proofs.AddingLemmas.{Adds, adds-queued_all, adds-queued_port}
 use Rattle.ready_loop.proofs.AsideSetLemmas.{set_of-put_aside, set_of-still_aside, set_of-taken_back}
 use Rattle.ready_loop.proofs.StateLemmas.{is_moment, state_stays}

@@ -1,0 +1,102 @@
+-- What is called back was set aside, can be served, and stands behind all others.
+use Rattle.std.proofs.Common.{◌≡◌, ◌∙◌, inl, inr, ℕ, Bool, true, false, List, [], ◌∷◌, ◌++◌, Option, Some, None, Result, Ok, Err, refl, sym, ap, subst, append_assoc, not, ◌&&◌, if◌then◌else◌}
+use Rattle.std.proofs.lemmas.List.{append-nil}
+use Rattle.std.specs.List.{filter}
+use Rattle.std.specs.declared.alloc.AllocError.{AllocError}
+use Rattle.world_ports.specs.declared.entry.Entry.TheVariants as entry
+use Rattle.world_ports.specs.declared.events.Moment.{Moment}
+use Rattle.agent_model.specs.State.{State}
+use Rattle.ready_hub.specs.Answered.{Due}
+use Rattle.ready_hub.specs.Servable.{is_servable}
+use Rattle.ready_hub.specs.Things.{same_thing, set_of}
+use Rattle.ready_hub.specs.declared.thing.Thing.{Thing}
+use Rattle.ready_hub.specs.declared.thing.Thing.TheVariants.{Read, Write}
+use Rattle.ready_loop.specs.Aside.{taken_back, things_aside}
+use Rattle.ready_loop.specs.Fairness.{ComesBack}
+use Rattle.ready_loop.specs.InTurn.{Turning, moved, own_port, taken}
+use Rattle.ready_loop.specs.Lines.{Line, called, called_all, called_own, recalled}
+use Rattle.ready_loop.proofs.AsideSetLemmas.{set_of-append, set_of-filter, set_of-still_aside, set_of-taken_back}
+use Rattle.ready_loop.proofs.QuietLemmas.{leads}
+use Rattle.ready_loop.proofs.TestLemmas.{and_both, or_either, or_first}
+use Rattle.ready_loop.proofs.ThingLemmas.{same_thing-true}
+
+-- some comes back, and nothing more is set aside
+record Calls (state : State) (before after : Line) : Type 0 where
+  back : ComesBack state before after
+  left : (thing : Thing) → set_of (things_aside after.aside) thing ≡ true → set_of (things_aside before.aside) thing ≡ true
+
+comes-none : (state : State) (line : Line) → ComesBack state line line
+comes-none state line = record { more = []; behind = sym (append-nil line.queue); back = λ thing there. cc }
+
+calls-none : (state : State) (line : Line) → Calls state line line
+calls-none state line = record { back = comes-none state line; left = λ thing there. there }
+
+calls_both : (state : State) (first second third : Line) → Calls state first second → Calls state second third → Calls state first third
+calls_both state first second third one other = record {
+  back = record {
+    more = one.back.more ++ other.back.more;
+    behind = other.back.behind ∙ ap (λ (ts : List Thing). ts ++ other.back.more) one.back.behind ∙ append_assoc first.queue one.back.more other.back.more;
+    back = λ thing there. elim (or_either (set_of one.back.more thing) (set_of other.back.more thing) (sym (set_of-append one.back.more other.back.more thing) ∙ there)) [
+      | inl here ↦ one.back.back thing here
+      | inr later ↦ (one.left thing (other.back.back thing later).0, (other.back.back thing later).1)
+    ];
+  };
+  left = λ thing there. one.left thing (other.left thing there);
+}
+
+calls_by : (test : Bool) (state : State) (thing : Thing) (line : Line) → (set_of (things_aside line.aside) thing && is_servable state thing) ≡ test → Calls state line (if test then record line { queue = line.queue ++ thing ∷ []; aside = taken_back thing line.aside } else line)
+calls_by true state thing line is =
+    let both = and_both (set_of (things_aside line.aside) thing) (is_servable state thing) is in
+    record {
+      back = record {
+        more = thing ∷ [];
+        behind = refl;
+        back = λ other there.
+            let same = same_thing-true thing other (or_first (same_thing thing other) false refl there) in
+            (ap (set_of (things_aside line.aside)) (sym same) ∙ both.0, ap (is_servable state) (sym same) ∙ both.1);
+      };
+      left = λ other there.
+          (and_both (not (same_thing thing other)) (set_of (things_aside line.aside) other) (sym (set_of-taken_back thing other line.aside) ∙ there)).1;
+    }
+calls_by false state thing line is = calls-none state line
+
+calls-called : (state : State) (thing : Thing) (line : Line) → Calls state line (called state thing line)
+calls-called state thing line = calls_by (set_of (things_aside line.aside) thing && is_servable state thing) state thing line refl
+
+calls-own : (state : State) (own : Option ℕ) (line : Line) → Calls state line (called_own state own line)
+calls-own state None line = calls-none state line
+calls-own state (Some port) line =
+    let mid = called state (Read port) line in
+    calls_both state line mid (called state (Write port) mid) (calls-called state (Read port) line) (calls-called state (Write port) mid)
+
+calls-all : (state : State) (line : Line) → Calls state line (called_all state line)
+calls-all state line = record {
+  back = record {
+    more = filter (is_servable state) (things_aside line.aside);
+    behind = refl;
+    back = λ thing there.
+        let both = and_both (is_servable state thing) (set_of (things_aside line.aside) thing)
+        (sym (set_of-filter (is_servable state) (things_aside line.aside) thing) ∙ there) in
+        (both.1, both.0);
+  };
+  left = λ thing there.
+      (and_both (not (is_servable state thing)) (set_of (things_aside line.aside) thing) (sym (set_of-still_aside state line.aside thing) ∙ there)).1;
+}
+
+-- what comes back after an event
+pub comes-recalled : (state : State) (own : Option ℕ) (line : Line) → ComesBack state line (recalled state own line)
+comes-recalled state own line =
+    let mid = called_own state own line in
+    (calls_both state line mid (called_all state mid) (calls-own state own line) (calls-all state mid)).back
+
+comes_now : (state left : State) (due : Due) (line : Line) (answer : Result Moment AllocError) → ComesBack left line (moved state due left (entry.Now answer) line)
+comes_now state left due line (Ok moment) = comes-recalled left (own_port due left.last_port) line
+comes_now state left due line (Err want) = comes-none left line
+
+-- what comes back at a moment
+pub comes_back : (from to : Turning) (answer : Result Moment AllocError) → taken from (entry.Now answer) ≡ Some to → ComesBack to.reading.state from.line to.line
+comes_back from to answer is =
+    let there = leads from to (entry.Now answer) is in
+    let comes = comes_now from.reading.state to.reading.state from.reading.due from.line answer in
+    subst (ComesBack to.reading.state from.line) (sym there.line)
+    (record { more = comes.more; behind = comes.behind; back = comes.back })
