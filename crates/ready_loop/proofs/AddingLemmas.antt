@@ -21,11 +21,13 @@ adds-none line = record { news = []; queue = sym (append-nil line.queue); aside 
 adds_both : (first second third : Line) → Adds first second → Adds second third → Adds first third
 adds_both first second third one other = record {
   news = one.news ++ other.news;
-  queue = other.queue ∙ ap (λ (ts : List Thing). ts ++ other.news) one.queue ∙ append_assoc first.queue one.news other.news;
+  queue = other.queue ∙ ap (λ (ts : List Thing). ts ++ other.news) one.queue
+      ∙ append_assoc first.queue one.news other.news;
   aside = other.aside ∙ one.aside;
 }
 
-adds_by : (there : Bool) (thing : Thing) (line : Line) → Adds line (if there then line else record line { queue = line.queue ++ thing ∷ [] })
+adds_by : (there : Bool) (thing : Thing) (line : Line)
+    → Adds line (if there then line else record line { queue = line.queue ++ thing ∷ [] })
 adds_by true thing line = adds-none line
 adds_by false thing line = record { news = thing ∷ []; queue = refl; aside = refl }
 
@@ -42,7 +44,8 @@ adds-queued_port port line =
     adds_both line (queued (Read port) line) (queued_port port line)
     (adds-queued (Read port) line) (adds-queued (Write port) (queued (Read port) line))
 
-adds-queued_by : (state : State) (at : Spot) (readable writable : Bool) (line : Line) → Adds line (queued_by state at readable writable line)
+adds-queued_by : (state : State) (at : Spot) (readable writable : Bool) (line : Line)
+    → Adds line (queued_by state at readable writable line)
 adds-queued_by state (spot.Door door) readable writable line = adds-queued_if readable (Accept door) line
 adds-queued_by state (spot.Port port) readable writable line =
     let mid = queued_if (readable && is_open port state) (Read port) line in

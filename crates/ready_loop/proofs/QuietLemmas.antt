@@ -27,21 +27,29 @@ use Rattle.ready_loop.proofs.ThingLemmas.{same_thing-true}
 abbrev IsStill : State → Aside → Type 0
 IsStill state aside = (thing : Thing) → set_of (things_aside aside) thing ≡ true → is_servable state thing ≡ false
 
-still-put_aside : (state : State) (thing : Thing) (aside : Aside) → is_servable state thing ≡ false → IsStill state aside → IsStill state (put_aside thing aside)
+still-put_aside : (state : State) (thing : Thing) (aside : Aside) → is_servable state thing ≡ false
+    → IsStill state aside → IsStill state (put_aside thing aside)
 still-put_aside state thing aside never still other there =
-    elim (or_either (same_thing thing other) (set_of (things_aside aside) other) (sym (set_of-put_aside thing other aside) ∙ there)) [
+    elim (or_either (same_thing thing other) (set_of (things_aside aside) other)
+    (sym (set_of-put_aside thing other aside) ∙ there)) [
       | inl same ↦ ap (is_servable state) (sym (same_thing-true thing other same)) ∙ never
       | inr before ↦ still other before
     ]
 
-still_with_by : (able : Bool) (state : State) (first : Thing) (queue : List Thing) (aside : Aside) → is_servable state first ≡ able → IsStill state aside → ((more : Aside) → IsStill state more → IsStill state (aside_with state queue more)) → IsStill state (if able then aside else aside_with state queue (put_aside first aside))
+still_with_by : (able : Bool) (state : State) (first : Thing) (queue : List Thing) (aside : Aside)
+    → is_servable state first ≡ able → IsStill state aside
+    → ((more : Aside) → IsStill state more → IsStill state (aside_with state queue more))
+    → IsStill state (if able then aside else aside_with state queue (put_aside first aside))
 still_with_by true state first queue aside able still rest = still
-still_with_by false state first queue aside able still rest = rest (put_aside first aside) (still-put_aside state first aside able still)
+still_with_by false state first queue aside able still rest =
+    rest (put_aside first aside) (still-put_aside state first aside able still)
 
-still_with : (state : State) (queue : List Thing) (aside : Aside) → IsStill state aside → IsStill state (aside_with state queue aside)
+still_with : (state : State) (queue : List Thing) (aside : Aside) → IsStill state aside
+    → IsStill state (aside_with state queue aside)
 still_with state [] aside still = still
 still_with state (first ∷ queue) aside still =
-    still_with_by (is_servable state first) state first queue aside refl still (λ more also. still_with state queue more also)
+    still_with_by (is_servable state first) state first queue aside refl still
+    (λ more also. still_with state queue more also)
 
 -- what stood before the first that can be served can't be
 pub quiet_settled : (state : State) (line : Line) → IsQuiet state line → IsQuiet state (settled state line)
@@ -57,18 +65,22 @@ quiet_recalled state own line thing there =
 
 -- ---- after a call
 
-still-taken_back : (state : State) (thing : Thing) (aside : Aside) → IsStill state aside → IsStill state (taken_back thing aside)
+still-taken_back : (state : State) (thing : Thing) (aside : Aside) → IsStill state aside
+    → IsStill state (taken_back thing aside)
 still-taken_back state thing aside still other there =
-    still other (and_both (not (same_thing thing other)) (set_of (things_aside aside) other) (sym (set_of-taken_back thing other aside) ∙ there)).1
+    still other (and_both (not (same_thing thing other)) (set_of (things_aside aside) other)
+    (sym (set_of-taken_back thing other aside) ∙ there)).1
 
 quiet_more : (state : State) (line after : Line) → Adds line after → IsQuiet state line → IsQuiet state after
 quiet_more state line after adds quiet = subst (IsStill state) (sym adds.aside) quiet
 
-quiet_without : (state : State) (thing : Thing) (line : Line) → IsQuiet state line → IsQuiet state (without thing line)
+quiet_without : (state : State) (thing : Thing) (line : Line) → IsQuiet state line
+    → IsQuiet state (without thing line)
 quiet_without state thing line quiet = still-taken_back state thing line.aside quiet
 
 -- a call changes nothing of that in the state in which it is made
-quiet_moved : (state left : State) (due : Due) (next : Entry) (line : Line) → is_moment next ≡ false → IsQuiet state line → IsQuiet state (moved state due left next line)
+quiet_moved : (state left : State) (due : Due) (next : Entry) (line : Line) → is_moment next ≡ false
+    → IsQuiet state line → IsQuiet state (moved state due left next line)
 quiet_moved state left due (entry.Bind door path answer) line other quiet = quiet
 quiet_moved state left due (entry.Poll wait items (Ok polled.Some)) line other quiet =
     quiet_more state (settled state line) (queued_all state items (settled state line))
@@ -82,14 +94,16 @@ quiet_moved state left due (entry.Accept door (Ok accepted.NotNow)) line other q
     quiet_without state (Accept door) (settled state line) (quiet_settled state line quiet)
 quiet_moved state left due (entry.Accept door (Err fault)) line other quiet =
     quiet_without state (Accept door) (settled state line) (quiet_settled state line quiet)
-quiet_moved state left due (entry.Read port room bytes (Ok (got.Bytes n))) line other quiet = quiet_settled state line quiet
+quiet_moved state left due (entry.Read port room bytes (Ok (got.Bytes n))) line other quiet =
+    quiet_settled state line quiet
 quiet_moved state left due (entry.Read port room bytes (Ok got.End)) line other quiet =
     quiet_without state (Read port) (settled state line) (quiet_settled state line quiet)
 quiet_moved state left due (entry.Read port room bytes (Ok got.NotNow)) line other quiet =
     quiet_without state (Read port) (settled state line) (quiet_settled state line quiet)
 quiet_moved state left due (entry.Read port room bytes (Err fault)) line other quiet =
     quiet_without state (Read port) (settled state line) (quiet_settled state line quiet)
-quiet_moved state left due (entry.Write port offered (Ok (wrote.Took n))) line other quiet = quiet_settled state line quiet
+quiet_moved state left due (entry.Write port offered (Ok (wrote.Took n))) line other quiet =
+    quiet_settled state line quiet
 quiet_moved state left due (entry.Write port offered (Ok wrote.NotNow)) line other quiet =
     quiet_without state (Write port) (settled state line) (quiet_settled state line quiet)
 quiet_moved state left due (entry.Write port offered (Err fault)) line other quiet =
@@ -101,22 +115,35 @@ quiet_moved state left due (entry.Start job answer) line other quiet = quiet
 quiet_moved state left due (entry.Now (Ok moment)) line other quiet = cc
 quiet_moved state left due (entry.Now (Err want)) line other quiet = quiet
 
-quiet_there : (reading after : Reading) (next : Entry) (line : Line) → is_moment next ≡ false → allowed reading next ≡ Some after → IsQuiet reading.state line → IsQuiet after.state (moved reading.state reading.due after.state next line)
+quiet_there : (reading after : Reading) (next : Entry) (line : Line) → is_moment next ≡ false
+    → allowed reading next ≡ Some after → IsQuiet reading.state line
+    → IsQuiet after.state (moved reading.state reading.due after.state next line)
 quiet_there reading after next line other is quiet =
-    subst (λ (s : State). IsQuiet s (moved reading.state reading.due after.state next line)) (sym (state_stays reading after next other is))
+    subst (λ (s : State). IsQuiet s (moved reading.state reading.due after.state next line))
+    (sym (state_stays reading after next other is))
     (quiet_moved reading.state after.state reading.due next line other quiet)
 
 -- nor does a moment, in the state that it leaves
-quiet_next : (reading after : Reading) (next : Entry) (line : Line) → allowed reading next ≡ Some after → IsQuiet reading.state line → IsQuiet after.state (moved reading.state reading.due after.state next line)
-quiet_next reading after (entry.Bind door path answer) line is quiet = quiet_there reading after (entry.Bind door path answer) line refl is quiet
-quiet_next reading after (entry.Poll wait items answer) line is quiet = quiet_there reading after (entry.Poll wait items answer) line refl is quiet
-quiet_next reading after (entry.Accept door answer) line is quiet = quiet_there reading after (entry.Accept door answer) line refl is quiet
-quiet_next reading after (entry.Read port room bytes answer) line is quiet = quiet_there reading after (entry.Read port room bytes answer) line refl is quiet
-quiet_next reading after (entry.Write port offered answer) line is quiet = quiet_there reading after (entry.Write port offered answer) line refl is quiet
-quiet_next reading after (entry.Close port answer) line is quiet = quiet_there reading after (entry.Close port answer) line refl is quiet
-quiet_next reading after (entry.Start job answer) line is quiet = quiet_there reading after (entry.Start job answer) line refl is quiet
-quiet_next reading after (entry.Now (Ok moment)) line is quiet = quiet_recalled after.state (own_port reading.due after.state.last_port) line
-quiet_next reading after (entry.Now (Err want)) line is quiet = quiet_there reading after (entry.Now (Err want)) line refl is quiet
+quiet_next : (reading after : Reading) (next : Entry) (line : Line) → allowed reading next ≡ Some after
+    → IsQuiet reading.state line → IsQuiet after.state (moved reading.state reading.due after.state next line)
+quiet_next reading after (entry.Bind door path answer) line is quiet =
+    quiet_there reading after (entry.Bind door path answer) line refl is quiet
+quiet_next reading after (entry.Poll wait items answer) line is quiet =
+    quiet_there reading after (entry.Poll wait items answer) line refl is quiet
+quiet_next reading after (entry.Accept door answer) line is quiet =
+    quiet_there reading after (entry.Accept door answer) line refl is quiet
+quiet_next reading after (entry.Read port room bytes answer) line is quiet =
+    quiet_there reading after (entry.Read port room bytes answer) line refl is quiet
+quiet_next reading after (entry.Write port offered answer) line is quiet =
+    quiet_there reading after (entry.Write port offered answer) line refl is quiet
+quiet_next reading after (entry.Close port answer) line is quiet =
+    quiet_there reading after (entry.Close port answer) line refl is quiet
+quiet_next reading after (entry.Start job answer) line is quiet =
+    quiet_there reading after (entry.Start job answer) line refl is quiet
+quiet_next reading after (entry.Now (Ok moment)) line is quiet =
+    quiet_recalled after.state (own_port reading.due after.state.last_port) line
+quiet_next reading after (entry.Now (Err want)) line is quiet =
+    quiet_there reading after (entry.Now (Err want)) line refl is quiet
 
 -- ---- after any entries
 
@@ -126,14 +153,18 @@ pub record Leads (turning after : Turning) (next : Entry) : Type 0 where
   pub reading : allowed turning.reading next ≡ Some after.reading
   pub line : after.line ≡ line_after turning.reading next turning.line after.reading
 
-found_leads : (found : Option Reading) (turning after : Turning) (next : Entry) → option_map (led turning next) found ≡ Some after → (found ≡ Some after.reading) × (after.line ≡ line_after turning.reading next turning.line after.reading)
+found_leads : (found : Option Reading) (turning after : Turning) (next : Entry)
+    → option_map (led turning next) found ≡ Some after
+    → (found ≡ Some after.reading) × (after.line ≡ line_after turning.reading next turning.line after.reading)
 found_leads None turning after next is = cc
 found_leads (Some reading) turning after next is =
     let same : led turning next reading ≡ after = cc in
     let there = ap (λ (t : Turning). t.reading) same in
     (ap Some there, ap (λ (t : Turning). t.line) (sym same) ∙ ap (line_after turning.reading next turning.line) there)
 
-leads_by : (turn : Bool) (turning after : Turning) (next : Entry) → taken_if turn turning next ≡ Some after → (turn ≡ true) × ((allowed turning.reading next ≡ Some after.reading) × (after.line ≡ line_after turning.reading next turning.line after.reading))
+leads_by : (turn : Bool) (turning after : Turning) (next : Entry) → taken_if turn turning next ≡ Some after
+    → (turn ≡ true) ×
+    ((allowed turning.reading next ≡ Some after.reading) × (after.line ≡ line_after turning.reading next turning.line after.reading))
 leads_by true turning after next is = (refl, found_leads (allowed turning.reading next) turning after next is)
 leads_by false turning after next is = cc
 
@@ -142,19 +173,26 @@ leads turning after next is =
     let parts = leads_by (is_in_turn turning.reading.state turning.line.queue next) turning after next is in
     record { turn = parts.0; reading = parts.1.0; line = parts.1.1 }
 
-pub quiet_taken : (from to : Turning) (next : Entry) → taken from next ≡ Some to → IsQuiet from.reading.state from.line → IsQuiet to.reading.state to.line
+pub quiet_taken : (from to : Turning) (next : Entry) → taken from next ≡ Some to
+    → IsQuiet from.reading.state from.line → IsQuiet to.reading.state to.line
 quiet_taken from to next is quiet =
     let there = leads from to next is in
-    subst (IsQuiet to.reading.state) (sym there.line) (quiet_next from.reading to.reading next from.line there.reading quiet)
+    subst (IsQuiet to.reading.state) (sym there.line)
+    (quiet_next from.reading to.reading next from.line there.reading quiet)
 
-quiet_on : (found : Option Turning) (from to : Turning) (next : Entry) (later : List Entry) → taken from next ≡ found → option_and_then (λ after. turned after later) found ≡ Some to → IsQuiet from.reading.state from.line → ((after : Turning) → turned after later ≡ Some to → IsQuiet after.reading.state after.line → IsQuiet to.reading.state to.line) → IsQuiet to.reading.state to.line
+quiet_on : (found : Option Turning) (from to : Turning) (next : Entry) (later : List Entry) → taken from next ≡ found
+    → option_and_then (λ after. turned after later) found ≡ Some to → IsQuiet from.reading.state from.line
+    → ((after : Turning) → turned after later ≡ Some to → IsQuiet after.reading.state after.line
+    → IsQuiet to.reading.state to.line) → IsQuiet to.reading.state to.line
 quiet_on None from to next later is legal quiet rest = cc
 quiet_on (Some after) from to next later is legal quiet rest = rest after legal (quiet_taken from after next is quiet)
 
 -- what is set aside can't be served, after any entries
-pub quiet_kept : (from to : Turning) (entries : List Entry) → turned from entries ≡ Some to → IsQuiet from.reading.state from.line → IsQuiet to.reading.state to.line
+pub quiet_kept : (from to : Turning) (entries : List Entry) → turned from entries ≡ Some to
+    → IsQuiet from.reading.state from.line → IsQuiet to.reading.state to.line
 quiet_kept from to [] legal quiet =
     let same : from ≡ to = cc in
     subst (λ (t : Turning). IsQuiet t.reading.state t.line) same quiet
 quiet_kept from to (next ∷ later) legal quiet =
-    quiet_on (taken from next) from to next later refl legal quiet (λ after rest also. quiet_kept after to later rest also)
+    quiet_on (taken from next) from to next later refl legal quiet
+    (λ after rest also. quiet_kept after to later rest also)

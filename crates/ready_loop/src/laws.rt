@@ -7,8 +7,10 @@ ghost use Rattle.world_ports.specs.declared.entry.Entry.{Entry};
 ghost use Rattle.world_ports.specs.declared.entry.Entry.TheVariants as entry;
 ghost use Rattle.world_ports.specs.declared.events.Moment.{Moment};
 ghost use Rattle.ready_hub.specs.LegalJournal.{read_on};
-ghost use Rattle.ready_hub.specs.Things.{same_thing};
+ghost use Rattle.ready_hub.specs.Servable.{is_servable};
+ghost use Rattle.ready_hub.specs.Things.{same_thing, set_of};
 ghost use Rattle.ready_hub.specs.declared.thing.Thing.{Thing};
+ghost use Rattle.ready_loop.specs.Aside.{things_aside};
 ghost use Rattle.ready_loop.specs.Fairness.{ComesBack, GoesLast, SetsAside, if_any, is_service, waits_on};
 ghost use Rattle.ready_loop.specs.InTurn.{Turning, taken, turned};
 ghost use Rattle.ready_loop.specs.Lines.{IsQuiet};
@@ -44,8 +46,12 @@ pub fn all_wait_their_turn()
 {}
 
 /// At the moment of an event or a look the queue keeps its things in their places. What comes back was set aside and can
-/// be served, and stands behind all of them.
+/// be served, and stands behind all of them; and all that was set aside and can be served comes back.
 pub fn what_is_called_back_comes_last()
-    ensures { (from to : Turning) (answer : Result Moment AllocError)
+    ensures last { (from to : Turning) (answer : Result Moment AllocError)
         → taken from (entry.Now answer) ≡ Some to → ComesBack to.reading.state from.line to.line }
+    ensures all { (from to : Turning) (answer : Result Moment AllocError) (thing : Thing)
+        → IsQuiet from.reading.state from.line → taken from (entry.Now answer) ≡ Some to
+        → set_of (things_aside from.line.aside) thing ≡ true → is_servable to.reading.state thing ≡ true
+        → set_of to.line.queue thing ≡ true }
 {}
