@@ -9,7 +9,7 @@ use Rattle.world_ports.specs.declared.entry.Entry.TheVariants as entry
 use Rattle.agent_model.specs.State.{State}
 use Rattle.ready_hub.specs.Answered.{Due}
 use Rattle.ready_hub.specs.Servable.{is_servable}
-use Rattle.ready_hub.specs.Things.{same_thing, set_of}
+use Rattle.ready_hub.specs.Things.{Hot, same_thing, set_of}
 use Rattle.ready_hub.specs.declared.thing.Thing.{Thing}
 use Rattle.ready_hub.specs.declared.thing.Thing.TheVariants.{Accept, Read, Write}
 use Rattle.ready_loop.specs.Fairness.{is_service}
@@ -17,7 +17,7 @@ use Rattle.ready_loop.specs.InTurn.{is_in_turn, moved, own_port}
 use Rattle.ready_loop.specs.Lines.{Line, queued_all, queued_port, recalled, settled}
 use Rattle.ready_loop.specs.Queues.{dropped, first_servable, from_servable, is_thing}
 use Rattle.ready_loop.proofs.AddingLemmas.{Adds, adds-queued_all, adds-queued_port}
-use Rattle.ready_loop.proofs.AsideSetLemmas.{set_of-filter}
+use Rattle.ready_loop.proofs.SetLemmas.{set_of-dropped}
 use Rattle.ready_loop.proofs.BackLemmas.{comes-recalled}
 use Rattle.ready_loop.proofs.TestLemmas.{and_both, not_true}
 use Rattle.ready_loop.proofs.ThingLemmas.{same_thing-true}
@@ -43,9 +43,9 @@ ahead_closed : (other thing : Thing) (port : ℕ) (queue : List Thing)
     → ahead other thing (dropped (Write port) (dropped (Read port) queue)) ≡ true
 ahead_closed other thing port queue has is =
     let write = and_both (not (same_thing (Write port) other)) (set_of (dropped (Read port) queue) other)
-    (sym (set_of-filter (λ t. not (same_thing (Write port) t)) (dropped (Read port) queue) other) ∙ has) in
+    (sym (ap (λ (hot : Hot). hot other) (set_of-dropped (Write port) (dropped (Read port) queue))) ∙ has) in
     let read = and_both (not (same_thing (Read port) other)) (set_of queue other)
-    (sym (set_of-filter (λ t. not (same_thing (Read port) t)) queue other) ∙ write.1) in
+    (sym (ap (λ (hot : Hot). hot other) (set_of-dropped (Read port) queue)) ∙ write.1) in
     ahead_left other thing (Write port) (dropped (Read port) queue) (not_true (same_thing (Write port) other) write.0)
     (ahead_left other thing (Read port) queue (not_true (same_thing (Read port) other) read.0) is)
 

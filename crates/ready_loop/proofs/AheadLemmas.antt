@@ -2,10 +2,11 @@
 use Rattle.std.proofs.Common.{◌≡◌, ◌∙◌, Bool, true, false, List, [], ◌∷◌, ◌++◌, Some, refl, sym, ap, cond, not, ◌&&◌, ◌||◌, if◌then◌else◌}
 use Rattle.agent_model.specs.State.{State}
 use Rattle.ready_hub.specs.Servable.{is_servable}
-use Rattle.ready_hub.specs.Things.{same_thing, set_of}
+use Rattle.ready_hub.specs.Things.{Hot, same_thing, set_of}
 use Rattle.ready_hub.specs.declared.thing.Thing.{Thing}
 use Rattle.ready_loop.specs.Queues.{dropped, first_servable, from_servable, is_thing, put_back}
-use Rattle.ready_loop.proofs.AsideSetLemmas.{set_of-append, set_of-filter}
+use Rattle.ready_loop.proofs.AsideLemmas.{set_of-append}
+use Rattle.ready_loop.proofs.SetLemmas.{set_of-dropped}
 use Rattle.ready_loop.proofs.TestLemmas.{and_both, not_true, or_first}
 use Rattle.ready_loop.proofs.ThingLemmas.{false_by, same_thing-refl, same_thing-true}
 
@@ -113,7 +114,7 @@ ahead_settled state other thing (first ∷ queue) waits is =
 
 pub gone_at : (thing : Thing) (queue : List Thing) → set_of (dropped thing queue) thing ≡ false
 gone_at thing queue =
-    set_of-filter (λ t. not (same_thing thing t)) queue thing
+    ap (λ (hot : Hot). hot thing) (set_of-dropped thing queue)
     ∙ ap (λ (b : Bool). not b && set_of queue thing) (same_thing-refl thing)
 
 pub left_ahead : (other thing third : Thing) (queue : List Thing) → same_thing third thing ≡ true

@@ -8,14 +8,14 @@ use Rattle.world_ports.specs.declared.events.Moment.{Moment}
 use Rattle.agent_model.specs.State.{State}
 use Rattle.ready_hub.specs.Answered.{Due}
 use Rattle.ready_hub.specs.Servable.{is_servable}
-use Rattle.ready_hub.specs.Things.{same_thing, set_of}
+use Rattle.ready_hub.specs.Things.{Hot, same_thing, set_of}
 use Rattle.ready_hub.specs.declared.thing.Thing.{Thing}
 use Rattle.ready_hub.specs.declared.thing.Thing.TheVariants.{Read, Write}
 use Rattle.ready_loop.specs.Aside.{Aside, still_aside, taken_back, things_aside}
 use Rattle.ready_loop.specs.Fairness.{ComesBack}
 use Rattle.ready_loop.specs.InTurn.{Turning, moved, own_port, taken}
 use Rattle.ready_loop.specs.Lines.{IsQuiet, Line, called, called_all, called_own, recalled}
-use Rattle.ready_loop.proofs.AsideSetLemmas.{set_of-append, set_of-filter, set_of-still_aside, set_of-taken_back}
+use Rattle.ready_loop.proofs.AsideLemmas.{set_of-append, set_of-filter, set_of-still_aside, set_of-taken_back}
 use Rattle.ready_loop.proofs.QuietLemmas.{leads, quiet_taken}
 use Rattle.ready_loop.proofs.TestLemmas.{and_both, both_and, false_not, or_either, or_first, or_left, or_right}
 use Rattle.ready_loop.proofs.ThingLemmas.{same_thing-true}
@@ -68,7 +68,7 @@ kept_by : (same : Bool) (thing other : Thing) (aside : Aside) → same_thing thi
     → (set_of (thing ∷ []) other ≡ true) ⊎ (set_of (things_aside (taken_back thing aside)) other ≡ true)
 kept_by true thing other aside is there = inl (ap (λ (b : Bool). b || false) is)
 kept_by false thing other aside is there =
-    inr (set_of-taken_back thing other aside
+    inr (ap (λ (hot : Hot). hot other) (set_of-taken_back thing aside)
     ∙ both_and (not (same_thing thing other)) (set_of (things_aside aside) other)
     (false_not (same_thing thing other) is) there)
 
@@ -88,7 +88,7 @@ calls_by true state thing line is =
       };
       left = λ other there.
           (and_both (not (same_thing thing other)) (set_of (things_aside line.aside) other)
-          (sym (set_of-taken_back thing other line.aside) ∙ there)).1;
+          (sym (ap (λ (hot : Hot). hot other) (set_of-taken_back thing line.aside)) ∙ there)).1;
       kept = λ other there. kept_by (same_thing thing other) thing other line.aside refl there;
     }
 calls_by false state thing line is = calls-none state line
@@ -110,11 +110,11 @@ kept_all_by : (able : Bool) (state : State) (aside : Aside) (thing : Thing) → 
     ⊎ (set_of (things_aside (still_aside state aside)) thing ≡ true)
 kept_all_by true state aside thing is there =
     inl (set_of-filter (is_servable state) (things_aside aside) thing
-    ∙ both_and (is_servable state thing) (set_of (things_aside aside) thing) is there)
+    ∙ both_and (set_of (things_aside aside) thing) (is_servable state thing) there is)
 kept_all_by false state aside thing is there =
     inr (set_of-still_aside state aside thing
-    ∙ both_and (not (is_servable state thing)) (set_of (things_aside aside) thing)
-    (false_not (is_servable state thing) is) there)
+    ∙ both_and (set_of (things_aside aside) thing) (not (is_servable state thing)) there
+    (false_not (is_servable state thing) is))
 
 calls-all : (state : State) (line : Line) → Calls state line (called_all state line)
 calls-all state line = record {
@@ -122,13 +122,12 @@ calls-all state line = record {
     more = filter (is_servable state) (things_aside line.aside);
     behind = refl;
     back = λ thing there.
-        let both = and_both (is_servable state thing) (set_of (things_aside line.aside) thing)
-        (sym (set_of-filter (is_servable state) (things_aside line.aside) thing) ∙ there) in
-        (both.1, both.0);
+        and_both (set_of (things_aside line.aside) thing) (is_servable state thing)
+        (sym (set_of-filter (is_servable state) (things_aside line.aside) thing) ∙ there);
   };
   left = λ thing there.
-      (and_both (not (is_servable state thing)) (set_of (things_aside line.aside) thing)
-      (sym (set_of-still_aside state line.aside thing) ∙ there)).1;
+      (and_both (set_of (things_aside line.aside) thing) (not (is_servable state thing))
+      (sym (set_of-still_aside state line.aside thing) ∙ there)).0;
   kept = λ thing there. kept_all_by (is_servable state thing) state line.aside thing refl there;
 }
 
@@ -151,9 +150,8 @@ pub comes_back : (from to : Turning) (answer : Result Moment AllocError) → tak
     → ComesBack to.reading.state from.line to.line
 comes_back from to answer is =
     let there = leads from to (entry.Now answer) is in
-    let comes = (calls_now from.reading.state to.reading.state from.reading.due from.line answer).back in
     subst (ComesBack to.reading.state from.line) (sym there.line)
-    (record { more = comes.more; behind = comes.behind; back = comes.back })
+    (calls_now from.reading.state to.reading.state from.reading.due from.line answer).back
 
 -- all that can be served does
 pub all_back : (from to : Turning) (answer : Result Moment AllocError) (thing : Thing)

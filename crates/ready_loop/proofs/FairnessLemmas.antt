@@ -12,7 +12,7 @@ use Rattle.ready_loop.specs.Aside.{things_aside}
 use Rattle.ready_loop.specs.Fairness.{if_any, is_service, is_waiting, waits_on}
 use Rattle.ready_loop.specs.InTurn.{Turning, is_in_turn, led, moved, taken, taken_if, turned}
 use Rattle.ready_loop.specs.Lines.{IsQuiet, Line, hot_of}
-use Rattle.ready_loop.proofs.AsideSetLemmas.{set_of-append}
+use Rattle.ready_loop.proofs.AsideLemmas.{set_of-append}
 use Rattle.ready_loop.proofs.QuietLemmas.{leads, quiet_taken}
 use Rattle.ready_loop.proofs.TestLemmas.{and_both, or_first}
 use Rattle.ready_loop.proofs.ThingLemmas.{false_by}

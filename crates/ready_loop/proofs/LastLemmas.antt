@@ -9,7 +9,7 @@ use Rattle.world_ports.specs.declared.entry.Entry.{Entry}
 use Rattle.world_ports.specs.declared.entry.Entry.TheVariants as entry
 use Rattle.agent_model.specs.State.{State}
 use Rattle.ready_hub.specs.Answered.{Due}
-use Rattle.ready_hub.specs.Things.{same_thing, set_of}
+use Rattle.ready_hub.specs.Things.{Hot, same_thing, set_of}
 use Rattle.ready_hub.specs.declared.thing.Thing.{Thing}
 use Rattle.ready_hub.specs.declared.thing.Thing.TheVariants.{Accept, Read, Write}
 use Rattle.ready_loop.specs.Aside.{Aside, things_aside}
@@ -18,7 +18,7 @@ use Rattle.ready_loop.specs.InTurn.{Turning, is_in_turn, moved, taken}
 use Rattle.ready_loop.specs.Lines.{Line, aside_with, queued_port, sent_back, settled, without}
 use Rattle.ready_loop.specs.Queues.{dropped, from_servable, is_next, put_back}
 use Rattle.ready_loop.proofs.AddingLemmas.{Adds, adds-none, adds-queued_port}
-use Rattle.ready_loop.proofs.AsideSetLemmas.{set_of-append, set_of-taken_back}
+use Rattle.ready_loop.proofs.AsideLemmas.{set_of-append, set_of-taken_back}
 use Rattle.ready_loop.proofs.AheadLemmas.{gone_at}
 use Rattle.ready_loop.proofs.QuietLemmas.{leads}
 use Rattle.ready_loop.proofs.TestLemmas.{both_and, false_not, or_left}
@@ -100,7 +100,7 @@ left_last state thing line next =
           let aside = passed state other line.queue line.aside there
           (not_there other front (dropped thing front) (others_stay thing other front apart) gone) in (
             aside.0,
-            set_of-taken_back thing other there_aside
+            ap (λ (hot : Hot). hot other) (set_of-taken_back thing there_aside)
                 ∙ both_and (not (same_thing thing other)) (set_of (things_aside there_aside) other)
                 (false_not (same_thing thing other) apart) aside.1,
           ),

@@ -2,12 +2,13 @@
 use Rattle.std.proofs.Common.{◌≡◌, ◌∙◌, inl, inr, Bool, true, false, List, [], ◌∷◌, refl, sym, ap, not, if◌then◌else◌}
 use Rattle.agent_model.specs.State.{State}
 use Rattle.ready_hub.specs.Servable.{is_servable}
-use Rattle.ready_hub.specs.Things.{same_thing, set_of}
+use Rattle.ready_hub.specs.Things.{Hot, same_thing, set_of}
 use Rattle.ready_hub.specs.declared.thing.Thing.{Thing}
 use Rattle.ready_loop.specs.Aside.{Aside, put_aside, things_aside}
 use Rattle.ready_loop.specs.Lines.{aside_with}
 use Rattle.ready_loop.specs.Queues.{dropped, from_servable}
-use Rattle.ready_loop.proofs.AsideSetLemmas.{set_of-filter, set_of-put_aside}
+use Rattle.ready_loop.proofs.AsideLemmas.{set_of-put_aside}
+use Rattle.ready_loop.proofs.SetLemmas.{set_of-dropped}
 use Rattle.ready_loop.proofs.TestLemmas.{both_and, false_not, or_either, or_left, or_right}
 use Rattle.ready_loop.proofs.ThingLemmas.{false_by, same_thing-true}
 
@@ -19,7 +20,8 @@ aside_more_by : (able : Bool) (state : State) (first other : Thing) (queue : Lis
 aside_more_by true state first other queue aside there rest = there
 aside_more_by false state first other queue aside there rest =
     rest (put_aside first aside)
-    (set_of-put_aside first other aside ∙ or_right (same_thing first other) (set_of (things_aside aside) other) there)
+    (ap (λ (hot : Hot). hot other) (set_of-put_aside first aside)
+    ∙ or_right (same_thing first other) (set_of (things_aside aside) other) there)
 
 -- what is set aside stays there
 aside_more : (state : State) (other : Thing) (queue : List Thing) (aside : Aside)
@@ -42,7 +44,7 @@ passed_by false state first other queue aside able there gone rest =
       | inl same ↦ (
         ap (is_servable state) (sym (same_thing-true first other same)) ∙ able,
         aside_more state other queue (put_aside first aside)
-            (set_of-put_aside first other aside
+            (ap (λ (hot : Hot). hot other) (set_of-put_aside first aside)
             ∙ or_left (same_thing first other) (set_of (things_aside aside) other) same),
       )
       | inr later ↦ rest (put_aside first aside) later gone
@@ -60,7 +62,7 @@ passed state other (first ∷ queue) aside there gone =
 pub others_stay : (thing other : Thing) (queue : List Thing) → same_thing thing other ≡ false → set_of queue other ≡ true
     → set_of (dropped thing queue) other ≡ true
 others_stay thing other queue apart there =
-    set_of-filter (λ t. not (same_thing thing t)) queue other
+    ap (λ (hot : Hot). hot other) (set_of-dropped thing queue)
     ∙ both_and (not (same_thing thing other)) (set_of queue other) (false_not (same_thing thing other) apart) there
 
 -- what isn't in one queue isn't in another that it has

@@ -11,14 +11,14 @@ use Rattle.agent_model.specs.State.{State}
 use Rattle.ready_hub.specs.Answered.{Due, Reading}
 use Rattle.ready_hub.specs.LegalJournal.{allowed}
 use Rattle.ready_hub.specs.Servable.{is_servable}
-use Rattle.ready_hub.specs.Things.{same_thing, set_of}
+use Rattle.ready_hub.specs.Things.{Hot, same_thing, set_of}
 use Rattle.ready_hub.specs.declared.thing.Thing.{Thing}
 use Rattle.ready_hub.specs.declared.thing.Thing.TheVariants.{Accept, Read, Write}
 use Rattle.ready_loop.specs.Aside.{Aside, put_aside, taken_back, things_aside}
-use Rattle.ready_loop.specs.InTurn.{Turning, is_in_turn, led, line_after, moved, own_port, taken, taken_if, turned}
+use Rattle.ready_loop.specs.InTurn.{Turning, is_in_turn, led, moved, own_port, taken, taken_if, turned}
 use Rattle.ready_loop.specs.Lines.{IsQuiet, Line, aside_with, called_own, queued_all, queued_port, recalled, settled, without}
 use Rattle.ready_loop.proofs.AddingLemmas.{Adds, adds-queued_all, adds-queued_port}
-use Rattle.ready_loop.proofs.AsideSetLemmas.{set_of-put_aside, set_of-still_aside, set_of-taken_back}
+use Rattle.ready_loop.proofs.AsideLemmas.{set_of-put_aside, set_of-still_aside, set_of-taken_back}
 use Rattle.ready_loop.proofs.StateLemmas.{is_moment, state_stays}
 use Rattle.ready_loop.proofs.TestLemmas.{and_both, not_true, or_either}
 use Rattle.ready_loop.proofs.ThingLemmas.{same_thing-true}
@@ -31,7 +31,7 @@ still-put_aside : (state : State) (thing : Thing) (aside : Aside) → is_servabl
     → IsStill state aside → IsStill state (put_aside thing aside)
 still-put_aside state thing aside never still other there =
     elim (or_either (same_thing thing other) (set_of (things_aside aside) other)
-    (sym (set_of-put_aside thing other aside) ∙ there)) [
+    (sym (ap (λ (hot : Hot). hot other) (set_of-put_aside thing aside)) ∙ there)) [
       | inl same ↦ ap (is_servable state) (sym (same_thing-true thing other same)) ∙ never
       | inr before ↦ still other before
     ]
@@ -60,8 +60,8 @@ pub quiet_recalled : (state : State) (own : Option ℕ) (line : Line) → IsQuie
 quiet_recalled state own line thing there =
     let before = called_own state own line in
     not_true (is_servable state thing)
-    (and_both (not (is_servable state thing)) (set_of (things_aside before.aside) thing)
-    (sym (set_of-still_aside state before.aside thing) ∙ there)).0
+    (and_both (set_of (things_aside before.aside) thing) (not (is_servable state thing))
+    (sym (set_of-still_aside state before.aside thing) ∙ there)).1
 
 -- ---- after a call
 
@@ -69,7 +69,7 @@ still-taken_back : (state : State) (thing : Thing) (aside : Aside) → IsStill s
     → IsStill state (taken_back thing aside)
 still-taken_back state thing aside still other there =
     still other (and_both (not (same_thing thing other)) (set_of (things_aside aside) other)
-    (sym (set_of-taken_back thing other aside) ∙ there)).1
+    (sym (ap (λ (hot : Hot). hot other) (set_of-taken_back thing aside)) ∙ there)).1
 
 quiet_more : (state : State) (line after : Line) → Adds line after → IsQuiet state line → IsQuiet state after
 quiet_more state line after adds quiet = subst (IsStill state) (sym adds.aside) quiet
@@ -151,20 +151,19 @@ quiet_next reading after (entry.Now (Err want)) line is quiet =
 pub record Leads (turning after : Turning) (next : Entry) : Type 0 where
   pub turn : is_in_turn turning.reading.state turning.line.queue next ≡ true
   pub reading : allowed turning.reading next ≡ Some after.reading
-  pub line : after.line ≡ line_after turning.reading next turning.line after.reading
+  pub line : after.line ≡ (led turning next after.reading).line
 
 found_leads : (found : Option Reading) (turning after : Turning) (next : Entry)
     → option_map (led turning next) found ≡ Some after
-    → (found ≡ Some after.reading) × (after.line ≡ line_after turning.reading next turning.line after.reading)
+    → (found ≡ Some after.reading) × (after.line ≡ (led turning next after.reading).line)
 found_leads None turning after next is = cc
 found_leads (Some reading) turning after next is =
     let same : led turning next reading ≡ after = cc in
     let there = ap (λ (t : Turning). t.reading) same in
-    (ap Some there, ap (λ (t : Turning). t.line) (sym same) ∙ ap (line_after turning.reading next turning.line) there)
+    (ap Some there, ap (λ (t : Turning). t.line) (sym same) ∙ ap (λ (r : Reading). (led turning next r).line) there)
 
 leads_by : (turn : Bool) (turning after : Turning) (next : Entry) → taken_if turn turning next ≡ Some after
-    → (turn ≡ true) ×
-    ((allowed turning.reading next ≡ Some after.reading) × (after.line ≡ line_after turning.reading next turning.line after.reading))
+    → (turn ≡ true) × ((allowed turning.reading next ≡ Some after.reading) × (after.line ≡ (led turning next after.reading).line))
 leads_by true turning after next is = (refl, found_leads (allowed turning.reading next) turning after next is)
 leads_by false turning after next is = cc
 

@@ -11,10 +11,6 @@ both_and true there is also = also
 both_and false there is also = cc
 
 -- the one that doesn't hold leaves the other
-pub or_later : (here there : Bool) → here ≡ false → (here || there) ≡ true → there ≡ true
-or_later true there never is = cc
-or_later false there never is = is
-
 pub or_first : (here there : Bool) → there ≡ false → (here || there) ≡ true → here ≡ true
 or_first true there never is = refl
 or_first false there never is = cc
@@ -31,21 +27,6 @@ or_left false there is = cc
 pub or_right : (here there : Bool) → there ≡ true → (here || there) ≡ true
 or_right true there is = refl
 or_right false there is = is
-
-pub or_assoc : (first second third : Bool) → ((first || second) || third) ≡ (first || (second || third))
-or_assoc true second third = refl
-or_assoc false second third = refl
-
-pub or_swapped : (first second third : Bool) → (first || (second || third)) ≡ (second || (first || third))
-or_swapped true true third = refl
-or_swapped true false third = refl
-or_swapped false second third = refl
-
-pub or_twice : (here there rest : Bool) → here ≡ there → (here || rest) ≡ (there || (here || rest))
-or_twice true true rest same = refl
-or_twice true false rest same = refl
-or_twice false true rest same = cc
-or_twice false false rest same = refl
 
 -- a test that doesn't hold where its opposite does
 pub not_true : (test : Bool) → not test ≡ true → test ≡ false
