@@ -39,7 +39,8 @@ pub fn an_event_wants_no_other_port()
         → wants port (step state moment event).state ≡ true → wants port state ≡ true }
 {}
 
-/// Where a client is served, or nobody is, no other client is owed bytes that wasn't owed any before.
+/// Unless a child process sent something, ended or couldn't be started, no other client than the event's own is owed
+/// bytes that was owed none before.
 pub fn an_event_of_a_client_owes_no_other_client()
     ensures { (state : State) (moment : Moment) (event : Happening) (port : ℕ)
         → IsRising 0 state.last_port state.ports → tells_others event state ≡ false
