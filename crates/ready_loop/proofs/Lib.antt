@@ -1,10 +1,9 @@
 pub mod ThingLemmas
+pub mod AsideLemmas
 pub mod SetLemmas
 pub mod IdleLemmas
 pub mod TurningLemmas
 pub mod CallLemmas
-pub mod OwingLemmas
-pub mod AsideLemmas
 pub mod RoomLemmas
 pub mod ServingLemmas
 pub mod FairnessLemmas

@@ -70,7 +70,7 @@ impl Aside {
     // Takes the thing back, and tells whether it was there.
     pub fn take(&mut self, thing: Thing) -> bool
         ensures there { result ≡ set_of (things_aside self.old) thing }
-        ensures { self.new ≡ taken_back thing self.old }
+        ensures left { self.new ≡ taken_back thing self.old }
     {
         match thing {
             Thing::Accept(door) => take_door(&mut self.doors, door),
