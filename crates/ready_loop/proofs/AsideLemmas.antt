@@ -4,8 +4,8 @@ use Rattle.std.proofs.lemmas.Bool.Decides.{nat_tests}
 use Rattle.std.specs.List.{filter}
 use Rattle.world_ports.specs.declared.events.Door.{Door}
 use Rattle.world_ports.specs.declared.events.Door.TheVariants.{Clients, Children}
-use Rattle.rising_numbers.specs.Rising.{inserted, is_among}
-use Rattle.rising_numbers.proofs.RisingLemmas.{is_among-inserted}
+use Rattle.rising_numbers.specs.Rising.{IsRisingList, inserted, is_among, removed}
+use Rattle.rising_numbers.proofs.RisingLemmas.{is_among-inserted, removed-filter}
 use Rattle.agent_model.specs.State.{State}
 use Rattle.ready_hub.specs.Servable.{is_servable}
 use Rattle.ready_hub.specs.Things.{Hot, cooled, heated, same_door, same_thing, set_of}
@@ -262,3 +262,21 @@ set_of-still_aside state aside (Write port) =
     aside-write (still_aside state aside) port
     ∙ is_among-filter (λ port. not (is_servable state (Write port))) aside.writes port
     ∙ sym (ap (λ (b : Bool). b && not (is_servable state (Write port))) (aside-write aside port))
+
+-- ---- where a thing is looked for and taken out
+
+-- a thing is set aside as it is told
+pub told : (there : Bool) (view aside : Aside) (thing found : Thing) → view ≡ aside → thing ≡ found → there ≡ set_of (things_aside view) found → there ≡ set_of (things_aside aside) thing
+told there view aside thing found same is tells =
+    tells ∙ ap (λ (a : Aside). set_of (things_aside a) found) same ∙ ap (set_of (things_aside aside)) (sym is)
+
+-- a number less among the reads, or among the writes
+pub read_taken : (view aside : Aside) (thing : Thing) (port : ℕ) (left : List ℕ) → view ≡ aside → thing ≡ Read port → IsRisingList view.reads → left ≡ removed port view.reads → record view { reads = left } ≡ taken_back thing aside
+read_taken view aside thing port left same is rising less =
+    ap (λ (ports : List ℕ). record view { reads = ports }) (less ∙ removed-filter port view.reads rising)
+    ∙ ap (taken_back (Read port)) same ∙ ap (λ (t : Thing). taken_back t aside) (sym is)
+
+pub write_taken : (view aside : Aside) (thing : Thing) (port : ℕ) (left : List ℕ) → view ≡ aside → thing ≡ Write port → IsRisingList view.writes → left ≡ removed port view.writes → record view { writes = left } ≡ taken_back thing aside
+write_taken view aside thing port left same is rising less =
+    ap (λ (ports : List ℕ). record view { writes = ports }) (less ∙ removed-filter port view.writes rising)
+    ∙ ap (taken_back (Write port)) same ∙ ap (λ (t : Thing). taken_back t aside) (sym is)
