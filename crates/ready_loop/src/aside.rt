@@ -1,5 +1,5 @@
 // What is ready and can't be served, set aside under its door or port.
-ghost use Rattle.std.specs.Prelude.{◌≡◌, OnOk, filter, not};
+ghost use Rattle.std.specs.Prelude.{◌≡◌, OnErr, OnOk, filter, length, nat_lt, not};
 ghost use Rattle.rising_numbers.specs.Rising.{IsRisingList, inserted};
 ghost use Rattle.ready_hub.specs.Things.{same_door, set_of};
 ghost use Rattle.ready_hub.specs.declared.thing.Thing.TheVariants.{Accept};
@@ -55,9 +55,18 @@ impl Aside {
         }
     }
 
+    // Whether a port to write to is set aside. Their numbers rise.
+    pub fn has_writes(&self) -> bool
+        ensures some { result ≡ nat_lt 0 (length self.now.writes) }
+        ensures rising { IsRisingList self.now.writes }
+    {
+        self.writes.len() > 0
+    }
+
     // Sets the thing aside.
     pub fn put(&mut self, thing: Thing) -> Result<(), AllocError>
-        ensures { OnOk result (self.new ≡ put_aside thing self.old) }
+        ensures put { OnOk result (self.new ≡ put_aside thing self.old) }
+        ensures err { OnErr result (self.new ≡ self.old) }
     {
         match thing {
             Thing::Accept(door) => self.doors.push(door)?,
@@ -70,7 +79,7 @@ impl Aside {
     // Takes the thing back, and tells whether it was there.
     pub fn take(&mut self, thing: Thing) -> bool
         ensures there { result ≡ set_of (things_aside self.old) thing }
-        ensures { self.new ≡ taken_back thing self.old }
+        ensures left { self.new ≡ taken_back thing self.old }
     {
         match thing {
             Thing::Accept(door) => take_door(&mut self.doors, door),
@@ -106,7 +115,8 @@ fn take_door(doors: &mut Vec<Door>, door: Door) -> bool
 fn put_in(ports: &mut Vec<u64>, port: u64) -> Result<(), AllocError>
     requires { IsRisingList ports.old.items }
     ensures ports { OnOk result (ports.new.items ≡ inserted port ports.old.items) }
-    ensures sorted { IsRisingList ports.new.items }
+    ensures err { OnErr result (ports.new.items ≡ ports.old.items) }
+    ensures rising { IsRisingList ports.new.items }
 {
     ports.reserve(1)?;
     rising::put_in(ports, port);

@@ -1,10 +1,11 @@
 // What is ready, in the order in which it is served.
-ghost use Rattle.std.specs.Prelude.{◌≡◌, ◌||◌, None, OnOk, Some, false, true};
+ghost use Rattle.std.specs.Prelude.{◌≡◌, ◌||◌, None, OnOk, Some, false, length, nat_lt, true};
 ghost use Rattle.agent_model.specs.State.{is_client};
+ghost use Rattle.rising_numbers.specs.Rising.{IsRisingList};
 ghost use Rattle.ready_hub.specs.declared.thing.Thing.TheVariants.{Accept};
 ghost use Rattle.ready_loop.specs.Lines.{called, called_all, empty_line, queued, queued_all, queued_by, queued_if, queued_port, recalled, sent_back, settled, without, without_port};
 ghost use Rattle.ready_loop.specs.Queues.{first_servable};
-ghost use Rattle.ready_loop.specs.Standing.{IsFront, IsStirred, stuck_front};
+ghost use Rattle.ready_loop.specs.Standing.{IsFront, IsStirred, brought, stuck_front};
 
 use crate::Core;
 use crate::aside::Aside;
@@ -221,10 +222,28 @@ impl Queue {
     fn call<A: Core>(&mut self, agent: &A, thing: Thing) -> Result<(), AllocError>
         ensures { OnOk result (self.new ≡ called (A.state agent.now) thing self.old) }
     {
-        if can_serve(agent, thing) && self.aside.take(thing) {
+        if can_serve(agent, thing) {
+            self.bring(thing)?;
+        }
+        Ok(())
+    }
+
+    // The thing comes back where it was set aside.
+    fn bring(&mut self, thing: Thing) -> Result<(), AllocError>
+        ensures { OnOk result (self.new ≡ brought thing self.old) }
+    {
+        if self.aside.take(thing) {
             self.things.push_back(thing)?;
         }
         Ok(())
+    }
+
+    // Whether a port to write to is set aside. Their numbers rise.
+    fn has_writes(&self) -> bool
+        ensures some { result ≡ nat_lt 0 (length self.now.aside.writes) }
+        ensures rising { IsRisingList self.now.aside.writes }
+    {
+        self.aside.has_writes()
     }
 
     // Every port that is owed bytes comes back where it was set aside.
@@ -232,11 +251,12 @@ impl Queue {
         requires { IsStirred (A.state agent.now) None true self.old }
         ensures { OnOk result (self.new ≡ called_all (A.state agent.now) self.old) }
     {
+        if !self.has_writes() {
+            return Ok(());
+        }
         let mut after = 0;
         'ports: while let Some(port) = agent.next_owed(after) {
-            if self.aside.take(Thing::Write(port)) {
-                self.things.push_back(Thing::Write(port))?;
-            }
+            self.bring(Thing::Write(port))?;
             after = port;
         }
         Ok(())
@@ -247,11 +267,12 @@ impl Queue {
         requires { IsStirred (A.state agent.now) None false self.old }
         ensures { OnOk result (self.new ≡ called_all (A.state agent.now) self.old) }
     {
+        if !self.has_writes() {
+            return Ok(());
+        }
         let mut after = 0;
         'ports: while let Some(port) = agent.next_child_owed(after) {
-            if self.aside.take(Thing::Write(port)) {
-                self.things.push_back(Thing::Write(port))?;
-            }
+            self.bring(Thing::Write(port))?;
             after = port;
         }
         Ok(())
