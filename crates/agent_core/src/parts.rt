@@ -8,6 +8,7 @@ ghost use Rattle.agent_model.specs.State.{Fits, find_port, next_owed, owed_of};
 ghost use Rattle.agent_model.specs.Step.{closed_between, handle, looked, step};
 ghost use Rattle.agent_core.specs.Bound.{IsCalm, WantsNoMemory};
 ghost use Rattle.agent_core.specs.Happenings.{happening};
+ghost use Rattle.agent_core.specs.Owing.{next_child_owed};
 ghost use Rattle.agent_core.specs.Parts.{with_closes};
 
 use crate::children::hear_unnamed;
@@ -86,6 +87,16 @@ impl Parts {
         let helper = owed_helper(&self.ports, &self.under_way);
         let confirmer = self.under_way.next_confirmer_owed(after);
         lesser(next_of(after, client, helper), confirmer)
+    }
+
+    /// The open port of the least number above `after` that is a child process's and owed bytes.
+    pub fn next_child_owed(&self, after: u64) -> Option<u64>
+        requires { IsCalm self.now }
+        ensures { result ≡ next_child_owed after self.now }
+    {
+        let helper = owed_helper(&self.ports, &self.under_way);
+        let confirmer = self.under_way.next_confirmer_owed(after);
+        lesser(next_of(after, None, helper), confirmer)
     }
 
     // Takes one event after its moment.

@@ -1,6 +1,6 @@
 use Rattle.std.proofs.Common.{◌∙◌, Option, ap, sym, ℕ, refl}
 use Rattle.confirm_desk.specs.Calls.{lesser}
-use Rattle.agent_core.specs.Rising.{first_above}
+use Rattle.rising_numbers.specs.Rising.{first_above}
 use Rattle.agent_core.specs.Roles.{next_of, owed_helper}
 use Rattle.agent_core.specs.Slots.{owing_of}
 use Rattle.agent_core.proofs.NextConfirmerLemmas.{alone, next-confirmed}

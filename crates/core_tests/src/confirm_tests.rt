@@ -1,6 +1,6 @@
 //! A key that asks for confirmation, as bytes.
 
-use super::*;
+use agent_core::{Agent, Event, Settings};
 use crate::tests::{FAILURE, SUCCESS};
 use std::process::Abort;
 use std::test::*;

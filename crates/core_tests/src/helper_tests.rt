@@ -1,6 +1,6 @@
 //! A client's signature through the helper, as bytes.
 
-use super::*;
+use agent_core::{Agent, Event, Settings};
 use crate::tests::{ADD, FAILURE, SUCCESS};
 use std::process::Abort;
 use std::test::*;

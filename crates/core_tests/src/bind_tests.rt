@@ -1,6 +1,6 @@
 //! Connections that are bound to hosts, and a key with destination constraints, as bytes.
 
-use super::*;
+use agent_core::{Agent, Event, Settings};
 use crate::helper_tests::{HELLO, SIGN_RESPONSE, SIGNED_2, TICKET, hear, take_all, tell};
 use crate::tests::{FAILURE, LIST, LISTED, NO_IDENTITIES, SUCCESS};
 use std::process::Abort;

@@ -1,4 +1,4 @@
-use super::*;
+use agent_core::{Agent, Event, Settings};
 use std::process::Abort;
 use std::test::*;
 use world_ports::{Door, Moment};
