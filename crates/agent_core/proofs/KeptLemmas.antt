@@ -1,5 +1,5 @@
 -- Lemmas on the storage of the open ports.
-use Rattle.std.proofs.Common.{◌≡◌, ℕ, zero, suc, ◌+◌, ◌^◌, ◌<◌, ◌≤◌, List, [], ◌∷◌, ◌++◌, length, get_or, set, refl, ap, arith, sym, ◌∙◌, Some, subst, slice_get, false, true, Bool, if◌then◌else◌, ◌==◌, ◌&&◌}
+use Rattle.std.proofs.Common.{◌≡◌, ℕ, zero, suc, ◌+◌, ◌^◌, ◌<◌, ◌≤◌, List, [], ◌∷◌, ◌++◌, length, get_or, set, refl, ap, arith, sym, ◌∙◌, Some, subst, slice_get, true, ◌&&◌}
 use Rattle.std.proofs.lemmas.Bool.Decides.{nat_tests}
 use Rattle.std.proofs.lemmas.List.{map-set, map-append, drop-map, take-map, length-append}
 use Rattle.std.proofs.lemmas.Option.{slice_get-map}
@@ -25,7 +25,7 @@ use Rattle.agent_model.specs.Verdicts.{tell}
 use Rattle.agent_core.specs.Served.{served_at}
 use Rattle.wire_text.specs.Frames.{front_body}
 use Rattle.agent_model.specs.State.{Port, UnderWay, change_port, find_port, is_client, is_some_bytes, new_port, remove_port}
-use Rattle.agent_model.proofs.PortsLemmas.{found_above, rising-append, rising-change_port, rising-remove_port, rising_higher}
+use Rattle.agent_model.proofs.PortsLemmas.{rising-append, rising-change_port, rising-remove_port, rising_higher}
 
 -- edits of the slots are edits of the ports
 pub ports_of-remove : (slots : List Slot) (place : ℕ) → ports_of (remove slots place) ≡ remove (ports_of slots) place

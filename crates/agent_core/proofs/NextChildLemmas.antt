@@ -1,5 +1,5 @@
--- The next child process that is owed bytes: as the next port, where no client is owed any.
-use Rattle.std.proofs.Common.{◌≡◌, ℕ, List, [], ◌∷◌, refl, ap, sym, subst, ◌∙◌, Option, Some, None, IsSome, option_map, Bool, true, false, not, nat_lt, ◌==◌, ◌&&◌, if◌then◌else◌}
+-- The next child process that is owed bytes: as the next port, where no client is owed any. And with it the next port.
+use Rattle.std.proofs.Common.{◌≡◌, ℕ, List, [], ◌∷◌, refl, ap, sym, subst, ◌∙◌, Option, Some, None, IsSome, option_map, Bool, true, false, not, nat_lt, ◌==◌, ◌&&◌, if◌then◌else◌, arith, min}
 use Rattle.world_ports.specs.declared.Door.{Door}
 use Rattle.world_ports.specs.declared.Door.TheVariants.{Clients, Children}
 use Rattle.helper_link.specs.declared.state.LinkState.{LinkState}
@@ -167,3 +167,35 @@ next-child ports going last_port raised attended after rising =
     ∙ ap (λ n. lesser n (next_owed after going.confirmations)) (next-is after 0 last_port (hushed ports) (alone going) refl rising_too
     ∙ ap (λ ns. next_of after (first_above after ns) (owed_helper (alone going) (hushed ports))) (none_owing ports)
     ∙ ap (next_of after None) (helper-hushed going ports))
+
+-- the client and the helper that come first are the lesser of both
+next_of-lesser : (after : ℕ) (client helper : Option ℕ) → next_of after client helper ≡ lesser client (next_of after None helper)
+next_of-lesser after None None = refl
+next_of-lesser after None (Some helper) = refl
+next_of-lesser after (Some client) None = refl
+next_of-lesser after (Some client) (Some helper) = by_test (nat_lt after helper)
+  where
+    by_test : (above : Bool) → (if above then Some (min client helper) else Some client) ≡ lesser (Some client) (if above then Some helper else None)
+    by_test true = refl
+    by_test false = refl
+
+lesser-assoc : (a b c : Option ℕ) → lesser (lesser a b) c ≡ lesser a (lesser b c)
+lesser-assoc None b c = refl
+lesser-assoc (Some a) None c = refl
+lesser-assoc (Some a) (Some b) None = refl
+lesser-assoc (Some a) (Some b) (Some c) =
+    let same : min (min a b) c ≡ min a (min b c) = omega arith in
+    ap Some same
+
+-- the next port is a client, or the next child process
+pub next-client-child : (ports : List Port) (going : UnderWay) (last_port : ℕ) → AreRaised going.confirmations going.last_job ports last_port
+    → AreAttended going.confirmations going.link.state ports → (after : ℕ) → IsRising 0 last_port ports
+    → next_owed_in after ports going ≡ lesser (first_above after (owing_of ports)) (next_child_owed_in after ports going)
+next-client-child ports going last_port raised attended after rising =
+    let client = first_above after (owing_of ports) in
+    let helper = owed_helper going ports in
+    let asked = next_owed after going.confirmations in
+    next-confirmed ports going last_port raised attended after last_port rising
+    ∙ ap (λ n. lesser n asked) (next-is after 0 last_port ports (alone going) refl rising ∙ next_of-lesser after client helper)
+    ∙ lesser-assoc client (next_of after None helper) asked
+    ∙ ap (lesser client) (sym (next-child ports going last_port raised attended after rising))

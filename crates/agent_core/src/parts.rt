@@ -16,7 +16,7 @@ use crate::confirmer::{end_if, hear_confirmer, lose_client, lose_confirmer};
 use crate::helper::{hear_helper, lose_helper, lose_link};
 use crate::keys::Keys;
 use crate::ports::Ports;
-use crate::role::{Role, lesser, next_of, owed_helper, role_at};
+use crate::role::{Role, lesser, owed_helper_above, role_at};
 use crate::{CoreMemory, Event};
 use frame_core::Look;
 use std::marker::Model;
@@ -84,9 +84,8 @@ impl Parts {
         ensures steady { IsSteady self.now }
     {
         let client = self.ports.next_owed(after);
-        let helper = owed_helper(&self.ports, &self.under_way);
-        let confirmer = self.under_way.next_confirmer_owed(after);
-        lesser(next_of(after, client, helper), confirmer)
+        let child = self.next_child_owed(after);
+        lesser(client, child)
     }
 
     /// The open port of the least number above `after` that is a child process's and owed bytes.
@@ -94,9 +93,9 @@ impl Parts {
         requires { IsCalm self.now }
         ensures { result ≡ next_child_owed after self.now }
     {
-        let helper = owed_helper(&self.ports, &self.under_way);
+        let helper = owed_helper_above(&self.ports, &self.under_way, after);
         let confirmer = self.under_way.next_confirmer_owed(after);
-        lesser(next_of(after, None, helper), confirmer)
+        lesser(helper, confirmer)
     }
 
     // Takes one event after its moment.

@@ -1,9 +1,8 @@
-use Rattle.std.proofs.Common.{◌≡◌, ◌∙◌, ℕ, List, [], None, Some, ap, sym, subst}
+use Rattle.std.proofs.Common.{◌∙◌, ℕ, List, None, Some, sym, subst}
 use Rattle.agent_model.specs.KeyStates.{KeyState}
-use Rattle.agent_model.specs.State.{Port, UnderWay}
+use Rattle.agent_model.specs.State.{Port}
 use Rattle.helper_link.specs.declared.answer.Settled.{Settled}
-use Rattle.agent_core.specs.Settlings.{AreProvable, AreShortAnswers}
-use Rattle.agent_core.specs.Slots.{OpenPorts}
+use Rattle.agent_core.specs.Settlings.{AreShortAnswers}
 use Rattle.agent_core.proofs.ClosedLemmas.{closed-changed}
 use Rattle.agent_core.proofs.BoundLemmas.{bound-answered, provable-answers}
 use Rattle.agent_core.proofs.HelperLemmas.{heard_state, numbers-answered, open-answered}

@@ -1,4 +1,4 @@
-use Rattle.std.proofs.Common.{◌≡◌, ◌∙◌, ℕ, List, [], ap, subst, sym}
+use Rattle.std.proofs.Common.{◌∙◌, ℕ, List, ap, subst, sym}
 use Rattle.helper_link.specs.HelperLink.{askers}
 use Rattle.agent_model.specs.Answers.{close_helper}
 use Rattle.agent_model.specs.KeyStates.{KeyState}
