@@ -1,6 +1,6 @@
 //! The agent.
 
-ghost use Rattle.std.specs.Prelude.{◌≡◌, ◌↔◌, [], IsOk, IsSome, IsTrue, OnErr, OnOk, length};
+ghost use Rattle.std.specs.Prelude.{◌≡◌, ◌↔◌, IsOk, IsSome, IsTrue, OnErr, OnOk, length};
 ghost use Rattle.identity_table.specs.Identities.{IsSound};
 ghost use Rattle.agent_model.specs.Sound.{IsSteady};
 ghost use Rattle.agent_model.specs.State.{Fits, client_count, find_port, first_state, next_due, next_owed, owed_of, starts, wants};

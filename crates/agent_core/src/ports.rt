@@ -1,6 +1,6 @@
 //! The open ports.
 
-ghost use Rattle.std.specs.Prelude.{◌≡◌, ◌↔◌, ℕ, List, ◌-◌, ◌^◌, ◌<◌, ◌≤◌, [], ◌∷◌, true, if◌then◌else◌, suc, false, None, Some, IfOk, IsSome, IsTrue, MatchOption, OnOk, length};
+ghost use Rattle.std.specs.Prelude.{◌≡◌, ◌↔◌, ℕ, List, ◌-◌, ◌^◌, ◌<◌, ◌≤◌, [], ◌∷◌, true, if◌then◌else◌, suc, false, None, Some, IsSome, IsTrue, MatchOption, OnOk, length};
 ghost use Rattle.wire_text.specs.Frames.{Whole, front_body};
 ghost use Rattle.frame_core.specs.Looks.{front_of};
 ghost use Rattle.agent_model.specs.Answers.{prove};

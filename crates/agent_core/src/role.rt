@@ -1,6 +1,6 @@
 //! Who is at a port: derived from its door and the link's state. And which port the helper is at, to be written.
 
-ghost use Rattle.std.specs.Prelude.{◌≡◌, ℕ, None};
+ghost use Rattle.std.specs.Prelude.{◌≡◌, None};
 ghost use Rattle.std.specs.Option.{option_map};
 ghost use Rattle.agent_model.specs.State.{find_port, is_linked_to, role_by_link, role_of};
 ghost use Rattle.confirm_desk.specs.Calls.{lesser};
