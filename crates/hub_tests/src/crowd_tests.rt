@@ -73,7 +73,9 @@ fn quiet_clients_cost_a_request_no_look(rt: HostRuntime) -> Result<(), Fail> {
 }
 
 #[test]
-fn clients_that_send_more_than_is_wanted_cost_a_request_no_look(rt: HostRuntime) -> Result<(), Fail> {
+fn clients_that_send_more_than_is_wanted_cost_a_request_no_look(
+    rt: HostRuntime,
+) -> Result<(), Fail> {
     let alloc = rt.alloc();
     let alone = cost_among_quiet(&rt, alloc, 1)?;
     assert_eq!(rt; cost_among_pushing(&rt, alloc, 128)?, alone);

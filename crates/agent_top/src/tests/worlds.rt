@@ -21,8 +21,16 @@ fn serve_failing<R: Wait>(rt: &R, alloc: Global, call: u64) -> Result<Status, Fa
 // Both listeners are bound, the clock is read, and then comes the first wait.
 #[test]
 fn a_world_that_fails_gives_its_status(rt: HostRuntime) -> Result<(), Fail> {
-    for (call, status) in [(1, Status::BindFault), (2, Status::BindFault), (4, Status::PollFault)] {
-        assert_eq!(rt; serve_failing(&rt, rt.alloc(), call)?, status, "call {call}");
+    for (call, status) in [
+        (1, Status::BindFault),
+        (2, Status::BindFault),
+        (4, Status::PollFault),
+    ] {
+        assert_eq!(rt;
+            serve_failing(&rt, rt.alloc(), call)?,
+            status,
+            "call {call}"
+        );
     }
     Ok(())
 }
