@@ -110,7 +110,8 @@ impl Agent {
 
     /// The open port of the least number above `after` that is a child process's and owed bytes.
     pub fn next_child_owed(&self, after: u64) -> Option<u64>
-        ensures { result ≡ next_child_owed after self.now }
+        ensures next { result ≡ next_child_owed after self.now }
+        ensures steady { IsSteady self.now }
     {
         self.parts.next_child_owed(after)
     }
@@ -131,7 +132,8 @@ impl Agent {
 
     /// Whether the port is open and a client's.
     pub fn is_client(&self, port: u64) -> bool
-        ensures { result ≡ is_client_at (find_port port self.now.ports) }
+        ensures value { result ≡ is_client_at (find_port port self.now.ports) }
+        ensures steady { IsSteady self.now }
     {
         self.parts.ports.is_client(port)
     }
@@ -189,7 +191,8 @@ impl Agent {
 
     /// The number of the last port that joined, 0 where none did.
     pub fn ports_so_far(&self) -> u64
-        ensures { result ≡ self.now.last_port }
+        ensures value { result ≡ self.now.last_port }
+        ensures steady { IsSteady self.now }
     {
         self.parts.ports.last()
     }

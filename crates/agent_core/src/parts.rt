@@ -91,7 +91,8 @@ impl Parts {
     /// The open port of the least number above `after` that is a child process's and owed bytes.
     pub fn next_child_owed(&self, after: u64) -> Option<u64>
         requires { IsCalm self.now }
-        ensures { result ≡ next_child_owed after self.now }
+        ensures next { result ≡ next_child_owed after self.now }
+        ensures steady { IsSteady self.now }
     {
         let helper = owed_helper_above(&self.ports, &self.under_way, after);
         let confirmer = self.under_way.next_confirmer_owed(after);

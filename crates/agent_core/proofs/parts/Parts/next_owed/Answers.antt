@@ -6,7 +6,7 @@ use Rattle.agent_core.proofs.parts.Parts.next_owed.Goals as goal
 pub returns-clause-next : goal.returns-clause-next
 returns-clause-next c =
     let calm = rw (← c.self.view_is) at c.requires in
-    let child = rw (← c.self.view_is) at c.next_child_owed-child.ensures in
+    let child = rw (← c.self.view_is) at c.next_child_owed-child.ensures.next in
     let ports = c.self.inside.ports in
     rw (← c.self.view_is) (c.lesser.ensures
     ∙ ap (λ n. lesser n c.next_child_owed-child.result) c.next_owed-client.ensures.next
