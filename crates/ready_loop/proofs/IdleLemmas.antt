@@ -14,17 +14,10 @@ use Rattle.ready_loop.specs.Aside.{things_aside}
 use Rattle.ready_loop.specs.Lines.{IsQuiet, Line, hot_of}
 use Rattle.ready_loop.specs.Queues.{first_servable, from_servable}
 use Rattle.ready_loop.proofs.AsideLemmas.{set_of-append}
+use Rattle.ready_loop.proofs.TestLemmas.{or_left, or_right}
 use Rattle.ready_loop.proofs.ThingLemmas.{same_thing-refl, same_thing-true}
 
 -- ---- what was found is ready, and can be served
-
-or_right : (here there : Bool) → there ≡ true → (here || there) ≡ true
-or_right true there is = refl
-or_right false there is = is
-
-or_left : (here there : Bool) → here ≡ true → (here || there) ≡ true
-or_left true there is = refl
-or_left false there is = cc
 
 pub record IsFound (state : State) (queue : List Thing) (thing : Thing) : Type 0 where
   pub ready : set_of queue thing ≡ true

@@ -16,6 +16,7 @@ use Rattle.ready_loop.specs.declared.outcome.Turn.{Turn}
 use Rattle.ready_loop.proofs.AddingLemmas.{adds-queued_all, adds-queued_port}
 use Rattle.ready_loop.proofs.AsideLemmas.{set_of-taken_back}
 use Rattle.ready_loop.proofs.QuietLemmas.{quiet_kept, quiet_settled}
+use Rattle.ready_loop.proofs.TestLemmas.{and_both}
 
 -- what holds where memory sufficed, holds
 pub on_ok : {T E P : Type 0} (result : Result T E) → P → OnOk result P
@@ -32,14 +33,10 @@ quiet_alike : (state : State) (line left : Line) → left.aside ≡ line.aside �
 quiet_alike state line left is quiet = λ thing there.
     quiet thing (ap (λ (aside : Aside). set_of (things_aside aside) thing) (sym is) ∙ there)
 
-and_right : (here there : Bool) → (here && there) ≡ true → there ≡ true
-and_right true there both = both
-and_right false there both = cc
-
 pub quiet_without : (state : State) (thing : Thing) (line : Line) → IsQuiet state line → IsQuiet state (without thing line)
 quiet_without state thing line quiet = λ other there.
-    quiet other (and_right (not (same_thing thing other)) (set_of (things_aside line.aside) other)
-    (ap (λ (hot : Hot). hot other) (sym (set_of-taken_back thing line.aside)) ∙ there))
+    quiet other (and_both (not (same_thing thing other)) (set_of (things_aside line.aside) other)
+    (ap (λ (hot : Hot). hot other) (sym (set_of-taken_back thing line.aside)) ∙ there)).1
 
 pub quiet_queued_port : (state : State) (port : ℕ) (line : Line) → IsQuiet state line → IsQuiet state (queued_port port line)
 quiet_queued_port state port line = quiet_alike state line (queued_port port line) (adds-queued_port port line).aside

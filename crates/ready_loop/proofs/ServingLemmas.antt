@@ -207,10 +207,6 @@ memory_ends setting state next line after on (inr looks) =
 pub turn_at : {result answer : Result Turn HubFault} (from : Turning) (old new : Option (List Entry)) (state : State) (line : Line) → result ≡ answer → Turns result from old new state line → Turns answer from old new state line
 turn_at from old new state line is turn = subst (λ (r : Result Turn HubFault). Turns r from old new state line) is turn
 
-pub and_both : (here there : Bool) → (here && there) ≡ true → (here ≡ true) × (there ≡ true)
-and_both true there both = (refl, both)
-and_both false there both = cc
-
 -- ---- the listeners
 
 bytes_same : (bytes : List ℕ) → bytes_eq bytes bytes ≡ true

@@ -12,12 +12,9 @@ use Rattle.ready_hub.specs.Servable.{is_servable}
 use Rattle.ready_loop.specs.Aside.{Aside, put_aside, still_aside, taken_back, things_aside}
 use Rattle.ready_loop.specs.Lines.{Line, aside_with, called, called_all, called_own, hot_of, queued, queued_all, queued_by, queued_if, queued_port, recalled, sent_back, settled, without, without_port}
 use Rattle.ready_loop.specs.Queues.{dropped, from_servable, put_back}
-use Rattle.ready_loop.proofs.AsideLemmas.{set_of-append, set_of-filter, set_of-put_aside, set_of-still_aside, set_of-taken_back}
+use Rattle.ready_loop.proofs.AsideLemmas.{same_sets, set_of-append, set_of-filter, set_of-put_aside, set_of-still_aside, set_of-taken_back}
+use Rattle.ready_loop.proofs.TestLemmas.{and_both, or_right}
 use Rattle.ready_loop.proofs.ThingLemmas.{same_thing-alike, same_thing-apart, same_thing-true}
-
--- sets that hold of the same things are one
-same_sets : (hot other : Hot) → ((thing : Thing) → hot thing ≡ other thing) → hot ≡ other
-same_sets hot other same = λ i thing. same thing i
 
 -- ---- without a thing
 
@@ -150,14 +147,10 @@ hot_of-queued_port port line =
     hot_of-queued (Write port) (queued (Read port) line) ∙ ap (heated (Write port)) (hot_of-queued (Read port) line)
 
 -- what stood in the queue does so yet
-or_true : (here there : Bool) → there ≡ true → (here || there) ≡ true
-or_true true there is = refl
-or_true false there is = is
-
 still_queued : (test : Bool) (line : Line) (thing other : Thing) → set_of line.queue other ≡ true → set_of (if test then line else record line { queue = line.queue ++ thing ∷ [] }).queue other ≡ true
 still_queued true line thing other there = there
 still_queued false line thing other there =
-    appended_at thing other line.queue ∙ or_true (same_thing thing other) (set_of line.queue other) there
+    appended_at thing other line.queue ∙ or_right (same_thing thing other) (set_of line.queue other) there
 
 pub queue_of-queued_port : (port : ℕ) (line : Line) (thing : Thing) → set_of line.queue thing ≡ true → set_of (queued_port port line).queue thing ≡ true
 queue_of-queued_port port line thing there =
@@ -198,14 +191,10 @@ called_by true thing other line there =
     (λ same. ap (set_of (things_aside line.aside)) (sym (same_thing-true thing other same)) ∙ there refl)
     ∙ sym (hot_at line other)
 
-and_left : (here able : Bool) → (here && able) ≡ true → here ≡ true
-and_left true able both = refl
-and_left false able both = cc
-
 hot_of-called : (state : State) (thing : Thing) (line : Line) → hot_of (called state thing line) ≡ hot_of line
 hot_of-called state thing line = same_sets (hot_of (called state thing line)) (hot_of line) (λ other.
     called_by (set_of (things_aside line.aside) thing && is_servable state thing) thing other line
-    (and_left (set_of (things_aside line.aside) thing) (is_servable state thing)))
+    (λ both. (and_both (set_of (things_aside line.aside) thing) (is_servable state thing) both).0))
 
 hot_of-called_own : (state : State) (own : Option ℕ) (line : Line) → hot_of (called_own state own line) ≡ hot_of line
 hot_of-called_own state None line = refl

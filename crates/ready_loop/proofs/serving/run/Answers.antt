@@ -5,7 +5,8 @@ use Rattle.ready_loop.specs.InTurn.{in_state}
 use Rattle.ready_loop.specs.Lines.{hot_of}
 use Rattle.ready_loop.specs.Serving.{Running, Setting, is_deserted}
 use Rattle.ready_loop.specs.declared.outcome.ServeEnd.TheVariants as ends
-use Rattle.ready_loop.proofs.ServingLemmas.{and_both, fault_ends, memory_ends, over_ends, polled_runs, runs_more, served_runs, serves_more, turn_at}
+use Rattle.ready_loop.proofs.ServingLemmas.{fault_ends, memory_ends, over_ends, polled_runs, runs_more, served_runs, serves_more, turn_at}
+use Rattle.ready_loop.proofs.TestLemmas.{and_both}
 use Rattle.ready_loop.proofs.serving.run.Goals as goal
 
 pub returns-then-is_done-clause-serves : goal.returns-then-is_done-clause-serves
