@@ -1,5 +1,6 @@
 pub mod ThingLemmas
 pub mod AsideLemmas
+pub mod StandingLemmas
 pub mod SetLemmas
 pub mod IdleLemmas
 pub mod TurningLemmas

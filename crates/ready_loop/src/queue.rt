@@ -3,8 +3,8 @@ ghost use Rattle.std.specs.Prelude.{◌≡◌, ◌||◌, None, OnOk, Some, false
 ghost use Rattle.agent_model.specs.State.{is_client};
 ghost use Rattle.rising_numbers.specs.Rising.{IsRisingList};
 ghost use Rattle.ready_hub.specs.declared.thing.Thing.TheVariants.{Accept};
-ghost use Rattle.ready_loop.specs.Lines.{called, called_all, empty_line, queued, queued_all, queued_by, queued_if, queued_port, recalled, sent_back, settled, without, without_port};
-ghost use Rattle.ready_loop.specs.Queues.{first_servable};
+ghost use Rattle.ready_loop.specs.Lines.{called, called_all, empty_line, hot_of, queued, queued_all, queued_by, queued_if, queued_port, recalled, sent_back, settled, without, without_port};
+ghost use Rattle.ready_loop.specs.Queues.{dropped, first_servable};
 ghost use Rattle.ready_loop.specs.Standing.{IsFront, IsStirred, brought, stuck_front};
 
 use crate::Core;
@@ -179,7 +179,7 @@ impl Queue {
         ensures { self.new ≡ without thing self.old }
     {
         if !self.aside.take(thing) {
-            self.things.retain(|other| !is_same(thing, *other));
+            drop_from(&mut self.things, thing);
         }
     }
 
@@ -187,10 +187,17 @@ impl Queue {
     fn add(&mut self, thing: Thing) -> Result<(), AllocError>
         ensures { OnOk result (self.new ≡ queued thing self.old) }
     {
-        if !self.aside.has(thing) && !has_thing(&self.things, thing) {
+        if !self.has(thing) {
             self.things.push_back(thing)?;
         }
         Ok(())
+    }
+
+    // Whether the thing is ready.
+    fn has(&self, thing: Thing) -> bool
+        ensures { result ≡ hot_of self.now thing }
+    {
+        self.aside.has(thing) || has_thing(&self.things, thing)
     }
 
     // The thing is ready where the test holds.
@@ -287,6 +294,13 @@ fn stuck_front<A: Core>(things: &VecDeque<Thing>, agent: &A) -> Option<Thing>
         Some(front) if !can_serve(agent, *front) => Some(*front),
         _ => None,
     }
+}
+
+// Without this thing.
+fn drop_from(things: &mut VecDeque<Thing>, thing: Thing)
+    ensures { things.new.items ≡ dropped thing things.old.items }
+{
+    things.retain(|other| !is_same(thing, *other));
 }
 
 // Whether clients connect at this listener.
