@@ -63,19 +63,19 @@ set_of-filter test (other ∷ things) thing =
 
 -- ---- what is set aside, by kind
 
-accepts-read : (doors : List Door) (port : ℕ) → set_of (accepts_of doors) (Read port) ≡ false
+pub accepts-read : (doors : List Door) (port : ℕ) → set_of (accepts_of doors) (Read port) ≡ false
 accepts-read [] port = refl
 accepts-read (door ∷ doors) port = accepts-read doors port
 
-accepts-write : (doors : List Door) (port : ℕ) → set_of (accepts_of doors) (Write port) ≡ false
+pub accepts-write : (doors : List Door) (port : ℕ) → set_of (accepts_of doors) (Write port) ≡ false
 accepts-write [] port = refl
 accepts-write (door ∷ doors) port = accepts-write doors port
 
-reads-accept : (ports : List ℕ) (door : Door) → set_of (reads_of ports) (Accept door) ≡ false
+pub reads-accept : (ports : List ℕ) (door : Door) → set_of (reads_of ports) (Accept door) ≡ false
 reads-accept [] door = refl
 reads-accept (other ∷ ports) door = reads-accept ports door
 
-reads-write : (ports : List ℕ) (port : ℕ) → set_of (reads_of ports) (Write port) ≡ false
+pub reads-write : (ports : List ℕ) (port : ℕ) → set_of (reads_of ports) (Write port) ≡ false
 reads-write [] port = refl
 reads-write (other ∷ ports) port = reads-write ports port
 

@@ -1,5 +1,5 @@
 -- What comes back to the queue.
-use Rattle.std.proofs.Common.{◌≡◌, ◌∙◌, ℕ, ◌<◌, ◌≤◌, Bool, true, false, List, [], ◌∷◌, ◌++◌, Option, Some, None, refl, sym, ap, subst, cond, nat_lt, not, ◌&&◌, ◌||◌, ◌==◌, if◌then◌else◌, append_assoc, arith}
+use Rattle.std.proofs.Common.{◌≡◌, ◌∙◌, ℕ, ◌<◌, ◌≤◌, Bool, true, false, List, [], ◌∷◌, ◌++◌, Option, Some, None, length, refl, sym, ap, subst, cond, nat_lt, not, ◌&&◌, ◌||◌, ◌==◌, if◌then◌else◌, append_assoc, arith}
 use Rattle.std.proofs.lemmas.Bool.Decides.{nat_tests}
 use Rattle.std.proofs.lemmas.List.{append-nil}
 use Rattle.std.proofs.lemmas.List.Elements.{filter-append}
@@ -10,15 +10,18 @@ use Rattle.rising_numbers.proofs.RisingLemmas.{is_among-above, is_among-below, r
 use Rattle.agent_model.specs.Sound.{IsRising}
 use Rattle.agent_model.specs.State.{Port, State, UnderWay, find_port, is_client, is_some_bytes, next_owed, next_owed_in, owed_by, owed_by_port, owed_of}
 use Rattle.agent_model.proofs.PortsLemmas.{find_port-below, rising_bound}
+use Rattle.agent_core.specs.Owing.{next_child_owed, next_child_owed_in}
+use Rattle.ready_hub.specs.Elsewhere.{is_clients}
 use Rattle.ready_hub.specs.Servable.{is_servable}
-use Rattle.ready_hub.specs.Things.{Hot, set_of}
+use Rattle.ready_hub.specs.Things.{Hot, same_thing, set_of}
 use Rattle.ready_hub.specs.declared.thing.Thing.{Thing}
 use Rattle.ready_hub.specs.declared.thing.Thing.TheVariants.{Accept, Read, Write}
 use Rattle.ready_loop.specs.Aside.{Aside, accepts_of, reads_of, still_aside, taken_back, things_aside, writes_of}
 use Rattle.ready_loop.specs.Lines.{Line, called, called_all, called_own}
 use Rattle.ready_loop.specs.Standing.{IsStirred, brought, is_own, may_stir}
-use Rattle.ready_loop.proofs.AsideLemmas.{aside-write, is_among-filter, numbers_all, doors_all}
+use Rattle.ready_loop.proofs.AsideLemmas.{accepts-read, accepts-write, aside-accept, aside-read, aside-write, doors_all, is_among-filter, numbers_all, reads-accept, reads-read, reads-write, set_of-taken_back}
 use Rattle.ready_loop.proofs.StandingLemmas.{filter_none}
+use Rattle.ready_loop.proofs.ThingLemmas.{false_by, same_thing-true}
 
 -- ---- ports that come back, by a test
 
@@ -371,3 +374,189 @@ upto-all test high after port ports rising none = by_place (nat_lt 0 port) (nat_
         let zero : port ≤ 0 = grind (arith, nat_tests) in
         let absent : passes test (find_port port ports) ≡ false = ap (passes test) (find_port-below port 0 high ports zero rising) in
         ap (λ (b : Bool). b && (false && not over)) absent ∙ sym absent
+
+-- ---- what is aside and can be served
+
+-- where it is none of the listeners or the ports to read, what can be served are ports to write to
+pub called_by-all : (state : State) (all : Bool) (line : Line) → IsStirred state None all line → called_by (λ port. is_servable state (Write port)) line ≡ called_all state line
+called_by-all state all line stirred =
+    ap (λ (things : List Thing). record line { queue = line.queue ++ things; aside = record aside { writes = left } }) (sym served)
+    ∙ ap (λ (doors : List Door). record line { queue = line.queue ++ filter test (things_aside aside); aside = record aside { doors = doors; writes = left } })
+      (sym (doors_all (λ door. not (is_servable state (Accept door))) aside.doors (λ door there. ap not (no_door door there))))
+    ∙ ap (λ (ports : List ℕ). record line {
+        queue = line.queue ++ filter test (things_aside aside);
+        aside = record { doors = filter (λ door. not (is_servable state (Accept door))) aside.doors; reads = ports; writes = left };
+    })
+      (sym (numbers_all (λ port. not (is_servable state (Read port))) aside.reads (λ port there. ap not (no_read port there))))
+  where
+    aside : Aside
+    aside = line.aside
+
+    test : Thing → Bool
+    test = is_servable state
+
+    left : List ℕ
+    left = filter (λ port. not (is_servable state (Write port))) line.aside.writes
+
+    no_door : (door : Door) → set_of (accepts_of line.aside.doors) (Accept door) ≡ true → is_servable state (Accept door) ≡ false
+    no_door door there = false_by (is_servable state (Accept door)) (λ is.
+        let stirs : may_stir state None all (Accept door) ≡ true = stirred (Accept door) (aside-accept line.aside door ∙ there) is in
+        cc)
+
+    no_read : (port : ℕ) → is_among port line.aside.reads ≡ true → is_servable state (Read port) ≡ false
+    no_read port there = false_by (is_servable state (Read port)) (λ is.
+        let stirs : may_stir state None all (Read port) ≡ true = stirred (Read port) (aside-read line.aside port ∙ there) is in
+        cc)
+
+    of_door : (thing : Thing) → set_of (accepts_of line.aside.doors) thing ≡ true → is_servable state thing ≡ false
+    of_door (Accept door) there = no_door door there
+    of_door (Read port) there = absurd (let none : set_of (accepts_of line.aside.doors) (Read port) ≡ false = accepts-read line.aside.doors port in cc)
+    of_door (Write port) there = absurd (let none : set_of (accepts_of line.aside.doors) (Write port) ≡ false = accepts-write line.aside.doors port in cc)
+
+    of_read : (thing : Thing) → set_of (reads_of line.aside.reads) thing ≡ true → is_servable state thing ≡ false
+    of_read (Accept door) there = absurd (let none : set_of (reads_of line.aside.reads) (Accept door) ≡ false = reads-accept line.aside.reads door in cc)
+    of_read (Read port) there = no_read port (sym (reads-read line.aside.reads port) ∙ there)
+    of_read (Write port) there = absurd (let none : set_of (reads_of line.aside.reads) (Write port) ≡ false = reads-write line.aside.reads port in cc)
+
+    of_writes : (ports : List ℕ) → filter (is_servable state) (writes_of ports) ≡ writes_of (filter (λ port. is_servable state (Write port)) ports)
+    of_writes [] = refl
+    of_writes (first ∷ ports) = by_test (is_servable state (Write first)) first (of_writes ports)
+      where
+        by_test : (b : Bool) (first : ℕ) → filter (is_servable state) (writes_of ports) ≡ writes_of (filter (λ port. is_servable state (Write port)) ports) → cond b (Write first ∷ filter (is_servable state) (writes_of ports)) (filter (is_servable state) (writes_of ports)) ≡ writes_of (cond b (first ∷ filter (λ port. is_servable state (Write port)) ports) (filter (λ port. is_servable state (Write port)) ports))
+        by_test true first rest = ap (λ (ts : List Thing). Write first ∷ ts) rest
+        by_test false first rest = rest
+
+    served : filter (is_servable state) (things_aside line.aside) ≡ writes_of (filter (λ port. is_servable state (Write port)) line.aside.writes)
+    served =
+        filter-append (is_servable state) (accepts_of line.aside.doors ++ reads_of line.aside.reads) (writes_of line.aside.writes)
+        ∙ ap (λ (ts : List Thing). ts ++ filter (is_servable state) (writes_of line.aside.writes))
+          (filter-append (is_servable state) (accepts_of line.aside.doors) (reads_of line.aside.reads)
+              ∙ ap (λ (ts : List Thing). ts ++ filter (is_servable state) (reads_of line.aside.reads))
+                (filter_none (is_servable state) (accepts_of line.aside.doors) of_door)
+              ∙ filter_none (is_servable state) (reads_of line.aside.reads) of_read)
+        ∙ of_writes line.aside.writes
+
+-- no port to write to is aside
+pub called_all-none : (state : State) (all : Bool) (line : Line) → IsStirred state None all line → nat_lt 0 (length line.aside.writes) ≡ false → line ≡ called_all state line
+called_all-none state all line stirred none =
+    sym (called_by-none (λ port. is_servable state (Write port)) line (λ port there. no_member line.aside.writes port none there))
+    ∙ called_by-all state all line stirred
+  where
+    no_member : (ports : List ℕ) (port : ℕ) → nat_lt 0 (length ports) ≡ false → is_among port ports ≡ true → is_servable state (Write port) ≡ false
+    no_member [] port none there = absurd (cc)
+    no_member (first ∷ ports) port none there = absurd (grind (arith, nat_tests))
+
+-- ---- all ports that are owed bytes
+
+abbrev pub is_owed : UnderWay → Port → Bool
+is_owed under_way port = is_some_bytes (owed_by_port port under_way)
+
+pub owed-by : (after : ℕ) (ports : List Port) (under_way : UnderWay) → next_owed_in after ports under_way ≡ next_by (is_owed under_way) after ports
+owed-by after [] under_way = refl
+owed-by after (port ∷ ports) under_way =
+    ap (λ (found : Option ℕ). if nat_lt after port.number && is_owed under_way port then Some port.number else found) (owed-by after ports under_way)
+
+owed-passes : (found : Option Port) (under_way : UnderWay) → passes (is_owed under_way) found ≡ is_some_bytes (owed_by found under_way)
+owed-passes None under_way = refl
+owed-passes (Some port) under_way = refl
+
+-- the line with those up to this number back in the queue
+abbrev pub owed_upto : State → ℕ → Line → Line
+owed_upto state after line = called_by (upto (is_owed state.under_way) state.ports after) line
+
+pub owed-next : (state : State) (after next : ℕ) → IsRising 0 state.last_port state.ports → Some next ≡ next_owed after state → IsNextBy (is_owed state.under_way) 0 state.last_port after next state.ports
+owed-next state after next rising found =
+    next_by-is (is_owed state.under_way) 0 state.last_port after next state.ports rising (sym (found ∙ owed-by after state.ports state.under_way))
+
+pub owed-more : (state : State) (after next : ℕ) (line now : Line) → IsRising 0 state.last_port state.ports → Some next ≡ next_owed after state → IsRisingList line.aside.writes → now ≡ owed_upto state after line → brought (Write next) now ≡ owed_upto state next line
+owed-more state after next line now rising found numbers is =
+    ap (brought (Write next)) is
+    ∙ brought-next (upto (is_owed state.under_way) state.ports after) (upto (is_owed state.under_way) state.ports next) next line
+      (next-step (is_owed state.under_way) 0 state.last_port after next state.ports (owed-next state after next rising found)) numbers
+
+pub owed-all : (state : State) (after : ℕ) (line : Line) → IsRising 0 state.last_port state.ports → None ≡ next_owed after state → IsStirred state None true line → owed_upto state after line ≡ called_all state line
+owed-all state after line rising none stirred =
+    called_by-alike (upto (is_owed state.under_way) state.ports after) (λ port. is_servable state (Write port)) line
+    (λ port there. upto-all (is_owed state.under_way) state.last_port after port state.ports rising (sym (none ∙ owed-by after state.ports state.under_way))
+        ∙ owed-passes (find_port port state.ports) state.under_way)
+    ∙ called_by-all state true line stirred
+
+-- ---- all child processes that are owed bytes
+
+abbrev pub is_child_owed : UnderWay → Port → Bool
+is_child_owed under_way port = not (is_client port.door) && is_some_bytes (owed_by_port port under_way)
+
+pub child-by : (after : ℕ) (ports : List Port) (under_way : UnderWay) → next_child_owed_in after ports under_way ≡ next_by (is_child_owed under_way) after ports
+child-by after [] under_way = refl
+child-by after (port ∷ ports) under_way =
+    ap (λ (found : Option ℕ). if nat_lt after port.number && is_child_owed under_way port then Some port.number else found)
+    (child-by after ports under_way)
+
+-- where it is no client's, what it is owed decides
+child-passes : (found : Option Port) (under_way : UnderWay) → (is_some_bytes (owed_by found under_way) ≡ true → not (is_clients found) ≡ true) → passes (is_child_owed under_way) found ≡ is_some_bytes (owed_by found under_way)
+child-passes None under_way other = refl
+child-passes (Some port) under_way other = by_test (is_some_bytes (owed_by_port port under_way)) (not (is_client port.door)) other
+  where
+    by_test : (owes child : Bool) → (owes ≡ true → child ≡ true) → (child && owes) ≡ owes
+    by_test true child other = ap (λ (b : Bool). b && true) (other refl)
+    by_test false true other = refl
+    by_test false false other = refl
+
+abbrev pub child_upto : State → ℕ → Line → Line
+child_upto state after line = called_by (upto (is_child_owed state.under_way) state.ports after) line
+
+pub child-next : (state : State) (after next : ℕ) → IsRising 0 state.last_port state.ports → Some next ≡ next_child_owed after state → IsNextBy (is_child_owed state.under_way) 0 state.last_port after next state.ports
+child-next state after next rising found =
+    next_by-is (is_child_owed state.under_way) 0 state.last_port after next state.ports rising (sym (found ∙ child-by after state.ports state.under_way))
+
+pub child-more : (state : State) (after next : ℕ) (line now : Line) → IsRising 0 state.last_port state.ports → Some next ≡ next_child_owed after state → IsRisingList line.aside.writes → now ≡ child_upto state after line → brought (Write next) now ≡ child_upto state next line
+child-more state after next line now rising found numbers is =
+    ap (brought (Write next)) is
+    ∙ brought-next (upto (is_child_owed state.under_way) state.ports after) (upto (is_child_owed state.under_way) state.ports next) next line
+      (next-step (is_child_owed state.under_way) 0 state.last_port after next state.ports (child-next state after next rising found)) numbers
+
+pub child-all : (state : State) (after : ℕ) (line : Line) → IsRising 0 state.last_port state.ports → None ≡ next_child_owed after state → IsStirred state None false line → child_upto state after line ≡ called_all state line
+child-all state after line rising none stirred =
+    called_by-alike (upto (is_child_owed state.under_way) state.ports after) (λ port. is_servable state (Write port)) line
+    (λ port there. upto-all (is_child_owed state.under_way) state.last_port after port state.ports rising (sym (none ∙ child-by after state.ports state.under_way))
+        ∙ child-passes (find_port port state.ports) state.under_way (λ owes. stirred (Write port) (aside-write line.aside port ∙ there) owes))
+    ∙ called_by-all state false line stirred
+
+-- ---- the event's own port
+
+-- what is aside after a thing was called
+called-aside : (state : State) (thing : Thing) (line : Line) (other : Thing) → set_of (things_aside (called state thing line).aside) other ≡ true → is_servable state other ≡ true → (set_of (things_aside line.aside) other ≡ true) × (same_thing thing other ≡ false)
+called-aside state thing line other there serves = by_test (set_of (things_aside line.aside) thing && is_servable state thing) refl there
+  where
+    parts_of : (a b : Bool) → (not a && b) ≡ true → (b ≡ true) × (a ≡ false)
+    parts_of true b both = absurd (cc)
+    parts_of false b both = (both, refl)
+
+    apart : (same : Bool) → same_thing thing other ≡ same → (set_of (things_aside line.aside) thing && is_servable state thing) ≡ false → set_of (things_aside line.aside) other ≡ true → same ≡ false
+    apart true is none also =
+        let here : thing ≡ other = same_thing-true thing other is in
+        let first : set_of (things_aside line.aside) thing ≡ true = ap (set_of (things_aside line.aside)) here ∙ also in
+        let second : is_servable state thing ≡ true = ap (is_servable state) here ∙ serves in
+        let whole : (set_of (things_aside line.aside) thing && is_servable state thing) ≡ true = ap (λ (b : Bool). b && is_servable state thing) first ∙ second in
+        cc
+    apart false is none also = refl
+
+    by_test : (b : Bool) → (set_of (things_aside line.aside) thing && is_servable state thing) ≡ b → set_of (things_aside (if b then record line { queue = line.queue ++ thing ∷ []; aside = taken_back thing line.aside } else line).aside) other ≡ true → (set_of (things_aside line.aside) other ≡ true) × (same_thing thing other ≡ false)
+    by_test true is there =
+        parts_of (same_thing thing other) (set_of (things_aside line.aside) other)
+        (sym (ap (λ (hot : Hot). hot other) (set_of-taken_back thing line.aside)) ∙ there)
+    by_test false is there = (there, apart (same_thing thing other) refl is there)
+
+-- with its own port back in the queue, it is another's
+pub own-stirred : (state : State) (own : Option ℕ) (all : Bool) (line : Line) → IsStirred state own all line → IsStirred state None all (called_own state own line)
+own-stirred state None all line stirred = stirred
+own-stirred state (Some port) all line stirred = λ thing there serves.
+    let second = called-aside state (Write port) (called state (Read port) line) thing there serves in
+    let first = called-aside state (Read port) line thing second.0 serves in
+    not_own thing first.1 second.1 (stirred thing first.0 serves)
+  where
+    not_own : (thing : Thing) → same_thing (Read port) thing ≡ false → same_thing (Write port) thing ≡ false → may_stir state (Some port) all thing ≡ true → may_stir state None all thing ≡ true
+    not_own (Accept door) read write stirs = stirs
+    not_own (Read other) read write stirs = sym read ∙ stirs
+    not_own (Write other) read write stirs =
+        sym (ap (λ (b : Bool). b || (all || not (is_clients (find_port other state.ports)))) write) ∙ stirs

@@ -3,7 +3,7 @@ ghost use Rattle.std.specs.Prelude.{◌≡◌, ◌||◌, None, OnOk, Some, false
 ghost use Rattle.agent_model.specs.State.{is_client};
 ghost use Rattle.rising_numbers.specs.Rising.{IsRisingList};
 ghost use Rattle.ready_hub.specs.declared.thing.Thing.TheVariants.{Accept};
-ghost use Rattle.ready_loop.specs.Lines.{called, called_all, empty_line, hot_of, queued, queued_all, queued_by, queued_if, queued_port, recalled, sent_back, settled, without, without_port};
+ghost use Rattle.ready_loop.specs.Lines.{called, called_all, called_own, empty_line, hot_of, queued, queued_all, queued_by, queued_if, queued_port, recalled, sent_back, settled, without, without_port};
 ghost use Rattle.ready_loop.specs.Queues.{dropped, first_servable};
 ghost use Rattle.ready_loop.specs.Standing.{IsFront, IsStirred, brought, stuck_front};
 
@@ -132,10 +132,7 @@ impl Queue {
         requires { IsStirred (A.state agent.now) own all self.old }
         ensures { OnOk result (self.new ≡ recalled (A.state agent.now) own self.old) }
     {
-        if let Some(port) = own {
-            self.call(agent, Thing::Read(port))?;
-            self.call(agent, Thing::Write(port))?;
-        }
+        self.call_own(agent, own)?;
         if all {
             self.call_owed(agent)
         } else {
@@ -231,6 +228,17 @@ impl Queue {
     {
         if can_serve(agent, thing) {
             self.bring(thing)?;
+        }
+        Ok(())
+    }
+
+    // Both directions of the event's port come back where they were set aside and can be served.
+    fn call_own<A: Core>(&mut self, agent: &A, own: Option<u64>) -> Result<(), AllocError>
+        ensures { OnOk result (self.new ≡ called_own (A.state agent.now) own self.old) }
+    {
+        if let Some(port) = own {
+            self.call(agent, Thing::Read(port))?;
+            self.call(agent, Thing::Write(port))?;
         }
         Ok(())
     }
