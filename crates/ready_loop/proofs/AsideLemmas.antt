@@ -12,7 +12,7 @@ use Rattle.ready_hub.specs.Things.{Hot, cooled, heated, same_door, same_thing, s
 use Rattle.ready_hub.specs.declared.thing.Thing.{Thing}
 use Rattle.ready_hub.specs.declared.thing.Thing.TheVariants.{Accept, Read, Write}
 use Rattle.ready_loop.specs.Aside.{Aside, accepts_of, put_aside, reads_of, still_aside, taken_back, things_aside, writes_of}
-use Rattle.ready_loop.proofs.ThingLemmas.{same_thing-true}
+use Rattle.ready_loop.proofs.ThingLemmas.{same_thing-refl, same_thing-true}
 
 -- ---- tests
 
@@ -63,19 +63,19 @@ set_of-filter test (other ∷ things) thing =
 
 -- ---- what is set aside, by kind
 
-accepts-read : (doors : List Door) (port : ℕ) → set_of (accepts_of doors) (Read port) ≡ false
+pub accepts-read : (doors : List Door) (port : ℕ) → set_of (accepts_of doors) (Read port) ≡ false
 accepts-read [] port = refl
 accepts-read (door ∷ doors) port = accepts-read doors port
 
-accepts-write : (doors : List Door) (port : ℕ) → set_of (accepts_of doors) (Write port) ≡ false
+pub accepts-write : (doors : List Door) (port : ℕ) → set_of (accepts_of doors) (Write port) ≡ false
 accepts-write [] port = refl
 accepts-write (door ∷ doors) port = accepts-write doors port
 
-reads-accept : (ports : List ℕ) (door : Door) → set_of (reads_of ports) (Accept door) ≡ false
+pub reads-accept : (ports : List ℕ) (door : Door) → set_of (reads_of ports) (Accept door) ≡ false
 reads-accept [] door = refl
 reads-accept (other ∷ ports) door = reads-accept ports door
 
-reads-write : (ports : List ℕ) (port : ℕ) → set_of (reads_of ports) (Write port) ≡ false
+pub reads-write : (ports : List ℕ) (port : ℕ) → set_of (reads_of ports) (Write port) ≡ false
 reads-write [] port = refl
 reads-write (other ∷ ports) port = reads-write ports port
 
@@ -280,3 +280,60 @@ pub write_taken : (view aside : Aside) (thing : Thing) (port : ℕ) (left : List
 write_taken view aside thing port left same is rising less =
     ap (λ (ports : List ℕ). record view { writes = ports }) (less ∙ removed-filter port view.writes rising)
     ∙ ap (taken_back (Write port)) same ∙ ap (λ (t : Thing). taken_back t aside) (sym is)
+
+-- ---- where a test lets all pass, or none
+
+-- of numbers
+pub numbers_all : (test : ℕ → Bool) (ports : List ℕ) → ((port : ℕ) → is_among port ports ≡ true → test port ≡ true) → filter test ports ≡ ports
+numbers_all test [] all = refl
+numbers_all test (first ∷ ports) all =
+    ap (λ (b : Bool). cond b (first ∷ filter test ports) (filter test ports)) (all first (ap (λ (b : Bool). b || is_among first ports) (same_itself first)))
+    ∙ ap (λ (ps : List ℕ). first ∷ ps) (numbers_all test ports (λ port there. all port (later (port == first) (is_among port ports) there)))
+  where
+    same_itself : (n : ℕ) → (n == n) ≡ true
+    same_itself n = grind (arith, nat_tests)
+
+    later : (a b : Bool) → b ≡ true → (a || b) ≡ true
+    later true b is = refl
+    later false b is = is
+
+-- of listeners
+pub doors_all : (test : Door → Bool) (doors : List Door) → ((door : Door) → set_of (accepts_of doors) (Accept door) ≡ true → test door ≡ true) → filter test doors ≡ doors
+doors_all test [] all = refl
+doors_all test (first ∷ doors) all =
+    ap (λ (b : Bool). cond b (first ∷ filter test doors) (filter test doors))
+    (all first (ap (λ (b : Bool). b || set_of (accepts_of doors) (Accept first)) (same_thing-refl (Accept first))))
+    ∙ ap (λ (ds : List Door). first ∷ ds)
+      (doors_all test doors (λ door there. all door (later (same_door first door) (set_of (accepts_of doors) (Accept door)) there)))
+  where
+    later : (a b : Bool) → b ≡ true → (a || b) ≡ true
+    later true b is = refl
+    later false b is = is
+
+without_absent : (ports : List ℕ) (port : ℕ) → is_among port ports ≡ false → filter (λ other. not (port == other)) ports ≡ ports
+without_absent ports port absent = numbers_all (λ other. not (port == other)) ports (λ other there. other_than other (port == other) refl there)
+  where
+    other_than : (other : ℕ) (same : Bool) → (port == other) ≡ same → is_among other ports ≡ true → not same ≡ true
+    other_than other true is there =
+        let here : port ≡ other = grind (arith, nat_tests) in
+        let also : is_among port ports ≡ true = ap (λ (n : ℕ). is_among n ports) here ∙ there in
+        cc
+    other_than other false is there = refl
+
+without_door : (doors : List Door) (door : Door) → set_of (accepts_of doors) (Accept door) ≡ false → filter (λ other. not (same_door door other)) doors ≡ doors
+without_door doors door absent = doors_all (λ other. not (same_door door other)) doors (λ other there. other_than other (same_door door other) refl there)
+  where
+    other_than : (other : Door) (same : Bool) → same_door door other ≡ same → set_of (accepts_of doors) (Accept other) ≡ true → not same ≡ true
+    other_than other true is there =
+        let also : set_of (accepts_of doors) (Accept door) ≡ true = ap (set_of (accepts_of doors)) (same_thing-true (Accept door) (Accept other) is) ∙ there in
+        cc
+    other_than other false is there = refl
+
+-- without what isn't there
+pub absent-taken : (thing : Thing) (aside : Aside) → set_of (things_aside aside) thing ≡ false → taken_back thing aside ≡ aside
+absent-taken (Accept door) aside absent =
+    ap (λ (doors : List Door). record aside { doors = doors }) (without_door aside.doors door (sym (aside-accept aside door) ∙ absent))
+absent-taken (Read port) aside absent =
+    ap (λ (ports : List ℕ). record aside { reads = ports }) (without_absent aside.reads port (sym (aside-read aside port) ∙ absent))
+absent-taken (Write port) aside absent =
+    ap (λ (ports : List ℕ). record aside { writes = ports }) (without_absent aside.writes port (sym (aside-write aside port) ∙ absent))

@@ -1,6 +1,8 @@
 pub mod ThingLemmas
 pub mod TestLemmas
 pub mod AsideLemmas
+pub mod StandingLemmas
+pub mod RecallLemmas
 pub mod SetLemmas
 pub mod IdleLemmas
 pub mod TurningLemmas

@@ -3,8 +3,8 @@ ghost use Rattle.std.specs.Prelude.{◌≡◌, ◌||◌, None, OnOk, Some, false
 ghost use Rattle.agent_model.specs.State.{is_client};
 ghost use Rattle.rising_numbers.specs.Rising.{IsRisingList};
 ghost use Rattle.ready_hub.specs.declared.thing.Thing.TheVariants.{Accept};
-ghost use Rattle.ready_loop.specs.Lines.{called, called_all, empty_line, queued, queued_all, queued_by, queued_if, queued_port, recalled, sent_back, settled, without, without_port};
-ghost use Rattle.ready_loop.specs.Queues.{first_servable};
+ghost use Rattle.ready_loop.specs.Lines.{called, called_all, called_own, empty_line, hot_of, queued, queued_all, queued_by, queued_if, queued_port, recalled, sent_back, settled, without, without_port};
+ghost use Rattle.ready_loop.specs.Queues.{dropped, first_servable};
 ghost use Rattle.ready_loop.specs.Standing.{IsFront, IsStirred, brought, stuck_front};
 
 use crate::Core;
@@ -132,10 +132,7 @@ impl Queue {
         requires { IsStirred (A.state agent.now) own all self.old }
         ensures { OnOk result (self.new ≡ recalled (A.state agent.now) own self.old) }
     {
-        if let Some(port) = own {
-            self.call(agent, Thing::Read(port))?;
-            self.call(agent, Thing::Write(port))?;
-        }
+        self.call_own(agent, own)?;
         if all {
             self.call_owed(agent)
         } else {
@@ -179,7 +176,7 @@ impl Queue {
         ensures { self.new ≡ without thing self.old }
     {
         if !self.aside.take(thing) {
-            self.things.retain(|other| !is_same(thing, *other));
+            drop_from(&mut self.things, thing);
         }
     }
 
@@ -187,10 +184,17 @@ impl Queue {
     fn add(&mut self, thing: Thing) -> Result<(), AllocError>
         ensures { OnOk result (self.new ≡ queued thing self.old) }
     {
-        if !self.aside.has(thing) && !has_thing(&self.things, thing) {
+        if !self.has(thing) {
             self.things.push_back(thing)?;
         }
         Ok(())
+    }
+
+    // Whether the thing is ready.
+    fn has(&self, thing: Thing) -> bool
+        ensures { result ≡ hot_of self.now thing }
+    {
+        self.aside.has(thing) || has_thing(&self.things, thing)
     }
 
     // The thing is ready where the test holds.
@@ -224,6 +228,17 @@ impl Queue {
     {
         if can_serve(agent, thing) {
             self.bring(thing)?;
+        }
+        Ok(())
+    }
+
+    // Both directions of the event's port come back where they were set aside and can be served.
+    fn call_own<A: Core>(&mut self, agent: &A, own: Option<u64>) -> Result<(), AllocError>
+        ensures { OnOk result (self.new ≡ called_own (A.state agent.now) own self.old) }
+    {
+        if let Some(port) = own {
+            self.call(agent, Thing::Read(port))?;
+            self.call(agent, Thing::Write(port))?;
         }
         Ok(())
     }
@@ -287,6 +302,13 @@ fn stuck_front<A: Core>(things: &VecDeque<Thing>, agent: &A) -> Option<Thing>
         Some(front) if !can_serve(agent, *front) => Some(*front),
         _ => None,
     }
+}
+
+// Without this thing.
+fn drop_from(things: &mut VecDeque<Thing>, thing: Thing)
+    ensures { things.new.items ≡ dropped thing things.old.items }
+{
+    things.retain(|other| !is_same(thing, *other));
 }
 
 // Whether clients connect at this listener.

@@ -1,0 +1,14 @@
+use Rattle.std.proofs.Common.{subst, sym}
+use Rattle.ready_hub.specs.declared.thing.Thing.TheVariants.{Accept, Read, Write}
+use Rattle.ready_loop.specs.Lines.{Line}
+use Rattle.ready_loop.specs.Standing.{IsFront}
+use Rattle.ready_loop.proofs.StandingLemmas.{front-queued, settled-front}
+use Rattle.ready_loop.proofs.queue.Queue.accept.Goals as goal
+
+pub rotate-requires : goal.rotate-requires
+rotate-requires g c =
+    let is_first = λ (line : Line). IsFront (Accept c.args.door) line.queue in
+    let front = subst is_first (sym c.in_ok-settle.ensures)
+    (settled-front (g.A.Core.state c.args.agent.now) (Accept c.args.door) c.args.self.now.queue c.requires) in
+    let next = subst is_first (sym c.in_ok-add.ensures) (front-queued (Accept c.args.door) (Read c.args.port) c.settle.new.self front) in
+    subst is_first (sym c.in_ok-add-2.ensures) (front-queued (Accept c.args.door) (Write c.args.port) c.add.new.self next)
