@@ -12,8 +12,6 @@ pub mod StateLemmas
 pub mod QuietLemmas
 pub mod KeepingLemmas
 pub mod TellLemmas
-pub mod StandingLemmas
-pub mod RecallLemmas
 pub mod BackLemmas
 pub mod AheadLemmas
 pub mod AheadCallLemmas
