@@ -66,9 +66,9 @@ fn cost_among_pushing<R: Wait>(rt: &R, alloc: Global, clients: usize) -> Result<
 #[test]
 fn quiet_clients_cost_a_request_no_look(rt: HostRuntime) -> Result<(), Fail> {
     let alloc = rt.alloc();
-    let alone = cost_among_quiet(&rt, alloc, 1)?;
-    assert!(rt; alone > 0);
-    assert_eq!(rt; cost_among_quiet(&rt, alloc, 128)?, alone);
+    let beside_one = cost_among_quiet(&rt, alloc, 2)?;
+    assert!(rt; beside_one > 0);
+    assert_eq!(rt; cost_among_quiet(&rt, alloc, 128)?, beside_one);
     Ok(())
 }
 
@@ -77,8 +77,10 @@ fn clients_that_send_more_than_is_wanted_cost_a_request_no_look(
     rt: HostRuntime,
 ) -> Result<(), Fail> {
     let alloc = rt.alloc();
-    let alone = cost_among_quiet(&rt, alloc, 1)?;
-    assert_eq!(rt; cost_among_pushing(&rt, alloc, 128)?, alone);
+    let beside_one = cost_among_pushing(&rt, alloc, 2)?;
+    assert!(rt; beside_one > 0);
+    assert_eq!(rt; cost_among_pushing(&rt, alloc, 128)?, beside_one);
+    assert!(rt; beside_one <= cost_among_quiet(&rt, alloc, 2)?);
     Ok(())
 }
 
