@@ -6,9 +6,9 @@ use Rattle.std.proofs.lemmas.List.Elements.{filter-append}
 use Rattle.std.specs.List.{filter}
 use Rattle.world_ports.specs.declared.events.Door.{Door}
 use Rattle.rising_numbers.specs.Rising.{IsRisingList, IsRisingNumbers, is_among}
-use Rattle.rising_numbers.proofs.RisingLemmas.{is_among-above, is_among-below, rising_list}
+use Rattle.rising_numbers.proofs.RisingLemmas.{is_among-above, rising_list}
 use Rattle.agent_model.specs.Sound.{IsRising}
-use Rattle.agent_model.specs.State.{Port, State, UnderWay, find_port, is_client, is_some_bytes, next_owed, next_owed_in, owed_by, owed_by_port, owed_of}
+use Rattle.agent_model.specs.State.{Port, State, UnderWay, find_port, is_client, is_some_bytes, next_owed, next_owed_in, owed_by, owed_by_port}
 use Rattle.agent_model.proofs.PortsLemmas.{find_port-below, rising_bound}
 use Rattle.agent_core.specs.Owing.{next_child_owed, next_child_owed_in}
 use Rattle.ready_hub.specs.Elsewhere.{is_clients}
@@ -16,9 +16,9 @@ use Rattle.ready_hub.specs.Servable.{is_servable}
 use Rattle.ready_hub.specs.Things.{Hot, same_thing, set_of}
 use Rattle.ready_hub.specs.declared.thing.Thing.{Thing}
 use Rattle.ready_hub.specs.declared.thing.Thing.TheVariants.{Accept, Read, Write}
-use Rattle.ready_loop.specs.Aside.{Aside, accepts_of, reads_of, still_aside, taken_back, things_aside, writes_of}
+use Rattle.ready_loop.specs.Aside.{Aside, accepts_of, reads_of, taken_back, things_aside, writes_of}
 use Rattle.ready_loop.specs.Lines.{Line, called, called_all, called_own}
-use Rattle.ready_loop.specs.Standing.{IsStirred, brought, is_own, may_stir}
+use Rattle.ready_loop.specs.Standing.{IsStirred, brought, may_stir}
 use Rattle.ready_loop.proofs.AsideLemmas.{accepts-read, accepts-write, aside-accept, aside-read, aside-write, doors_all, is_among-filter, numbers_all, reads-accept, reads-read, reads-write, set_of-taken_back}
 use Rattle.ready_loop.proofs.StandingLemmas.{filter_none}
 use Rattle.ready_loop.proofs.ThingLemmas.{false_by, same_thing-true}

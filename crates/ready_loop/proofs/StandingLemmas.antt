@@ -1,13 +1,13 @@
 -- What stands in the queue or aside, and nowhere twice.
-use Rattle.std.proofs.Common.{◌≡◌, ◌∙◌, ℕ, Bool, true, false, List, [], ◌∷◌, ◌++◌, Option, Some, None, drop, refl, sym, ap, subst, cond, not, ◌&&◌, ◌||◌, ◌==◌, if◌then◌else◌, arith}
+use Rattle.std.proofs.Common.{◌≡◌, ◌∙◌, Bool, true, false, List, [], ◌∷◌, ◌++◌, Some, None, drop, refl, sym, ap, subst, cond, not, ◌&&◌, ◌||◌, if◌then◌else◌}
 use Rattle.std.specs.List.{filter}
 use Rattle.agent_model.specs.State.{State}
 use Rattle.ready_hub.specs.Servable.{is_servable}
-use Rattle.ready_hub.specs.Things.{Hot, cooled, heated, same_thing, set_of}
+use Rattle.ready_hub.specs.Things.{Hot, same_thing, set_of}
 use Rattle.ready_hub.specs.declared.thing.Thing.{Thing}
 use Rattle.ready_loop.specs.Aside.{Aside, put_aside, taken_back, things_aside}
 use Rattle.ready_loop.specs.Lines.{Line, aside_with, hot_of, queued, sent_back, settled, without}
-use Rattle.ready_loop.specs.Queues.{dropped, first_servable, from_servable, put_back}
+use Rattle.ready_loop.specs.Queues.{dropped, first_servable, from_servable}
 use Rattle.ready_loop.specs.Standing.{AreApart, IsFront, IsOnce, brought, stuck_front}
 use Rattle.ready_loop.proofs.AsideLemmas.{absent-taken, set_of-append, set_of-filter, set_of-put_aside, set_of-taken_back}
 use Rattle.ready_loop.proofs.ThingLemmas.{false_by, same_thing-refl, same_thing-true}

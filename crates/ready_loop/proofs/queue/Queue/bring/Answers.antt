@@ -1,9 +1,8 @@
 use Rattle.std.proofs.Common.{◌∙◌, ◌∷◌, ◌++◌, [], List, ap, subst, sym}
 use Rattle.ready_hub.specs.declared.thing.Thing.{Thing}
-use Rattle.ready_loop.specs.Aside.{Aside}
 use Rattle.ready_loop.specs.Lines.{Line}
 use Rattle.ready_loop.specs.Standing.{IsOnce, brought}
-use Rattle.ready_loop.proofs.StandingLemmas.{absent-brought, aside-brought, once-brought, once-taken}
+use Rattle.ready_loop.proofs.StandingLemmas.{absent-brought, once-brought, once-taken}
 use Rattle.ready_loop.proofs.queue.Queue.bring.Goals as goal
 
 pub invariant_of-self : goal.invariant_of-self

@@ -1,4 +1,4 @@
-use Rattle.std.proofs.Common.{◌∙◌, ◌∷◌, ◌++◌, [], List, ap, subst, sym}
+use Rattle.std.proofs.Common.{◌∙◌, List, ap, subst, sym}
 use Rattle.ready_hub.specs.declared.thing.Thing.{Thing}
 use Rattle.ready_loop.specs.Lines.{Line, sent_back}
 use Rattle.ready_loop.specs.Standing.{IsFront, IsOnce}
