@@ -193,8 +193,17 @@ def others_wait(agents):
             tell_shares("refusals of 15 clients while one waits for a confirmation", found)
 
 
+def counted(text):
+    """The instructions that callgrind's file tells of, and how often memory was asked for."""
+    names = dict(re.findall(r"(?m)^c?fn=\((\d+)\) ([^\s'@]+)", text))
+    asks = {number for number, name in names.items() if name in ("malloc", "calloc", "realloc", "aligned_alloc")}
+    calls = re.findall(r"(?m)^cfn=\((\d+)\).*\ncalls=(\d+)", text)
+    total = int(re.search(r"(?m)^(?:summary|totals): (\d+)", text)[1])
+    return total, sum(int(count) for number, count in calls if number in asks)
+
+
 def instructions(start, messages, keys=0, few=1000, more=10000):
-    """Instructions a reply that valgrind counts: of many replies less those of few, so that the start doesn't count."""
+    """Instructions and allocations a reply, of many replies less those of few, so that the start doesn't count."""
     totals = []
     for count in (few, few + more):
         out = WORK / "callgrind"
@@ -205,8 +214,8 @@ def instructions(start, messages, keys=0, few=1000, more=10000):
         agent.process.wait()
         if os.path.exists(agent.path):
             os.unlink(agent.path)
-        totals.append(int(re.search(r"(?m)^(?:summary|totals): (\d+)", out.read_text())[1]))
-    return (totals[1] - totals[0]) / more
+        totals.append(counted(out.read_text()))
+    return [(many - few_) / more for few_, many in zip(*totals)]
 
 
 def tell_instructions():
@@ -231,7 +240,9 @@ def tell_instructions():
         ("a list of 1 key", [bytes([LIST])], dict(keys=1, few=500, more=2000)),
         ("a list of 100 keys", [bytes([LIST])], dict(keys=100, few=50, more=200)),
     ):
-        tell(f"instructions {what}", {name: instructions(start, messages, **more) for name, start in starts.items()}, "")
+        found = {name: instructions(start, messages, **more) for name, start in starts.items()}
+        for number, which in enumerate(("instructions", "allocations")):
+            tell(f"{which} {what}", {name: counts[number] for name, counts in found.items()}, "")
 
 
 def refusals(agents, null):

@@ -1,31 +1,25 @@
 -- What a change of the agent's parts is in its state.
-use Rattle.std.specs.Prelude.{◌⊎◌}
-use Rattle.std.proofs.Common.{◌≡◌, ℕ, suc, List, [], ◌∷◌, drop, arith, refl, ap, sym, ◌∙◌, Option, Some, None, Bool, false, nat_lt, ◌++◌, if◌then◌else◌, max, IsSome, inl, inr}
+use Rattle.std.proofs.Common.{◌≡◌, ℕ, suc, List, [], ◌∷◌, drop, arith, refl, ap, sym, ◌∙◌, Option, Some, None, Bool, nat_lt, ◌++◌, if◌then◌else◌, max}
 use Rattle.world_ports.specs.declared.Door.{Door}
 use Rattle.world_ports.specs.declared.Moment.{Moment}
 use Rattle.agent_model.specs.NumberLists.{without}
 use Rattle.wire_text.specs.Frames.{Bad, More, Whole, front_body}
-use Rattle.agent_model.specs.Binds.{agent_request_of}
-use Rattle.world_ports.specs.declared.Job.{Job}
-use Rattle.world_ports.specs.declared.JobKind.TheVariants as kinds
-use Rattle.helper_link.specs.HelperLink.{IsStarting, askers, sent}
+use Rattle.helper_link.specs.HelperLink.{sent}
 use Rattle.helper_link.specs.declared.state.LinkState.TheVariants as states
-use Rattle.agent_model.specs.Actions.{Outcome}
-use Rattle.agent_model.specs.Children.{changed, closed, failed_by, failed_if, heard_more, job_left, remove_to_start, started_if, unnamed_heard}
-use Rattle.agent_model.specs.Sound.{IsRising}
+use Rattle.agent_model.specs.Children.{changed, closed, heard_more, remove_to_start, started_if, unnamed_heard}
 use Rattle.agent_model.specs.Dispatch.{Served}
 use Rattle.agent_model.specs.Events.{Happening, Heard, Joined, Started, Tick, Took}
 use Rattle.agent_model.specs.KeyStates.{KeyState, expired}
 use Rattle.agent_model.specs.Looks.{due, due_at, due_by}
 use Rattle.agent_model.specs.State.{Client, Confirmer, Helper, Nothing, OnAsk, OnConfirmation, Port, State, UnderWay, Unnamed, Waits, change_port, find_port, find_to_start, numbers, remove_port, role_of}
-use Rattle.agent_model.specs.Step.{admitted, asker_at, attempts, at_moment, closed_between, ended_by_role, gone, handle, has_room, looked, step, take_frame, took_some}
-use Rattle.agent_model.specs.Verdicts.{HelperLost, Refuses, tell}
+use Rattle.agent_model.specs.Step.{admitted, asker_at, attempts, at_moment, closed_between, gone, handle, has_room, looked, step, take_frame, took_some}
+use Rattle.agent_model.specs.Verdicts.{tell}
 use Rattle.agent_model.proofs.ClientLemmas.{looked-bad, looked-stays, looked-whole}
 use Rattle.agent_model.proofs.ClosesLemmas.{gone-none}
 use Rattle.agent_model.proofs.PortsLemmas.{found_number, numbers-change_port}
 use Rattle.agent_model.proofs.SecondLemmas.{second-serve}
 use Rattle.agent_core.specs.Parts.{state_of, with_closes}
-use Rattle.agent_core.specs.Rising.{inserted}
+use Rattle.rising_numbers.specs.Rising.{inserted}
 use Rattle.agent_core.specs.Roles.{role_by}
 use Rattle.agent_core.specs.Served.{served_at}
 use Rattle.agent_core.specs.Slots.{OpenPorts}

@@ -1,9 +1,6 @@
 -- How many ports there are of a kind.
-use Rattle.std.proofs.Common.{arith, ◌≡◌, ◌≤◌, ℕ, suc, List, [], ◌∷◌, length, filter, refl, ap, ◌∙◌, Bool, true, false, not, ◌&&◌, if◌then◌else◌}
-use Rattle.world_ports.specs.declared.Door.{Door}
-use Rattle.world_ports.specs.declared.Door.TheVariants.{Clients, Children}
-use Rattle.helper_link.specs.declared.state.LinkState.{LinkState}
-use Rattle.agent_model.specs.State.{UnderWay, client_count, is_client, is_linked_to, is_unnamed, role_by_helper, role_of, unnamed_count}
+use Rattle.std.proofs.Common.{arith, ◌≡◌, ◌≤◌, ℕ, suc, List, [], ◌∷◌, length, filter, refl, ap, Bool, true, false, if◌then◌else◌}
+use Rattle.agent_model.specs.State.{UnderWay, client_count, is_client, is_unnamed, role_of, unnamed_count}
 use Rattle.agent_core.specs.declared.slot.Slot.{Slot}
 use Rattle.agent_core.specs.Slots.{ports_of}
 

@@ -6,7 +6,7 @@ use Rattle.world_ports.specs.declared.JobKind.TheVariants as kinds
 use Rattle.helper_link.specs.HelperLink.{IsStarting, askers}
 use Rattle.helper_link.specs.declared.state.LinkState.{LinkState}
 use Rattle.helper_link.specs.declared.state.LinkState.TheVariants as states
-use Rattle.confirm_desk.specs.Confirmations.{Confirmation, find_asker, find_job, find_linked}
+use Rattle.confirm_desk.specs.Confirmations.{Confirmation, find_asker, find_job}
 use Rattle.agent_model.specs.Actions.{Outcome}
 use Rattle.agent_model.specs.Answers.{link_lost, lose, tell_each}
 use Rattle.agent_model.specs.Children.{closed, failed_by, failed_if, job_left, remove_to_start}
@@ -14,7 +14,7 @@ use Rattle.agent_model.specs.Consents.{over, over_if}
 use Rattle.agent_model.specs.Events.{Ended, StartFailed}
 use Rattle.agent_model.specs.KeyStates.{KeyState}
 use Rattle.agent_model.specs.Sound.{IsRising}
-use Rattle.agent_model.specs.State.{Client, Confirmer, Helper, Port, State, UnderWay, Unnamed, find_port, find_to_start, remove_port}
+use Rattle.agent_model.specs.State.{Client, Confirmer, Helper, State, UnderWay, Unnamed, find_port, find_to_start}
 use Rattle.agent_model.specs.Step.{handle}
 use Rattle.agent_model.specs.Verdicts.{HelperLost, Refuses}
 use Rattle.agent_model.proofs.PortsLemmas.{found_number}

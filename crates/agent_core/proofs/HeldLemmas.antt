@@ -1,25 +1,24 @@
 -- Lemmas on what is held.
-use Rattle.std.proofs.Common.{◌≡◌, ℕ, ◌+◌, ◌<◌, ◌≤◌, List, [], ◌∷◌, ◌++◌, length, map, drop, get_or, refl, ap, sym, arith, ◌∙◌, Option, Some, None, Result, Ok, Err, filter, is_some, not, subst, Bool, true, false, if◌then◌else◌}
+use Rattle.std.proofs.Common.{◌≡◌, ℕ, ◌+◌, ◌<◌, ◌≤◌, List, [], ◌∷◌, ◌++◌, length, map, drop, get_or, refl, ap, sym, arith, ◌∙◌, Option, Some, None, Result, Ok, Err, is_some, not, subst, Bool, true, false, if◌then◌else◌}
 use Rattle.std.specs.Prelude.{◌↔◌, IsSome, IsTrue, OnOk}
 use Rattle.agent_msg.specs.Requests.{Addition, ClientRequest, IsRequest, session_bind, ListIdentities, Sign, Add, Remove, RemoveAll, Lock, Unlock, Bind, OtherExtension, Unsupported}
 use Rattle.agent_msg.specs.Reading.{request_of}
 use Rattle.agent_model.specs.Binds.{and_host_key}
 use Rattle.agent_model.specs.Limits.{longest_body}
 use Rattle.agent_model.proofs.BoundLemmas.{private-within, text-within}
-use Rattle.agent_model.specs.Verdicts.{verdict_text}
-use Rattle.agent_core.specs.Served.{IsShortRequest, IsStatus, asker_of, hides, keys_of, served_body, served_by}
+use Rattle.agent_core.specs.Served.{IsShortRequest, IsStatus, asker_of, hides, served_body, served_by}
 use Rattle.agent_core.specs.declared.asker.Asker.{Asker as CoreAsker}
 use Rattle.std.proofs.lemmas.List.{drop_more, length-append}
 use Rattle.wire_text.specs.Wire.{string, uint32}
 use Rattle.wire_text.proofs.WireLemmas.{length-string}
-use Rattle.identity_table.specs.Identities.{HeldKey, TableState}
+use Rattle.identity_table.specs.Identities.{HeldKey}
 use Rattle.std.specs.Str.{bytes_eq}
 use Rattle.identity_table.specs.Identities.{AreShort, answer_len, entries_len, find_identity, longest_private, remove_identity}
 use Rattle.identity_table.proofs.FindLemmas.{found_has}
 use Rattle.identity_table.proofs.PlaceLemmas.{remove_identity-none}
-use Rattle.agent_model.specs.Dispatch.{Asker, add_by, add_seen, remove_by, remove_seen, seen_by, sees, serve, with_identities}
+use Rattle.agent_model.specs.Dispatch.{Asker, add_by, add_seen, remove_by, remove_seen, sees, serve, with_identities}
 use Rattle.agent_model.specs.State.{UnderWay}
-use Rattle.agent_msg.specs.Replies.{entry, entries, entries_length, identities_answer, identities_length}
+use Rattle.agent_msg.specs.Replies.{entry, entries, entries_length, identities_length}
 use Rattle.agent_model.specs.KeyStates.{KeyState, shown}
 
 -- ---- lists of identities

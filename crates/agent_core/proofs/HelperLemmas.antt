@@ -196,13 +196,6 @@ closes_since old mid last between ports closed mid_is same is =
     is ∙ ap (λ (v : OpenPorts). gone v.last v.ports last ports) mid_is
     ∙ ap (λ ns. without (ns ++ (if nat_lt old.last last then last ∷ [] else [])) (numbers ports)) same
 
--- and what was closed before that
-pub closes_before : (old mid new : OpenPorts) (ports : List Port) → mid.closed ≡ gone old.last old.ports mid.last mid.ports → new ≡ record mid { ports = ports } → numbers ports ≡ numbers mid.ports → new.closed ≡ gone old.last old.ports new.last new.ports
-closes_before old mid new ports is new_is same =
-    ap (λ (v : OpenPorts). v.closed) new_is ∙ is
-    ∙ sym (ap (λ (v : OpenPorts). gone old.last old.ports v.last v.ports) new_is
-    ∙ ap (λ ns. without (numbers old.ports ++ (if nat_lt old.last mid.last then mid.last ∷ [] else [])) ns) same)
-
 -- ---- one after another
 
 -- the answers from one on are that one and those behind it

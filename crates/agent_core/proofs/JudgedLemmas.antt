@@ -14,7 +14,7 @@ use Rattle.helper_link.specs.declared.ask.AskKind.{AskKind}
 use Rattle.helper_link.proofs.OrderLemmas.{differ, find-remove, remove_rises}
 use Rattle.agent_model.specs.Answers.{find_verification, remove_verification}
 use Rattle.agent_model.specs.Sound.{AreJudged, AreTied, IsRight}
-use Rattle.agent_model.specs.State.{Nothing, OnAsk, Port, Verification, change_port, find_port}
+use Rattle.agent_model.specs.State.{OnAsk, Port, Verification, change_port, find_port}
 use Rattle.agent_model.proofs.TieLemmas.{IsOf, apart, found_after, here, tied-told}
 use Rattle.agent_core.specs.Settlings.{AreProvable, IsProvable, answered, told_with, unanswered}
 use Rattle.agent_core.proofs.HelperLemmas.{number-told_with}

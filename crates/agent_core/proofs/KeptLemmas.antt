@@ -1,5 +1,5 @@
 -- Lemmas on the storage of the open ports.
-use Rattle.std.proofs.Common.{◌≡◌, ℕ, zero, suc, ◌+◌, ◌^◌, ◌<◌, ◌≤◌, List, [], ◌∷◌, ◌++◌, length, get_or, set, refl, ap, arith, sym, ◌∙◌, Some, subst, slice_get, false, true, Bool, if◌then◌else◌, ◌==◌, ◌&&◌}
+use Rattle.std.proofs.Common.{◌≡◌, ℕ, zero, suc, ◌+◌, ◌^◌, ◌<◌, ◌≤◌, List, [], ◌∷◌, ◌++◌, length, get_or, set, refl, ap, arith, sym, ◌∙◌, Some, subst, slice_get, true, ◌&&◌}
 use Rattle.std.proofs.lemmas.Bool.Decides.{nat_tests}
 use Rattle.std.proofs.lemmas.List.{map-set, map-append, drop-map, take-map, length-append}
 use Rattle.std.proofs.lemmas.Option.{slice_get-map}
@@ -12,9 +12,11 @@ use Rattle.world_ports.specs.declared.Door.TheVariants.{Clients}
 use Rattle.agent_core.specs.declared.waits.Waits.TheVariants as waits
 use Rattle.agent_core.specs.declared.slot.Slot.{Slot}
 use Rattle.agent_core.specs.Places.{IsPlace}
-use Rattle.agent_core.specs.Rising.{IsRisingNumbers, inserted, noted, removed}
+use Rattle.agent_core.specs.Listed.{noted}
+use Rattle.rising_numbers.specs.Rising.{IsRisingList, inserted, removed}
+use Rattle.rising_numbers.proofs.RisingLemmas.{length-inserted, rising_list, rising_list-inserted}
 use Rattle.agent_core.specs.Slots.{IsKept, is_owing, owing_of, port_of, ports_of, waits_of}
-use Rattle.agent_core.proofs.OwingLemmas.{length-inserted, length-owing_of, listed-changed, owing_of-owed, owing_of-append, owing_of-kept, owing_of-remove_port, rising-inserted, rising_numbers}
+use Rattle.agent_core.proofs.OwingLemmas.{length-owing_of, listed-changed, owing_of-owed, owing_of-append, owing_of-kept, owing_of-remove_port, rising_numbers}
 use Rattle.agent_core.proofs.PlaceLemmas.{length-ports_of, no_slot}
 use Rattle.agent_model.specs.KeyStates.{KeyState}
 use Rattle.agent_model.specs.Sound.{IsRising}
@@ -23,7 +25,7 @@ use Rattle.agent_model.specs.Verdicts.{tell}
 use Rattle.agent_core.specs.Served.{served_at}
 use Rattle.wire_text.specs.Frames.{front_body}
 use Rattle.agent_model.specs.State.{Port, UnderWay, change_port, find_port, is_client, is_some_bytes, new_port, remove_port}
-use Rattle.agent_model.proofs.PortsLemmas.{found_above, rising-append, rising-change_port, rising-remove_port, rising_higher}
+use Rattle.agent_model.proofs.PortsLemmas.{rising-append, rising-change_port, rising-remove_port, rising_higher}
 
 -- edits of the slots are edits of the ports
 pub ports_of-remove : (slots : List Slot) (place : ℕ) → ports_of (remove slots place) ≡ remove (ports_of slots) place
@@ -36,10 +38,10 @@ ports_of-push slots slot = map-append port_of slots (slot ∷ [])
 pub kept_rising : (slots : List Slot) (owing closed : List ℕ) (room more last : ℕ) → IsKept slots owing closed room more last → IsRising 0 (2 ^ 64) (ports_of slots)
 kept_rising slots owing closed room more last kept = rising_higher 0 last (2 ^ 64) (ports_of slots) (omega (arith, kept.fits)) kept.rising
 
-pub kept_numbers : (slots : List Slot) (owing closed : List ℕ) (room more last : ℕ) → IsKept slots owing closed room more last → IsRisingNumbers 0 owing
+pub kept_numbers : (slots : List Slot) (owing closed : List ℕ) (room more last : ℕ) → IsKept slots owing closed room more last → IsRisingList owing
 kept_numbers slots owing closed room more last kept =
-    let P : List ℕ → Type 0 = λ xs. IsRisingNumbers 0 xs in
-    subst P (sym kept.listed) (rising_numbers 0 last (ports_of slots) kept.rising)
+    let P : List ℕ → Type 0 = λ xs. IsRisingList xs in
+    subst P (sym kept.listed) (rising_list 0 _ (rising_numbers 0 last (ports_of slots) kept.rising))
 
 -- a port at its place
 within_place : (slots : List Slot) (number place : ℕ) → IsPlace number (ports_of slots) place → place < length slots
@@ -172,12 +174,11 @@ kept-removed slots owing closed room croom last number place more cmore kept is 
     let within : place < length slots = within_place slots number place is in
     let fewer : length (remove slots place) + 1 ≡ length slots = length-remove_slot slots place within in
     let longer = length-inserted number closed in
-    let above : 0 < number = found_above number 0 last (ports_of slots) _ kept.rising (found_port slots number place is) in
     record {
       rising = subst P (sym same) (rising-remove_port number 0 last (ports_of slots) kept.rising);
       listed = ap (removed number) kept.listed ∙ sym (owing_of-remove_port number 0 last (ports_of slots) kept.rising) ∙ ap owing_of (sym same);
       room = omega (arith, kept.room);
-      closed_rising = rising-inserted 0 number closed above kept.closed_rising;
+      closed_rising = rising_list-inserted number closed kept.closed_rising;
       closed_fits = omega (arith, longer, kept.closed_fits);
       spare = λ some. omega (arith, kept.closed_fits);
       fits = kept.fits;
@@ -215,7 +216,7 @@ kept-refused slots owing closed room croom last cmore kept none croomy some belo
       rising = rising_higher 0 last (suc last) (ports_of slots) (omega arith) kept.rising;
       listed = kept.listed;
       room = kept.room;
-      closed_rising = rising-inserted 0 (suc last) closed (omega arith) kept.closed_rising;
+      closed_rising = rising_list-inserted (suc last) closed kept.closed_rising;
       closed_fits = omega (arith, fitted, one);
       spare = λ there. omega (arith, fitted);
       fits = below;

@@ -1,5 +1,5 @@
 -- The least of the numbers with a property, where there is one.
-use Rattle.std.proofs.Common.{◌≡◌, ℕ, ◌<◌, ◌≤◌, refl, ap, sym, arith, ◌⊎◌, Option, Some, None, min, inl, inr}
+use Rattle.std.proofs.Common.{◌≡◌, ℕ, ◌<◌, ◌≤◌, refl, ap, arith, ◌⊎◌, Option, Some, None, min, inl, inr}
 use Rattle.std.proofs.lemmas.Bool.{cases_lt}
 use Rattle.std.proofs.lemmas.Bool.Decides.{nat_tests}
 use Rattle.confirm_desk.specs.Calls.{lesser}

@@ -1,4 +1,3 @@
-pub mod RisingLemmas
 pub mod PlaceLemmas
 pub mod HeldLemmas
 pub mod SeenLemmas
@@ -16,6 +15,7 @@ pub mod ChildLemmas
 pub mod NextLemmas
 pub mod LeastLemmas
 pub mod NextConfirmerLemmas
+pub mod NextChildLemmas
 pub mod ShortLemmas
 pub mod BoundLemmas
 pub mod FailLemmas

@@ -1,15 +1,13 @@
 -- The next port that is owed bytes, where child processes ask the user.
-use Rattle.std.proofs.Common.{◌≡◌, ◌≢◌, ℕ, ◌<◌, ◌≤◌, List, [], ◌∷◌, length, refl, ap, sym, subst, ◌∙◌, Option, Some, None, IsSome, Bool, true, false, arith, nat_lt, ◌==◌, ◌&&◌, ◌⊎◌, inl, inr, if◌then◌else◌}
-use Rattle.std.proofs.lemmas.Bool.{cases_eq}
+use Rattle.std.proofs.Common.{◌≡◌, ℕ, ◌<◌, List, [], ◌∷◌, length, refl, ap, sym, subst, ◌∙◌, Option, Some, None, Bool, true, false, arith, nat_lt, ◌==◌, ◌&&◌, ◌⊎◌, inl, inr, if◌then◌else◌}
 use Rattle.std.proofs.lemmas.Bool.Decides.{nat_tests}
 use Rattle.world_ports.specs.declared.Door.{Door}
 use Rattle.world_ports.specs.declared.Door.TheVariants.{Clients, Children}
-use Rattle.helper_link.specs.declared.state.LinkState.TheVariants as states
 use Rattle.confirm_desk.specs.Calls.{lesser, next_owed, owed_port}
 use Rattle.confirm_desk.specs.Confirmations.{Confirmation, find_job, find_linked}
 use Rattle.agent_model.specs.Asking.{AreAttended, AreRaised}
 use Rattle.agent_model.specs.Sound.{IsRising}
-use Rattle.agent_model.specs.State.{Port, Role, UnderWay, find_port, is_linked_to, is_some_bytes, next_owed_in, owed_as, owed_by_port, role_by_helper, role_by_link, role_of}
+use Rattle.agent_model.specs.State.{Port, UnderWay, find_port, is_linked_to, is_some_bytes, next_owed_in, owed_as, owed_by_port, role_by_helper, role_by_link, role_of}
 use Rattle.agent_model.proofs.AttendedLemmas.{none_linked, some_port}
 use Rattle.agent_model.proofs.JobLemmas.{IsIn, behind, here, in-by_port, in-found, linked_port}
 use Rattle.agent_model.proofs.PortsLemmas.{found_above, found_number}

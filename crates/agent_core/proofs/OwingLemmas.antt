@@ -1,5 +1,5 @@
 -- The rising list of the ports that are owed bytes.
-use Rattle.std.proofs.Common.{◌≡◌, ℕ, ◌+◌, ◌<◌, ◌≤◌, List, [], ◌∷◌, ◌++◌, length, refl, ap, arith, sym, ◌∙◌, Some, Bool, true, false, inl, inr, if◌then◌else◌, ◌==◌, nat_lt}
+use Rattle.std.proofs.Common.{◌≡◌, ℕ, ◌<◌, ◌≤◌, List, [], ◌∷◌, ◌++◌, length, refl, ap, arith, sym, ◌∙◌, Some, Bool, true, false, inl, inr, if◌then◌else◌}
 use Rattle.std.proofs.lemmas.Bool.{cases_Bool, cases_eq}
 use Rattle.std.proofs.lemmas.Bool.Decides.{nat_tests}
 use Rattle.world_ports.specs.declared.Door.{Door}
@@ -7,17 +7,15 @@ use Rattle.world_ports.specs.declared.Door.TheVariants.{Clients, Children}
 use Rattle.agent_model.specs.Sound.{IsRising}
 use Rattle.agent_model.specs.State.{Port, change_port, find_port, new_port, remove_port}
 use Rattle.agent_model.proofs.PortsLemmas.{found_above}
-use Rattle.agent_core.specs.Rising.{IsRisingNumbers, inserted, noted, removed}
+use Rattle.agent_core.specs.Listed.{noted}
+use Rattle.rising_numbers.specs.Rising.{IsRisingNumbers, inserted, removed}
+use Rattle.rising_numbers.proofs.RisingLemmas.{inserted_below, removed_below, rising_lower}
 use Rattle.agent_core.specs.Slots.{is_owing, owing_of}
-
-lower_numbers : (lower low : ℕ) (xs : List ℕ) → lower ≤ low → IsRisingNumbers low xs → IsRisingNumbers lower xs
-lower_numbers lower low [] below rising = tt
-lower_numbers lower low (x ∷ xs) below rising = (omega (arith, rising.0), rising.1)
 
 -- a number may be listed in front or left out
 listed_or_not : (is_in : Bool) (low number : ℕ) (others : List ℕ) → low < number → IsRisingNumbers number others → IsRisingNumbers low (if is_in then number ∷ others else others)
 listed_or_not true low number others above rising = (above, rising)
-listed_or_not false low number others above rising = lower_numbers low number others (omega arith) rising
+listed_or_not false low number others above rising = rising_lower low number others (omega arith) rising
 
 -- the numbers of rising ports rise
 pub rising_numbers : (low high : ℕ) (ports : List Port) → IsRising low high ports → IsRisingNumbers low (owing_of ports)
@@ -35,19 +33,6 @@ pub owing_of-append : (number : ℕ) (door : Door) (ports : List Port) → owing
 owing_of-append number door [] = rw (new_owes_nothing number door) refl
 owing_of-append number door (port ∷ ports) =
     let rest : owing_of (ports ++ new_port number door ∷ []) ≡ owing_of ports = owing_of-append number door ports in
-    grind (arith, nat_tests)
-
-pub removed_below : (number low : ℕ) (xs : List ℕ) → number ≤ low → IsRisingNumbers low xs → removed number xs ≡ xs
-removed_below number low [] below rising = refl
-removed_below number low (x ∷ xs) below rising =
-    let above : low < x = rising.0 in
-    let rest : removed number xs ≡ xs = removed_below number x xs (omega (arith, rising.0)) rising.1 in
-    grind (arith, nat_tests)
-
-pub inserted_below : (number low : ℕ) (xs : List ℕ) → number ≤ low → IsRisingNumbers low xs → inserted number xs ≡ number ∷ xs
-inserted_below number low [] below rising = refl
-inserted_below number low (x ∷ xs) below rising =
-    let above : low < x = rising.0 in
     grind (arith, nat_tests)
 
 -- the list of those that are owed bytes follows the ports
@@ -117,20 +102,3 @@ length-owing_of [] = omega arith
 length-owing_of (port ∷ ports) =
     let rest : length (owing_of ports) ≤ length ports = length-owing_of ports in
     grind (arith, nat_tests)
-
--- one number more
-pub length-inserted : (number : ℕ) (xs : List ℕ) → length (inserted number xs) ≤ length xs + 1
-length-inserted number [] = omega arith
-length-inserted number (x ∷ xs) =
-    let rest : length (inserted number xs) ≤ length xs + 1 = length-inserted number xs in
-    grind (arith, nat_tests)
-
--- and the list still rises
-pub rising-inserted : (low number : ℕ) (xs : List ℕ) → low < number → IsRisingNumbers low xs → IsRisingNumbers low (inserted number xs)
-rising-inserted low number [] above rising = (above, tt)
-rising-inserted low number (x ∷ xs) above rising = by_order (number == x) (nat_lt number x) refl refl (λ below. rising-inserted x number xs below rising.1)
-  where
-    by_order : (same less : Bool) → (number == x) ≡ same → nat_lt number x ≡ less → (x < number → IsRisingNumbers x (inserted number xs)) → IsRisingNumbers low (if same then x ∷ xs else (if less then number ∷ x ∷ xs else x ∷ inserted number xs))
-    by_order true less is order later = rising
-    by_order false true is order later = (above, (grind (arith, nat_tests), rising.1))
-    by_order false false is order later = (rising.0, later (grind (arith, nat_tests)))

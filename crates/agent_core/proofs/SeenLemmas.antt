@@ -3,7 +3,7 @@ use Rattle.std.proofs.Common.{◌≡◌, ℕ, ◌+◌, ◌<◌, ◌≤◌, List,
 use Rattle.std.proofs.lemmas.List.{drop_more, drop_all}
 use Rattle.identity_table.specs.Identities.{HeldKey, TableState, entries_len, entry_len}
 use Rattle.agent_msg.specs.Requests.{ListIdentities}
-use Rattle.agent_msg.specs.Replies.{entries, entry, identities_answer}
+use Rattle.agent_msg.specs.Replies.{entries, identities_answer}
 use Rattle.agent_model.specs.KeyStates.{shown}
 use Rattle.agent_model.specs.State.{UnderWay}
 use Rattle.agent_model.specs.Verdicts.{verdict_text}

@@ -1,5 +1,5 @@
 -- Which ports an event has closed so far.
-use Rattle.std.specs.Prelude.{◌≡◌, ◌≤◌, ℕ, List, true}
+use Rattle.std.specs.Prelude.{◌≡◌, ℕ, List, true}
 use Rattle.agent_model.specs.NumberLists.{has}
 use Rattle.agent_model.specs.Sound.{IsRising}
 use Rattle.agent_model.specs.State.{Port, numbers}

@@ -1,6 +1,7 @@
 pub mod Closed
 pub mod Happenings
-pub mod Rising
+pub mod Listed
+pub mod Owing
 pub mod Slots
 pub mod Places
 pub mod Roles

@@ -4,7 +4,7 @@ use Rattle.dest_rule.specs.Chains.{ChainState}
 use Rattle.agent_core.specs.declared.slot.Slot.{Slot}
 use Rattle.agent_core.specs.declared.waits.Waits.{Waits as CoreWaits}
 use Rattle.agent_core.specs.declared.waits.Waits.TheVariants as waits
-use Rattle.agent_core.specs.Rising.{IsRisingNumbers}
+use Rattle.rising_numbers.specs.Rising.{IsRisingList}
 use Rattle.agent_model.specs.Sound.{IsRising}
 use Rattle.agent_model.specs.State.{Nothing, OnAsk, OnConfirmation, Port, Waits, is_client, is_some_bytes}
 
@@ -64,7 +64,7 @@ pub record IsKept (slots : List Slot) (owing closed : List ℕ) (owing_room clos
   pub rising : IsRising 0 last (ports_of slots)
   pub listed : owing ≡ owing_of (ports_of slots)
   pub room : length slots ≤ owing_room
-  pub closed_rising : IsRisingNumbers 0 closed
+  pub closed_rising : IsRisingList closed
   pub closed_fits : length slots + length closed ≤ closed_room
   pub spare : 0 < length slots → length slots + 1 ≤ closed_room
   pub fits : last < 2 ^ 64

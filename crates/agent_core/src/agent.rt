@@ -1,12 +1,13 @@
 //! The agent.
 
-ghost use Rattle.std.specs.Prelude.{◌≡◌, ◌↔◌, [], IsOk, IsSome, IsTrue, OnErr, OnOk, length};
+ghost use Rattle.std.specs.Prelude.{◌≡◌, ◌↔◌, IsOk, IsSome, IsTrue, OnErr, OnOk, length};
 ghost use Rattle.identity_table.specs.Identities.{IsSound};
 ghost use Rattle.agent_model.specs.Sound.{IsSteady};
 ghost use Rattle.agent_model.specs.State.{Fits, client_count, find_port, first_state, next_due, next_owed, owed_of, starts, wants};
 ghost use Rattle.agent_model.specs.Step.{step};
 ghost use Rattle.agent_core.specs.Bound.{WantsNoMemory};
 ghost use Rattle.agent_core.specs.Happenings.{happening};
+ghost use Rattle.agent_core.specs.Owing.{is_client_at, next_child_owed};
 
 use crate::keys::Keys;
 use crate::parts::Parts;
@@ -107,6 +108,14 @@ impl Agent {
         self.parts.next_owed(after)
     }
 
+    /// The open port of the least number above `after` that is a child process's and owed bytes.
+    pub fn next_child_owed(&self, after: u64) -> Option<u64>
+        ensures next { result ≡ next_child_owed after self.now }
+        ensures steady { IsSteady self.now }
+    {
+        self.parts.next_child_owed(after)
+    }
+
     /// Whether the port is to be read: not where it isn't open, and not while a request of it waits to be taken.
     pub fn wants(&self, port: u64) -> bool
         ensures { result ≡ wants port self.now }
@@ -119,6 +128,14 @@ impl Agent {
         ensures { IsTrue result ↔ IsSome (find_port port self.now.ports) }
     {
         self.parts.ports.is_open(port)
+    }
+
+    /// Whether the port is open and a client's.
+    pub fn is_client(&self, port: u64) -> bool
+        ensures value { result ≡ is_client_at (find_port port self.now.ports) }
+        ensures steady { IsSteady self.now }
+    {
+        self.parts.ports.is_client(port)
     }
 
     /// The child processes that wait to be started.
@@ -174,7 +191,8 @@ impl Agent {
 
     /// The number of the last port that joined, 0 where none did.
     pub fn ports_so_far(&self) -> u64
-        ensures { result ≡ self.now.last_port }
+        ensures value { result ≡ self.now.last_port }
+        ensures steady { IsSteady self.now }
     {
         self.parts.ports.last()
     }

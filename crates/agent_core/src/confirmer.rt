@@ -128,10 +128,7 @@ pub fn lose_client(ports: &mut Ports, under_way: &mut UnderWay, number: u64)
 fn job_of_asker(under_way: &UnderWay, number: u64) -> Option<u64>
     ensures { result ≡ option_map job_of (find_asker number under_way.now.confirmations) }
 {
-    match under_way.find_asker(number) {
-        Some(one) => Some(one.job()),
-        None => None,
-    }
+    under_way.find_asker(number).map(|one| one.job())
 }
 
 /// The port of a child process that asks the user has ended, and with it the confirmation. Takes no memory.

@@ -1,6 +1,6 @@
 //! What is tested again when the user consents.
 
-ghost use Rattle.std.specs.Prelude.{◌≡◌, ◌≤◌, ℕ, List, [], IfOk, IfSome, IsSome, OnOk, Some, is_some, length};
+ghost use Rattle.std.specs.Prelude.{◌≡◌, ◌≤◌, ℕ, List, [], IfOk, IfSome, IsSome, OnOk, Some, is_none, length};
 ghost use Rattle.std.specs.Option.{option_copied};
 ghost use Rattle.dest_rule.specs.Rules.{denial_under};
 ghost use Rattle.confirm_desk.specs.Calls.{given_back};
@@ -17,6 +17,7 @@ use crate::CoreMemory;
 use crate::keys::Keys;
 use crate::ports::Ports;
 use confirm_desk::Held;
+use constraint_rec::Constraint;
 use dest_rule::{Chain, may_sign};
 use identity_table::{Identity, Lock, Table};
 use under_way::UnderWay;
@@ -38,18 +39,18 @@ pub fn find_granted<'a>(
         return None;
     }
     let key = table.by_number(addition)?;
-    if is_denied(key, chain, message, wall) {
+    if !permits(key.rules(), key.blob(), chain, message, wall) {
         return None;
     }
     Some(key)
 }
 
-// Whether the key's destination constraints deny the signature. A key without any isn't asked about.
-fn is_denied(key: &Identity, chain: &Chain, message: &[u8], wall: u64) -> bool
-    ensures { result ≡ is_some (denial_under key.now.rules key.now.blob chain.now.bindings message.now wall) }
+/// Whether these constraints of the key of this blob permit a signature of the message for a connection so bound.
+/// A key without any isn't asked about.
+pub fn permits(rules: &[Constraint], blob: &[u8], chain: &Chain, message: &[u8], wall: u64) -> bool
+    ensures { result ≡ is_none (denial_under rules.now blob.now chain.now.bindings message.now wall) }
 {
-    let rules = key.rules();
-    !rules.is_empty() && may_sign(rules, key.blob(), chain, message, wall).is_err()
+    rules.is_empty() || may_sign(rules, blob, chain, message, wall).is_ok()
 }
 
 /// Puts what was held to the helper, where it may be signed yet, and gives the ask's number.

@@ -6,7 +6,6 @@ ghost use Rattle.agent_model.specs.Answers.{find_verification, helper_heard, lin
 ghost use Rattle.agent_model.specs.KeyStates.{KeyState};
 ghost use Rattle.agent_model.specs.Sound.{IsRising};
 ghost use Rattle.agent_model.specs.State.{Port, change_port, find_port};
-ghost use Rattle.agent_model.specs.Step.{gone};
 ghost use Rattle.agent_model.specs.Verdicts.{HelperLost, Refuses};
 ghost use Rattle.agent_core.specs.Bound.{AreSilent, IsBound};
 ghost use Rattle.agent_core.specs.Closed.{IsClosedSince};
@@ -34,8 +33,6 @@ pub fn hear_helper(
     ensures state { (wall : ℕ) (keys : KeyState) (c : List ℕ) → OnOk result
         (state_of wall keys under_way.new ports.new c
         ≡ (helper_heard piece.now (state_of wall keys under_way.old ports.old c)).state) }
-    ensures closes { ports.old.closed ≡ [] → OnOk result
-        (ports.new.closed ≡ gone ports.old.last ports.old.ports ports.new.last ports.new.ports) }
     ensures closed { (last : ℕ) (began : List Port) → IsClosedSince last began ports.old
         → OnOk result (IsClosedSince last began ports.new) }
     ensures failed { OnOk result (under_way.new.link.failed ≡ []) }
@@ -61,8 +58,6 @@ pub fn lose_helper(ports: &mut Ports, under_way: &mut UnderWay, helper: u64)
     ensures state { (wall : ℕ) (keys : KeyState) (c : List ℕ) → state_of wall keys under_way.new ports.new c
         ≡ (lose (state_of wall keys under_way.old ports.old c)).state }
     ensures rising { IsRising 0 ports.old.last ports.old.ports }
-    ensures closes { ports.old.closed ≡ []
-        → ports.new.closed ≡ gone ports.old.last ports.old.ports ports.new.last ports.new.ports }
     ensures closed { (last : ℕ) (began : List Port) → IsClosedSince last began ports.old
         → IsClosedSince last began ports.new }
     ensures failed { under_way.new.link.failed ≡ [] }

@@ -7,7 +7,8 @@ ghost use Rattle.agent_model.specs.Looks.{due};
 ghost use Rattle.agent_model.specs.Step.{attempts, take_frame, took_some};
 ghost use Rattle.agent_model.specs.Verdicts.{HelperLost, Refuses, Verdict, tell};
 ghost use Rattle.under_way.specs.Parts.{TellsOf};
-ghost use Rattle.agent_core.specs.Rising.{IsRisingNumbers, inserted, noted};
+ghost use Rattle.rising_numbers.specs.Rising.{IsRisingList, inserted};
+ghost use Rattle.agent_core.specs.Listed.{noted};
 ghost use Rattle.confirm_desk.specs.Confirmations.{find_asker};
 ghost use Rattle.agent_core.specs.Served.{served_at};
 ghost use Rattle.agent_core.specs.Settlings.{IsShortAnswer, verdict_of};
@@ -15,9 +16,9 @@ ghost use Rattle.agent_model.specs.Sound.{IsRight};
 ghost use Rattle.agent_core.specs.Slots.{is_owing, port_of};
 ghost use Rattle.under_way.specs.Verifications.{verification_of};
 
+use crate::CoreMemory;
 use crate::keys::Keys;
 use crate::slot::{self, Slot};
-use crate::{CoreMemory, rising};
 use helper_link::Answer;
 use under_way::{UnderWay, Verification};
 use world_ports::Door;
@@ -25,22 +26,22 @@ use world_ports::Door;
 // Lists the port among the clients that are owed bytes where it is one.
 #[tactic(auto, unfolding(crate::specs::Slots::is_owing))]
 fn note_owed(slot: &Slot, owing: &mut Vec<u64>)
-    requires rising { IsRisingNumbers 0 owing.old.items }
+    requires rising { IsRisingList owing.old.items }
     requires room { length (inserted slot.now.number owing.old.items) ≤ vec_capacity owing.old }
     ensures items { owing.new.items ≡ noted (is_owing (port_of slot.now)) slot.now.number owing.old.items }
     ensures room { vec_capacity owing.old ≤ vec_capacity owing.new }
 {
     if slot.door == Door::Clients && !slot.owed.bytes().is_empty() {
-        rising::put_in(owing, slot.number);
+        rising_numbers::put_in(owing, slot.number);
     } else {
-        rising::take_out(owing, slot.number);
+        rising_numbers::take_out(owing, slot.number);
     }
 }
 
 /// Drops the first `count` bytes that a port is owed, and lists it.
 pub fn drop_sent_at(slot: &mut Slot, owing: &mut Vec<u64>, count: usize)
     requires count { count ≤ length slot.old.owed }
-    requires rising { IsRisingNumbers 0 owing.old.items }
+    requires rising { IsRisingList owing.old.items }
     requires room { length (inserted slot.old.number owing.old.items) ≤ vec_capacity owing.old }
 
     ensures port { port_of slot.new ≡ took_some count (port_of slot.old) }
@@ -65,7 +66,7 @@ pub fn serve_at(
     requires due { due (port_of slot.old) ≡ Whole body_len }
     requires failed { under_way.old.link.failed ≡ [] }
     requires alone { find_asker slot.old.number under_way.old.confirmations ≡ None }
-    requires rising { IsRisingNumbers 0 owing.old.items }
+    requires rising { IsRisingList owing.old.items }
     requires room { length (inserted slot.old.number owing.old.items) ≤ vec_capacity owing.old }
 
     ensures port { OnOk result (port_of slot.new ≡ tell
@@ -92,7 +93,7 @@ pub fn prove_at(
     verification: &Verification,
 ) -> Result<(), CoreMemory>
     requires right { IsRight (verification_of verification.now) slot.old.chain.bindings }
-    requires rising { IsRisingNumbers 0 owing.old.items }
+    requires rising { IsRisingList owing.old.items }
     requires room { length (inserted slot.old.number owing.old.items) ≤ vec_capacity owing.old }
 
     ensures port { OnOk result (port_of slot.new ≡ prove (verification_of verification.now) (port_of slot.old)) }
@@ -109,7 +110,7 @@ pub fn prove_at(
 /// Tells an asker what the helper answered, and lists it.
 pub fn tell_at(slot: &mut Slot, owing: &mut Vec<u64>, answer: &Answer) -> Result<(), CoreMemory>
     requires short { IsShortAnswer answer.now }
-    requires rising { IsRisingNumbers 0 owing.old.items }
+    requires rising { IsRisingList owing.old.items }
     requires room { length (inserted slot.old.number owing.old.items) ≤ vec_capacity owing.old }
 
     ensures port { OnOk result (port_of slot.new ≡ tell (verdict_of answer.now) (port_of slot.old)) }
@@ -126,7 +127,7 @@ pub fn tell_at(slot: &mut Slot, owing: &mut Vec<u64>, answer: &Answer) -> Result
 /// Tells a client that waits that the helper is lost, and lists it. Takes no memory.
 pub fn refuse_at(slot: &mut Slot, owing: &mut Vec<u64>)
     requires silent { slot.old.owed ≡ [] }
-    requires rising { IsRisingNumbers 0 owing.old.items }
+    requires rising { IsRisingList owing.old.items }
     requires room { length (inserted slot.old.number owing.old.items) ≤ vec_capacity owing.old }
 
     ensures port { port_of slot.new ≡ tell (Refuses HelperLost) (port_of slot.old) }
@@ -142,7 +143,7 @@ pub fn refuse_at(slot: &mut Slot, owing: &mut Vec<u64>)
 /// Lets an asker wait for an ask, or tells it that there is none, and lists it. Takes no memory.
 pub fn conclude_at(slot: &mut Slot, owing: &mut Vec<u64>, asked: Option<u64>)
     requires silent { slot.old.owed ≡ [] }
-    requires rising { IsRisingNumbers 0 owing.old.items }
+    requires rising { IsRisingList owing.old.items }
     requires room { length (inserted slot.old.number owing.old.items) ≤ vec_capacity owing.old }
 
     ensures port { (verdict : Verdict) → TellsOf verdict asked

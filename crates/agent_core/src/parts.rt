@@ -8,6 +8,7 @@ ghost use Rattle.agent_model.specs.State.{Fits, find_port, next_owed, owed_of};
 ghost use Rattle.agent_model.specs.Step.{closed_between, handle, looked, step};
 ghost use Rattle.agent_core.specs.Bound.{IsCalm, WantsNoMemory};
 ghost use Rattle.agent_core.specs.Happenings.{happening};
+ghost use Rattle.agent_core.specs.Owing.{next_child_owed};
 ghost use Rattle.agent_core.specs.Parts.{with_closes};
 
 use crate::children::hear_unnamed;
@@ -15,7 +16,7 @@ use crate::confirmer::{end_if, hear_confirmer, lose_client, lose_confirmer};
 use crate::helper::{hear_helper, lose_helper, lose_link};
 use crate::keys::Keys;
 use crate::ports::Ports;
-use crate::role::{Role, lesser, next_of, owed_helper, role_at};
+use crate::role::{Role, lesser, owed_helper_above, role_at};
 use crate::{CoreMemory, Event};
 use frame_core::Look;
 use std::marker::Model;
@@ -83,9 +84,19 @@ impl Parts {
         ensures steady { IsSteady self.now }
     {
         let client = self.ports.next_owed(after);
-        let helper = owed_helper(&self.ports, &self.under_way);
+        let child = self.next_child_owed(after);
+        lesser(client, child)
+    }
+
+    /// The open port of the least number above `after` that is a child process's and owed bytes.
+    pub fn next_child_owed(&self, after: u64) -> Option<u64>
+        requires { IsCalm self.now }
+        ensures next { result ≡ next_child_owed after self.now }
+        ensures steady { IsSteady self.now }
+    {
+        let helper = owed_helper_above(&self.ports, &self.under_way, after);
         let confirmer = self.under_way.next_confirmer_owed(after);
-        lesser(next_of(after, client, helper), confirmer)
+        lesser(helper, confirmer)
     }
 
     // Takes one event after its moment.

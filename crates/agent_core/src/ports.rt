@@ -1,6 +1,6 @@
 //! The open ports.
 
-ghost use Rattle.std.specs.Prelude.{◌≡◌, ◌↔◌, ℕ, List, ◌-◌, ◌^◌, ◌<◌, ◌≤◌, [], ◌∷◌, true, if◌then◌else◌, suc, false, None, Some, IfOk, IsSome, IsTrue, MatchOption, OnOk, length};
+ghost use Rattle.std.specs.Prelude.{◌≡◌, ◌↔◌, ℕ, List, ◌-◌, ◌^◌, ◌<◌, ◌≤◌, [], ◌∷◌, true, if◌then◌else◌, suc, false, None, Some, IsSome, IsTrue, MatchOption, OnOk, length};
 ghost use Rattle.wire_text.specs.Frames.{Whole, front_body};
 ghost use Rattle.frame_core.specs.Looks.{front_of};
 ghost use Rattle.agent_model.specs.Answers.{prove};
@@ -12,7 +12,8 @@ ghost use Rattle.agent_model.specs.Step.{admitted, attempts, gone, take_frame, t
 ghost use Rattle.agent_model.specs.Verdicts.{HelperLost, Refuses, Verdict, tell};
 ghost use Rattle.under_way.specs.Parts.{TellsOf};
 ghost use Rattle.agent_core.specs.Closed.{IsClosedSince};
-ghost use Rattle.agent_core.specs.Rising.{first_above, inserted};
+ghost use Rattle.rising_numbers.specs.Rising.{first_above, inserted};
+ghost use Rattle.agent_core.specs.Owing.{is_client_at};
 ghost use Rattle.agent_core.specs.Roles.{door_by};
 ghost use Rattle.confirm_desk.specs.Confirmations.{find_asker};
 ghost use Rattle.agent_core.specs.Served.{served_at};
@@ -26,7 +27,7 @@ use crate::owed::Owed;
 use crate::places::place_of;
 use crate::slot::{self, Slot};
 use crate::waits::Waits;
-use crate::{CoreMemory, counting, rising};
+use crate::{CoreMemory, counting};
 use dest_rule::Chain;
 use frame_core::Look;
 use helper_link::Answer;
@@ -96,6 +97,16 @@ impl Ports {
         }
     }
 
+    /// Whether the port is open and a client's.
+    pub fn is_client(&self, number: u64) -> bool
+        ensures { result ≡ is_client_at (find_port number self.now.ports) }
+    {
+        match self.find(number) {
+            Some(slot) => slot.door == Door::Clients,
+            None => false,
+        }
+    }
+
     pub fn last(&self) -> u64
         ensures { result ≡ self.now.last }
     {
@@ -148,7 +159,7 @@ impl Ports {
         ensures next { result ≡ first_above after (owing_of self.now.ports) }
         ensures rising { IsRising 0 self.now.last self.now.ports }
     {
-        rising::next_above(&self.owing, after)
+        rising_numbers::next_above(&self.owing, after)
     }
 
     /// An event begins: none was closed by it yet.
@@ -176,7 +187,7 @@ impl Ports {
             self.admit(door)?;
         } else {
             self.last += 1;
-            rising::put_in(&mut self.closed, self.last);
+            rising_numbers::put_in(&mut self.closed, self.last);
         }
         Ok(())
     }
@@ -328,8 +339,8 @@ impl Ports {
             unreachable!()
         };
         self.slots.remove(place).close();
-        rising::take_out(&mut self.owing, number);
-        rising::put_in(&mut self.closed, number);
+        rising_numbers::take_out(&mut self.owing, number);
+        rising_numbers::put_in(&mut self.closed, number);
     }
 }
 

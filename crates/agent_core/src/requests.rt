@@ -1,9 +1,8 @@
 //! What requests do to the identities and the lock, and what they are answered.
 
-ghost use Rattle.std.specs.Prelude.{◌≡◌, ◌+◌, ℕ, List, [], true, None, Option, IsSome, is_none, OnOk, IfOk, ◌≤◌, length};
+ghost use Rattle.std.specs.Prelude.{◌≡◌, ◌+◌, ℕ, List, [], true, None, Option, IsSome, OnOk, IfOk, ◌≤◌, length};
 ghost use Rattle.agent_model.specs.Limits.{longest_body};
 ghost use Rattle.agent_msg.specs.Requests.{Sign, client_request};
-ghost use Rattle.dest_rule.specs.Rules.{denial_under};
 ghost use Rattle.identity_table.specs.Identities.{TableState, find_identity};
 ghost use Rattle.agent_model.specs.Dispatch.{add_by, add_seen, remove_by};
 ghost use Rattle.agent_model.specs.State.{UnderWay as AnUnderWay};
@@ -16,12 +15,13 @@ ghost use Rattle.agent_core.specs.declared.asker.Asker.{Asker as AnAsker};
 
 use crate::CoreMemory;
 use crate::asker::Asker;
+use crate::granted::permits;
 use crate::owed::Owed;
 use crate::seen::{list, sees};
 use crate::waits::Waits;
 use agent_msg::{MsgFault, Request, read_request};
-use constraint_rec::{Constraint, Terms};
-use dest_rule::{Next, may_sign};
+use constraint_rec::Terms;
+use dest_rule::Next;
 use identity_table::{AddFault, Identity, Lock, Table};
 use key_blob::{AddedKey, read_public};
 use secret_buf::SecretBytes;
@@ -137,7 +137,7 @@ fn sign(
         return Ok(None);
     }
     match table.find(blob) {
-        Some(key) if permits(asker, key.rules(), blob, message) => {
+        Some(key) if permits(key.rules(), blob, asker.chain, message, asker.wall) => {
             sign_with(asker.port, under_way, key, message, flags)
         }
         _ => Ok(None),
@@ -190,14 +190,6 @@ fn on_confirmation(job: Option<u64>) -> Option<Waits>
         Some(job) => Some(Waits::OnConfirmation { job }),
         None => None,
     }
-}
-
-// Whether these constraints of the key of this blob permit a signature of the message for the asker.
-fn permits(asker: &Asker<'_>, rules: &[Constraint], blob: &[u8], message: &[u8]) -> bool
-    ensures { result ≡ is_none
-        (denial_under rules.now blob.now asker.now.chain.now.bindings message.now asker.now.wall) }
-{
-    rules.is_empty() || may_sign(rules, blob, asker.chain, message, asker.wall).is_ok()
 }
 
 // Puts the verification of a binding to the helper, where the chain doesn't refuse it, and gives the ask's number.

@@ -1,6 +1,6 @@
 //! Who is at a port: derived from its door and the link's state. And which port the helper is at, to be written.
 
-ghost use Rattle.std.specs.Prelude.{◌≡◌, ℕ};
+ghost use Rattle.std.specs.Prelude.{◌≡◌, None};
 ghost use Rattle.std.specs.Option.{option_map};
 ghost use Rattle.agent_model.specs.State.{find_port, is_linked_to, role_by_link, role_of};
 ghost use Rattle.confirm_desk.specs.Calls.{lesser};
@@ -79,14 +79,13 @@ pub fn owed_helper(ports: &Ports, under_way: &UnderWay) -> Option<u64>
     }
 }
 
-/// The client, or the helper where its number is above `after` and comes first.
-pub fn next_of(after: u64, client: Option<u64>, helper: Option<u64>) -> Option<u64>
-    ensures { result ≡ next_of after client helper }
+/// The same where its number is above `after`.
+pub fn owed_helper_above(ports: &Ports, under_way: &UnderWay, after: u64) -> Option<u64>
+    ensures { result ≡ next_of after None (owed_helper under_way.now ports.now.ports) }
 {
-    match (client, helper) {
-        (Some(client), Some(helper)) if helper > after => Some(client.min(helper)),
-        (None, Some(helper)) if helper > after => Some(helper),
-        (client, _) => client,
+    match owed_helper(ports, under_way) {
+        Some(port) if port > after => Some(port),
+        _ => None,
     }
 }
 

@@ -28,7 +28,7 @@ use Rattle.ready_hub.specs.LegalJournal.{allowed, allowed_at, allowed_close, all
 use Rattle.ready_hub.specs.Servable.{is_idle, may_serve}
 use Rattle.ready_hub.specs.Things.{Hot, same_door}
 use Rattle.ready_hub.specs.declared.thing.Thing.TheVariants.{Accept, Read, Write}
-use Rattle.ready_loop.specs.InTurn.{Line, Turning, is_in_turn, line_after, taken_if}
+use Rattle.ready_loop.specs.InTurn.{Turning, is_in_turn, led, taken_if}
 use Rattle.ready_loop.specs.Serving.{Setting, Stage, Unbound, HalfBound, Running, Refused, after_bind, begun, bound, children_path, gone_on, may_come, ran, running_if, stage_if}
 use Rattle.agent_top.specs.ServeLaw.{IsLawfulServing, ServesLawfully, agent_at, call_events, calls_events, event_due, later_events, moment_of, moment_read, timed_by}
 
@@ -142,13 +142,13 @@ due-leads Nothing state hot next = tt
 abbrev LeadsTo : Setting → State → Option Stage → Type 0
 LeadsTo setting state found = IfSome found (λ (stage : Stage). agent_at setting stage ≡ state)
 
-read-leads : (setting : Setting) (state : State) (line : Line) (found : Option Reading) → Leads state found → LeadsTo setting state (option_map Running (option_map (λ (reading : Reading). record { reading = reading; line = line }) found))
-read-leads setting state line None leads = tt
-read-leads setting state line (Some reading) leads = leads
+read-leads : (setting : Setting) (state : State) (turning : Turning) (next : Entry) (found : Option Reading) → Leads state found → LeadsTo setting state (option_map Running (option_map (led turning next) found))
+read-leads setting state turning next None leads = tt
+read-leads setting state turning next (Some reading) leads = leads
 
 turn-leads : (setting : Setting) (turn : Bool) (turning : Turning) (next : Entry) → LeadsTo setting (run turning.reading.state (call_events (Running turning) next)) (option_map Running (taken_if turn turning next))
 turn-leads setting true turning next =
-    read-leads setting (run turning.reading.state (call_events (Running turning) next)) (line_after turning.reading.state next turning.line) (allowed turning.reading next)
+    read-leads setting (run turning.reading.state (call_events (Running turning) next)) turning next (allowed turning.reading next)
     (due-leads turning.reading.due turning.reading.state turning.reading.hot next)
 turn-leads setting false turning next = tt
 

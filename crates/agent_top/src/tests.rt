@@ -8,6 +8,7 @@ mod keys;
 mod limits;
 mod lines;
 mod timed_keys;
+mod worlds;
 
 use crate::agent::replay_main;
 use crate::status::Status;

@@ -52,6 +52,16 @@ impl Core for Counted {
         self.agent.next_owed(after)
     }
 
+    fn next_child_owed(&self, after: u64) -> Option<u64> {
+        self.count();
+        self.agent.next_child_owed(after)
+    }
+
+    fn is_client(&self, port: u64) -> bool {
+        self.count();
+        self.agent.is_client(port)
+    }
+
     fn wants(&self, port: u64) -> bool {
         self.count();
         self.agent.wants(port)

@@ -16,14 +16,28 @@ fn connects(alloc: Global, clients: usize) -> Result<Vec<Cue>, AllocError> {
     Ok(cues)
 }
 
-// How often the agent is asked where so many clients connect and the first sends so many requests.
+// All but the first of so many clients take nothing more, and send more than the agent wants to hear: it is owed an
+// answer to the first request, so that the second waits, and the third.
+fn pushes(alloc: Global, clients: usize) -> Result<Vec<Cue>, AllocError> {
+    let mut cues = Vec::new(alloc);
+    for other in 1..clients {
+        let port = other as u64 + 1;
+        cues.push(Cue::Room { port, count: 0 })?;
+        cues.push(send(alloc, port, LIST)?)?;
+        cues.push(send(alloc, port, LIST)?)?;
+        cues.push(send(alloc, port, LIST)?)?;
+    }
+    Ok(cues)
+}
+
+// How often the agent is asked where after these turns the first client sends so many requests.
 fn looks<R: Wait>(
     rt: &R,
     alloc: Global,
-    clients: usize,
+    before: Vec<Vec<Cue>>,
     requests: usize,
 ) -> Result<usize, AllocError> {
-    let mut turns = vec![in alloc; connects(alloc, clients)?]?;
+    let mut turns = before;
     for _ in 0..requests {
         turns.push(vec![in alloc; send(alloc, 1, LIST)?]?)?;
     }
@@ -33,13 +47,38 @@ fn looks<R: Wait>(
     Ok(counted.looks())
 }
 
+// How often it is asked for one request more, in a crowd of so many clients that are quiet.
+fn cost_among_quiet<R: Wait>(rt: &R, alloc: Global, clients: usize) -> Result<usize, AllocError> {
+    let once = looks(rt, alloc, vec![in alloc; connects(alloc, clients)?]?, 1)?;
+    let twice = looks(rt, alloc, vec![in alloc; connects(alloc, clients)?]?, 2)?;
+    Ok(twice.saturating_sub(once))
+}
+
+// The same in a crowd whose others push.
+fn cost_among_pushing<R: Wait>(rt: &R, alloc: Global, clients: usize) -> Result<usize, AllocError> {
+    let crowd = vec![in alloc; connects(alloc, clients)?, pushes(alloc, clients)?]?;
+    let once = looks(rt, alloc, crowd, 1)?;
+    let crowd = vec![in alloc; connects(alloc, clients)?, pushes(alloc, clients)?]?;
+    let twice = looks(rt, alloc, crowd, 2)?;
+    Ok(twice.saturating_sub(once))
+}
+
 #[test]
 fn quiet_clients_cost_a_request_no_look(rt: HostRuntime) -> Result<(), Fail> {
     let alloc = rt.alloc();
-    let alone = looks(&rt, alloc, 1, 2)?.saturating_sub(looks(&rt, alloc, 1, 1)?);
-    let in_crowd = looks(&rt, alloc, 128, 2)?.saturating_sub(looks(&rt, alloc, 128, 1)?);
+    let alone = cost_among_quiet(&rt, alloc, 1)?;
     assert!(rt; alone > 0);
-    assert_eq!(rt; in_crowd, alone);
+    assert_eq!(rt; cost_among_quiet(&rt, alloc, 128)?, alone);
+    Ok(())
+}
+
+#[test]
+fn clients_that_send_more_than_is_wanted_cost_a_request_no_look(
+    rt: HostRuntime,
+) -> Result<(), Fail> {
+    let alloc = rt.alloc();
+    let alone = cost_among_quiet(&rt, alloc, 1)?;
+    assert_eq!(rt; cost_among_pushing(&rt, alloc, 128)?, alone);
     Ok(())
 }
 

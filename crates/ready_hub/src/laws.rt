@@ -9,10 +9,10 @@ ghost use Rattle.world_ports.specs.declared.entry.Entry.TheVariants as entry;
 ghost use Rattle.world_ports.specs.declared.events.Moment.{Moment};
 ghost use Rattle.agent_model.specs.Events.{Happening};
 ghost use Rattle.agent_model.specs.Sound.{IsRising};
-ghost use Rattle.agent_model.specs.State.{State, wants};
+ghost use Rattle.agent_model.specs.State.{State, find_port, is_some_bytes, owed_of, wants};
 ghost use Rattle.agent_model.specs.Step.{step};
 ghost use Rattle.ready_hub.specs.Answered.{Free, Reading, at};
-ghost use Rattle.ready_hub.specs.Elsewhere.{is_of};
+ghost use Rattle.ready_hub.specs.Elsewhere.{is_clients, is_of, tells_others};
 ghost use Rattle.ready_hub.specs.Fronts.{HasFront, RestsAfter};
 ghost use Rattle.ready_hub.specs.LegalJournal.{read_on};
 ghost use Rattle.ready_hub.specs.Things.{Hot};
@@ -37,4 +37,15 @@ pub fn an_event_wants_no_other_port()
     ensures { (state : State) (moment : Moment) (event : Happening) (port : ℕ)
         → IsRising 0 state.last_port state.ports → is_of event state.last_port port ≡ false
         → wants port (step state moment event).state ≡ true → wants port state ≡ true }
+{}
+
+/// Unless a child process sent something, ended or couldn't be started, no other client than the event's own is owed
+/// bytes that was owed none before.
+pub fn an_event_of_a_client_owes_no_other_client()
+    ensures { (state : State) (moment : Moment) (event : Happening) (port : ℕ)
+        → IsRising 0 state.last_port state.ports → tells_others event state ≡ false
+        → is_of event state.last_port port ≡ false
+        → is_clients (find_port port (step state moment event).state.ports) ≡ true
+        → is_some_bytes (owed_of port (step state moment event).state) ≡ true
+        → is_some_bytes (owed_of port state) ≡ true }
 {}

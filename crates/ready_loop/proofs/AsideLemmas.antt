@@ -58,7 +58,7 @@ set_of-filter test (other ∷ things) thing =
     cond_at (test other) thing other (filter test things)
     ∙ ap (λ (b : Bool). if test other then (same_thing other thing || b) else b) (set_of-filter test things thing)
     ∙ kept_by (same_thing other thing) (test other) (set_of things thing) (test thing)
-      (λ same. ap test (sym (same_thing-true other thing same)))
+    (λ same. ap test (sym (same_thing-true other thing same)))
 
 -- ---- what is set aside, by kind
 
@@ -112,7 +112,7 @@ pub aside-accept : (aside : Aside) (door : Door) → set_of (things_aside aside)
 aside-accept aside door =
     parts aside (Accept door)
     ∙ by_parts (set_of (accepts_of aside.doors) (Accept door)) (set_of (reads_of aside.reads) (Accept door)) (set_of (writes_of aside.writes) (Accept door))
-      (reads-accept aside.reads door) (writes-accept aside.writes door)
+    (reads-accept aside.reads door) (writes-accept aside.writes door)
   where
     by_parts : (a b c : Bool) → b ≡ false → c ≡ false → (a || (b || c)) ≡ a
     by_parts true b c second third = refl
@@ -122,7 +122,7 @@ pub aside-read : (aside : Aside) (port : ℕ) → set_of (things_aside aside) (R
 aside-read aside port =
     parts aside (Read port)
     ∙ by_parts (set_of (accepts_of aside.doors) (Read port)) (set_of (reads_of aside.reads) (Read port)) (set_of (writes_of aside.writes) (Read port))
-      (accepts-read aside.doors port) (writes-read aside.writes port)
+    (accepts-read aside.doors port) (writes-read aside.writes port)
     ∙ reads-read aside.reads port
   where
     by_parts : (a b c : Bool) → a ≡ false → c ≡ false → (a || (b || c)) ≡ b
@@ -132,7 +132,7 @@ pub aside-write : (aside : Aside) (port : ℕ) → set_of (things_aside aside) (
 aside-write aside port =
     parts aside (Write port)
     ∙ by_parts (set_of (accepts_of aside.doors) (Write port)) (set_of (reads_of aside.reads) (Write port)) (set_of (writes_of aside.writes) (Write port))
-      (accepts-write aside.doors port) (reads-write aside.reads port)
+    (accepts-write aside.doors port) (reads-write aside.reads port)
     ∙ writes-write aside.writes port
   where
     by_parts : (a b c : Bool) → a ≡ false → b ≡ false → (a || (b || c)) ≡ c
@@ -146,7 +146,7 @@ is_among-filter test (other ∷ ports) port =
     cond_number (test other) port other (filter test ports)
     ∙ ap (λ (b : Bool). if test other then ((port == other) || b) else b) (is_among-filter test ports port)
     ∙ kept_by (port == other) (test other) (is_among port ports) (test port)
-      (λ same. let is : port ≡ other = grind (arith, nat_tests) in ap test is)
+    (λ same. let is : port ≡ other = grind (arith, nat_tests) in ap test is)
   where
     cond_number : (b : Bool) (port other : ℕ) (ports : List ℕ) → is_among port (cond b (other ∷ ports) ports) ≡ (if b then ((port == other) || is_among port ports) else is_among port ports)
     cond_number true port other ports = refl

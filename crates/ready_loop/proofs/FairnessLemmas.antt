@@ -1,304 +1,140 @@
 -- What waits is overtaken by nothing that was served since.
-use Rattle.std.proofs.Common.{◌≡◌, ◌∙◌, ℕ, Bool, true, false, List, [], ◌∷◌, ◌++◌, Option, Some, None, Ok, Err, refl, sym, ap, cond, not, ◌&&◌, ◌||◌, if◌then◌else◌}
+use Rattle.std.proofs.Common.{◌≡◌, ◌∙◌, Bool, true, false, List, [], ◌∷◌, ◌++◌, Option, Some, None, refl, sym, ap, ◌||◌}
 use Rattle.std.specs.Prelude.{option_and_then, option_map}
 use Rattle.std.specs.List.{list_any}
-use Rattle.world_ports.specs.declared.answers.Accepted.TheVariants as accepted
-use Rattle.world_ports.specs.declared.answers.Got.TheVariants as got
-use Rattle.world_ports.specs.declared.answers.Polled.TheVariants as polled
-use Rattle.world_ports.specs.declared.answers.Ready.{Ready}
-use Rattle.world_ports.specs.declared.answers.Spot.{Spot}
-use Rattle.world_ports.specs.declared.answers.Spot.TheVariants as spot
-use Rattle.world_ports.specs.declared.answers.Wrote.TheVariants as wrote
 use Rattle.world_ports.specs.declared.entry.Entry.{Entry}
-use Rattle.world_ports.specs.declared.entry.Entry.TheVariants as entry
-use Rattle.agent_model.specs.State.{State, is_open}
 use Rattle.ready_hub.specs.Answered.{Reading}
 use Rattle.ready_hub.specs.LegalJournal.{allowed, read_on}
 use Rattle.ready_hub.specs.Servable.{is_servable}
-use Rattle.ready_hub.specs.Things.{Hot, same_thing, set_of}
+use Rattle.ready_hub.specs.Things.{same_thing, set_of}
 use Rattle.ready_hub.specs.declared.thing.Thing.{Thing}
-use Rattle.ready_hub.specs.declared.thing.Thing.TheVariants.{Accept, Read, Write}
+use Rattle.ready_loop.specs.Aside.{things_aside}
 use Rattle.ready_loop.specs.Fairness.{if_any, is_service, is_waiting, waits_on}
-use Rattle.ready_loop.specs.InTurn.{Turning, is_in_turn, line_after, queue_after, taken, taken_if, turned}
-use Rattle.ready_loop.specs.Queues.{dropped, dropped_port, first_servable, is_thing, put_back, queued, queued_all, queued_by, queued_if, queued_port}
-use Rattle.ready_loop.proofs.SetLemmas.{appended_at, set_of-dropped, set_of-dropped_port}
-use Rattle.ready_loop.proofs.ServingLemmas.{and_both}
-use Rattle.ready_loop.proofs.ThingLemmas.{false_by, same_thing-refl, same_thing-true}
-
--- ---- one thing stands before another
-
--- the other stands in the queue, and this thing doesn't stand before it
-abbrev ahead : Thing → Thing → List Thing → Bool
-ahead other thing [] = false
-ahead other thing (first ∷ queue) =
-    if same_thing first other then true else (not (same_thing first thing) && ahead other thing queue)
-
--- where this thing doesn't stand at all
-ahead_by : (here : Bool) (other thing first : Thing) (queue : List Thing) → (here || set_of queue other) ≡ true → (same_thing first thing || set_of queue thing) ≡ false → (set_of queue other ≡ true → set_of queue thing ≡ false → ahead other thing queue ≡ true) → (if here then true else (not (same_thing first thing) && ahead other thing queue)) ≡ true
-ahead_by true other thing first queue has lacks rest = refl
-ahead_by false other thing first queue has lacks rest =
-    elim (same_thing first thing) as (λ b. (b || set_of queue thing) ≡ false → (not b && ahead other thing queue) ≡ true) [
-      | true ↦ λ never. cc
-      | false ↦ λ later. rest has later
-    ] lacks
-
-ahead_alone : (other thing : Thing) (queue : List Thing) → set_of queue other ≡ true → set_of queue thing ≡ false → ahead other thing queue ≡ true
-ahead_alone other thing [] has lacks = cc
-ahead_alone other thing (first ∷ queue) has lacks =
-    ahead_by (same_thing first other) other thing first queue has lacks (ahead_alone other thing queue)
-
--- more behind it changes nothing
-ahead_more_by : (here this : Bool) (front all : Bool) → (if here then true else (not this && front)) ≡ true → (front ≡ true → all ≡ true) → (if here then true else (not this && all)) ≡ true
-ahead_more_by true this front all is rest = refl
-ahead_more_by false true front all is rest = cc
-ahead_more_by false false front all is rest = rest is
-
-ahead_more : (other thing : Thing) (queue more : List Thing) → ahead other thing queue ≡ true → ahead other thing (queue ++ more) ≡ true
-ahead_more other thing [] more is = cc
-ahead_more other thing (first ∷ queue) more is =
-    ahead_more_by (same_thing first other) (same_thing first thing) (ahead other thing queue) (ahead other thing (queue ++ more)) is
-    (ahead_more other thing queue more)
-
--- nor does it that a third thing leaves
-ahead_left_by : (gone here this : Bool) (other thing third first : Thing) (queue : List Thing) → same_thing third first ≡ gone → same_thing first other ≡ here → same_thing third other ≡ false → (if here then true else (not (same_thing first thing) && ahead other thing queue)) ≡ true → (ahead other thing queue ≡ true → ahead other thing (dropped third queue) ≡ true) → ahead other thing (cond (not gone) (first ∷ dropped third queue) (dropped third queue)) ≡ true
-ahead_left_by true true this other thing third first queue gone here apart is rest =
-    let same : same_thing third other ≡ true = ap (λ (t : Thing). same_thing t other) (same_thing-true third first gone) ∙ here in
-    cc
-ahead_left_by true false this other thing third first queue gone here apart is rest =
-    elim (same_thing first thing) as (λ b. (not b && ahead other thing queue) ≡ true → ahead other thing (dropped third queue) ≡ true) [
-      | true ↦ λ never. cc
-      | false ↦ λ later. rest later
-    ] is
-ahead_left_by false here this other thing third first queue gone here_is apart is rest =
-    ap (λ (b : Bool). if b then true else (not (same_thing first thing) && ahead other thing (dropped third queue))) here_is
-    ∙ ahead_more_by here (same_thing first thing) (ahead other thing queue) (ahead other thing (dropped third queue)) is rest
-
-ahead_left : (other thing third : Thing) (queue : List Thing) → same_thing third other ≡ false → ahead other thing queue ≡ true → ahead other thing (dropped third queue) ≡ true
-ahead_left other thing third [] apart is = cc
-ahead_left other thing third (first ∷ queue) apart is =
-    ahead_left_by (same_thing third first) (same_thing first other) true other thing third first queue refl refl apart is
-    (ahead_left other thing third queue apart)
-
--- or that one is served and goes to the back
-ahead_back : (other thing third : Thing) (queue : List Thing) → same_thing third other ≡ false → ahead other thing queue ≡ true → ahead other thing (put_back third queue) ≡ true
-ahead_back other thing third queue apart is =
-    ahead_more other thing (dropped third queue) (third ∷ []) (ahead_left other thing third queue apart is)
-
--- or comes
-ahead_queued_by : (there : Bool) (other thing third : Thing) (queue : List Thing) → ahead other thing queue ≡ true → ahead other thing (if there then queue else queue ++ third ∷ []) ≡ true
-ahead_queued_by true other thing third queue is = is
-ahead_queued_by false other thing third queue is = ahead_more other thing queue (third ∷ []) is
-
-ahead_queued : (other thing third : Thing) (queue : List Thing) → ahead other thing queue ≡ true → ahead other thing (queued third queue) ≡ true
-ahead_queued other thing third queue is = ahead_queued_by (set_of queue third) other thing third queue is
-
-ahead_queued_if : (test : Bool) (other thing third : Thing) (queue : List Thing) → ahead other thing queue ≡ true → ahead other thing (queued_if test third queue) ≡ true
-ahead_queued_if true other thing third queue is = ahead_queued other thing third queue is
-ahead_queued_if false other thing third queue is = is
-
-ahead_item : (state : State) (at : Spot) (readable writable : Bool) (other thing : Thing) (queue : List Thing) → ahead other thing queue ≡ true → ahead other thing (queued_by state at readable writable queue) ≡ true
-ahead_item state (spot.Door door) readable writable other thing queue is = ahead_queued_if readable other thing (Accept door) queue is
-ahead_item state (spot.Port port) readable writable other thing queue is =
-    ahead_queued_if (writable && is_open port state) other thing (Write port) (queued_if (readable && is_open port state) (Read port) queue)
-    (ahead_queued_if (readable && is_open port state) other thing (Read port) queue is)
-
-ahead_items : (state : State) (items : List Ready) (other thing : Thing) (queue : List Thing) → ahead other thing queue ≡ true → ahead other thing (queued_all state items queue) ≡ true
-ahead_items state [] other thing queue is = is
-ahead_items state (item ∷ items) other thing queue is =
-    ahead_items state items other thing (queued_by state item.spot item.readable item.writable queue)
-    (ahead_item state item.spot item.readable item.writable other thing queue is)
-
--- ---- a call that doesn't serve it leaves it there
-
-not_true : (test : Bool) → not test ≡ true → test ≡ false
-not_true true is = cc
-not_true false is = refl
-
-ahead_closed : (other thing : Thing) (port : ℕ) (queue : List Thing) → set_of (dropped_port port queue) other ≡ true → ahead other thing queue ≡ true → ahead other thing (dropped_port port queue) ≡ true
-ahead_closed other thing port queue has is =
-    let here = ap (λ (hot : Hot). hot other) (sym (set_of-dropped_port port queue)) ∙ has in
-    let write = and_both (not (same_thing (Write port) other)) (not (same_thing (Read port) other) && set_of queue other) here in
-    let read = and_both (not (same_thing (Read port) other)) (set_of queue other) write.1 in
-    ahead_left other thing (Write port) (dropped (Read port) queue) (not_true (same_thing (Write port) other) write.0)
-    (ahead_left other thing (Read port) queue (not_true (same_thing (Read port) other) read.0) is)
-
-ahead_after : (state : State) (next : Entry) (other thing : Thing) (queue : List Thing) → is_service other next ≡ false → set_of (queue_after state next queue) other ≡ true → ahead other thing queue ≡ true → ahead other thing (queue_after state next queue) ≡ true
-ahead_after state (entry.Bind door path answer) other thing queue apart has is = is
-ahead_after state (entry.Poll wait items (Ok polled.Some)) other thing queue apart has is = ahead_items state items other thing queue is
-ahead_after state (entry.Poll wait items (Ok polled.Over)) other thing queue apart has is = is
-ahead_after state (entry.Poll wait items (Err fault)) other thing queue apart has is = is
-ahead_after state (entry.Accept door (Ok (accepted.Port number))) other thing queue apart has is =
-    ahead_back other thing (Accept door) (queued_port number queue) apart
-    (ahead_queued other thing (Write number) (queued (Read number) queue) (ahead_queued other thing (Read number) queue is))
-ahead_after state (entry.Accept door (Ok accepted.NotNow)) other thing queue apart has is = ahead_left other thing (Accept door) queue apart is
-ahead_after state (entry.Accept door (Err fault)) other thing queue apart has is = ahead_left other thing (Accept door) queue apart is
-ahead_after state (entry.Read port room bytes (Ok (got.Bytes n))) other thing queue apart has is = ahead_back other thing (Read port) queue apart is
-ahead_after state (entry.Read port room bytes (Ok got.End)) other thing queue apart has is = ahead_left other thing (Read port) queue apart is
-ahead_after state (entry.Read port room bytes (Ok got.NotNow)) other thing queue apart has is = ahead_left other thing (Read port) queue apart is
-ahead_after state (entry.Read port room bytes (Err fault)) other thing queue apart has is = ahead_left other thing (Read port) queue apart is
-ahead_after state (entry.Write port offered (Ok (wrote.Took n))) other thing queue apart has is = ahead_back other thing (Write port) queue apart is
-ahead_after state (entry.Write port offered (Ok wrote.NotNow)) other thing queue apart has is = ahead_left other thing (Write port) queue apart is
-ahead_after state (entry.Write port offered (Err fault)) other thing queue apart has is = ahead_left other thing (Write port) queue apart is
-ahead_after state (entry.Close port (Ok unit)) other thing queue apart has is = ahead_closed other thing port queue has is
-ahead_after state (entry.Close port (Err want)) other thing queue apart has is = is
-ahead_after state (entry.Start job answer) other thing queue apart has is = is
-ahead_after state (entry.Now answer) other thing queue apart has is = is
-
--- ---- a service puts the thing behind all others
-
-pub gone_at : (thing : Thing) (queue : List Thing) → set_of (dropped thing queue) thing ≡ false
-gone_at thing queue =
-    ap (λ (hot : Hot). hot thing) (set_of-dropped thing queue)
-    ∙ ap (λ (b : Bool). not b && set_of queue thing) (same_thing-refl thing)
-
-left_ahead : (other thing third : Thing) (queue : List Thing) → same_thing third thing ≡ true → set_of (dropped third queue) other ≡ true → ahead other thing (dropped third queue) ≡ true
-left_ahead other thing third queue same has =
-    ahead_alone other thing (dropped third queue) has
-    (ap (λ (t : Thing). set_of (dropped third queue) t) (sym (same_thing-true third thing same)) ∙ gone_at third queue)
-
-or_later : (here there : Bool) → here ≡ false → (here || there) ≡ true → there ≡ true
-or_later true there never is = cc
-or_later false there never is = is
-
-back_ahead : (other thing third : Thing) (queue : List Thing) → same_thing third thing ≡ true → same_thing thing other ≡ false → set_of (put_back third queue) other ≡ true → ahead other thing (put_back third queue) ≡ true
-back_ahead other thing third queue same apart has =
-    let third_apart : same_thing third other ≡ false = ap (λ (t : Thing). same_thing t other) (same_thing-true third thing same) ∙ apart in
-    ahead_more other thing (dropped third queue) (third ∷ [])
-    (left_ahead other thing third queue same
-    (or_later (same_thing third other) (set_of (dropped third queue) other) third_apart (sym (appended_at third other (dropped third queue)) ∙ has)))
-
-ahead_of_served : (state : State) (next : Entry) (other thing : Thing) (queue : List Thing) → is_service thing next ≡ true → same_thing thing other ≡ false → set_of (queue_after state next queue) other ≡ true → ahead other thing (queue_after state next queue) ≡ true
-ahead_of_served state (entry.Bind door path answer) other thing queue service apart has = cc
-ahead_of_served state (entry.Poll wait items answer) other thing queue service apart has = cc
-ahead_of_served state (entry.Accept door (Ok (accepted.Port number))) other thing queue service apart has =
-    back_ahead other thing (Accept door) (queued_port number queue) service apart has
-ahead_of_served state (entry.Accept door (Ok accepted.NotNow)) other thing queue service apart has = left_ahead other thing (Accept door) queue service has
-ahead_of_served state (entry.Accept door (Err fault)) other thing queue service apart has = left_ahead other thing (Accept door) queue service has
-ahead_of_served state (entry.Read port room bytes (Ok (got.Bytes n))) other thing queue service apart has = back_ahead other thing (Read port) queue service apart has
-ahead_of_served state (entry.Read port room bytes (Ok got.End)) other thing queue service apart has = left_ahead other thing (Read port) queue service has
-ahead_of_served state (entry.Read port room bytes (Ok got.NotNow)) other thing queue service apart has = left_ahead other thing (Read port) queue service has
-ahead_of_served state (entry.Read port room bytes (Err fault)) other thing queue service apart has = left_ahead other thing (Read port) queue service has
-ahead_of_served state (entry.Write port offered (Ok (wrote.Took n))) other thing queue service apart has = back_ahead other thing (Write port) queue service apart has
-ahead_of_served state (entry.Write port offered (Ok wrote.NotNow)) other thing queue service apart has = left_ahead other thing (Write port) queue service has
-ahead_of_served state (entry.Write port offered (Err fault)) other thing queue service apart has = left_ahead other thing (Write port) queue service has
-ahead_of_served state (entry.Close port answer) other thing queue service apart has = cc
-ahead_of_served state (entry.Start job answer) other thing queue service apart has = cc
-ahead_of_served state (entry.Now answer) other thing queue service apart has = cc
-
--- ---- what stands before it is served first
-
--- what is the same as one of two different things isn't the other
-apart_sym : (thing other first : Thing) → same_thing thing other ≡ false → same_thing first other ≡ true → same_thing thing first ≡ false
-apart_sym thing other first apart here = ap (same_thing thing) (same_thing-true first other here) ∙ apart
-
-apart_flip : (thing first : Thing) → same_thing first thing ≡ false → same_thing thing first ≡ false
-apart_flip thing first apart = false_by (same_thing thing first) (λ same.
-    let is : same_thing first thing ≡ true = ap (same_thing first) (same_thing-true thing first same) ∙ same_thing-refl first in cc)
-
-not_first_by : (able here : Bool) (state : State) (other thing first : Thing) (queue : List Thing) → is_servable state first ≡ able → same_thing first other ≡ here → is_servable state other ≡ true → same_thing thing other ≡ false → (if here then true else (not (same_thing first thing) && ahead other thing queue)) ≡ true → (ahead other thing queue ≡ true → is_thing thing (first_servable state queue) ≡ false) → is_thing thing (if able then Some first else first_servable state queue) ≡ false
-not_first_by true true state other thing first queue able here waits apart is rest = apart_sym thing other first apart here
-not_first_by true false state other thing first queue able here waits apart is rest =
-    let parts = and_both (not (same_thing first thing)) (ahead other thing queue) is in
-    apart_flip thing first (not_true (same_thing first thing) parts.0)
-not_first_by false true state other thing first queue able here waits apart is rest =
-    let also : is_servable state first ≡ true = ap (is_servable state) (same_thing-true first other here) ∙ waits in
-    cc
-not_first_by false false state other thing first queue able here waits apart is rest =
-    rest (and_both (not (same_thing first thing)) (ahead other thing queue) is).1
-
-not_first : (state : State) (other thing : Thing) (queue : List Thing) → is_servable state other ≡ true → same_thing thing other ≡ false → ahead other thing queue ≡ true → is_thing thing (first_servable state queue) ≡ false
-not_first state other thing [] waits apart is = cc
-not_first state other thing (first ∷ queue) waits apart is =
-    not_first_by (is_servable state first) (same_thing first other) state other thing first queue refl refl waits apart is
-    (not_first state other thing queue waits apart)
-
--- a call that serves this thing isn't in turn
-out_of_turn : (state : State) (next : Entry) (other thing : Thing) (queue : List Thing) → is_service thing next ≡ true → is_servable state other ≡ true → same_thing thing other ≡ false → ahead other thing queue ≡ true → is_in_turn state queue next ≡ false
-out_of_turn state (entry.Bind door path answer) other thing queue service waits apart is = cc
-out_of_turn state (entry.Poll wait items answer) other thing queue service waits apart is = cc
-out_of_turn state (entry.Accept door answer) other thing queue service waits apart is =
-    ap (λ (t : Thing). is_thing t (first_servable state queue)) (same_thing-true (Accept door) thing service) ∙ not_first state other thing queue waits apart is
-out_of_turn state (entry.Read port room bytes answer) other thing queue service waits apart is =
-    ap (λ (t : Thing). is_thing t (first_servable state queue)) (same_thing-true (Read port) thing service) ∙ not_first state other thing queue waits apart is
-out_of_turn state (entry.Write port offered answer) other thing queue service waits apart is =
-    ap (λ (t : Thing). is_thing t (first_servable state queue)) (same_thing-true (Write port) thing service) ∙ not_first state other thing queue waits apart is
-out_of_turn state (entry.Close port answer) other thing queue service waits apart is = cc
-out_of_turn state (entry.Start job answer) other thing queue service waits apart is = cc
-out_of_turn state (entry.Now answer) other thing queue service waits apart is = cc
+use Rattle.ready_loop.specs.InTurn.{Turning, is_in_turn, led, moved, taken, taken_if, turned}
+use Rattle.ready_loop.specs.Lines.{IsQuiet, Line, hot_of}
+use Rattle.ready_loop.proofs.AsideLemmas.{set_of-append}
+use Rattle.ready_loop.proofs.QuietLemmas.{leads, quiet_taken}
+use Rattle.ready_loop.proofs.TestLemmas.{and_both, or_first}
+use Rattle.ready_loop.proofs.ThingLemmas.{false_by}
+use Rattle.ready_loop.proofs.AheadLemmas.{ahead}
+use Rattle.ready_loop.proofs.AheadCallLemmas.{ahead_after, ahead_of_served, out_of_turn}
 
 -- ---- between two services
 
--- the queue that an entry leaves, where it may come
-pub after_is : (turning after : Turning) (next : Entry) → taken turning next ≡ Some after → after.line ≡ line_after turning.reading.state next turning.line
-after_is turning after next is =
-    elim (is_in_turn turning.reading.state turning.line.queue next) as (λ b. taken_if b turning next ≡ Some after → after.line ≡ line_after turning.reading.state next turning.line) [
-      | true ↦ λ here. elim (allowed turning.reading next) as (λ r. option_map (λ (reading : Reading). record { reading = reading; line = line_after turning.reading.state next turning.line }) r ≡ Some after → after.line ≡ line_after turning.reading.state next turning.line) [
-        | None ↦ λ none. cc
-        | Some reading ↦ λ some. let same : record { reading = reading; line = line_after turning.reading.state next turning.line } ≡ after = cc in ap (λ (t : Turning). t.line) (sym same)
-      ] here
-      | false ↦ λ none. cc
-    ] is
+-- what waits stands in the queue, since nothing that is set aside can be served
+waiting_queued : (other : Thing) (turning : Turning) → IsQuiet turning.reading.state turning.line
+    → is_waiting other turning ≡ true
+    → (set_of turning.line.queue other ≡ true) × (is_servable turning.reading.state other ≡ true)
+waiting_queued other turning quiet waits =
+    let both = and_both (hot_of turning.line other) (is_servable turning.reading.state other) waits in
+    let aside = set_of (things_aside turning.line.aside) other in
+    let never : aside ≡ false = false_by aside
+    (λ there. let still : is_servable turning.reading.state other ≡ false = quiet other there in let able = both.1 in cc) in (
+      or_first (set_of turning.line.queue other) aside never
+          (sym (set_of-append turning.line.queue (things_aside turning.line.aside) other) ∙ both.0),
+      both.1,
+    )
 
-waiting_at_once : (other : Thing) (turning : Turning) (entries : List Entry) → waits_on other turning entries ≡ true → is_waiting other turning ≡ true
+waiting_at_once : (other : Thing) (turning : Turning) (entries : List Entry) → waits_on other turning entries ≡ true
+    → is_waiting other turning ≡ true
 waiting_at_once other turning [] waits = waits
 waiting_at_once other turning (next ∷ later) waits =
     (and_both (is_waiting other turning) (if_any (λ after. waits_on other after later) (taken turning next)) waits).0
 
-between_by : (served : Bool) (found : Option Turning) (other thing : Thing) (turning to : Turning) (next last : Entry) (later : List Entry) → is_service other next ≡ served → taken turning next ≡ found → option_and_then (λ after. turned after (later ++ last ∷ [])) found ≡ Some to → if_any (λ after. waits_on other after later) found ≡ true → ahead other thing turning.line.queue ≡ true → ((after : Turning) → ahead other thing after.line.queue ≡ true → turned after (later ++ last ∷ []) ≡ Some to → waits_on other after later ≡ true → list_any (is_service other) later ≡ true) → (served || list_any (is_service other) later) ≡ true
-between_by true found other thing turning to next last later service is legal waits first rest = refl
-between_by false None other thing turning to next last later service is legal waits first rest = cc
-between_by false (Some after) other thing turning to next last later service is legal waits first rest =
-    let line = after_is turning after next is in
-    let has = and_both (set_of after.line.queue other) (is_servable after.reading.state other) (waiting_at_once other after later waits) in
-    let there : set_of (queue_after turning.reading.state next turning.line.queue) other ≡ true = ap (λ l. set_of l.queue other) (sym line) ∙ has.0 in
-    let still = ahead_after turning.reading.state next other thing turning.line.queue service there first in
-    rest after (ap (λ l. ahead other thing l.queue) line ∙ still) legal waits
+between_by : (served : Bool) (found : Option Turning) (other thing : Thing) (turning to : Turning) (next last : Entry)
+    (later : List Entry) → is_service other next ≡ served → taken turning next ≡ found
+    → option_and_then (λ after. turned after (later ++ last ∷ [])) found ≡ Some to → is_waiting other turning ≡ true
+    → if_any (λ after. waits_on other after later) found ≡ true → IsQuiet turning.reading.state turning.line
+    → ahead other thing turning.line.queue ≡ true
+    → ((after : Turning) → IsQuiet after.reading.state after.line → ahead other thing after.line.queue ≡ true
+    → turned after (later ++ last ∷ []) ≡ Some to → waits_on other after later ≡ true
+    → list_any (is_service other) later ≡ true) → (served || list_any (is_service other) later) ≡ true
+between_by true found other thing turning to next last later service is legal waits_now waits quiet first rest = refl
+between_by false None other thing turning to next last later service is legal waits_now waits quiet first rest = cc
+between_by false (Some after) other thing turning to next last later service is legal waits_now waits quiet first rest =
+    let there = leads turning after next is in
+    let still_quiet = quiet_taken turning after next is quiet in
+    let has = waiting_queued other after still_quiet (waiting_at_once other after later waits) in
+    let moved_line = moved turning.reading.state turning.reading.due after.reading.state next turning.line in
+    let queue_has : set_of moved_line.queue other ≡ true = ap (λ (l : Line). set_of l.queue other) (sym there.line)
+    ∙ has.0 in
+    let still = ahead_after turning.reading.state after.reading.state turning.reading.due next other thing turning.line service
+    (waiting_queued other turning quiet waits_now).1 queue_has first in
+    rest after still_quiet (ap (λ (l : Line). ahead other thing l.queue) there.line ∙ still) legal waits
 
-never_last : (other thing : Thing) (turning to : Turning) (last : Entry) → is_service thing last ≡ true → same_thing thing other ≡ false → ahead other thing turning.line.queue ≡ true → is_waiting other turning ≡ true → turned turning (last ∷ []) ≡ Some to → ⊥
-never_last other thing turning to last service apart first waits legal =
-    let has = and_both (set_of turning.line.queue other) (is_servable turning.reading.state other) waits in
+never_last : (other thing : Thing) (turning to : Turning) (last : Entry) → is_service thing last ≡ true
+    → same_thing thing other ≡ false → IsQuiet turning.reading.state turning.line
+    → ahead other thing turning.line.queue ≡ true → is_waiting other turning ≡ true
+    → turned turning (last ∷ []) ≡ Some to → ⊥
+never_last other thing turning to last service apart quiet first waits legal =
+    let has = waiting_queued other turning quiet waits in
     let never = out_of_turn turning.reading.state last other thing turning.line.queue service has.1 apart first in
     let none : option_and_then (λ (after : Turning). turned after []) (taken_if false turning last) ≡ Some to =
-    ap (λ (b : Bool). option_and_then (λ (after : Turning). turned after []) (taken_if b turning last)) (sym never) ∙ legal in
+    ap (λ (b : Bool). option_and_then (λ (after : Turning). turned after []) (taken_if b turning last)) (sym never)
+    ∙ legal in
     cc
 
-between : (other thing : Thing) (turning to : Turning) (entries : List Entry) (last : Entry) → is_service thing last ≡ true → same_thing thing other ≡ false → ahead other thing turning.line.queue ≡ true → turned turning (entries ++ last ∷ []) ≡ Some to → waits_on other turning entries ≡ true → list_any (is_service other) entries ≡ true
-between other thing turning to [] last service apart first legal waits =
-    absurd (never_last other thing turning to last service apart first waits legal)
-between other thing turning to (next ∷ later) last service apart first legal waits =
-    between_by (is_service other next) (taken turning next) other thing turning to next last later refl refl legal
-    (and_both (is_waiting other turning) (if_any (λ after. waits_on other after later) (taken turning next)) waits).1 first
-    (λ after ahead_there legal_there waits_there. between other thing after to later last service apart ahead_there legal_there waits_there)
+between : (other thing : Thing) (turning to : Turning) (entries : List Entry) (last : Entry)
+    → is_service thing last ≡ true → same_thing thing other ≡ false → IsQuiet turning.reading.state turning.line
+    → ahead other thing turning.line.queue ≡ true → turned turning (entries ++ last ∷ []) ≡ Some to
+    → waits_on other turning entries ≡ true → list_any (is_service other) entries ≡ true
+between other thing turning to [] last service apart quiet first legal waits =
+    absurd (never_last other thing turning to last service apart quiet first waits legal)
+between other thing turning to (next ∷ later) last service apart quiet first legal waits =
+    let both = and_both (is_waiting other turning)
+    (if_any (λ after. waits_on other after later) (taken turning next)) waits in
+    between_by (is_service other next)
+    (taken turning next) other thing turning to next last later refl refl legal both.0 both.1 quiet first
+    (λ after quiet_there ahead_there legal_there waits_there.
+    between other thing after to later last service apart quiet_there ahead_there legal_there waits_there)
 
-since_by : (found : Option Turning) (from to : Turning) (thing other : Thing) (first last : Entry) (entries : List Entry) → taken from first ≡ found → option_and_then (λ after. turned after (entries ++ last ∷ [])) found ≡ Some to → is_service thing first ≡ true → is_service thing last ≡ true → same_thing thing other ≡ false → if_any (λ after. waits_on other after entries) found ≡ true → list_any (is_service other) entries ≡ true
-since_by None from to thing other first last entries is legal service again apart waits = cc
-since_by (Some after) from to thing other first last entries is legal service again apart waits =
-    let line = after_is from after first is in
-    let has = and_both (set_of after.line.queue other) (is_servable after.reading.state other) (waiting_at_once other after entries waits) in
-    let there : set_of (queue_after from.reading.state first from.line.queue) other ≡ true = ap (λ l. set_of l.queue other) (sym line) ∙ has.0 in
-    between other thing after to entries last again apart
-    (ap (λ l. ahead other thing l.queue) line ∙ ahead_of_served from.reading.state first other thing from.line.queue service apart there) legal waits
+since_by : (found : Option Turning) (from to : Turning) (thing other : Thing) (first last : Entry)
+    (entries : List Entry) → taken from first ≡ found → IsQuiet from.reading.state from.line
+    → option_and_then (λ after. turned after (entries ++ last ∷ [])) found ≡ Some to → is_service thing first ≡ true
+    → is_service thing last ≡ true → same_thing thing other ≡ false
+    → if_any (λ after. waits_on other after entries) found ≡ true → list_any (is_service other) entries ≡ true
+since_by None from to thing other first last entries is quiet legal service again apart waits = cc
+since_by (Some after) from to thing other first last entries is quiet legal service again apart waits =
+    let there = leads from after first is in
+    let still_quiet = quiet_taken from after first is quiet in
+    let has = waiting_queued other after still_quiet (waiting_at_once other after entries waits) in
+    let moved_line = moved from.reading.state from.reading.due after.reading.state first from.line in
+    let queue_has : set_of moved_line.queue other ≡ true = ap (λ (l : Line). set_of l.queue other) (sym there.line)
+    ∙ has.0 in
+    let behind = ahead_of_served from.reading.state after.reading.state from.reading.due first other thing from.line service apart queue_has in
+    between other thing after to entries last again apart still_quiet
+    (ap (λ (l : Line). ahead other thing l.queue) there.line ∙ behind) legal waits
 
-pub served_between : (from to : Turning) (thing other : Thing) (first last : Entry) (entries : List Entry) → turned from (first ∷ (entries ++ last ∷ [])) ≡ Some to → is_service thing first ≡ true → is_service thing last ≡ true → same_thing thing other ≡ false → if_any (λ after. waits_on other after entries) (taken from first) ≡ true → list_any (is_service other) entries ≡ true
-served_between from to thing other first last entries legal service again apart waits =
-    since_by (taken from first) from to thing other first last entries refl legal service again apart waits
+pub served_between : (from to : Turning) (thing other : Thing) (first last : Entry) (entries : List Entry)
+    → IsQuiet from.reading.state from.line → turned from (first ∷ (entries ++ last ∷ [])) ≡ Some to
+    → is_service thing first ≡ true → is_service thing last ≡ true → same_thing thing other ≡ false
+    → if_any (λ after. waits_on other after entries) (taken from first) ≡ true
+    → list_any (is_service other) entries ≡ true
+served_between from to thing other first last entries quiet legal service again apart waits =
+    since_by (taken from first) from to thing other first last entries refl quiet legal service again apart waits
 
 -- ---- what comes in turn is legal
 
-legal_step : (turn : Bool) (found : Option Reading) (turning : Turning) (to : Turning) (next : Entry) (later : List Entry) → allowed turning.reading next ≡ found → option_and_then (λ after. turned after later) (taken_if turn turning next) ≡ Some to → ((after : Turning) → turned after later ≡ Some to → read_on after.reading later ≡ Some to.reading) → option_and_then (λ after. read_on after later) found ≡ Some to.reading
+legal_step : (turn : Bool) (found : Option Reading) (turning : Turning) (to : Turning) (next : Entry)
+    (later : List Entry) → allowed turning.reading next ≡ found
+    → option_and_then (λ after. turned after later) (taken_if turn turning next) ≡ Some to
+    → ((after : Turning) → turned after later ≡ Some to → read_on after.reading later ≡ Some to.reading)
+    → option_and_then (λ after. read_on after later) found ≡ Some to.reading
 legal_step false found turning to next later is legal rest = cc
 legal_step true None turning to next later is legal rest =
     let none : option_and_then (λ (after : Turning). turned after later) None ≡ Some to =
     ap (λ (r : Option Reading). option_and_then (λ (after : Turning). turned after later)
-    (option_map (λ (reading : Reading). record { reading = reading; line = line_after turning.reading.state next turning.line }) r)) (sym is) ∙ legal in
+    (option_map (led turning next) r)) (sym is) ∙ legal in
     cc
 legal_step true (Some reading) turning to next later is legal rest =
-    let after : Turning = record { reading = reading; line = line_after turning.reading.state next turning.line } in
-    rest after (ap (λ (r : Option Reading). option_and_then (λ (t : Turning). turned t later)
-    (option_map (λ (reading : Reading). record { reading = reading; line = line_after turning.reading.state next turning.line }) r)) (sym is) ∙ legal)
+    rest (led turning next reading)
+    (ap (λ (r : Option Reading). option_and_then (λ (t : Turning). turned t later) (option_map (led turning next) r))
+    (sym is) ∙ legal)
 
-pub legal_in_turn : (from to : Turning) (entries : List Entry) → turned from entries ≡ Some to → read_on from.reading entries ≡ Some to.reading
+pub legal_in_turn : (from to : Turning) (entries : List Entry) → turned from entries ≡ Some to
+    → read_on from.reading entries ≡ Some to.reading
 legal_in_turn from to [] legal = ap (option_map (λ (t : Turning). t.reading)) legal
 legal_in_turn from to (next ∷ later) legal =
-    legal_step (is_in_turn from.reading.state from.line.queue next) (allowed from.reading next) from to next later refl legal
+    legal_step (is_in_turn from.reading.state from.line.queue next)
+    (allowed from.reading next) from to next later refl legal
     (λ after rest. legal_in_turn after to later rest)

@@ -10,18 +10,14 @@ use Rattle.ready_hub.specs.Servable.{has_job, is_idle, is_servable, may_serve, t
 use Rattle.ready_hub.specs.Things.{same_thing, set_of}
 use Rattle.ready_hub.specs.declared.thing.Thing.{Thing}
 use Rattle.ready_hub.specs.declared.thing.Thing.TheVariants.{Accept, Read, Write}
-use Rattle.ready_loop.specs.Queues.{first_servable}
+use Rattle.ready_loop.specs.Aside.{things_aside}
+use Rattle.ready_loop.specs.Lines.{IsQuiet, Line, hot_of}
+use Rattle.ready_loop.specs.Queues.{first_servable, from_servable}
+use Rattle.ready_loop.proofs.AsideLemmas.{set_of-append}
+use Rattle.ready_loop.proofs.TestLemmas.{or_left, or_right}
 use Rattle.ready_loop.proofs.ThingLemmas.{same_thing-refl, same_thing-true}
 
 -- ---- what was found is ready, and can be served
-
-or_right : (here there : Bool) → there ≡ true → (here || there) ≡ true
-or_right true there is = refl
-or_right false there is = is
-
-or_left : (here there : Bool) → here ≡ true → (here || there) ≡ true
-or_left true there is = refl
-or_left false there is = cc
 
 pub record IsFound (state : State) (queue : List Thing) (thing : Thing) : Type 0 where
   pub ready : set_of queue thing ≡ true
@@ -43,6 +39,18 @@ pub first_is_found : (state : State) (queue : List Thing) (thing : Thing) → fi
 first_is_found state [] thing found = cc
 first_is_found state (first ∷ queue) thing found =
     found_by (is_servable state first) state first queue thing refl (first_is_found state queue thing) found
+
+-- and stands at the front once what stood before it was set aside
+front_by : (test : Bool) (state : State) (first : Thing) (queue : List Thing) (thing : Thing) → (first_servable state queue ≡ Some thing → set_of (from_servable state queue) thing ≡ true) → (if test then Some first else first_servable state queue) ≡ Some thing → set_of (if test then first ∷ queue else from_servable state queue) thing ≡ true
+front_by true state first queue thing rest found =
+    let same : first ≡ thing = cc in
+    or_left (same_thing first thing) (set_of queue thing) (ap (λ (t : Thing). same_thing first t) (sym same) ∙ same_thing-refl first)
+front_by false state first queue thing rest found = rest found
+
+pub first_is_front : (state : State) (queue : List Thing) (thing : Thing) → first_servable state queue ≡ Some thing → set_of (from_servable state queue) thing ≡ true
+first_is_front state [] thing found = cc
+first_is_front state (first ∷ queue) thing found =
+    front_by (is_servable state first) state first queue thing (first_is_front state queue thing) found
 
 -- ---- where nothing was found, nothing that is ready can be served
 
@@ -100,17 +108,30 @@ has_servable state (Read port) is =
 has_servable state (Write port) is =
     has_write port state.ports (owed_is_open (find_port port state.ports) state is)
 
-idle_by : (found : Option Thing) (state : State) (queue : List Thing) → first_servable state queue ≡ found → list_any (may_serve state (set_of queue)) (things_of state) ≡ is_some found
-idle_by None state queue is =
-    any_none (may_serve state (set_of queue)) (things_of state) (λ thing. none_is_found state queue thing is)
-idle_by (Some thing) state queue is =
-    let found = first_is_found state queue thing is in
-    any_some (may_serve state (set_of queue)) (things_of state) thing (has_servable state thing found.servable)
-    (ap (λ (b : Bool). b && is_servable state thing) found.ready ∙ found.servable)
+never_both : (queue aside able : Bool) → (queue && able) ≡ false → (aside ≡ true → able ≡ false) → ((queue || aside) && able) ≡ false
+never_both true aside able never quiet = never
+never_both false true able never quiet = quiet refl
+never_both false false able never quiet = refl
+
+-- what is set aside can't be served
+aside_never : (state : State) (line : Line) (thing : Thing) → IsQuiet state line → may_serve state (set_of line.queue) thing ≡ false → may_serve state (hot_of line) thing ≡ false
+aside_never state line thing quiet never =
+    ap (λ (b : Bool). b && is_servable state thing) (set_of-append line.queue (things_aside line.aside) thing)
+    ∙ never_both (set_of line.queue thing) (set_of (things_aside line.aside) thing) (is_servable state thing) never (quiet thing)
+
+idle_by : (found : Option Thing) (state : State) (line : Line) → IsQuiet state line → first_servable state line.queue ≡ found → list_any (may_serve state (hot_of line)) (things_of state) ≡ is_some found
+idle_by None state line quiet is =
+    any_none (may_serve state (hot_of line)) (things_of state) (λ thing. aside_never state line thing quiet (none_is_found state line.queue thing is))
+idle_by (Some thing) state line quiet is =
+    let found = first_is_found state line.queue thing is in
+    any_some (may_serve state (hot_of line)) (things_of state) thing (has_servable state thing found.servable)
+    (ap (λ (b : Bool). b && is_servable state thing)
+    (set_of-append line.queue (things_aside line.aside) thing ∙ ap (λ (b : Bool). b || set_of (things_aside line.aside) thing) found.ready)
+    ∙ found.servable)
 
 -- something can be served exactly where the queue has a first thing that can
-pub servable-is_some : (state : State) (queue : List Thing) → list_any (may_serve state (set_of queue)) (things_of state) ≡ is_some (first_servable state queue)
-servable-is_some state queue = idle_by (first_servable state queue) state queue refl
+pub servable-is_some : (state : State) (line : Line) → IsQuiet state line → list_any (may_serve state (hot_of line)) (things_of state) ≡ is_some (first_servable state line.queue)
+servable-is_some state line quiet = idle_by (first_servable state line.queue) state line quiet refl
 
 -- ---- nothing to do
 
@@ -123,10 +144,10 @@ not_not true = refl
 not_not false = refl
 
 -- no job waits, and the queue has nothing that can be served
-pub idle-is : (state : State) (queue : List Thing) (none : Bool) → (length (starts state) == 0) ≡ true → is_some (first_servable state queue) ≡ not none → none ≡ is_idle state (set_of queue)
-idle-is state queue none empty found =
-    sym (ap (λ (b : Bool). not b && not (list_any (may_serve state (set_of queue)) (things_of state))) (no_jobs (starts state) empty)
-    ∙ ap not (servable-is_some state queue ∙ found) ∙ not_not none)
+pub idle-is : (state : State) (line : Line) (none : Bool) → IsQuiet state line → (length (starts state) == 0) ≡ true → is_some (first_servable state line.queue) ≡ not none → none ≡ is_idle state (hot_of line)
+idle-is state line none quiet empty found =
+    sym (ap (λ (b : Bool). not b && not (list_any (may_serve state (hot_of line)) (things_of state))) (no_jobs (starts state) empty)
+    ∙ ap not (servable-is_some state line quiet ∙ found) ∙ not_not none)
 
 -- no first job, no job
 pub no_first : (jobs : List Job) → None ≡ slice_get jobs 0 → (length jobs == 0) ≡ true

@@ -1,5 +1,5 @@
--- What is served stood first, and goes behind all others.
-use Rattle.std.proofs.Common.{◌≡◌, ◌∙◌, ℕ, Bool, true, false, List, [], ◌∷◌, ◌++◌, Some, Ok, Err, refl, sym, ap, subst, append_assoc, cond, not, if◌then◌else◌}
+-- What is served stood first, and goes behind all others; what stood before it is set aside.
+use Rattle.std.proofs.Common.{◌≡◌, ◌∙◌, Bool, true, false, List, [], ◌∷◌, ◌++◌, Some, Ok, Err, refl, sym, ap, subst, cond, not}
 use Rattle.std.proofs.lemmas.List.{append-nil}
 use Rattle.std.proofs.lemmas.List.Elements.{filter-append}
 use Rattle.world_ports.specs.declared.answers.Accepted.TheVariants as accepted
@@ -8,29 +8,43 @@ use Rattle.world_ports.specs.declared.answers.Wrote.TheVariants as wrote
 use Rattle.world_ports.specs.declared.entry.Entry.{Entry}
 use Rattle.world_ports.specs.declared.entry.Entry.TheVariants as entry
 use Rattle.agent_model.specs.State.{State}
-use Rattle.ready_hub.specs.Things.{same_thing, set_of}
+use Rattle.ready_hub.specs.Answered.{Due}
+use Rattle.ready_hub.specs.Things.{Hot, same_thing, set_of}
 use Rattle.ready_hub.specs.declared.thing.Thing.{Thing}
 use Rattle.ready_hub.specs.declared.thing.Thing.TheVariants.{Accept, Read, Write}
-use Rattle.ready_loop.specs.Fairness.{GoesLast, is_service}
-use Rattle.ready_loop.specs.InTurn.{Turning, is_in_turn, queue_after, taken, taken_if}
-use Rattle.ready_loop.specs.Queues.{dropped, is_next, put_back, queued, queued_port}
-use Rattle.ready_loop.proofs.FairnessLemmas.{after_is, gone_at}
+use Rattle.ready_loop.specs.Aside.{Aside, things_aside}
+use Rattle.ready_loop.specs.Fairness.{GoesLast, SetsAside, is_service}
+use Rattle.ready_loop.specs.InTurn.{Turning, is_in_turn, moved, taken}
+use Rattle.ready_loop.specs.Lines.{Line, aside_with, queued_port, sent_back, settled, without}
+use Rattle.ready_loop.specs.Queues.{dropped, from_servable, is_next, put_back}
+use Rattle.ready_loop.proofs.AddingLemmas.{Adds, adds-none, adds-queued_port}
+use Rattle.ready_loop.proofs.AsideLemmas.{set_of-append, set_of-taken_back}
+use Rattle.ready_loop.proofs.AheadLemmas.{gone_at}
+use Rattle.ready_loop.proofs.QuietLemmas.{leads}
+use Rattle.ready_loop.proofs.TestLemmas.{both_and, false_not, or_left}
 use Rattle.ready_loop.proofs.ThingLemmas.{same_thing-refl, same_thing-true}
+use Rattle.ready_loop.proofs.PassedLemmas.{not_there, others_stay, passed}
 
 -- ---- without a thing
 
-twice_by : (test : Bool) (thing first : Thing) (queue : List Thing) → same_thing thing first ≡ test → dropped thing (dropped thing queue) ≡ dropped thing queue → dropped thing (cond (not test) (first ∷ dropped thing queue) (dropped thing queue)) ≡ cond (not test) (first ∷ dropped thing queue) (dropped thing queue)
+twice_by : (test : Bool) (thing first : Thing) (queue : List Thing) → same_thing thing first ≡ test
+    → dropped thing (dropped thing queue) ≡ dropped thing queue
+    → dropped thing (cond (not test) (first ∷ dropped thing queue) (dropped thing queue)) ≡ cond (not test)
+    (first ∷ dropped thing queue) (dropped thing queue)
 twice_by true thing first queue is rest = rest
 twice_by false thing first queue is rest =
-    ap (λ (b : Bool). cond (not b) (first ∷ dropped thing (dropped thing queue)) (dropped thing (dropped thing queue))) is
+    ap (λ (b : Bool). cond (not b) (first ∷ dropped thing (dropped thing queue))
+    (dropped thing (dropped thing queue))) is
     ∙ ap (λ (ts : List Thing). first ∷ ts) rest
 
 -- what is dropped can't be dropped again
 dropped-twice : (thing : Thing) (queue : List Thing) → dropped thing (dropped thing queue) ≡ dropped thing queue
 dropped-twice thing [] = refl
-dropped-twice thing (first ∷ queue) = twice_by (same_thing thing first) thing first queue refl (dropped-twice thing queue)
+dropped-twice thing (first ∷ queue) =
+    twice_by (same_thing thing first) thing first queue refl (dropped-twice thing queue)
 
-dropped-append : (thing : Thing) (first later : List Thing) → dropped thing (first ++ later) ≡ dropped thing first ++ dropped thing later
+dropped-append : (thing : Thing) (first later : List Thing)
+    → dropped thing (first ++ later) ≡ dropped thing first ++ dropped thing later
 dropped-append thing first later = filter-append (λ other. not (same_thing thing other)) first later
 
 -- without the thing that stands last
@@ -40,90 +54,124 @@ dropped-last thing queue =
     ∙ ap (λ (b : Bool). dropped thing queue ++ cond (not b) (thing ∷ []) []) (same_thing-refl thing)
     ∙ append-nil (dropped thing queue)
 
--- ---- with others
-
-record Adds (queue after : List Thing) : Type 0 where
-  news : List Thing
-  is : after ≡ queue ++ news
-
-adds_by : (test : Bool) (thing : Thing) (queue : List Thing) → Adds queue (if test then queue else queue ++ thing ∷ [])
-adds_by true thing queue = record { news = []; is = sym (append-nil queue) }
-adds_by false thing queue = record { news = thing ∷ []; is = refl }
-
--- what is new goes behind the queue
-adds-queued : (thing : Thing) (queue : List Thing) → Adds queue (queued thing queue)
-adds-queued thing queue = adds_by (set_of queue thing) thing queue
-
-adds-port : (port : ℕ) (queue : List Thing) → Adds queue (queued_port port queue)
-adds-port port queue =
-    let read = adds-queued (Read port) queue in
-    let write = adds-queued (Write port) (queued (Read port) queue) in
-    record {
-      news = read.news ++ write.news;
-      is = write.is ∙ ap (λ (ts : List Thing). ts ++ write.news) read.is ∙ append_assoc queue read.news write.news;
-    }
-
 -- ---- what was served
 
-back_last : (state : State) (thing : Thing) (queue base : List Thing) → is_next state queue thing ≡ true → Adds queue base → GoesLast state thing queue (put_back thing base)
-back_last state thing queue base next adds =
-    let others : dropped thing (put_back thing base) ≡ dropped thing base =
-    dropped-last thing (dropped thing base) ∙ dropped-twice thing base in
-    record {
-      first = next;
-      new = dropped thing adds.news;
-      others = others ∙ ap (dropped thing) adds.is ∙ dropped-append thing queue adds.news;
-      last = λ there. ap (λ (ts : List Thing). ts ++ thing ∷ []) (sym others);
-    }
+-- both of what is said of a service
+abbrev Served : State → Thing → Line → Line → Type 0
+Served state thing line after = GoesLast state thing line.queue after.queue × SetsAside state thing line after
 
-left_last : (state : State) (thing : Thing) (queue : List Thing) → is_next state queue thing ≡ true → GoesLast state thing queue (dropped thing queue)
-left_last state thing queue next = record {
-  first = next;
-  new = [];
-  others = dropped-twice thing queue ∙ sym (append-nil (dropped thing queue));
-  last = λ there. let gone : set_of (dropped thing queue) thing ≡ false = gone_at thing queue in absurd (cc);
-}
+back_last : (state : State) (thing : Thing) (line base : Line) → is_next state line.queue thing ≡ true
+    → Adds (settled state line) base → Served state thing line (sent_back thing base)
+back_last state thing line base next adds =
+    let front = from_servable state line.queue in
+    let others : dropped thing (put_back thing base.queue) ≡ dropped thing base.queue =
+    dropped-last thing (dropped thing base.queue) ∙ dropped-twice thing base.queue in (
+      record {
+        first = next;
+        new = dropped thing adds.news;
+        others = others ∙ ap (dropped thing) adds.queue ∙ dropped-append thing front adds.news;
+        last = λ there. ap (λ (ts : List Thing). ts ++ thing ∷ []) (sym others);
+      },
+      λ other apart there gone.
+          let stays : set_of front other ≡ true → set_of (put_back thing base.queue) other ≡ true = λ here.
+          let more : set_of base.queue other ≡ true =
+          ap (λ (ts : List Thing). set_of ts other) adds.queue ∙ set_of-append front adds.news other
+          ∙ or_left (set_of front other) (set_of adds.news other) here in
+          set_of-append (dropped thing base.queue) (thing ∷ []) other
+          ∙ or_left (set_of (dropped thing base.queue) other) (set_of (thing ∷ []) other)
+          (others_stay thing other base.queue apart more) in
+          let aside = passed state other line.queue line.aside there
+          (not_there other front (put_back thing base.queue) stays gone) in
+          (aside.0, ap (λ (a : Aside). set_of (things_aside a) other) adds.aside ∙ aside.1),
+    )
 
-none : (queue : List Thing) → Adds queue queue
-none queue = record { news = []; is = sym (append-nil queue) }
+left_last : (state : State) (thing : Thing) (line : Line) → is_next state line.queue thing ≡ true
+    → Served state thing line (without thing (settled state line))
+left_last state thing line next =
+    let front = from_servable state line.queue in
+    let there_aside = aside_with state line.queue line.aside in (
+      record {
+        first = next;
+        new = [];
+        others = dropped-twice thing front ∙ sym (append-nil (dropped thing front));
+        last = λ there. let gone : set_of (dropped thing front) thing ≡ false = gone_at thing front in absurd (cc);
+      },
+      λ other apart there gone.
+          let aside = passed state other line.queue line.aside there
+          (not_there other front (dropped thing front) (others_stay thing other front apart) gone) in (
+            aside.0,
+            ap (λ (hot : Hot). hot other) (set_of-taken_back thing there_aside)
+                ∙ both_and (not (same_thing thing other)) (set_of (things_aside there_aside) other)
+                (false_not (same_thing thing other) apart) aside.1,
+          ),
+    )
 
-goes_last : (state : State) (thing : Thing) (next : Entry) (queue : List Thing) → is_service thing next ≡ true → is_in_turn state queue next ≡ true → GoesLast state thing queue (queue_after state next queue)
-goes_last state thing (entry.Bind door path answer) queue service turn = cc
-goes_last state thing (entry.Poll wait items answer) queue service turn = cc
-goes_last state thing (entry.Accept door (Ok (accepted.Port number))) queue service turn =
-    subst (λ t. GoesLast state t queue (put_back (Accept door) (queued_port number queue))) (same_thing-true (Accept door) thing service)
-    (back_last state (Accept door) queue (queued_port number queue) turn (adds-port number queue))
-goes_last state thing (entry.Accept door (Ok accepted.NotNow)) queue service turn =
-    subst (λ t. GoesLast state t queue (dropped (Accept door) queue)) (same_thing-true (Accept door) thing service) (left_last state (Accept door) queue turn)
-goes_last state thing (entry.Accept door (Err fault)) queue service turn =
-    subst (λ t. GoesLast state t queue (dropped (Accept door) queue)) (same_thing-true (Accept door) thing service) (left_last state (Accept door) queue turn)
-goes_last state thing (entry.Read port room bytes (Ok (got.Bytes n))) queue service turn =
-    subst (λ t. GoesLast state t queue (put_back (Read port) queue)) (same_thing-true (Read port) thing service) (back_last state (Read port) queue queue turn (none queue))
-goes_last state thing (entry.Read port room bytes (Ok got.End)) queue service turn =
-    subst (λ t. GoesLast state t queue (dropped (Read port) queue)) (same_thing-true (Read port) thing service) (left_last state (Read port) queue turn)
-goes_last state thing (entry.Read port room bytes (Ok got.NotNow)) queue service turn =
-    subst (λ t. GoesLast state t queue (dropped (Read port) queue)) (same_thing-true (Read port) thing service) (left_last state (Read port) queue turn)
-goes_last state thing (entry.Read port room bytes (Err fault)) queue service turn =
-    subst (λ t. GoesLast state t queue (dropped (Read port) queue)) (same_thing-true (Read port) thing service) (left_last state (Read port) queue turn)
-goes_last state thing (entry.Write port offered (Ok (wrote.Took n))) queue service turn =
-    subst (λ t. GoesLast state t queue (put_back (Write port) queue)) (same_thing-true (Write port) thing service) (back_last state (Write port) queue queue turn (none queue))
-goes_last state thing (entry.Write port offered (Ok wrote.NotNow)) queue service turn =
-    subst (λ t. GoesLast state t queue (dropped (Write port) queue)) (same_thing-true (Write port) thing service) (left_last state (Write port) queue turn)
-goes_last state thing (entry.Write port offered (Err fault)) queue service turn =
-    subst (λ t. GoesLast state t queue (dropped (Write port) queue)) (same_thing-true (Write port) thing service) (left_last state (Write port) queue turn)
-goes_last state thing (entry.Close port answer) queue service turn = cc
-goes_last state thing (entry.Start job answer) queue service turn = cc
-goes_last state thing (entry.Now answer) queue service turn = cc
+served : (state left : State) (due : Due) (thing : Thing) (next : Entry) (line : Line) → is_service thing next ≡ true
+    → is_in_turn state line.queue next ≡ true → Served state thing line (moved state due left next line)
+served state left due thing (entry.Bind door path answer) line service turn = cc
+served state left due thing (entry.Poll wait items answer) line service turn = cc
+served state left due thing (entry.Accept door (Ok (accepted.Port number))) line service turn =
+    let base = queued_port number (settled state line) in
+    subst (λ t. Served state t line (sent_back (Accept door) base)) (same_thing-true (Accept door) thing service)
+    (back_last state (Accept door) line base turn (adds-queued_port number (settled state line)))
+served state left due thing (entry.Accept door (Ok accepted.NotNow)) line service turn =
+    subst (λ t. Served state t line (without (Accept door) (settled state line)))
+    (same_thing-true (Accept door) thing service)
+    (left_last state (Accept door) line turn)
+served state left due thing (entry.Accept door (Err fault)) line service turn =
+    subst (λ t. Served state t line (without (Accept door) (settled state line)))
+    (same_thing-true (Accept door) thing service)
+    (left_last state (Accept door) line turn)
+served state left due thing (entry.Read port room bytes (Ok (got.Bytes n))) line service turn =
+    subst (λ t. Served state t line (sent_back (Read port) (settled state line)))
+    (same_thing-true (Read port) thing service)
+    (back_last state (Read port) line (settled state line) turn (adds-none (settled state line)))
+served state left due thing (entry.Read port room bytes (Ok got.End)) line service turn =
+    subst (λ t. Served state t line (without (Read port) (settled state line)))
+    (same_thing-true (Read port) thing service)
+    (left_last state (Read port) line turn)
+served state left due thing (entry.Read port room bytes (Ok got.NotNow)) line service turn =
+    subst (λ t. Served state t line (without (Read port) (settled state line)))
+    (same_thing-true (Read port) thing service)
+    (left_last state (Read port) line turn)
+served state left due thing (entry.Read port room bytes (Err fault)) line service turn =
+    subst (λ t. Served state t line (without (Read port) (settled state line)))
+    (same_thing-true (Read port) thing service)
+    (left_last state (Read port) line turn)
+served state left due thing (entry.Write port offered (Ok (wrote.Took n))) line service turn =
+    subst (λ t. Served state t line (sent_back (Write port) (settled state line)))
+    (same_thing-true (Write port) thing service)
+    (back_last state (Write port) line (settled state line) turn (adds-none (settled state line)))
+served state left due thing (entry.Write port offered (Ok wrote.NotNow)) line service turn =
+    subst (λ t. Served state t line (without (Write port) (settled state line)))
+    (same_thing-true (Write port) thing service)
+    (left_last state (Write port) line turn)
+served state left due thing (entry.Write port offered (Err fault)) line service turn =
+    subst (λ t. Served state t line (without (Write port) (settled state line)))
+    (same_thing-true (Write port) thing service)
+    (left_last state (Write port) line turn)
+served state left due thing (entry.Close port answer) line service turn = cc
+served state left due thing (entry.Start job answer) line service turn = cc
+served state left due thing (entry.Now answer) line service turn = cc
 
-turn_is : (from to : Turning) (next : Entry) → taken from next ≡ Some to → is_in_turn from.reading.state from.line.queue next ≡ true
-turn_is from to next is =
-    elim (is_in_turn from.reading.state from.line.queue next) as (λ b. taken_if b from next ≡ Some to → b ≡ true) [
-      | true ↦ λ some. refl
-      | false ↦ λ none. cc
-    ] is
+served_in_turn : (from to : Turning) (thing : Thing) (next : Entry) → taken from next ≡ Some to
+    → is_service thing next ≡ true
+    → Served from.reading.state thing from.line
+    (moved from.reading.state from.reading.due to.reading.state next from.line)
+served_in_turn from to thing next is service =
+    served from.reading.state to.reading.state from.reading.due thing next from.line service
+    (leads from to next is).turn
 
 -- what an entry serves stood first, and goes last
-pub served_goes_last : (from to : Turning) (thing : Thing) (next : Entry) → taken from next ≡ Some to → is_service thing next ≡ true → GoesLast from.reading.state thing from.line.queue to.line.queue
+pub served_goes_last : (from to : Turning) (thing : Thing) (next : Entry) → taken from next ≡ Some to
+    → is_service thing next ≡ true → GoesLast from.reading.state thing from.line.queue to.line.queue
 served_goes_last from to thing next is service =
-    subst (λ l. GoesLast from.reading.state thing from.line.queue l.queue) (sym (after_is from to next is))
-    (goes_last from.reading.state thing next from.line.queue service (turn_is from to next is))
+    subst (λ (l : Line). GoesLast from.reading.state thing from.line.queue l.queue) (sym (leads from to next is).line)
+    (served_in_turn from to thing next is service).0
+
+-- what stood before it is set aside
+pub served_sets_aside : (from to : Turning) (thing : Thing) (next : Entry) → taken from next ≡ Some to
+    → is_service thing next ≡ true → SetsAside from.reading.state thing from.line to.line
+served_sets_aside from to thing next is service =
+    subst (λ (l : Line). SetsAside from.reading.state thing from.line l) (sym (leads from to next is).line)
+    (served_in_turn from to thing next is service).1

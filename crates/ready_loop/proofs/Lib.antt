@@ -1,4 +1,5 @@
 pub mod ThingLemmas
+pub mod TestLemmas
 pub mod AsideLemmas
 pub mod StandingLemmas
 pub mod RecallLemmas
@@ -6,7 +7,18 @@ pub mod SetLemmas
 pub mod IdleLemmas
 pub mod TurningLemmas
 pub mod CallLemmas
+pub mod AddingLemmas
+pub mod StateLemmas
+pub mod QuietLemmas
+pub mod KeepingLemmas
+pub mod TellLemmas
+pub mod StandingLemmas
+pub mod RecallLemmas
+pub mod BackLemmas
+pub mod AheadLemmas
+pub mod AheadCallLemmas
+pub mod FairnessLemmas
+pub mod PassedLemmas
+pub mod LastLemmas
 pub mod RoomLemmas
 pub mod ServingLemmas
-pub mod FairnessLemmas
-pub mod LastLemmas

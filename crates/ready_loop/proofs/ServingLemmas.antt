@@ -18,8 +18,8 @@ use Rattle.world_ports.specs.declared.events.Moment.{Moment}
 use Rattle.agent_model.specs.State.{State}
 use Rattle.ready_hub.specs.Answered.{Free, Reading, after_look, only_if}
 use Rattle.ready_hub.specs.Servable.{is_idle}
-use Rattle.ready_hub.specs.Things.{set_of}
-use Rattle.ready_loop.specs.InTurn.{Line, Turning, in_state, taken, turned}
+use Rattle.ready_loop.specs.InTurn.{Turning, in_state, led, taken, turned}
+use Rattle.ready_loop.specs.Lines.{Line, hot_of}
 use Rattle.ready_loop.specs.Moves.{Advances, Looks, Stops, Turns, is_poll}
 use Rattle.ready_loop.specs.Serving.{HalfBound, Opens, Refused, Running, Runs, RunsUpTo, Serves, Setting, Stage, Unbound, begun, children_path, gone_on, is_deserted, may_come, ran, running_if, stage_if}
 use Rattle.ready_loop.specs.declared.outcome.HubFault.{HubFault}
@@ -116,34 +116,33 @@ poll_step setting mid to poll found may may_is is legal =
       | Some after ↦ λ some. ap (option_map Running) some
     ]) legal
 
-with_line : Line → Reading → Turning
-with_line line reading = record { reading = reading; line = line }
-
 looked : State → Line → Moment → Bool → Option Turning
-looked state line moment idle = option_map (with_line line) (only_if idle (after_look {E = AllocError} state (set_of line.queue) (Ok moment)))
+looked state line moment idle =
+    option_map (led (in_state state line Free) (entry.Now (Ok moment)))
+    (only_if idle (after_look {E = AllocError} state (hot_of line) (Ok moment)))
 
 look_step : (setting : Setting) (state : State) (line : Line) (moment : Moment) (wait : Option ℕ) (items : List Ready) (answer : Result Polled WorldFault) (to : Turning) (idle : Bool) → (setting.until_idle && (is_deserted (in_state state line Free) && idle)) ≡ false → option_and_then (λ after. turned after (entry.Poll wait items answer ∷ [])) (looked state line moment idle) ≡ Some to → option_and_then (λ after. ran setting after (entry.Poll wait items answer ∷ [])) (option_map Running (looked state line moment idle)) ≡ Some (Running to)
-unfolding looked with_line
+unfolding looked
 look_step setting state line moment wait items answer to false done legal = cc
 look_step setting state line moment wait items answer to true done legal =
-    let mid : Turning = with_line line (after_look {E = AllocError} state (set_of line.queue) (Ok moment)) in
+    let mid : Turning = led (in_state state line Free) (entry.Now (Ok moment)) (after_look {E = AllocError} state (hot_of line) (Ok moment)) in
     let poll = entry.Poll wait items answer in
     let may : may_come setting.until_idle mid poll ≡ true =
     ap (λ (b : Bool). not (setting.until_idle && b)) (sym (and_true (is_deserted (in_state state line Free)))) ∙ ap not done in
     poll_step setting mid to poll (taken mid poll) (may_come setting.until_idle mid poll) may refl legal
 
 -- what a look and a poll add is a run, where the loop isn't to end there
-pub looks_run : (setting : Setting) (state : State) (line : Line) (moment : Moment) (wait : Option ℕ) (items : List Ready) (answer : Result Polled WorldFault) (to : Turning) → (setting.until_idle && (is_deserted (in_state state line Free) && is_idle state (set_of line.queue))) ≡ false → turned (in_state state line Free) (entry.Now (Ok moment) ∷ entry.Poll wait items answer ∷ []) ≡ Some to → ran setting (Running (in_state state line Free)) (entry.Now (Ok moment) ∷ entry.Poll wait items answer ∷ []) ≡ Some (Running to)
-unfolding looked with_line
+pub looks_run : (setting : Setting) (state : State) (line : Line) (moment : Moment) (wait : Option ℕ) (items : List Ready) (answer : Result Polled WorldFault) (to : Turning) → (setting.until_idle && (is_deserted (in_state state line Free) && is_idle state (hot_of line))) ≡ false → turned (in_state state line Free) (entry.Now (Ok moment) ∷ entry.Poll wait items answer ∷ []) ≡ Some to → ran setting (Running (in_state state line Free)) (entry.Now (Ok moment) ∷ entry.Poll wait items answer ∷ []) ≡ Some (Running to)
+unfolding looked
 looks_run setting state line moment wait items answer to done legal =
-    look_step setting state line moment wait items answer to (is_idle state (set_of line.queue)) done legal
+    look_step setting state line moment wait items answer to (is_idle state (hot_of line)) done legal
 
 -- ---- turns
 
 -- the loop isn't to end here
 abbrev pub IsOn : Setting → State → Line → Type 0
 IsOn setting state line =
-    (setting.until_idle && (is_deserted (in_state state line Free) && is_idle state (set_of line.queue))) ≡ false
+    (setting.until_idle && (is_deserted (in_state state line Free) && is_idle state (hot_of line))) ≡ false
 
 pub served_runs : {old new : Option (List Entry)} (setting : Setting) (from to : Turning) → Advances from old new to → Runs setting (Running from) old new (Running to)
 served_runs setting from to turn = record {
@@ -207,10 +206,6 @@ memory_ends setting state next line after on (inr looks) =
 -- what a turn did, by how it ended
 pub turn_at : {result answer : Result Turn HubFault} (from : Turning) (old new : Option (List Entry)) (state : State) (line : Line) → result ≡ answer → Turns result from old new state line → Turns answer from old new state line
 turn_at from old new state line is turn = subst (λ (r : Result Turn HubFault). Turns r from old new state line) is turn
-
-pub and_both : (here there : Bool) → (here && there) ≡ true → (here ≡ true) × (there ≡ true)
-and_both true there both = (refl, both)
-and_both false there both = cc
 
 -- ---- the listeners
 

@@ -19,7 +19,8 @@ use Rattle.ready_loop.specs.declared.outcome.HubFault.{HubFault}
 use Rattle.ready_loop.specs.declared.outcome.HubFault.TheVariants as faults
 use Rattle.ready_loop.specs.declared.outcome.Turn.{Turn}
 use Rattle.ready_loop.specs.declared.outcome.Turn.TheVariants as turns
-use Rattle.ready_loop.specs.InTurn.{Line, Turning, in_state, is_in_turn, line_after, taken, taken_if, turned}
+use Rattle.ready_loop.specs.InTurn.{Turning, in_state, is_in_turn, led, taken, taken_if, turned}
+use Rattle.ready_loop.specs.Lines.{Line}
 use Rattle.ready_loop.specs.Moves.{Advances, Continues, Goes, GoesBy, PollsOr, Serves, ServesBy, Stops, Turns, Waits, WaitsOnce, is_poll, served_by}
 
 -- ---- the journal grows
@@ -133,10 +134,9 @@ lands_at {from} {old} {new} to other is calls = subst (Continues from old new) i
 -- ---- an entry that may come
 
 -- one that is in turn, and that may come as ready_hub says
-pub taken-is : (from : Turning) (next : Entry) (reading : Reading) → is_in_turn from.reading.state from.line.queue next ≡ true → allowed from.reading next ≡ Some reading → taken from next ≡ Some (record { reading = reading; line = line_after from.reading.state next from.line })
+pub taken-is : (from : Turning) (next : Entry) (reading : Reading) → is_in_turn from.reading.state from.line.queue next ≡ true → allowed from.reading next ≡ Some reading → taken from next ≡ Some (led from next reading)
 taken-is from next reading turn may =
-    ap (λ (b : Bool). taken_if b from next) turn
-    ∙ ap (option_map (λ (r : Reading). record { reading = r; line = line_after from.reading.state next from.line })) may
+    ap (λ (b : Bool). taken_if b from next) turn ∙ ap (option_map (led from next)) may
 
 -- ---- by whether memory sufficed
 

@@ -7,8 +7,12 @@ use Rattle.ready_hub.specs.Servable.{is_servable}
 use Rattle.ready_hub.specs.Things.{same_thing, set_of}
 use Rattle.ready_hub.specs.declared.thing.Thing.{Thing}
 use Rattle.ready_hub.specs.declared.thing.Thing.TheVariants.{Accept, Read, Write}
+use Rattle.ready_loop.specs.Aside.{things_aside}
 use Rattle.ready_loop.specs.InTurn.{Turning, taken}
-use Rattle.ready_loop.specs.Queues.{dropped, is_next}
+use Rattle.ready_loop.specs.Lines.{Line, hot_of}
+use Rattle.ready_loop.specs.Queues.{dropped, from_servable, is_next}
+
+-- ---- a service
 
 -- the call serves this thing
 abbrev pub is_service : Thing → Entry → Bool
@@ -21,9 +25,25 @@ is_service thing (entry.Close port answer) = false
 is_service thing (entry.Start job answer) = false
 is_service thing (entry.Now answer) = false
 
+-- what is served stood first of all that could be served; the others keep their order, before what is new, without
+-- those that stood before it; and what was served, where it is still ready, stands last
+pub record GoesLast (state : State) (thing : Thing) (before after : List Thing) : Type 0 where
+  pub first : is_next state before thing ≡ true
+  pub new : List Thing
+  pub others : dropped thing after ≡ dropped thing (from_servable state before) ++ new
+  pub last : set_of after thing ≡ true → after ≡ dropped thing after ++ thing ∷ []
+
+-- each other thing that left the queue can't be served, and is set aside
+abbrev pub SetsAside : State → Thing → Line → Line → Type 0
+SetsAside state thing before after = (other : Thing) → same_thing thing other ≡ false
+    → set_of before.queue other ≡ true → set_of after.queue other ≡ false
+    → (is_servable state other ≡ false) × (set_of (things_aside after.aside) other ≡ true)
+
+-- ---- what waits
+
 -- the thing is ready, and can be served
 abbrev pub is_waiting : Thing → Turning → Bool
-is_waiting thing turning = set_of turning.line.queue thing && is_servable turning.reading.state thing
+is_waiting thing turning = hot_of turning.line thing && is_servable turning.reading.state thing
 
 -- it holds of the value, where there is one
 abbrev pub if_any : (Turning → Bool) → Option Turning → Bool
@@ -36,10 +56,12 @@ waits_on thing turning [] = is_waiting thing turning
 waits_on thing turning (next ∷ later) =
     is_waiting thing turning && if_any (λ after. waits_on thing after later) (taken turning next)
 
--- what is served stood first of all that could be served; the others keep their order, before what is new; and what was
--- served, where it is still ready, stands last
-pub record GoesLast (state : State) (thing : Thing) (before after : List Thing) : Type 0 where
-  pub first : is_next state before thing ≡ true
-  pub new : List Thing
-  pub others : dropped thing after ≡ dropped thing before ++ new
-  pub last : set_of after thing ≡ true → after ≡ dropped thing after ++ thing ∷ []
+-- ---- what comes back
+
+-- the queue keeps its things in their places, and what comes back stands behind all of them: it was set aside, and can
+-- be served in this state
+pub record ComesBack (state : State) (before after : Line) : Type 0 where
+  pub more : List Thing
+  pub behind : after.queue ≡ before.queue ++ more
+  pub back : (thing : Thing) → set_of more thing ≡ true
+      → (set_of (things_aside before.aside) thing ≡ true) × (is_servable state thing ≡ true)

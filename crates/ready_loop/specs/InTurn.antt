@@ -35,9 +35,10 @@ in_state state line due = record { reading = at state (hot_of line) due; line = 
 
 -- ---- the line after a call: what was served goes to the back while it is ready
 
--- a listener
+-- a listener, which goes behind both directions of the connection
 abbrev pub after_accepted : Door → Accepted → Line → Line
-after_accepted door (accepted.Port number) line = sent_back (Accept door) (queued_port number line)
+after_accepted door (accepted.Port number) line =
+    record (sent_back (Accept door) (queued_port number line)) { joined = is_client door || line.joined }
 after_accepted door accepted.NotNow line = without (Accept door) line
 
 -- the same, or refused
@@ -111,25 +112,6 @@ moved state due left (entry.Close port answer) line = after_close port answer li
 moved state due left (entry.Start job answer) line = line
 moved state due left (entry.Now answer) line = after_now left due answer line
 
--- ---- clients that connect
-
--- a connection was accepted
-abbrev pub has_port : Result Accepted WorldFault → Bool
-has_port (Ok (accepted.Port number)) = true
-has_port (Ok accepted.NotNow) = false
-has_port (Err fault) = false
-
--- a client connected
-abbrev pub is_joining : Entry → Bool
-is_joining (entry.Bind door path answer) = false
-is_joining (entry.Poll wait items answer) = false
-is_joining (entry.Accept door answer) = has_port answer && is_client door
-is_joining (entry.Read port room bytes answer) = false
-is_joining (entry.Write port offered answer) = false
-is_joining (entry.Close port answer) = false
-is_joining (entry.Start job answer) = false
-is_joining (entry.Now answer) = false
-
 -- ---- which entries may come
 
 -- what is served is the first thing of the queue that can be served
@@ -143,15 +125,12 @@ is_in_turn state queue (entry.Close port answer) = true
 is_in_turn state queue (entry.Start job answer) = true
 is_in_turn state queue (entry.Now answer) = true
 
--- the line after an entry that leads to this reading
-abbrev pub line_after : Reading → Entry → Line → Reading → Line
-line_after reading next line after =
-    let there = moved reading.state reading.due after.state next line in
-    record there { joined = is_joining next || line.joined }
-
--- how it reads after an entry
+-- how it reads after an entry that leads to this reading
 abbrev pub led : Turning → Entry → Reading → Turning
-led turning next after = record { reading = after; line = line_after turning.reading next turning.line after }
+led turning next after = record {
+  reading = after;
+  line = moved turning.reading.state turning.reading.due after.state next turning.line;
+}
 
 -- where it is in turn, the entry may come as ready_hub says
 abbrev pub taken_if : Bool → Turning → Entry → Option Turning

@@ -17,7 +17,10 @@ mod turn;
 
 pub use agent::Core;
 pub use hub::Hub;
-pub use laws::{all_wait_their_turn, what_comes_in_turn_is_legal, what_is_served_goes_last};
+pub use laws::{
+    all_wait_their_turn, what_comes_in_turn_is_legal, what_is_called_back_comes_last,
+    what_is_served_goes_last, what_is_set_aside_cant_be_served,
+};
 pub use listeners::children_path;
 pub use outcome::{HubFault, ServeEnd, Turn};
 pub use serving::serve;

@@ -41,6 +41,7 @@ fn poll<A: Core, W: World>(
     ensures legal { PollsOr result (in_state (A.state agent.now) queue.old Polling)
         (W.journal world.old) (W.journal world.new) (A.state agent.now) queue.new }
     ensures ports { OnOk result (W.last_port world.new ≡ W.last_port world.old) }
+    ensures quiet { IsQuiet (A.state agent.now) queue.old → OnOk result (IsQuiet (A.state agent.now) queue.new) }
     ensures cause { result ≡ Err HubFault.Poll → Rose (W.faults world.old) (W.faults world.new) }
     ensures later { W.faults world.old ≤ W.faults world.new }
 {
@@ -70,6 +71,7 @@ pub fn look<A: Core, W: World>(
     ensures legal { Turns result (in_state (A.state agent.old) queue.old Free)
         (W.journal world.old) (W.journal world.new) (A.state agent.new) queue.new }
     ensures ports { OnOk result (W.last_port world.new ≡ (A.state agent.new).last_port) }
+    ensures quiet { OnOk result (IsQuiet (A.state agent.new) queue.new) }
     ensures cause { result ≡ Err HubFault.Poll → Rose (W.faults world.old) (W.faults world.new) }
     ensures later { W.faults world.old ≤ W.faults world.new }
 {

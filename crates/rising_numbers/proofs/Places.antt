@@ -30,7 +30,8 @@ rising-ordered (x ∷ xs) (suc i) (suc j) rising order within =
     rising-ordered xs i j (rising_list x xs rising) (omega arith) (omega arith)
 
 -- where those before are less and those from there on are greater, the number goes there
-inserted-at : (number : ℕ) (xs : List ℕ) (i : ℕ) → i ≤ length xs → ((k : ℕ) → k < i → get_or xs k 0 < number) → ((k : ℕ) → i ≤ k → k < length xs → number < get_or xs k 0) → inserted number xs ≡ insert xs i number
+inserted-at : (number : ℕ) (xs : List ℕ) (i : ℕ) → i ≤ length xs → ((k : ℕ) → k < i → get_or xs k 0 < number)
+    → ((k : ℕ) → i ≤ k → k < length xs → number < get_or xs k 0) → inserted number xs ≡ insert xs i number
 inserted-at number [] zero within less greater = refl
 inserted-at number [] (suc i) within less greater = absurd (omega arith)
 inserted-at number (x ∷ xs) zero within less greater =
@@ -59,7 +60,8 @@ not_among number (x ∷ xs) absent =
     grind (arith, nat_tests)
 
 -- the number that stands there goes
-removed-at : (number : ℕ) (xs : List ℕ) (i : ℕ) → IsRisingList xs → i < length xs → get_or xs i 0 ≡ number → removed number xs ≡ remove xs i
+removed-at : (number : ℕ) (xs : List ℕ) (i : ℕ) → IsRisingList xs → i < length xs → get_or xs i 0 ≡ number
+    → removed number xs ≡ remove xs i
 removed-at number [] i rising within is = absurd (omega arith)
 removed-at number (x ∷ xs) zero rising within is = grind (arith, nat_tests)
 removed-at number (x ∷ xs) (suc i) rising within is =
@@ -68,7 +70,8 @@ removed-at number (x ∷ xs) (suc i) rising within is =
     grind (arith, nat_tests)
 
 -- the first number above one that stands at a place is the next
-first_above-at : (number : ℕ) (xs : List ℕ) (i : ℕ) → IsRisingList xs → i < length xs → get_or xs i 0 ≡ number → first_above number xs ≡ slice_get xs (suc i)
+first_above-at : (number : ℕ) (xs : List ℕ) (i : ℕ) → IsRisingList xs → i < length xs → get_or xs i 0 ≡ number
+    → first_above number xs ≡ slice_get xs (suc i)
 first_above-at number [] i rising within is = absurd (omega arith)
 first_above-at number (x ∷ []) zero rising within is = grind (arith, nat_tests)
 first_above-at number (x ∷ (y ∷ xs)) zero rising within is =
@@ -80,7 +83,8 @@ first_above-at number (x ∷ xs) (suc i) rising within is =
     grind (arith, nat_tests)
 
 -- the first number above one that isn't there stands where that one would go
-first_above-absent : (number : ℕ) (xs : List ℕ) (i : ℕ) → i ≤ length xs → ((k : ℕ) → k < i → get_or xs k 0 < number) → ((k : ℕ) → i ≤ k → k < length xs → number < get_or xs k 0) → first_above number xs ≡ slice_get xs i
+first_above-absent : (number : ℕ) (xs : List ℕ) (i : ℕ) → i ≤ length xs → ((k : ℕ) → k < i → get_or xs k 0 < number)
+    → ((k : ℕ) → i ≤ k → k < length xs → number < get_or xs k 0) → first_above number xs ≡ slice_get xs i
 first_above-absent number [] i within less greater = grind (arith, common_steps)
 first_above-absent number (x ∷ xs) zero within less greater =
     let above : number < x = greater 0 (omega arith) (omega arith) in
@@ -92,14 +96,16 @@ first_above-absent number (x ∷ xs) (suc i) within less greater =
     grind (arith, nat_tests)
 
 -- a number between those that are less and those that are greater isn't there
-apart : (number : ℕ) (xs : List ℕ) (place k : ℕ) → ((k : ℕ) → k < place → get_or xs k 0 < number) → ((k : ℕ) → place ≤ k → k < length xs → number < get_or xs k 0) → k < length xs → get_or xs k 0 ≢ number
+apart : (number : ℕ) (xs : List ℕ) (place k : ℕ) → ((k : ℕ) → k < place → get_or xs k 0 < number) → ((k : ℕ) → place ≤ k → k < length xs → number < get_or xs k 0)
+    → k < length xs → get_or xs k 0 ≢ number
 apart number xs place k less greater within is = elim (cases_lt k place) [
   | inl h ↦ (let l : get_or xs k 0 < number = less k h in absurd (omega arith))
   | inr h ↦ (let g : number < get_or xs k 0 = greater k h within in absurd (omega arith))
 ]
 
 -- what a binary search answers in a rising list
-pub searched_numbers : (number : ℕ) (xs : List ℕ) (r : Result ℕ ℕ) → IsBinarySearchResult (λ y. nat_cmp y number) xs r → IsRisingList xs → MatchResult r (IsFound number xs) (IsAbsent number xs)
+pub searched_numbers : (number : ℕ) (xs : List ℕ) (r : Result ℕ ℕ) → IsBinarySearchResult (λ y. nat_cmp y number) xs r
+    → IsRisingList xs → MatchResult r (IsFound number xs) (IsAbsent number xs)
 searched_numbers number xs (Ok place) answer rising =
     let at = searched xs number (Ok place) answer (λ i j h l. rising-ordered xs i j rising h l) in
     let there = among-at number xs place at.0 at.1 in

@@ -17,11 +17,13 @@ rising_list low [] rising = tt
 rising_list low (x ∷ xs) rising = rising.1
 
 -- with one number more it still rises
-pub rising-inserted : (low number : ℕ) (xs : List ℕ) → low < number → IsRisingNumbers low xs → IsRisingNumbers low (inserted number xs)
+pub rising-inserted : (low number : ℕ) (xs : List ℕ) → low < number → IsRisingNumbers low xs
+    → IsRisingNumbers low (inserted number xs)
 rising-inserted low number [] above rising = (above, tt)
 rising-inserted low number (x ∷ xs) above rising = by_order (number == x) (nat_lt number x) refl refl (λ below. rising-inserted x number xs below rising.1)
   where
-    by_order : (same less : Bool) → (number == x) ≡ same → nat_lt number x ≡ less → (x < number → IsRisingNumbers x (inserted number xs)) → IsRisingNumbers low (if same then x ∷ xs else (if less then number ∷ x ∷ xs else x ∷ inserted number xs))
+    by_order : (same less : Bool) → (number == x) ≡ same → nat_lt number x ≡ less → (x < number → IsRisingNumbers x (inserted number xs))
+        → IsRisingNumbers low (if same then x ∷ xs else (if less then number ∷ x ∷ xs else x ∷ inserted number xs))
     by_order true less is order later = rising
     by_order false true is order later = (above, (grind (arith, nat_tests), rising.1))
     by_order false false is order later = (rising.0, later (grind (arith, nat_tests)))
@@ -30,7 +32,8 @@ pub rising_list-inserted : (number : ℕ) (xs : List ℕ) → IsRisingList xs �
 rising_list-inserted number [] rising = tt
 rising_list-inserted number (x ∷ xs) rising = by_order (number == x) (nat_lt number x) refl refl (λ below. rising-inserted x number xs below rising)
   where
-    by_order : (same less : Bool) → (number == x) ≡ same → nat_lt number x ≡ less → (x < number → IsRisingNumbers x (inserted number xs)) → IsRisingList (if same then x ∷ xs else (if less then number ∷ x ∷ xs else x ∷ inserted number xs))
+    by_order : (same less : Bool) → (number == x) ≡ same → nat_lt number x ≡ less → (x < number → IsRisingNumbers x (inserted number xs))
+        → IsRisingList (if same then x ∷ xs else (if less then number ∷ x ∷ xs else x ∷ inserted number xs))
     by_order true less is order later = rising
     by_order false true is order later = (grind (arith, nat_tests), rising)
     by_order false false is order later = later (grind (arith, nat_tests))
@@ -40,7 +43,8 @@ pub rising-removed : (low number : ℕ) (xs : List ℕ) → IsRisingNumbers low 
 rising-removed low number [] rising = tt
 rising-removed low number (x ∷ xs) rising = by_test (number == x) (rising-removed x number xs rising.1)
   where
-    by_test : (same : Bool) → IsRisingNumbers x (removed number xs) → IsRisingNumbers low (if same then xs else x ∷ removed number xs)
+    by_test : (same : Bool) → IsRisingNumbers x (removed number xs)
+        → IsRisingNumbers low (if same then xs else x ∷ removed number xs)
     by_test true later = rising_lower low x xs (omega (arith, rising.0)) rising.1
     by_test false later = (rising.0, later)
 
@@ -75,14 +79,16 @@ is_among-below low number (x ∷ xs) below rising =
     grind (arith, nat_tests)
 
 -- a number that is put in is there, and no other comes or goes
-pub is_among-inserted : (m number : ℕ) (xs : List ℕ) → is_among m (inserted number xs) ≡ ((number == m) || is_among m xs)
+pub is_among-inserted : (m number : ℕ) (xs : List ℕ)
+    → is_among m (inserted number xs) ≡ ((number == m) || is_among m xs)
 is_among-inserted m number [] = grind (arith, nat_tests)
 is_among-inserted m number (x ∷ xs) =
     let rest : is_among m (inserted number xs) ≡ ((number == m) || is_among m xs) = is_among-inserted m number xs in
     grind (arith, nat_tests)
 
 -- a number that is taken out isn't there, and no other comes or goes
-pub is_among-removed : (m number : ℕ) (xs : List ℕ) → IsRisingList xs → is_among m (removed number xs) ≡ (not (number == m) && is_among m xs)
+pub is_among-removed : (m number : ℕ) (xs : List ℕ) → IsRisingList xs
+    → is_among m (removed number xs) ≡ (not (number == m) && is_among m xs)
 is_among-removed m number [] rising = grind (arith, nat_tests)
 is_among-removed m number (x ∷ xs) rising =
     let rest : is_among m (removed number xs) ≡ (not (number == m) && is_among m xs) = is_among-removed m number xs (rising_list x xs rising) in
@@ -122,14 +128,16 @@ removed_below number low (x ∷ xs) below rising =
     let rest : removed number xs ≡ xs = removed_below number x xs (omega (arith, rising.0)) rising.1 in
     grind (arith, nat_tests)
 
-pub inserted_below : (number low : ℕ) (xs : List ℕ) → number ≤ low → IsRisingNumbers low xs → inserted number xs ≡ number ∷ xs
+pub inserted_below : (number low : ℕ) (xs : List ℕ) → number ≤ low → IsRisingNumbers low xs
+    → inserted number xs ≡ number ∷ xs
 inserted_below number low [] below rising = refl
 inserted_below number low (x ∷ xs) below rising =
     let above : low < x = rising.0 in
     grind (arith, nat_tests)
 
 -- with one number less, those are left that are another
-pub removed-filter : (number : ℕ) (xs : List ℕ) → IsRisingList xs → removed number xs ≡ filter (λ m. not (number == m)) xs
+pub removed-filter : (number : ℕ) (xs : List ℕ) → IsRisingList xs
+    → removed number xs ≡ filter (λ m. not (number == m)) xs
 removed-filter number [] rising = refl
 removed-filter number (x ∷ xs) rising = elim (cases_eq number x) [
   | inl here ↦

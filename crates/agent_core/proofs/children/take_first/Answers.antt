@@ -1,10 +1,10 @@
 use Rattle.std.specs.Option.{IsSomeAnd}
-use Rattle.std.proofs.Common.{◌≡◌, ◌∙◌, ℕ, List, [], Option, Some, ap, refl, subst, sym}
+use Rattle.std.proofs.Common.{◌∙◌, ℕ, List, Option, ap, refl, subst, sym}
 use Rattle.wire_text.specs.Frames.{after_front, front_body}
 use Rattle.child_msg.specs.Reading.{from_child_of}
 use Rattle.confirm_desk.specs.Confirmations.{Confirmation, find_linked, linked_at}
 use Rattle.agent_model.specs.Children.{unheard}
-use Rattle.agent_model.specs.State.{Port, UnderWay, find_port}
+use Rattle.agent_model.specs.State.{Port, UnderWay}
 use Rattle.agent_model.proofs.PortsLemmas.{numbers-change_port}
 use Rattle.agent_core.specs.Confirmers.{IsHeldFor}
 use Rattle.agent_core.specs.Settlings.{named_job}

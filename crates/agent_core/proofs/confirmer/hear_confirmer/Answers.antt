@@ -1,7 +1,7 @@
-use Rattle.std.proofs.Common.{◌≡◌, ◌∙◌, ◌++◌, ℕ, List, Option, Some, ap, refl, subst, sym}
+use Rattle.std.proofs.Common.{◌∙◌, ◌++◌, ℕ, List, Option, Some, ap, refl, subst, sym}
 use Rattle.std.specs.Option.{IsSomeAnd}
-use Rattle.confirm_desk.specs.Calls.{Telling, telling}
-use Rattle.confirm_desk.specs.Confirmations.{Confirmation, consent, find_linked}
+use Rattle.confirm_desk.specs.Calls.{Telling}
+use Rattle.confirm_desk.specs.Confirmations.{Confirmation, consent}
 use Rattle.confirm_desk.specs.declared.held.Held.{Held as CodeHeld}
 use Rattle.agent_model.specs.Consents.{consent_by}
 use Rattle.agent_model.specs.State.{State, find_port}

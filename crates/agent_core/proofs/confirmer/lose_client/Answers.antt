@@ -1,5 +1,5 @@
 use Rattle.std.proofs.Common.{◌≡◌, ◌∙◌, ℕ, List, Some, ap, subst, sym}
-use Rattle.confirm_desk.specs.Confirmations.{Confirmation, find_asker, find_job}
+use Rattle.confirm_desk.specs.Confirmations.{find_asker, find_job}
 use Rattle.agent_model.specs.Children.{closed}
 use Rattle.agent_model.specs.Consents.{over, over_if}
 use Rattle.agent_model.specs.KeyStates.{KeyState}

@@ -1,4 +1,4 @@
-use Rattle.std.proofs.Common.{◌≡◌, ◌∙◌, ◌+◌, ap, drop, subst, sym}
+use Rattle.std.proofs.Common.{◌∙◌, ◌+◌, ap, drop, subst, sym}
 use Rattle.agent_model.specs.Answers.{find_verification}
 use Rattle.agent_model.specs.State.{UnderWay, change_port}
 use Rattle.agent_core.specs.Settlings.{AreProvable, told_with}

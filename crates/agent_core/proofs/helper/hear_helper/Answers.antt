@@ -1,12 +1,11 @@
-use Rattle.std.proofs.Common.{◌≡◌, ◌∙◌, ℕ, List, [], None, Some, ap, sym, subst}
+use Rattle.std.proofs.Common.{◌∙◌, ℕ, List, None, Some, sym, subst}
 use Rattle.agent_model.specs.KeyStates.{KeyState}
-use Rattle.agent_model.specs.State.{Port, UnderWay}
+use Rattle.agent_model.specs.State.{Port}
 use Rattle.helper_link.specs.declared.answer.Settled.{Settled}
-use Rattle.agent_core.specs.Settlings.{AreProvable, AreShortAnswers}
-use Rattle.agent_core.specs.Slots.{OpenPorts}
+use Rattle.agent_core.specs.Settlings.{AreShortAnswers}
 use Rattle.agent_core.proofs.ClosedLemmas.{closed-changed}
 use Rattle.agent_core.proofs.BoundLemmas.{bound-answered, provable-answers}
-use Rattle.agent_core.proofs.HelperLemmas.{closes_same, closes_since, heard_state, numbers-answered, open-answered}
+use Rattle.agent_core.proofs.HelperLemmas.{heard_state, numbers-answered, open-answered}
 use Rattle.agent_core.proofs.ShortLemmas.{told_short}
 use Rattle.agent_core.proofs.helper.hear_helper.Goals as goal
 
@@ -32,19 +31,9 @@ returns-in-Some-clause-state c = λ (wall : ℕ) (keys : KeyState) (closes : Lis
     c.lose_helper.ensures.state wall keys closes
     ∙ heard_state wall keys c.args.under_way.now c.helper_told.new.self c.answer_all.new.under_way c.args.ports.now c.answer_all.new.ports closes c.args.piece.now c.as_slice.result.now (Some c.in-Some.field-0) c.in_ok-told.ensures.link (c.as_slice.ensures ∙ c.in_ok-told.ensures.settled) (sym c.in-Some.is ∙ c.in_ok-told.ensures.fault) c.in_ok-answer_all.ensures.under_way c.in_ok-answer_all.ensures.ports
 
-pub returns-in-Some-clause-closes : goal.returns-in-Some-clause-closes
-returns-in-Some-clause-closes c = λ (none : c.args.ports.now.closed ≡ []).
-    let told = c.in_ok-answer_all.ensures.ports in
-    closes_since c.args.ports.now c.answer_all.new.ports c.lose_helper.new.ports.last _ c.lose_helper.new.ports.ports c.lose_helper.new.ports.closed told (numbers-answered c.as_slice.result.now c.helper_told.new.self.verifications c.args.ports.now.ports)
-    (c.lose_helper.ensures.closes (ap (λ (v : OpenPorts). v.closed) told ∙ none))
-
 pub returns-clause-state : goal.returns-clause-state
 returns-clause-state c = λ (wall : ℕ) (keys : KeyState) (closes : List ℕ).
     heard_state wall keys c.args.under_way.now c.helper_told.new.self c.answer_all.new.under_way c.args.ports.now c.answer_all.new.ports closes c.args.piece.now c.as_slice.result.now None c.in_ok-told.ensures.link (c.as_slice.ensures ∙ c.in_ok-told.ensures.settled) (sym c.in-None.is ∙ c.in_ok-told.ensures.fault) c.in_ok-answer_all.ensures.under_way c.in_ok-answer_all.ensures.ports
-
-pub returns-clause-closes : goal.returns-clause-closes
-returns-clause-closes c = λ (none : c.args.ports.now.closed ≡ []).
-    closes_same c.args.ports.now c.answer_all.new.ports _ none c.in_ok-answer_all.ensures.ports (numbers-answered c.as_slice.result.now c.helper_told.new.self.verifications c.args.ports.now.ports)
 
 pub returns-in-Some-clause-closed : goal.returns-in-Some-clause-closed
 returns-in-Some-clause-closed c = λ (last : ℕ) (began : List Port) was.

@@ -1,15 +1,14 @@
-use Rattle.std.proofs.Common.{◌≡◌, ◌∙◌, ℕ, List, [], ap, subst, sym}
+use Rattle.std.proofs.Common.{◌∙◌, ℕ, List, ap, subst, sym}
 use Rattle.helper_link.specs.HelperLink.{askers}
 use Rattle.agent_model.specs.Answers.{close_helper}
 use Rattle.agent_model.specs.KeyStates.{KeyState}
 use Rattle.agent_model.specs.Sound.{AreTied}
 use Rattle.agent_model.specs.Verdicts.{HelperLost, Refuses}
-use Rattle.agent_core.specs.Rising.{inserted}
 use Rattle.agent_core.specs.Slots.{OpenPorts}
 use Rattle.agent_model.specs.State.{Port}
 use Rattle.agent_core.proofs.ClosedLemmas.{closed-changed, closed-more}
 use Rattle.agent_core.proofs.BoundLemmas.{silent-asks, tied-removed}
-use Rattle.agent_core.proofs.HelperLemmas.{closes_before, lost_state, numbers-tell_each}
+use Rattle.agent_core.proofs.HelperLemmas.{lost_state, numbers-tell_each}
 use Rattle.agent_core.proofs.helper.lose_helper.Goals as goal
 
 pub lose_link-requires-clause-silent : goal.lose_link-requires-clause-silent
@@ -24,11 +23,6 @@ returns-clause-state c = λ (wall : ℕ) (keys : KeyState) (closes : List ℕ).
     let old = c.args.ports.now in
     let closed = ap (λ l. close_helper l old.ports) c.requires.linked ∙ sym (ap (λ (v : OpenPorts). v.ports) c.close.ensures.ports) in
     lost_state wall keys c.args.under_way.now c.lose_link.new.under_way old c.close.new.self c.lose_link.new.ports closes closed (sym (ap (λ (v : OpenPorts). v.last) c.close.ensures.ports)) c.lose_link.ensures.under_way c.lose_link.ensures.ports
-
-pub returns-clause-closes : goal.returns-clause-closes
-returns-clause-closes c = λ (none : c.args.ports.now.closed ≡ []).
-    let is = ap (λ (v : OpenPorts). v.closed) c.close.ensures.ports ∙ ap (inserted c.args.helper) none ∙ sym c.close.ensures.gone in
-    closes_before c.args.ports.now c.close.new.self c.lose_link.new.ports _ is c.lose_link.ensures.ports (numbers-tell_each (Refuses HelperLost) (askers c.args.under_way.now.link.asks) c.close.new.self.ports)
 
 pub returns-clause-closed : goal.returns-clause-closed
 returns-clause-closed c = λ (last : ℕ) (began : List Port) was.

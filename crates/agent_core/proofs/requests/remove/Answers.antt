@@ -1,4 +1,4 @@
-use Rattle.std.proofs.Common.{◌≡◌, ◌∙◌, ap, refl, subst, sym, ℕ, List, Option, true, false, is_some}
+use Rattle.std.proofs.Common.{◌≡◌, ◌∙◌, ap, refl, subst, sym, ℕ, List, Option, true, false}
 use Rattle.identity_table.specs.Identities.{TableState, find_identity}
 use Rattle.agent_core.specs.Served.{IsStatus, asker_of, hides, keys_of}
 use Rattle.agent_model.specs.Dispatch.{remove_by}

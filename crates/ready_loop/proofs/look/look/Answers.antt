@@ -1,4 +1,4 @@
-use Rattle.std.proofs.Common.{refl, inl, ◌≡◌, ◌∙◌, Ok, Result, Some, List, ℕ, true, false, length, [], ◌==◌, ap, sym, arith}
+use Rattle.std.proofs.Common.{refl, inl, ◌≡◌, ◌∙◌, Ok, Result, Some, None, List, ℕ, true, false, length, [], ◌==◌, ap, sym, arith, subst}
 use Rattle.std.specs.declared.alloc.AllocError.{AllocError}
 use Rattle.world_ports.specs.declared.events.Moment.{Moment}
 use Rattle.std.specs.Prelude.{is_err}
@@ -6,9 +6,11 @@ use Rattle.world_ports.specs.declared.entry.Entry.TheVariants as entry
 use Rattle.ready_hub.specs.Answered as hub
 use Rattle.ready_hub.specs.Answered.{Due, Free, Polling, due_after_look, due_of}
 use Rattle.ready_hub.specs.Servable.{is_idle}
-use Rattle.ready_hub.specs.Things.{set_of}
-use Rattle.ready_loop.specs.InTurn.{Line, in_state}
-use Rattle.ready_loop.proofs.CallLemmas.{left, look-any, look-closes, look-none, look-taken}
+use Rattle.ready_loop.specs.InTurn.{in_state, led}
+use Rattle.ready_loop.specs.Lines.{IsQuiet, Line, hot_of, recalled}
+use Rattle.ready_loop.proofs.CallLemmas.{look-any, look-closes, look-none, look-taken, looked-at}
+use Rattle.ready_loop.proofs.KeepingLemmas.{quiet_goes, quiet_is}
+use Rattle.ready_loop.proofs.QuietLemmas.{quiet_recalled}
 use Rattle.ready_loop.proofs.TurningLemmas.{advances, advances_once, goes_stops, one_call, stops_later, stops_short, stops_there, looks_by}
 use Rattle.ready_loop.proofs.look.look.Goals as goal
 
@@ -17,88 +19,101 @@ returns-in_default-clause-legal g c =
     let state = g.A.Core.state c.args.agent.now in
     let line = c.args.queue.now in
     let next = entry.Now c.now.result in
-    inl (stops_short (in_state state line Free) (left state line next (hub.after_look state (set_of line.queue) c.now.result))
+    inl (stops_short (in_state state line Free) (led (in_state state line Free) next (hub.after_look state (hot_of line) c.now.result))
     (g.W.World.journal c.args.world.now) (g.W.World.journal c.now.new.self) (is_err c.now.result) next refl
     (look-any state line c.now.result c.requires.idle) c.now.ensures.told)
 
-pub returns-in_default-step-clause-legal : goal.returns-in_default-step-clause-legal
-returns-in_default-step-clause-legal g c =
+pub returns-in_default-tell-clause-legal : goal.returns-in_default-tell-clause-legal
+returns-in_default-tell-clause-legal g c =
     let state = g.A.Core.state c.args.agent.now in
     let line = c.args.queue.now in
     let answer : Result Moment AllocError = Ok c.in-Ok.moment in
     let next = entry.Now answer in
-    inl (stops_there (one_call (in_state state line Free) (left state line next (hub.after_look state (set_of line.queue) answer))
+    inl (stops_there (one_call (in_state state line Free) (led (in_state state line Free) next (hub.after_look state (hot_of line) answer))
     (g.W.World.journal c.args.world.now) (g.W.World.journal c.now.new.self) next refl
     (look-any state line answer c.requires.idle) c.in-Ok.ensures.told))
 
 pub returns-in_default-close_all-clause-legal : goal.returns-in_default-close_all-clause-legal
 returns-in_default-close_all-clause-legal g c =
     let state = g.A.Core.state c.args.agent.now in
-    let after = g.A.Core.state c.step.new.self in
-    let line = c.args.queue.now in
+    let after = g.A.Core.state c.tell.new.agent in
+    let line = c.tell.new.queue in
     let full : c.is_empty.result ≡ false = grind arith in
     let some : (length after.closes == 0) ≡ false =
     ap (λ (ps : List ℕ). length ps == 0) (sym c.closes.ensures) ∙ sym c.is_empty.ensures ∙ full in
-    inl (stops_later (one_call (in_state state line Free) (in_state after line (due_of after.closes))
+    inl (stops_later (one_call (in_state state c.args.queue.now Free) (in_state after line (due_of after.closes))
     (g.W.World.journal c.args.world.now) (g.W.World.journal c.now.new.self) (entry.Now (Ok c.in-Ok.moment)) refl
-    (look-taken state after line c.in-Ok.moment c.requires.idle c.in-Ok-step.ensures
-    ∙ ap (λ (d : Due). Some (in_state after line d)) (look-closes after.closes (is_idle after (set_of line.queue)) some))
+    (looked-at state after c.args.queue.now line c.in-Ok.moment c.requires.idle c.in-Ok-tell.ensures.stepped c.in-Ok-tell.ensures.recalled
+    ∙ ap (λ (d : Due). Some (in_state after line d)) (look-closes after.closes (is_idle after (hot_of line)) some))
     c.in-Ok.ensures.told) (goes_stops c.close_all.ensures.legal))
 
 pub returns-then-not-is_empty-clause-legal : goal.returns-then-not-is_empty-clause-legal
 returns-then-not-is_empty-clause-legal g c =
     let state = g.A.Core.state c.args.agent.now in
-    let after = g.A.Core.state c.step.new.self in
-    let line = c.args.queue.now in
+    let after = g.A.Core.state c.tell.new.agent in
+    let line = c.tell.new.queue in
     let full : c.is_empty.result ≡ false = grind arith in
     let some : (length after.closes == 0) ≡ false =
     ap (λ (ps : List ℕ). length ps == 0) (sym c.closes.ensures) ∙ sym c.is_empty.ensures ∙ full in
     advances (entry.Now (Ok c.in-Ok.moment)) refl
-    (look-taken state after line c.in-Ok.moment c.requires.idle c.in-Ok-step.ensures
-    ∙ ap (λ (d : Due). Some (in_state after line d)) (look-closes after.closes (is_idle after (set_of line.queue)) some))
+    (looked-at state after c.args.queue.now line c.in-Ok.moment c.requires.idle c.in-Ok-tell.ensures.stepped c.in-Ok-tell.ensures.recalled
+    ∙ ap (λ (d : Due). Some (in_state after line d)) (look-closes after.closes (is_idle after (hot_of line)) some))
     c.in-Ok.ensures.told c.in-Ok-close_all.ensures.legal.by
 
-pub returns-in_default-is_idle_now-clause-legal : goal.returns-in_default-is_idle_now-clause-legal
-returns-in_default-is_idle_now-clause-legal g c =
+pub returns-then-not-is_idle-clause-legal : goal.returns-then-not-is_idle-clause-legal
+returns-then-not-is_idle-clause-legal g c =
     let state = g.A.Core.state c.args.agent.now in
-    let line = c.args.queue.now in
-    let answer : Result Moment AllocError = Ok c.in-Ok.moment in
-    let next = entry.Now answer in
-    inl (stops_there (one_call (in_state state line Free) (left state line next (hub.after_look state (set_of line.queue) answer))
-    (g.W.World.journal c.args.world.now) (g.W.World.journal c.now.new.self) next refl
-    (look-any state line answer c.requires.idle) c.in-Ok.ensures.told))
-
-pub returns-then-not-idle-clause-legal : goal.returns-then-not-idle-clause-legal
-returns-then-not-idle-clause-legal g c =
-    let state = g.A.Core.state c.args.agent.now in
-    let after = g.A.Core.state c.step.new.self in
-    let line = c.args.queue.now in
+    let after = g.A.Core.state c.tell.new.agent in
+    let line = c.tell.new.queue in
     let bare : c.is_empty.result ≡ true = grind arith in
-    let busy : c.in-Ok-is_idle_now.idle ≡ false = grind arith in
+    let busy : c.is_idle.result ≡ false = grind arith in
     let none : (length after.closes == 0) ≡ true =
     ap (λ (ps : List ℕ). length ps == 0) (sym c.closes.ensures) ∙ sym c.is_empty.ensures ∙ bare in
-    advances_once (in_state state line Free) (in_state after c.is_idle_now.new.queue Free)
+    advances_once (in_state state c.args.queue.now Free) (in_state after line Free)
     (g.W.World.journal c.args.world.now) (g.W.World.journal c.now.new.self) (entry.Now (Ok c.in-Ok.moment)) refl
-    (look-taken state after line c.in-Ok.moment c.requires.idle c.in-Ok-step.ensures
+    (looked-at state after c.args.queue.now line c.in-Ok.moment c.requires.idle c.in-Ok-tell.ensures.stepped c.in-Ok-tell.ensures.recalled
     ∙ ap (λ (d : Due). Some (in_state after line d))
-    (look-none after.closes (is_idle after (set_of line.queue)) none ∙ ap (due_after_look []) (sym c.in-Ok-is_idle_now.ensures.idle ∙ busy))
-    ∙ ap (λ (l : Line). Some (in_state after l Free)) (sym c.in-Ok-is_idle_now.ensures.unchanged))
+    (look-none after.closes (is_idle after (hot_of line)) none ∙ ap (due_after_look []) (sym c.is_idle.ensures ∙ busy)))
     c.in-Ok.ensures.told
 
 pub returns-clause-legal : goal.returns-clause-legal
 returns-clause-legal g c =
     let state = g.A.Core.state c.args.agent.now in
-    let after = g.A.Core.state c.step.new.self in
-    let line = c.args.queue.now in
+    let after = g.A.Core.state c.tell.new.agent in
+    let line = c.tell.new.queue in
     let bare : c.is_empty.result ≡ true = grind arith in
-    let idle : c.in-Ok-is_idle_now.idle ≡ true = grind arith in
+    let idle : c.is_idle.result ≡ true = grind arith in
     let none : (length after.closes == 0) ≡ true =
     ap (λ (ps : List ℕ). length ps == 0) (sym c.closes.ensures) ∙ sym c.is_empty.ensures ∙ bare in
-    looks_by c.poll.result c.in-Ok.moment (in_state state line Free) (in_state after c.is_idle_now.new.queue Polling)
+    looks_by c.poll.result c.in-Ok.moment (in_state state c.args.queue.now Free) (in_state after line Polling)
     (g.W.World.journal c.args.world.now) (g.W.World.journal c.now.new.self) (g.W.World.journal c.poll.new.world)
     after c.poll.new.queue
-    (look-taken state after line c.in-Ok.moment c.requires.idle c.in-Ok-step.ensures
+    (looked-at state after c.args.queue.now line c.in-Ok.moment c.requires.idle c.in-Ok-tell.ensures.stepped c.in-Ok-tell.ensures.recalled
     ∙ ap (λ (d : Due). Some (in_state after line d))
-    (look-none after.closes (is_idle after (set_of line.queue)) none ∙ ap (due_after_look []) (sym c.in-Ok-is_idle_now.ensures.idle ∙ idle))
-    ∙ ap (λ (l : Line). Some (in_state after l Polling)) (sym c.in-Ok-is_idle_now.ensures.unchanged))
+    (look-none after.closes (is_idle after (hot_of line)) none ∙ ap (due_after_look []) (sym c.is_idle.ensures ∙ idle)))
     c.in-Ok.ensures.told c.poll.ensures.legal
+
+pub returns-then-not-is_empty-clause-quiet : goal.returns-then-not-is_empty-clause-quiet
+returns-then-not-is_empty-clause-quiet g c =
+    let after = g.A.Core.state c.tell.new.agent in
+    quiet_goes (Ok c.in-Ok-close_all.field-0) (in_state after c.tell.new.queue (due_of after.closes))
+    (g.W.World.journal c.now.new.self) (g.W.World.journal c.close_all.new.world) after c.close_all.new.queue
+    c.in-Ok-close_all.ensures.legal
+    (quiet_is (g.A.Core.state c.tell.new.agent) (recalled (g.A.Core.state c.tell.new.agent) None c.args.queue.now) c.tell.new.queue
+    c.in-Ok-tell.ensures.recalled (quiet_recalled (g.A.Core.state c.tell.new.agent) None c.args.queue.now))
+
+pub is_idle-requires : goal.is_idle-requires
+is_idle-requires g c =
+    quiet_is (g.A.Core.state c.tell.new.agent) (recalled (g.A.Core.state c.tell.new.agent) None c.args.queue.now) c.tell.new.queue
+    c.in-Ok-tell.ensures.recalled (quiet_recalled (g.A.Core.state c.tell.new.agent) None c.args.queue.now)
+
+pub returns-then-not-is_idle-clause-quiet : goal.returns-then-not-is_idle-clause-quiet
+returns-then-not-is_idle-clause-quiet g c =
+    quiet_is (g.A.Core.state c.tell.new.agent) (recalled (g.A.Core.state c.tell.new.agent) None c.args.queue.now) c.tell.new.queue
+    c.in-Ok-tell.ensures.recalled (quiet_recalled (g.A.Core.state c.tell.new.agent) None c.args.queue.now)
+
+pub returns-clause-quiet : goal.returns-clause-quiet
+returns-clause-quiet g c =
+    c.poll.ensures.quiet
+    (quiet_is (g.A.Core.state c.tell.new.agent) (recalled (g.A.Core.state c.tell.new.agent) None c.args.queue.now) c.tell.new.queue
+    c.in-Ok-tell.ensures.recalled (quiet_recalled (g.A.Core.state c.tell.new.agent) None c.args.queue.now))

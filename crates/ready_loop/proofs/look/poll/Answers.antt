@@ -7,10 +7,11 @@ use Rattle.world_ports.specs.declared.answers.WorldFault.TheVariants.{Failed, Me
 use Rattle.world_ports.specs.declared.entry.Entry.TheVariants as entry
 use Rattle.ready_hub.specs.Answered as hub
 use Rattle.ready_hub.specs.Answered.{Free, Polling}
-use Rattle.ready_hub.specs.Things.{set_of}
-use Rattle.ready_loop.specs.InTurn.{Line, in_state}
-use Rattle.ready_loop.specs.Queues.{queued_all}
-use Rattle.ready_loop.proofs.CallLemmas.{left, poll-any, poll-taken}
+use Rattle.ready_loop.specs.InTurn.{in_state, led}
+use Rattle.ready_loop.specs.Lines.{Line, hot_of, queued_all, settled}
+use Rattle.ready_loop.proofs.QuietLemmas.{quiet_settled}
+use Rattle.ready_loop.proofs.KeepingLemmas.{quiet_is, quiet_queued_all}
+use Rattle.ready_loop.proofs.CallLemmas.{poll-any, poll-taken}
 use Rattle.ready_loop.proofs.TurningLemmas.{told_at, waits_once, waits_short}
 use Rattle.ready_loop.proofs.look.poll.Goals as goal
 
@@ -20,7 +21,7 @@ returns-in_default-clause-legal g c =
     let line = c.args.queue.now in
     let items = c.poll.new.out.items in
     let answer : Result Polled WorldFault = Ok polled.Some in
-    let to = left state line (entry.Poll c.wait_of.result items answer) (hub.after_poll items state (set_of line.queue) answer) in
+    let to = led (in_state state line Polling) (entry.Poll c.wait_of.result items answer) (hub.after_poll items state (hot_of line) answer) in
     inr (record {
       answer = answer;
       last = record {
@@ -37,8 +38,8 @@ returns-in-Ok-clause-legal g c =
     let state = g.A.Core.state c.args.agent.now in
     let line = c.args.queue.now in
     let items = c.poll.new.out.items in
-    let added = c.in-Ok.ensures ∙ ap (λ (is : List Ready). record line { queue = queued_all state is line.queue }) c.deref.ensures.value in
-    waits_once (in_state state line Polling) (in_state state c.add.new.self Free) (g.W.World.journal c.args.world.now) (g.W.World.journal c.poll.new.self) c.wait_of.result items (Ok polled.Some)
+    let added = c.in-Ok.ensures ∙ ap (λ (is : List Ready). queued_all state is (settled state line)) c.deref.ensures.value in
+    waits_once (in_state state line Polling) (in_state state c.add_all.new.self Free) (g.W.World.journal c.args.world.now) (g.W.World.journal c.poll.new.self) c.wait_of.result items (Ok polled.Some)
     (poll-taken state line c.wait_of.result items c.wait_of.ensures
     ∙ ap (λ (l : Line). Some (in_state state l Free)) (sym added))
     (told_at (λ r. entry.Poll c.wait_of.result c.poll.new.out.items r) (g.W.World.journal c.args.world.now) (g.W.World.journal c.poll.new.self)
@@ -50,7 +51,7 @@ returns-in-Ok-Over-clause-legal g c =
     let line = c.args.queue.now in
     let items = c.poll.new.out.items in
     let answer : Result Polled WorldFault = Ok polled.Over in
-    let to = left state line (entry.Poll c.wait_of.result items answer) (hub.after_poll items state (set_of line.queue) answer) in
+    let to = led (in_state state line Polling) (entry.Poll c.wait_of.result items answer) (hub.after_poll items state (hot_of line) answer) in
     record {
       to = to;
       waits = waits_once (in_state state line Polling) to (g.W.World.journal c.args.world.now) (g.W.World.journal c.poll.new.self) c.wait_of.result items answer
@@ -65,7 +66,7 @@ returns-in-Err-Failed-clause-legal g c =
     let line = c.args.queue.now in
     let items = c.poll.new.out.items in
     let answer : Result Polled WorldFault = Err Failed in
-    let to = left state line (entry.Poll c.wait_of.result items answer) (hub.after_poll items state (set_of line.queue) answer) in
+    let to = led (in_state state line Polling) (entry.Poll c.wait_of.result items answer) (hub.after_poll items state (hot_of line) answer) in
     record {
       to = to;
       waits = waits_once (in_state state line Polling) to (g.W.World.journal c.args.world.now) (g.W.World.journal c.poll.new.self) c.wait_of.result items answer
@@ -80,8 +81,15 @@ returns-in-Err-Memory-clause-legal g c =
     let line = c.args.queue.now in
     let items = c.poll.new.out.items in
     let answer : Result Polled WorldFault = Err Memory in
-    let to = left state line (entry.Poll c.wait_of.result items answer) (hub.after_poll items state (set_of line.queue) answer) in
+    let to = led (in_state state line Polling) (entry.Poll c.wait_of.result items answer) (hub.after_poll items state (hot_of line) answer) in
     waits_short (in_state state line Polling) to (g.W.World.journal c.args.world.now) (g.W.World.journal c.poll.new.self) c.wait_of.result items
     (poll-any state line c.wait_of.result items answer c.wait_of.ensures)
     (told_at (λ r. entry.Poll c.wait_of.result c.poll.new.out.items r) (g.W.World.journal c.args.world.now) (g.W.World.journal c.poll.new.self)
     (c.in-Err-Memory.is ∙ ap Err c.in-Err-Memory.field-0-is) c.poll.ensures.told)
+
+pub returns-in-Ok-clause-quiet : goal.returns-in-Ok-clause-quiet
+returns-in-Ok-clause-quiet g c =
+    λ quiet. let state = g.A.Core.state c.args.agent.now in
+    let line = c.args.queue.now in
+    quiet_is state (queued_all state c.deref.result.now (settled state line)) c.add_all.new.self c.in-Ok.ensures
+    (quiet_queued_all state c.deref.result.now (settled state line) (quiet_settled state line quiet))

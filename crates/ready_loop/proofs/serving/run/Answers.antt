@@ -1,17 +1,18 @@
 use Rattle.std.proofs.Common.{◌∙◌, Ok, Err, ap, sym, arith, ◌&&◌}
 use Rattle.ready_hub.specs.Answered.{Free}
 use Rattle.ready_hub.specs.Servable.{is_idle}
-use Rattle.ready_hub.specs.Things.{set_of}
 use Rattle.ready_loop.specs.InTurn.{in_state}
+use Rattle.ready_loop.specs.Lines.{hot_of}
 use Rattle.ready_loop.specs.Serving.{Running, Setting, is_deserted}
 use Rattle.ready_loop.specs.declared.outcome.ServeEnd.TheVariants as ends
-use Rattle.ready_loop.proofs.ServingLemmas.{and_both, fault_ends, memory_ends, over_ends, polled_runs, runs_more, served_runs, serves_more, turn_at}
+use Rattle.ready_loop.proofs.ServingLemmas.{fault_ends, memory_ends, over_ends, polled_runs, runs_more, served_runs, serves_more, turn_at}
+use Rattle.ready_loop.proofs.TestLemmas.{and_both}
 use Rattle.ready_loop.proofs.serving.run.Goals as goal
 
 pub returns-then-is_done-clause-serves : goal.returns-then-is_done-clause-serves
 returns-then-is_done-clause-serves g c = λ path state.
     let here = in_state (g.A.Core.state c.turns.agent) c.turns.hub Free in
-    let idle = is_idle (g.A.Core.state c.turns.agent) (set_of c.turns.hub.queue) in
+    let idle = is_idle (g.A.Core.state c.turns.agent) (hot_of c.turns.hub) in
     let first = and_both c.args.until_idle (is_deserted here && idle) (sym c.is_done.ensures ∙ c.if-is_done.true) in
     let second = and_both (is_deserted here) idle first.1 in
     record {
@@ -32,7 +33,8 @@ turns-preserved-in-Ok-Served g c = (
       (turn_at (in_state (g.A.Core.state c.turns.agent) c.turns.hub Free) (g.W.World.journal c.turns.world) (g.W.World.journal c.turn.new.world)
       (g.A.Core.state c.turn.new.agent) c.turn.new.self (c.in-Ok-Served.is ∙ ap Ok c.in-Ok-Served.field-0-is) c.turn.ensures.legal)),
   c.in-Ok-Served.ensures.ports,
-  omega (arith, c.turns.invariant.4, c.turn.ensures.later),
+  c.in-Ok-Served.ensures.quiet,
+  omega (arith, c.turns.invariant.5, c.turn.ensures.later),
 )
 
 pub turns-preserved : goal.turns-preserved
@@ -46,7 +48,8 @@ turns-preserved g c = (
       (turn_at (in_state (g.A.Core.state c.turns.agent) c.turns.hub Free) (g.W.World.journal c.turns.world) (g.W.World.journal c.turn.new.world)
       (g.A.Core.state c.turn.new.agent) c.turn.new.self (c.in-Ok-Polled.is ∙ ap Ok c.in-Ok-Polled.field-0-is) c.turn.ensures.legal)),
   c.in-Ok-Polled.ensures.ports,
-  omega (arith, c.turns.invariant.4, c.turn.ensures.later),
+  c.in-Ok-Polled.ensures.quiet,
+  omega (arith, c.turns.invariant.5, c.turn.ensures.later),
 )
 
 pub returns-in-Ok-Over-clause-serves : goal.returns-in-Ok-Over-clause-serves

@@ -2,6 +2,7 @@ use Rattle.std.proofs.Common.{◌≡◌, ◌≤◌, List, ℕ}
 use Rattle.agent_model.specs.State.{State}
 use Rattle.ready_hub.specs.Answered.{Free}
 use Rattle.ready_loop.specs.InTurn.{in_state}
+use Rattle.ready_loop.specs.Lines.{IsQuiet}
 use Rattle.ready_loop.specs.Serving.{Running, Runs}
 use Rattle.ready_loop.proofs.serving.run.Given as goal
 
@@ -13,4 +14,5 @@ invariant-turns g l =
     (Running (in_state (g.A.Core.state l.fn.agent) l.fn.hub Free)) (g.W.World.journal l.fn.world) (g.W.World.journal l.world)
     (Running (in_state (g.A.Core.state l.agent) l.hub Free)))
     × (g.W.World.last_port l.world ≡ (g.A.Core.state l.agent).last_port)
+    × IsQuiet (g.A.Core.state l.agent) l.hub
     × (g.W.World.faults l.fn.world ≤ g.W.World.faults l.world)

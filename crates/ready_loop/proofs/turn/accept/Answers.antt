@@ -1,15 +1,18 @@
-use Rattle.std.proofs.Common.{refl, Ok, Err, Result, ap, sym, ◌∙◌, true, Some}
+use Rattle.std.proofs.Common.{refl, Ok, Err, Result, ap, sym, ◌∙◌, ◌||◌, true, Some}
 use Rattle.world_ports.specs.declared.answers.Accepted.{Accepted}
 use Rattle.world_ports.specs.declared.answers.Accepted.TheVariants as accepted
 use Rattle.world_ports.specs.declared.answers.WorldFault.{WorldFault}
 use Rattle.world_ports.specs.declared.answers.WorldFault.TheVariants.{Failed, Memory}
 use Rattle.world_ports.specs.declared.entry.Entry.TheVariants as entry
 use Rattle.agent_model.specs.Events.{Joined}
+use Rattle.agent_model.specs.State.{is_client}
 use Rattle.ready_hub.specs.Answered as hub
 use Rattle.ready_hub.specs.Answered.{Free, NowFor}
-use Rattle.ready_hub.specs.Things.{set_of}
 use Rattle.ready_hub.specs.declared.thing.Thing.TheVariants.{Accept}
-use Rattle.ready_loop.specs.InTurn.{Line, in_state}
+use Rattle.ready_loop.specs.InTurn.{in_state, led}
+use Rattle.ready_loop.specs.Lines.{Line, hot_of, queued_port, sent_back, settled}
+use Rattle.ready_loop.proofs.QuietLemmas.{quiet_settled}
+use Rattle.ready_loop.proofs.KeepingLemmas.{quiet_is, quiet_queued_port}
 use Rattle.ready_loop.proofs.CallLemmas as calls
 use Rattle.ready_loop.proofs.TurningLemmas.{advances_once, one_call, serves_then, stops_short, stops_there, told_at}
 use Rattle.ready_loop.proofs.turn.accept.Goals as goal
@@ -29,7 +32,7 @@ returns-in_default-clause-legal g c =
     let answer = Ok (accepted.Port c.in-Ok-Port.number) in
     let next = entry.Accept c.args.door answer in
     record {
-      by = stops_there (one_call (in_state state line Free) (calls.left state line next (hub.after_accept c.args.door state (set_of line.queue) answer))
+      by = stops_there (one_call (in_state state line Free) (led (in_state state line Free) next (hub.after_accept c.args.door state (hot_of line) answer))
           (g.W.World.journal c.args.world.now) (g.W.World.journal c.accept.new.self) next refl
           (calls.accept-any state line c.args.door answer c.requires.next)
           (told_at (λ r. entry.Accept c.args.door r) (g.W.World.journal c.args.world.now) (g.W.World.journal c.accept.new.self)
@@ -51,29 +54,23 @@ pub returns-in-Ok-NotNow-clause-legal : goal.returns-in-Ok-NotNow-clause-legal
 returns-in-Ok-NotNow-clause-legal g c =
     let state = g.A.Core.state c.args.agent.now in
     let line = c.args.queue.now in
-    let answer = Ok accepted.NotNow in
-    record {
-      by = advances_once (in_state state line Free) (in_state state c.remove.new.self Free)
-          (g.W.World.journal c.args.world.now) (g.W.World.journal c.accept.new.self) (entry.Accept c.args.door answer) refl
-          (calls.accept-any state line c.args.door answer c.requires.next
-          ∙ calls.dropped-lands state line c.remove.new.self (Accept c.args.door) Free c.remove.ensures)
-          (told_at (λ r. entry.Accept c.args.door r) (g.W.World.journal c.args.world.now) (g.W.World.journal c.accept.new.self)
-          (c.in-Ok-NotNow.is ∙ ap Ok c.in-Ok-NotNow.field-0-is) c.accept.ensures.told);
-    }
+    calls.serves_dropped c.drop_out.result state line c.drop_out.new.queue (Accept c.args.door)
+    (g.W.World.journal c.args.world.now) (g.W.World.journal c.accept.new.self) (entry.Accept c.args.door (Ok accepted.NotNow)) refl
+    (calls.accept-any state line c.args.door (Ok accepted.NotNow) c.requires.next)
+    c.drop_out.ensures
+    (told_at (λ r. entry.Accept c.args.door r) (g.W.World.journal c.args.world.now) (g.W.World.journal c.accept.new.self)
+    (c.in-Ok-NotNow.is ∙ ap Ok c.in-Ok-NotNow.field-0-is) c.accept.ensures.told)
 
 pub returns-in-Err-Failed-clause-legal : goal.returns-in-Err-Failed-clause-legal
 returns-in-Err-Failed-clause-legal g c =
     let state = g.A.Core.state c.args.agent.now in
     let line = c.args.queue.now in
-    let answer : Result Accepted WorldFault = Err Failed in
-    record {
-      by = advances_once (in_state state line Free) (in_state state c.remove-in-Err-Failed.new.self Free)
-          (g.W.World.journal c.args.world.now) (g.W.World.journal c.accept.new.self) (entry.Accept c.args.door answer) refl
-          (calls.accept-any state line c.args.door answer c.requires.next
-          ∙ calls.dropped-lands state line c.remove-in-Err-Failed.new.self (Accept c.args.door) Free c.remove-in-Err-Failed.ensures)
-          (told_at (λ r. entry.Accept c.args.door r) (g.W.World.journal c.args.world.now) (g.W.World.journal c.accept.new.self)
-          (c.in-Err-Failed.is ∙ ap Err c.in-Err-Failed.field-0-is) c.accept.ensures.told);
-    }
+    calls.serves_dropped c.drop_out-in-Err-Failed.result state line c.drop_out-in-Err-Failed.new.queue (Accept c.args.door)
+    (g.W.World.journal c.args.world.now) (g.W.World.journal c.accept.new.self) (entry.Accept c.args.door (Err Failed)) refl
+    (calls.accept-any state line c.args.door (Err Failed) c.requires.next)
+    c.drop_out-in-Err-Failed.ensures
+    (told_at (λ r. entry.Accept c.args.door r) (g.W.World.journal c.args.world.now) (g.W.World.journal c.accept.new.self)
+    (c.in-Err-Failed.is ∙ ap Err c.in-Err-Failed.field-0-is) c.accept.ensures.told)
 
 pub returns-in-Err-Memory-clause-legal : goal.returns-in-Err-Memory-clause-legal
 returns-in-Err-Memory-clause-legal g c =
@@ -82,9 +79,18 @@ returns-in-Err-Memory-clause-legal g c =
     let answer : Result Accepted WorldFault = Err Memory in
     let next = entry.Accept c.args.door answer in
     record {
-      by = stops_short (in_state state line Free) (calls.left state line next (hub.after_accept c.args.door state (set_of line.queue) answer))
+      by = stops_short (in_state state line Free) (led (in_state state line Free) next (hub.after_accept c.args.door state (hot_of line) answer))
           (g.W.World.journal c.args.world.now) (g.W.World.journal c.accept.new.self) true next refl
           (calls.accept-any state line c.args.door answer c.requires.next)
           (told_at (λ r. entry.Accept c.args.door r) (g.W.World.journal c.args.world.now) (g.W.World.journal c.accept.new.self)
           (c.in-Err-Memory.is ∙ ap Err c.in-Err-Memory.field-0-is) c.accept.ensures.told);
     }
+
+pub happen-requires-clause-quiet : goal.happen-requires-clause-quiet
+happen-requires-clause-quiet g c =
+    let state = g.A.Core.state c.args.agent.now in
+    let line = c.args.queue.now in
+    quiet_is state
+    (record (sent_back (Accept c.args.door) (queued_port c.in-Ok-Port.number (settled state line))) { joined = is_client c.args.door || line.joined })
+    c.accept-in-Ok-Port.new.self c.in-Ok.ensures
+    (quiet_queued_port state c.in-Ok-Port.number (settled state line) (quiet_settled state line c.requires.quiet))

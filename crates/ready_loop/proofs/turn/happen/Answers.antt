@@ -1,14 +1,16 @@
-use Rattle.std.proofs.Common.{refl, Ok, Result}
+use Rattle.std.proofs.Common.{refl, Ok, Result, Some, Option, ℕ, ap, sym, ◌∙◌}
 use Rattle.std.specs.declared.alloc.AllocError.{AllocError}
 use Rattle.world_ports.specs.declared.events.Moment.{Moment}
 use Rattle.std.specs.Prelude.{is_err}
 use Rattle.world_ports.specs.declared.entry.Entry.TheVariants as entry
 use Rattle.ready_hub.specs.Answered as hub
-use Rattle.ready_hub.specs.Answered.{NowFor}
-use Rattle.ready_hub.specs.Things.{set_of}
+use Rattle.ready_hub.specs.Answered.{NowFor, due_of}
 use Rattle.agent_core.specs.Happenings.{happening}
-use Rattle.ready_loop.specs.InTurn.{in_state}
-use Rattle.ready_loop.proofs.CallLemmas.{left, now-any, now-taken}
+use Rattle.ready_loop.specs.InTurn.{in_state, led}
+use Rattle.ready_loop.specs.Lines.{Line, hot_of}
+use Rattle.ready_loop.proofs.TellLemmas.{last-stepped}
+use Rattle.ready_loop.proofs.KeepingLemmas.{on_ok}
+use Rattle.ready_loop.proofs.CallLemmas.{now-any, now-taken}
 use Rattle.ready_loop.proofs.TurningLemmas.{goes_then, one_call, stops_short, stops_there}
 use Rattle.ready_loop.proofs.turn.happen.Goals as goal
 
@@ -19,26 +21,36 @@ returns-in_default-clause-legal g c =
     let event = happening c.args.event.now in
     let next = entry.Now c.now.result in
     record {
-      by = stops_short (in_state state line (NowFor event)) (left state line next (hub.after_now event state (set_of line.queue) c.now.result))
+      by = stops_short (in_state state line (NowFor event))
+          (led (in_state state line (NowFor event)) next (hub.after_now event state (hot_of line) c.now.result))
           (g.W.World.journal c.args.world.now) (g.W.World.journal c.now.new.self) (is_err c.now.result) next refl
           (now-any state line event c.now.result) c.now.ensures.told;
     }
 
-pub returns-in_default-step-clause-legal : goal.returns-in_default-step-clause-legal
-returns-in_default-step-clause-legal g c =
+pub returns-in_default-tell-clause-legal : goal.returns-in_default-tell-clause-legal
+returns-in_default-tell-clause-legal g c =
     let state = g.A.Core.state c.args.agent.now in
     let line = c.args.queue.now in
     let event = happening c.args.event.now in
     let answer : Result Moment AllocError = Ok c.in-Ok.moment in
     let next = entry.Now answer in
     record {
-      by = stops_there (one_call (in_state state line (NowFor event)) (left state line next (hub.after_now event state (set_of line.queue) answer))
+      by = stops_there (one_call (in_state state line (NowFor event))
+          (led (in_state state line (NowFor event)) next (hub.after_now event state (hot_of line) answer))
           (g.W.World.journal c.args.world.now) (g.W.World.journal c.now.new.self) next refl
           (now-any state line event answer) c.in-Ok.ensures.told);
     }
 
 pub returns-clause-legal : goal.returns-clause-legal
 returns-clause-legal g c =
+    let state = g.A.Core.state c.args.agent.now in
+    let after = g.A.Core.state c.tell.new.agent in
     goes_then (entry.Now (Ok c.in-Ok.moment)) refl
-    (now-taken (g.A.Core.state c.args.agent.now) (g.A.Core.state c.step.new.self) c.args.queue.now (happening c.args.event.now) c.in-Ok.moment c.in-Ok-step.ensures)
+    (now-taken state after c.args.queue.now (happening c.args.event.now) c.in-Ok.moment c.in-Ok-tell.ensures.stepped
+    ∙ ap (λ (line : Line). Some (in_state after line (due_of after.closes))) (sym c.in-Ok-tell.ensures.recalled))
     c.in-Ok.ensures.told c.close_all.ensures.legal
+
+pub returns-clause-ports : goal.returns-clause-ports
+returns-clause-ports g c =
+    on_ok c.close_all.result (c.close_all.ensures.ports ∙ c.in-Ok.ensures.ports ∙ c.requires.ports
+    ∙ last-stepped (g.A.Core.state c.args.agent.now) (g.A.Core.state c.tell.new.agent) c.in-Ok.moment (happening c.args.event.now) c.in-Ok-tell.ensures.stepped)

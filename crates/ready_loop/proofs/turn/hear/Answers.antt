@@ -1,5 +1,16 @@
+use Rattle.ready_hub.specs.declared.thing.Thing.TheVariants.{Read}
+use Rattle.ready_loop.specs.Lines.{sent_back, settled}
+use Rattle.ready_loop.proofs.QuietLemmas.{quiet_settled}
+use Rattle.ready_loop.proofs.KeepingLemmas.{quiet_is}
 use Rattle.ready_loop.proofs.TurningLemmas.{no_call, stops_there}
 use Rattle.ready_loop.proofs.turn.hear.Goals as goal
 
 pub returns-in_default-clause-legal : goal.returns-in_default-clause-legal
 returns-in_default-clause-legal g c = record { by = stops_there (no_call _ (g.W.World.journal c.args.world.now)) }
+
+pub happen-requires-clause-quiet : goal.happen-requires-clause-quiet
+happen-requires-clause-quiet g c =
+    let state = g.A.Core.state c.args.agent.now in
+    let line = c.args.queue.now in
+    quiet_is state (sent_back (Read c.args.port) (settled state line)) c.send_back.new.self c.in-Ok.ensures
+    (quiet_settled state line c.requires.quiet)

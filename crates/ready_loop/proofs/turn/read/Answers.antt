@@ -10,9 +10,9 @@ use Rattle.world_ports.specs.declared.entry.Entry.TheVariants as entry
 use Rattle.agent_model.specs.Events.{Ended, Heard}
 use Rattle.ready_hub.specs.Answered as hub
 use Rattle.ready_hub.specs.Answered.{Free, NowFor}
-use Rattle.ready_hub.specs.Things.{set_of}
 use Rattle.ready_hub.specs.declared.thing.Thing.TheVariants.{Read}
-use Rattle.ready_loop.specs.InTurn.{in_state}
+use Rattle.ready_loop.specs.InTurn.{in_state, led}
+use Rattle.ready_loop.specs.Lines.{hot_of, settled, without}
 use Rattle.ready_loop.proofs.CallLemmas as calls
 use Rattle.ready_loop.proofs.TurningLemmas.{advances_once, serves_then, stops_short, told_at}
 use Rattle.ready_loop.proofs.RoomLemmas.{wiped_again}
@@ -57,7 +57,7 @@ returns-in-Ok-End-clause-legal g c =
     let answer = Ok got.End in
     serves_then (entry.Read c.args.port (length c.args.room.now) [] answer) refl
     (calls.read-any state line c.args.port (length c.args.room.now) [] answer c.requires.next c.requires.room
-    ∙ calls.dropped-lands state line _ (Read c.args.port) (NowFor (Ended c.args.port)) refl)
+    ∙ calls.dropped-lands state line (without (Read c.args.port) (settled state line)) (Read c.args.port) (NowFor (Ended c.args.port)) refl)
     (told_at (λ r. entry.Read c.args.port (length c.args.room.now) (got_of r c.read.new.room) r) (g.W.World.journal c.args.world.now) (g.W.World.journal c.read.new.self)
     (c.in-Ok-End.is ∙ ap Ok c.in-Ok-End.field-0-is) c.read.ensures.told)
     c.end.ensures.legal
@@ -66,15 +66,12 @@ pub returns-in-Ok-NotNow-clause-legal : goal.returns-in-Ok-NotNow-clause-legal
 returns-in-Ok-NotNow-clause-legal g c =
     let state = g.A.Core.state c.args.agent.now in
     let line = c.args.queue.now in
-    let answer = Ok got.NotNow in
-    record {
-      by = advances_once (in_state state line Free) (in_state state c.remove.new.self Free)
-          (g.W.World.journal c.args.world.now) (g.W.World.journal c.read.new.self) (entry.Read c.args.port (length c.args.room.now) [] answer) refl
-          (calls.read-any state line c.args.port (length c.args.room.now) [] answer c.requires.next c.requires.room
-          ∙ calls.dropped-lands state line c.remove.new.self (Read c.args.port) Free c.remove.ensures)
-          (told_at (λ r. entry.Read c.args.port (length c.args.room.now) (got_of r c.read.new.room) r) (g.W.World.journal c.args.world.now) (g.W.World.journal c.read.new.self)
-          (c.in-Ok-NotNow.is ∙ ap Ok c.in-Ok-NotNow.field-0-is) c.read.ensures.told);
-    }
+    calls.serves_dropped c.drop_out.result state line c.drop_out.new.queue (Read c.args.port)
+    (g.W.World.journal c.args.world.now) (g.W.World.journal c.read.new.self) (entry.Read c.args.port (length c.args.room.now) [] (Ok got.NotNow)) refl
+    (calls.read-any state line c.args.port (length c.args.room.now) [] (Ok got.NotNow) c.requires.next c.requires.room)
+    c.drop_out.ensures
+    (told_at (λ r. entry.Read c.args.port (length c.args.room.now) (got_of r c.read.new.room) r) (g.W.World.journal c.args.world.now) (g.W.World.journal c.read.new.self)
+    (c.in-Ok-NotNow.is ∙ ap Ok c.in-Ok-NotNow.field-0-is) c.read.ensures.told)
 
 pub returns-in-Err-Failed-clause-legal : goal.returns-in-Err-Failed-clause-legal
 returns-in-Err-Failed-clause-legal g c =
@@ -83,7 +80,7 @@ returns-in-Err-Failed-clause-legal g c =
     let answer : Result Got WorldFault = Err Failed in
     serves_then (entry.Read c.args.port (length c.args.room.now) [] answer) refl
     (calls.read-any state line c.args.port (length c.args.room.now) [] answer c.requires.next c.requires.room
-    ∙ calls.dropped-lands state line _ (Read c.args.port) (NowFor (Ended c.args.port)) refl)
+    ∙ calls.dropped-lands state line (without (Read c.args.port) (settled state line)) (Read c.args.port) (NowFor (Ended c.args.port)) refl)
     (told_at (λ r. entry.Read c.args.port (length c.args.room.now) (got_of r c.read.new.room) r) (g.W.World.journal c.args.world.now) (g.W.World.journal c.read.new.self)
     (c.in-Err-Failed.is ∙ ap Err c.in-Err-Failed.field-0-is) c.read.ensures.told)
     c.end-in-Err-Failed.ensures.legal
@@ -95,7 +92,7 @@ returns-in-Err-Memory-clause-legal g c =
     let answer : Result Got WorldFault = Err Memory in
     let next = entry.Read c.args.port (length c.args.room.now) [] answer in
     record {
-      by = stops_short (in_state state line Free) (calls.left state line next (hub.after_read c.args.port [] state (set_of line.queue) answer))
+      by = stops_short (in_state state line Free) (led (in_state state line Free) next (hub.after_read c.args.port [] state (hot_of line) answer))
           (g.W.World.journal c.args.world.now) (g.W.World.journal c.read.new.self) true next refl
           (calls.read-any state line c.args.port (length c.args.room.now) [] answer c.requires.next c.requires.room)
           (told_at (λ r. entry.Read c.args.port (length c.args.room.now) (got_of r c.read.new.room) r) (g.W.World.journal c.args.world.now) (g.W.World.journal c.read.new.self)

@@ -4,8 +4,8 @@ use Rattle.world_ports.specs.declared.answers.WorldFault.TheVariants.{Failed, Me
 use Rattle.world_ports.specs.declared.entry.Entry.TheVariants as entry
 use Rattle.ready_hub.specs.Answered as hub
 use Rattle.ready_hub.specs.Answered.{Free, NowFor}
-use Rattle.ready_hub.specs.Things.{set_of}
-use Rattle.ready_loop.specs.InTurn.{in_state}
+use Rattle.ready_loop.specs.InTurn.{in_state, led}
+use Rattle.ready_loop.specs.Lines.{hot_of}
 use Rattle.ready_loop.proofs.CallLemmas as calls
 use Rattle.ready_loop.proofs.TurningLemmas.{serves_then, stops_short, told_at}
 use Rattle.ready_loop.proofs.turn.start.Goals as goal
@@ -35,7 +35,7 @@ returns-in-Err-Memory-clause-legal g c =
     let answer : Result (List ℕ) WorldFault = Err Memory in
     let next = entry.Start c.args.job answer in
     record {
-      by = stops_short (in_state state line Free) (calls.left state line next (hub.after_start c.args.job.number state (set_of line.queue) answer))
+      by = stops_short (in_state state line Free) (led (in_state state line Free) next (hub.after_start c.args.job.number state (hot_of line) answer))
           (g.W.World.journal c.args.world.now) (g.W.World.journal c.start.new.self) true next refl
           (calls.start-any state line c.args.job answer c.requires.first)
           (told_at (λ r. entry.Start c.args.job r) (g.W.World.journal c.args.world.now) (g.W.World.journal c.start.new.self)

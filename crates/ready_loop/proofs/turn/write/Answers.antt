@@ -7,9 +7,9 @@ use Rattle.world_ports.specs.declared.entry.Entry.TheVariants as entry
 use Rattle.agent_model.specs.Events.{Ended, Took}
 use Rattle.ready_hub.specs.Answered as hub
 use Rattle.ready_hub.specs.Answered.{Free, NowFor}
-use Rattle.ready_hub.specs.Things.{set_of}
 use Rattle.ready_hub.specs.declared.thing.Thing.TheVariants.{Write}
-use Rattle.ready_loop.specs.InTurn.{in_state}
+use Rattle.ready_loop.specs.InTurn.{in_state, led}
+use Rattle.ready_loop.specs.Lines.{hot_of, settled, without}
 use Rattle.ready_loop.proofs.CallLemmas as calls
 use Rattle.ready_loop.proofs.TurningLemmas.{advances_once, serves_then, stops_short, told_at}
 use Rattle.ready_loop.proofs.turn.write.Goals as goal
@@ -36,15 +36,12 @@ pub returns-in-Ok-NotNow-clause-legal : goal.returns-in-Ok-NotNow-clause-legal
 returns-in-Ok-NotNow-clause-legal g c =
     let state = g.A.Core.state c.args.agent.now in
     let line = c.args.queue.now in
-    let answer = Ok wrote.NotNow in
-    record {
-      by = advances_once (in_state state line Free) (in_state state c.remove.new.self Free)
-          (g.W.World.journal c.args.world.now) (g.W.World.journal c.write.new.self) (entry.Write c.args.port c.owed.result.now answer) refl
-          (calls.write-any state line c.args.port c.owed.result.now answer c.requires.next c.owed.ensures
-          ∙ calls.dropped-lands state line c.remove.new.self (Write c.args.port) Free c.remove.ensures)
-          (told_at (λ r. entry.Write c.args.port c.owed.result.now r) (g.W.World.journal c.args.world.now) (g.W.World.journal c.write.new.self)
-          (c.in-Ok-NotNow.is ∙ ap Ok c.in-Ok-NotNow.field-0-is) c.write.ensures.told);
-    }
+    calls.serves_dropped c.drop_out.result state line c.drop_out.new.queue (Write c.args.port)
+    (g.W.World.journal c.args.world.now) (g.W.World.journal c.write.new.self) (entry.Write c.args.port c.owed.result.now (Ok wrote.NotNow)) refl
+    (calls.write-any state line c.args.port c.owed.result.now (Ok wrote.NotNow) c.requires.next c.owed.ensures)
+    c.drop_out.ensures
+    (told_at (λ r. entry.Write c.args.port c.owed.result.now r) (g.W.World.journal c.args.world.now) (g.W.World.journal c.write.new.self)
+    (c.in-Ok-NotNow.is ∙ ap Ok c.in-Ok-NotNow.field-0-is) c.write.ensures.told)
 
 pub returns-in-Err-Failed-clause-legal : goal.returns-in-Err-Failed-clause-legal
 returns-in-Err-Failed-clause-legal g c =
@@ -53,7 +50,7 @@ returns-in-Err-Failed-clause-legal g c =
     let answer : Result Wrote WorldFault = Err Failed in
     serves_then (entry.Write c.args.port c.owed.result.now answer) refl
     (calls.write-any state line c.args.port c.owed.result.now answer c.requires.next c.owed.ensures
-    ∙ calls.dropped-lands state line _ (Write c.args.port) (NowFor (Ended c.args.port)) refl)
+    ∙ calls.dropped-lands state line (without (Write c.args.port) (settled state line)) (Write c.args.port) (NowFor (Ended c.args.port)) refl)
     (told_at (λ r. entry.Write c.args.port c.owed.result.now r) (g.W.World.journal c.args.world.now) (g.W.World.journal c.write.new.self)
     (c.in-Err-Failed.is ∙ ap Err c.in-Err-Failed.field-0-is) c.write.ensures.told)
     c.end.ensures.legal
@@ -65,7 +62,7 @@ returns-in-Err-Memory-clause-legal g c =
     let answer : Result Wrote WorldFault = Err Memory in
     let next = entry.Write c.args.port c.owed.result.now answer in
     record {
-      by = stops_short (in_state state line Free) (calls.left state line next (hub.after_write c.args.port state (set_of line.queue) answer))
+      by = stops_short (in_state state line Free) (led (in_state state line Free) next (hub.after_write c.args.port state (hot_of line) answer))
           (g.W.World.journal c.args.world.now) (g.W.World.journal c.write.new.self) true next refl
           (calls.write-any state line c.args.port c.owed.result.now answer c.requires.next c.owed.ensures)
           (told_at (λ r. entry.Write c.args.port c.owed.result.now r) (g.W.World.journal c.args.world.now) (g.W.World.journal c.write.new.self)

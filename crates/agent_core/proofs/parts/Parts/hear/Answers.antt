@@ -2,7 +2,6 @@ use Rattle.std.proofs.Common.{◌≡◌, ◌∙◌, ℕ, List, ap, sym, subst, O
 use Rattle.std.specs.Option.{IsSomeAnd}
 use Rattle.confirm_desk.specs.Confirmations.{Confirmation}
 use Rattle.agent_model.specs.State.{Client, Confirmer, Helper, State, Unnamed, find_port}
-use Rattle.agent_core.specs.Closed.{IsClosedSince}
 use Rattle.agent_core.specs.Confirmers.{IsHeldFor}
 use Rattle.agent_core.specs.Parts.{state_of, with_closes}
 use Rattle.agent_core.specs.Roles.{role_by}

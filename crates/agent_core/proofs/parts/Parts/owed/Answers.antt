@@ -1,6 +1,6 @@
 use Rattle.std.proofs.Common.{◌∙◌, Some, ap, sym}
 use Rattle.agent_model.specs.State.{find_port}
-use Rattle.agent_core.proofs.RoleLemmas.{client-kind, confirmer-kind, helper-kind, no-kind, owed-client, owed-confirmer, owed-helper, owed-none, owed-unnamed, unnamed-kind}
+use Rattle.agent_core.proofs.RoleLemmas.{client-kind, confirmer-kind, helper-kind, owed-client, owed-confirmer, owed-helper}
 use Rattle.agent_core.proofs.AgentLemmas.{agent_asks}
 use Rattle.confirm_desk.specs.Confirmations.{owed_to}
 use Rattle.agent_core.proofs.parts.Parts.owed.Goals as goal

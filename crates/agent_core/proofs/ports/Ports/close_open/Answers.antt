@@ -1,4 +1,4 @@
-use Rattle.std.proofs.Common.{◌∙◌, ℕ, List, ap, sym}
+use Rattle.std.proofs.Common.{ℕ, List, ap, sym}
 use Rattle.agent_model.specs.State.{Port, find_port}
 use Rattle.agent_core.specs.Slots.{OpenPorts}
 use Rattle.agent_core.proofs.ClosedLemmas.{closed-more, is_absent}

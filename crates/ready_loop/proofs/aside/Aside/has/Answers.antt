@@ -12,8 +12,8 @@ returns-in-Accept c =
     let view : Aside = record { doors = c.self.inside.doors.items; reads = c.self.inside.reads.items; writes = c.self.inside.writes.items } in
     told c.has_door.result view c.args.self.now c.args.thing (Accept c.in-Accept.door) c.self.view_is c.in-Accept.is
     (c.has_door.ensures
-        ∙ ap (λ (doors : List Door). set_of (accepts_of doors) (Accept c.in-Accept.door)) c.deref.ensures.value
-        ∙ sym (aside-accept view c.in-Accept.door))
+    ∙ ap (λ (doors : List Door). set_of (accepts_of doors) (Accept c.in-Accept.door)) c.deref.ensures.value
+    ∙ sym (aside-accept view c.in-Accept.door))
 
 pub returns-in-Read : goal.returns-in-Read
 returns-in-Read c =

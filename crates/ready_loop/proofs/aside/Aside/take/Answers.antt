@@ -11,10 +11,11 @@ invariant_of-self-in-Read c =
     (subst IsRisingList (sym c.take_out.ensures.items) (rising_list-removed c.in-Read.port c.self.inside.reads.items c.self.invariant.0), c.self.invariant.1)
 
 pub invariant_of-self-in-Write : goal.invariant_of-self-in-Write
-invariant_of-self-in-Write c =
-    (c.self.invariant.0,
-        subst IsRisingList (sym c.take_out-in-Write.ensures.items)
-        (rising_list-removed c.in-Write.port c.self.inside.writes.items c.self.invariant.1))
+invariant_of-self-in-Write c = (
+  c.self.invariant.0,
+  subst IsRisingList (sym c.take_out-in-Write.ensures.items)
+      (rising_list-removed c.in-Write.port c.self.inside.writes.items c.self.invariant.1),
+)
 
 pub returns-in-Accept-clause-there : goal.returns-in-Accept-clause-there
 returns-in-Accept-clause-there c =

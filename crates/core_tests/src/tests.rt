@@ -1,4 +1,4 @@
-use super::*;
+use agent_core::{Agent, Event, Settings};
 use std::process::Abort;
 use std::test::*;
 use world_ports::{Door, Moment};
@@ -38,6 +38,7 @@ fn a_listing_is_answered_with_ample_memory(rt: HostRuntime) -> Result<(), Fail> 
     assert_eq!(rt; agent.next_owed(0), None);
     tell(&rt, &mut agent, &JOINED)?;
     assert!(rt; agent.is_port(1));
+    assert!(rt; agent.is_client(1));
     assert!(rt; agent.wants(1));
     assert_eq!(rt; agent.clients(), 1);
     assert_eq!(rt; agent.ports_so_far(), 1);
@@ -51,6 +52,7 @@ fn a_listing_is_answered_with_ample_memory(rt: HostRuntime) -> Result<(), Fail> 
         },
     )?;
     assert_eq!(rt; agent.next_owed(0), Some(1));
+    assert_eq!(rt; agent.next_child_owed(0), None);
     assert_eq!(rt; agent.owed(1), NO_IDENTITIES.as_slice());
     assert!(rt; !agent.fits(&Event::Took { port: 1, count: 10 }));
     tell(&rt, &mut agent, &Event::Took { port: 1, count: 9 })?;

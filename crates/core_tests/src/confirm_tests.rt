@@ -1,7 +1,7 @@
 //! A key that asks for confirmation, as bytes.
 
-use super::*;
 use crate::tests::{FAILURE, SUCCESS};
+use agent_core::{Agent, Event, Settings};
 use std::process::Abort;
 use std::test::*;
 use world_ports::{Door, Job, JobKind, Moment};

@@ -1,8 +1,8 @@
 //! Connections that are bound to hosts, and a key with destination constraints, as bytes.
 
-use super::*;
 use crate::helper_tests::{HELLO, SIGN_RESPONSE, SIGNED_2, TICKET, hear, take_all, tell};
 use crate::tests::{FAILURE, LIST, LISTED, NO_IDENTITIES, SUCCESS};
+use agent_core::{Agent, Event, Settings};
 use std::process::Abort;
 use std::test::*;
 use world_ports::{Door, Moment};

@@ -1,7 +1,7 @@
 //! A client's signature through the helper, as bytes.
 
-use super::*;
 use crate::tests::{ADD, FAILURE, SUCCESS};
+use agent_core::{Agent, Event, Settings};
 use std::process::Abort;
 use std::test::*;
 use world_ports::{Door, Job, JobKind, Moment};
@@ -79,7 +79,9 @@ fn each_client_gets_its_own_answer(rt: HostRuntime) -> Result<(), Fail> {
         assert!(rt; agent.owed(3).is_empty());
         hear(&rt, &mut agent, 3, &HELLO[end - 1..end])?;
     }
+    assert!(rt; !agent.is_client(3));
     assert_eq!(rt; agent.next_owed(0), Some(3));
+    assert_eq!(rt; agent.next_child_owed(0), Some(3));
     // Two frames of SIGN.
     assert_eq!(rt; agent.owed(3).len(), 2 * 195);
     take_all(&rt, &mut agent, 3)?;

@@ -1,0 +1,36 @@
+//! The agent over worlds that fail.
+
+use super::texts;
+use crate::status::Status;
+use crate::top::agent_main;
+use std::alloc::Global;
+use std::sync::Wait;
+use std::test::*;
+use world_ports::{ScriptWorld, SliceSource, VecSink};
+
+// How the agent that serves ends where this call on the world fails.
+fn serve_failing<R: Wait>(rt: &R, alloc: Global, call: u64) -> Result<Status, Fail> {
+    let words = texts(alloc, &["serve", "-a", "agent.sock", "--helper", "helper"])?;
+    let mut world = ScriptWorld::new(alloc, Vec::new(alloc), vec![in alloc; call]?);
+    let mut input = SliceSource::new(b"", 1, Vec::new(alloc));
+    let mut output = VecSink::new(alloc, 1, Vec::new(alloc))?;
+    let status = agent_main(rt, alloc, &words, &mut world, &mut input, &mut output);
+    Ok(status)
+}
+
+// Both listeners are bound, the clock is read, and then comes the first wait.
+#[test]
+fn a_world_that_fails_gives_its_status(rt: HostRuntime) -> Result<(), Fail> {
+    for (call, status) in [
+        (1, Status::BindFault),
+        (2, Status::BindFault),
+        (4, Status::PollFault),
+    ] {
+        assert_eq!(rt;
+            serve_failing(&rt, rt.alloc(), call)?,
+            status,
+            "call {call}"
+        );
+    }
+    Ok(())
+}

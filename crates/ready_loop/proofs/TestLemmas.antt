@@ -1,0 +1,38 @@
+-- Tests that are joined.
+use Rattle.std.proofs.Common.{◌≡◌, ◌⊎◌, inl, inr, Bool, true, false, refl, ◌&&◌, ◌||◌, not}
+
+-- both hold
+pub and_both : (here there : Bool) → (here && there) ≡ true → (here ≡ true) × (there ≡ true)
+and_both true there both = (refl, both)
+and_both false there both = cc
+
+pub both_and : (here there : Bool) → here ≡ true → there ≡ true → (here && there) ≡ true
+both_and true there is also = also
+both_and false there is also = cc
+
+-- the one that doesn't hold leaves the other
+pub or_first : (here there : Bool) → there ≡ false → (here || there) ≡ true → here ≡ true
+or_first true there never is = refl
+or_first false there never is = cc
+
+-- one holds
+pub or_either : (here there : Bool) → (here || there) ≡ true → (here ≡ true) ⊎ (there ≡ true)
+or_either true there is = inl refl
+or_either false there is = inr is
+
+pub or_left : (here there : Bool) → here ≡ true → (here || there) ≡ true
+or_left true there is = refl
+or_left false there is = cc
+
+pub or_right : (here there : Bool) → there ≡ true → (here || there) ≡ true
+or_right true there is = refl
+or_right false there is = is
+
+-- a test that doesn't hold where its opposite does
+pub not_true : (test : Bool) → not test ≡ true → test ≡ false
+not_true true is = cc
+not_true false is = refl
+
+pub false_not : (test : Bool) → test ≡ false → not test ≡ true
+false_not true is = cc
+false_not false is = refl
