@@ -1,8 +1,6 @@
 pub mod ThingLemmas
 pub mod TestLemmas
 pub mod AsideLemmas
-pub mod StandingLemmas
-pub mod RecallLemmas
 pub mod SetLemmas
 pub mod IdleLemmas
 pub mod TurningLemmas
