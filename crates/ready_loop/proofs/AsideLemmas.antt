@@ -303,7 +303,7 @@ doors_all test (first ∷ doors) all =
     ap (λ (b : Bool). cond b (first ∷ filter test doors) (filter test doors))
     (all first (ap (λ (b : Bool). b || set_of (accepts_of doors) (Accept first)) (same_thing-refl (Accept first))))
     ∙ ap (λ (ds : List Door). first ∷ ds)
-      (doors_all test doors (λ door there. all door (later (same_door first door) (set_of (accepts_of doors) (Accept door)) there)))
+    (doors_all test doors (λ door there. all door (later (same_door first door) (set_of (accepts_of doors) (Accept door)) there)))
   where
     later : (a b : Bool) → b ≡ true → (a || b) ≡ true
     later true b is = refl

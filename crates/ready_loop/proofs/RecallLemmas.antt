@@ -38,7 +38,7 @@ filter_alike test other [] same = refl
 filter_alike test other (first ∷ ports) same =
     ap (λ (b : Bool). cond b (first ∷ filter test ports) (filter test ports)) (same first (ap (λ (b : Bool). b || is_among first ports) (same_itself first)))
     ∙ ap (λ (ps : List ℕ). cond (other first) (first ∷ ps) ps)
-      (filter_alike test other ports (λ port there. same port (later (port == first) (is_among port ports) there)))
+    (filter_alike test other ports (λ port there. same port (later (port == first) (is_among port ports) there)))
   where
     same_itself : (n : ℕ) → (n == n) ≡ true
     same_itself n = grind (arith, nat_tests)
@@ -52,16 +52,16 @@ called_by-alike test other line same =
     ap (λ (ports : List ℕ). record line { queue = line.queue ++ writes_of ports; aside = record line.aside { writes = filter (λ port. not (test port)) line.aside.writes } })
     (filter_alike test other line.aside.writes same)
     ∙ ap (λ (ports : List ℕ). record line { queue = line.queue ++ writes_of (filter other line.aside.writes); aside = record line.aside { writes = ports } })
-      (filter_alike (λ port. not (test port)) (λ port. not (other port)) line.aside.writes (λ port there. ap not (same port there)))
+    (filter_alike (λ port. not (test port)) (λ port. not (other port)) line.aside.writes (λ port there. ap not (same port there)))
 
 -- where none passes, none comes back
 pub called_by-none : (test : ℕ → Bool) (line : Line) → ((port : ℕ) → is_among port line.aside.writes ≡ true → test port ≡ false) → called_by test line ≡ line
 called_by-none test line none =
     called_by-alike test (λ port. false) line none
     ∙ ap (λ (things : List Thing). record line { queue = things; aside = record line.aside { writes = filter (λ port. not false) line.aside.writes } })
-      (ap (λ (ports : List ℕ). line.queue ++ writes_of ports) (no_number line.aside.writes) ∙ append-nil line.queue)
+    (ap (λ (ports : List ℕ). line.queue ++ writes_of ports) (no_number line.aside.writes) ∙ append-nil line.queue)
     ∙ ap (λ (ports : List ℕ). record line { aside = record line.aside { writes = ports } })
-      (numbers_all (λ port. not false) line.aside.writes (λ port there. refl))
+    (numbers_all (λ port. not false) line.aside.writes (λ port there. refl))
   where
     no_number : (ports : List ℕ) → filter (λ port. false) ports ≡ []
     no_number [] = refl
@@ -86,9 +86,10 @@ last_by false test next port first ports step is rising other rest =
 
 -- what is above the port passes neither
 above_next : (test next : ℕ → Bool) (port : ℕ) (ports : List ℕ) → IsStep test next port → IsRisingNumbers port ports → (filter next ports ≡ []) × (filter test ports ≡ [])
-above_next test next port ports step rising =
-    (filter_alike next (λ other. false) ports (λ other there. step.with other ∙ neither other (is_among-above port other ports rising there)) ∙ no_number ports,
-        filter_alike test (λ other. false) ports (λ other there. not_before other (is_among-above port other ports rising there)) ∙ no_number ports)
+above_next test next port ports step rising = (
+  filter_alike next (λ other. false) ports (λ other there. step.with other ∙ neither other (is_among-above port other ports rising there)) ∙ no_number ports,
+  filter_alike test (λ other. false) ports (λ other there. not_before other (is_among-above port other ports rising there)) ∙ no_number ports,
+)
   where
     no_number : (ports : List ℕ) → filter (λ port. false) ports ≡ []
     no_number [] = refl
@@ -120,7 +121,7 @@ filter-there test next port (first ∷ ports) step rising there =
         ∙ ap (λ (ps : List ℕ). first ∷ ps) both.0
         ∙ ap (λ (n : ℕ). n ∷ []) (sym same)
         ∙ sym (ap (λ (b : Bool). cond b (first ∷ filter test ports) (filter test ports) ++ port ∷ []) (ap test (sym same) ∙ step.new)
-            ∙ ap (λ (ps : List ℕ). ps ++ port ∷ []) both.1)
+        ∙ ap (λ (ps : List ℕ). ps ++ port ∷ []) both.1)
       where
         or_true : (a : Bool) → (a || true) ≡ true
         or_true true = refl
@@ -171,7 +172,7 @@ brought-next test next port line step rising = by_place (is_among port line.asid
     still : is_among port line.aside.writes ≡ is_among port (filter (λ other. not (test other)) line.aside.writes)
     still =
         sym (is_among-filter (λ other. not (test other)) line.aside.writes port
-            ∙ ap (λ (b : Bool). is_among port line.aside.writes && not b) step.new ∙ and_true (is_among port line.aside.writes))
+        ∙ ap (λ (b : Bool). is_among port line.aside.writes && not b) step.new ∙ and_true (is_among port line.aside.writes))
       where
         and_true : (a : Bool) → (a && true) ≡ a
         and_true true = refl
@@ -186,19 +187,19 @@ brought-next test next port line step rising = by_place (is_among port line.asid
     by_place : (b : Bool) → is_among port line.aside.writes ≡ b → brought (Write port) (called_by test line) ≡ called_by next line
     by_place true is =
         ap (λ (b : Bool). if b then record (called_by test line) {
-            queue = (called_by test line).queue ++ Write port ∷ [];
-            aside = taken_back (Write port) (called_by test line).aside;
+          queue = (called_by test line).queue ++ Write port ∷ [];
+          aside = taken_back (Write port) (called_by test line).aside;
         } else called_by test line) (there_by true is)
         ∙ ap (λ (aside : Aside). record line { queue = (called_by test line).queue ++ Write port ∷ []; aside = aside }) left
         ∙ ap (λ (things : List Thing). record line { queue = things; aside = (called_by next line).aside })
-          (append_assoc line.queue (writes_of (filter test line.aside.writes)) (Write port ∷ [])
-              ∙ ap (λ (things : List Thing). line.queue ++ things)
-                (sym (writes-more (filter test line.aside.writes) port)
-                    ∙ ap writes_of (sym (filter-there test next port line.aside.writes step rising is))))
+        (append_assoc line.queue (writes_of (filter test line.aside.writes)) (Write port ∷ [])
+        ∙ ap (λ (things : List Thing). line.queue ++ things)
+        (sym (writes-more (filter test line.aside.writes) port)
+        ∙ ap writes_of (sym (filter-there test next port line.aside.writes step rising is))))
     by_place false is =
         ap (λ (b : Bool). if b then record (called_by test line) {
-            queue = (called_by test line).queue ++ Write port ∷ [];
-            aside = taken_back (Write port) (called_by test line).aside;
+          queue = (called_by test line).queue ++ Write port ∷ [];
+          aside = taken_back (Write port) (called_by test line).aside;
         } else called_by test line) (there_by false is)
         ∙ called_by-alike test next line (λ other there. sym (same_there other there))
       where
@@ -382,12 +383,12 @@ pub called_by-all : (state : State) (all : Bool) (line : Line) → IsStirred sta
 called_by-all state all line stirred =
     ap (λ (things : List Thing). record line { queue = line.queue ++ things; aside = record aside { writes = left } }) (sym served)
     ∙ ap (λ (doors : List Door). record line { queue = line.queue ++ filter test (things_aside aside); aside = record aside { doors = doors; writes = left } })
-      (sym (doors_all (λ door. not (is_servable state (Accept door))) aside.doors (λ door there. ap not (no_door door there))))
+    (sym (doors_all (λ door. not (is_servable state (Accept door))) aside.doors (λ door there. ap not (no_door door there))))
     ∙ ap (λ (ports : List ℕ). record line {
-        queue = line.queue ++ filter test (things_aside aside);
-        aside = record { doors = filter (λ door. not (is_servable state (Accept door))) aside.doors; reads = ports; writes = left };
+      queue = line.queue ++ filter test (things_aside aside);
+      aside = record { doors = filter (λ door. not (is_servable state (Accept door))) aside.doors; reads = ports; writes = left };
     })
-      (sym (numbers_all (λ port. not (is_servable state (Read port))) aside.reads (λ port there. ap not (no_read port there))))
+    (sym (numbers_all (λ port. not (is_servable state (Read port))) aside.reads (λ port there. ap not (no_read port there))))
   where
     aside : Aside
     aside = line.aside
@@ -430,10 +431,10 @@ called_by-all state all line stirred =
     served =
         filter-append (is_servable state) (accepts_of line.aside.doors ++ reads_of line.aside.reads) (writes_of line.aside.writes)
         ∙ ap (λ (ts : List Thing). ts ++ filter (is_servable state) (writes_of line.aside.writes))
-          (filter-append (is_servable state) (accepts_of line.aside.doors) (reads_of line.aside.reads)
-              ∙ ap (λ (ts : List Thing). ts ++ filter (is_servable state) (reads_of line.aside.reads))
-                (filter_none (is_servable state) (accepts_of line.aside.doors) of_door)
-              ∙ filter_none (is_servable state) (reads_of line.aside.reads) of_read)
+        (filter-append (is_servable state) (accepts_of line.aside.doors) (reads_of line.aside.reads)
+        ∙ ap (λ (ts : List Thing). ts ++ filter (is_servable state) (reads_of line.aside.reads))
+        (filter_none (is_servable state) (accepts_of line.aside.doors) of_door)
+        ∙ filter_none (is_servable state) (reads_of line.aside.reads) of_read)
         ∙ of_writes line.aside.writes
 
 -- no port to write to is aside
@@ -472,13 +473,13 @@ pub owed-more : (state : State) (after next : ℕ) (line now : Line) → IsRisin
 owed-more state after next line now rising found numbers is =
     ap (brought (Write next)) is
     ∙ brought-next (upto (is_owed state.under_way) state.ports after) (upto (is_owed state.under_way) state.ports next) next line
-      (next-step (is_owed state.under_way) 0 state.last_port after next state.ports (owed-next state after next rising found)) numbers
+    (next-step (is_owed state.under_way) 0 state.last_port after next state.ports (owed-next state after next rising found)) numbers
 
 pub owed-all : (state : State) (after : ℕ) (line : Line) → IsRising 0 state.last_port state.ports → None ≡ next_owed after state → IsStirred state None true line → owed_upto state after line ≡ called_all state line
 owed-all state after line rising none stirred =
     called_by-alike (upto (is_owed state.under_way) state.ports after) (λ port. is_servable state (Write port)) line
     (λ port there. upto-all (is_owed state.under_way) state.last_port after port state.ports rising (sym (none ∙ owed-by after state.ports state.under_way))
-        ∙ owed-passes (find_port port state.ports) state.under_way)
+    ∙ owed-passes (find_port port state.ports) state.under_way)
     ∙ called_by-all state true line stirred
 
 -- ---- all child processes that are owed bytes
@@ -513,13 +514,13 @@ pub child-more : (state : State) (after next : ℕ) (line now : Line) → IsRisi
 child-more state after next line now rising found numbers is =
     ap (brought (Write next)) is
     ∙ brought-next (upto (is_child_owed state.under_way) state.ports after) (upto (is_child_owed state.under_way) state.ports next) next line
-      (next-step (is_child_owed state.under_way) 0 state.last_port after next state.ports (child-next state after next rising found)) numbers
+    (next-step (is_child_owed state.under_way) 0 state.last_port after next state.ports (child-next state after next rising found)) numbers
 
 pub child-all : (state : State) (after : ℕ) (line : Line) → IsRising 0 state.last_port state.ports → None ≡ next_child_owed after state → IsStirred state None false line → child_upto state after line ≡ called_all state line
 child-all state after line rising none stirred =
     called_by-alike (upto (is_child_owed state.under_way) state.ports after) (λ port. is_servable state (Write port)) line
     (λ port there. upto-all (is_child_owed state.under_way) state.last_port after port state.ports rising (sym (none ∙ child-by after state.ports state.under_way))
-        ∙ child-passes (find_port port state.ports) state.under_way (λ owes. stirred (Write port) (aside-write line.aside port ∙ there) owes))
+    ∙ child-passes (find_port port state.ports) state.under_way (λ owes. stirred (Write port) (aside-write line.aside port ∙ there) owes))
     ∙ called_by-all state false line stirred
 
 -- ---- the event's own port

@@ -59,7 +59,7 @@ filter_all test (first ∷ things) all =
     ap (λ (b : Bool). cond b (first ∷ filter test things) (filter test things))
     (all first (or_left (same_thing first first) (set_of things first) (same_thing-refl first)))
     ∙ ap (λ (ts : List Thing). first ∷ ts)
-      (filter_all test things (λ thing there. all thing (or_right (same_thing first thing) (set_of things thing) there)))
+    (filter_all test things (λ thing there. all thing (or_right (same_thing first thing) (set_of things thing) there)))
 
 -- where none does, none is
 pub filter_none : (test : Thing → Bool) (things : List Thing) → ((thing : Thing) → set_of things thing ≡ true → test thing ≡ false) → filter test things ≡ []
@@ -73,7 +73,7 @@ filter_none test (first ∷ things) none =
 pub absent-dropped : (thing : Thing) (things : List Thing) → set_of things thing ≡ false → dropped thing things ≡ things
 absent-dropped thing things absent = filter_all (λ other. not (same_thing thing other)) things (λ other there.
     ap not (false_by (same_thing thing other) (λ same.
-        true_false (set_of things thing) (ap (set_of things) (same_thing-true thing other same) ∙ there) absent)))
+    true_false (set_of things thing) (ap (set_of things) (same_thing-true thing other same) ∙ there) absent)))
 
 -- ---- nothing stands twice
 
@@ -90,11 +90,12 @@ apart-filter test (first ∷ things) apart =
 
 pub apart-more : (thing : Thing) (things : List Thing) → AreApart things → set_of things thing ≡ false → AreApart (things ++ thing ∷ [])
 apart-more thing [] apart absent = (refl, tt)
-apart-more thing (first ∷ things) apart absent =
-    (set_of-append things (thing ∷ []) first
-        ∙ neither (set_of things first) (same_thing thing first || false) apart.0
-          (neither (same_thing thing first) false (same_thing-swapped thing first ∙ neither_left (same_thing first thing) (set_of things thing) absent) refl),
-        apart-more thing things apart.1 (neither_right (same_thing first thing) (set_of things thing) absent))
+apart-more thing (first ∷ things) apart absent = (
+  set_of-append things (thing ∷ []) first
+      ∙ neither (set_of things first) (same_thing thing first || false) apart.0
+      (neither (same_thing thing first) false (same_thing-swapped thing first ∙ neither_left (same_thing first thing) (set_of things thing) absent) refl),
+  apart-more thing things apart.1 (neither_right (same_thing first thing) (set_of things thing) absent),
+)
   where
     neither_left : (a b : Bool) → (a || b) ≡ false → a ≡ false
     neither_left true b none = absurd (cc)
@@ -152,7 +153,7 @@ pub once-brought : (queue : List Thing) (aside : Aside) (thing : Thing) → IsOn
 once-brought queue aside thing once there =
     once-queued queue (taken_back thing aside) (once-taken queue aside once thing) thing (aside-absent queue aside once thing there)
     (ap (λ (hot : Hot). hot thing) (set_of-taken_back thing aside)
-        ∙ ap (λ (b : Bool). not b && set_of (things_aside aside) thing) (same_thing-refl thing))
+    ∙ ap (λ (b : Bool). not b && set_of (things_aside aside) thing) (same_thing-refl thing))
 
 -- without its first thing
 once-rest : (first : Thing) (queue : List Thing) (aside : Aside) → IsOnce (first ∷ queue) aside → IsOnce queue aside
@@ -168,9 +169,9 @@ once-put first queue aside once = record {
   either = λ thing there.
       ap (λ (hot : Hot). hot thing) (set_of-put_aside first aside)
       ∙ neither (same_thing first thing) (set_of (things_aside aside) thing)
-        (false_by (same_thing first thing) (λ same.
-            true_false (set_of queue first) (ap (set_of queue) (same_thing-true first thing same) ∙ there) once.apart.0))
-        (once.either thing (or_right (same_thing first thing) (set_of queue thing) there));
+      (false_by (same_thing first thing) (λ same.
+      true_false (set_of queue first) (ap (set_of queue) (same_thing-true first thing same) ∙ there) once.apart.0))
+      (once.either thing (or_right (same_thing first thing) (set_of queue thing) there));
 }
 
 -- ---- the front
@@ -194,8 +195,8 @@ once-rotated thing [] left aside front is once = absurd front
 once-rotated thing (first ∷ queue) left aside front is once =
     subst (λ (things : List Thing). IsOnce (things ++ thing ∷ []) aside) (sym is)
     (subst (λ (t : Thing). IsOnce (queue ++ t ∷ []) aside) front
-        (once-queued queue aside (once-rest first queue aside once) first once.apart.0
-            (once.either first (or_left (same_thing first first) (set_of queue first) (same_thing-refl first)))))
+    (once-queued queue aside (once-rest first queue aside once) first once.apart.0
+    (once.either first (or_left (same_thing first first) (set_of queue first) (same_thing-refl first)))))
 
 -- it isn't aside either
 pub front-taken : (thing : Thing) (queue : List Thing) (aside : Aside) → IsFront thing queue → IsOnce queue aside → set_of (things_aside aside) thing ≡ false
@@ -227,14 +228,14 @@ pub front-without : (thing : Thing) (line : Line) (left : List Thing) → IsFron
 front-without thing line left front once is =
     ap (λ (things : List Thing). record line { queue = things }) (is ∙ sym (front-dropped thing line.queue front once.apart))
     ∙ ap (λ (aside : Aside). record line { queue = dropped thing line.queue; aside = aside })
-      (sym (absent-taken thing line.aside (front-taken thing line.queue line.aside front once)))
+    (sym (absent-taken thing line.aside (front-taken thing line.queue line.aside front once)))
 
 -- a thing that is aside isn't ready any more
 pub aside-without : (thing : Thing) (line : Line) (left : Aside) → IsOnce line.queue line.aside → left ≡ taken_back thing line.aside → set_of (things_aside line.aside) thing ≡ true → record line { aside = left } ≡ without thing line
 aside-without thing line left once is there =
     ap (λ (aside : Aside). record line { aside = aside }) is
     ∙ ap (λ (things : List Thing). record line { queue = things; aside = taken_back thing line.aside })
-      (sym (absent-dropped thing line.queue (aside-absent line.queue line.aside once thing there)))
+    (sym (absent-dropped thing line.queue (aside-absent line.queue line.aside once thing there)))
 
 -- a thing comes back where it was aside
 pub aside-brought : (thing : Thing) (line : Line) (queue : List Thing) (left : Aside) → queue ≡ line.queue ++ thing ∷ [] → left ≡ taken_back thing line.aside → set_of (things_aside line.aside) thing ≡ true → record line { queue = queue; aside = left } ≡ brought thing line
@@ -299,8 +300,8 @@ stuck-settled state line front left more stuck is puts =
         let not_it : is_servable state first ≡ false = ap (is_servable state) is.0 ∙ is.1 in
         ap (λ (t : Thing). settled state (record line { queue = queue; aside = put_aside t line.aside })) (sym is.0)
         ∙ sym (ap (λ (b : Bool). record line {
-            queue = if b then first ∷ queue else from_servable state queue;
-            aside = if b then line.aside else aside_with state queue (put_aside first line.aside);
+          queue = if b then first ∷ queue else from_servable state queue;
+          aside = if b then line.aside else aside_with state queue (put_aside first line.aside);
         }) not_it)
 
 pub stuck-once : (state : State) (queue left : List Thing) (aside more : Aside) (front : Thing) → Some front ≡ stuck_front state queue → left ≡ drop 1 queue → more ≡ put_aside front aside → IsOnce queue aside → IsOnce left more
@@ -309,7 +310,7 @@ stuck-once state (first ∷ queue) left aside more front stuck is puts once =
     let same = (stuck_by (is_servable state first) state first front refl (sym stuck)).0 in
     subst (λ (things : List Thing). IsOnce things more) (sym is)
     (subst (IsOnce queue) (sym puts)
-        (subst (λ (t : Thing). IsOnce queue (put_aside t aside)) same (once-put first queue aside once)))
+    (subst (λ (t : Thing). IsOnce queue (put_aside t aside)) same (once-put first queue aside once)))
 
 -- until nothing is left before it
 pub free-settled : (state : State) (line : Line) → None ≡ stuck_front state line.queue → settled state line ≡ line
@@ -317,8 +318,8 @@ free-settled state line free = by_queue line.queue free
   where
     by_test : (test : Bool) (first : Thing) (queue : List Thing) → is_servable state first ≡ test → None ≡ (if test then None else Some first) → settled state (record line { queue = first ∷ queue }) ≡ record line { queue = first ∷ queue }
     by_test true first queue is free = ap (λ (b : Bool). record line {
-        queue = if b then first ∷ queue else from_servable state queue;
-        aside = if b then line.aside else aside_with state queue (put_aside first line.aside);
+      queue = if b then first ∷ queue else from_servable state queue;
+      aside = if b then line.aside else aside_with state queue (put_aside first line.aside);
     }) is
     by_test false first queue is free = absurd (cc)
 

@@ -9,13 +9,13 @@ pub invariant_of-self : goal.invariant_of-self
 invariant_of-self c =
     subst (λ (things : List Thing). IsOnce things c.take.new.self) (sym c.in_ok-push_back.ensures.items)
     (subst (IsOnce (c.self.inside.things.items ++ c.args.thing ∷ [])) (sym c.take.ensures.left)
-        (once-brought c.self.inside.things.items c.self.inside.aside c.args.thing c.self.invariant (sym c.if-take.ensures.there)))
+    (once-brought c.self.inside.things.items c.self.inside.aside c.args.thing c.self.invariant (sym c.if-take.ensures.there)))
 
 pub invariant_of-self-in_err-push_back : goal.invariant_of-self-in_err-push_back
 invariant_of-self-in_err-push_back c =
     subst (λ (things : List Thing). IsOnce things c.take.new.self) (sym c.in_err-push_back.ensures.items)
     (subst (IsOnce c.self.inside.things.items) (sym c.take.ensures.left)
-        (once-taken c.self.inside.things.items c.self.inside.aside c.self.invariant c.args.thing))
+    (once-taken c.self.inside.things.items c.self.inside.aside c.self.invariant c.args.thing))
 
 pub invariant_of-self-else-take : goal.invariant_of-self-else-take
 invariant_of-self-else-take c =

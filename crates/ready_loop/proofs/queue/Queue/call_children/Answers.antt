@@ -25,7 +25,7 @@ ports-preserved g c =
       rising = c.ports.invariant.rising;
       back = c.in_ok-bring.ensures
           ∙ child-more state c.ports.after c.in-Some.port c.args.self.now c.ports.self c.in-Some.ensures.rising c.in-Some.ensures.next
-            c.ports.invariant.rising c.ports.invariant.back;
+          c.ports.invariant.rising c.ports.invariant.back;
     }
 
 pub returns : goal.returns

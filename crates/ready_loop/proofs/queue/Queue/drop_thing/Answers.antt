@@ -12,8 +12,8 @@ invariant_of-self c =
     let things = c.self.inside.things.items in
     subst (λ (left : List Thing). IsOnce left c.take.new.self) (sym c.drop_from.ensures)
     (subst (IsOnce (dropped c.args.thing things)) (sym c.take.ensures.left)
-        (once-taken (dropped c.args.thing things) c.self.inside.aside
-            (once-filter things c.self.inside.aside c.self.invariant (λ other. not (same_thing c.args.thing other))) c.args.thing))
+    (once-taken (dropped c.args.thing things) c.self.inside.aside
+    (once-filter things c.self.inside.aside c.self.invariant (λ other. not (same_thing c.args.thing other))) c.args.thing))
 
 pub invariant_of-self-else-not-take : goal.invariant_of-self-else-not-take
 invariant_of-self-else-not-take c =
