@@ -1,6 +1,7 @@
 pub mod ThingLemmas
 pub mod TestLemmas
 pub mod AsideLemmas
+pub mod FilterLemmas
 pub mod SetLemmas
 pub mod IdleLemmas
 pub mod TurningLemmas
@@ -11,6 +12,9 @@ pub mod QuietLemmas
 pub mod KeepingLemmas
 pub mod TellLemmas
 pub mod StandingLemmas
+pub mod LineLemmas
+pub mod CallingLemmas
+pub mod NextLemmas
 pub mod RecallLemmas
 pub mod BackLemmas
 pub mod AheadLemmas

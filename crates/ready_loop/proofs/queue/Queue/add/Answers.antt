@@ -2,7 +2,8 @@ use Rattle.std.proofs.Common.{◌∙◌, Bool, List, ap, subst, sym}
 use Rattle.ready_hub.specs.declared.thing.Thing.{Thing}
 use Rattle.ready_loop.specs.Lines.{Line, hot_of}
 use Rattle.ready_loop.specs.Standing.{IsOnce}
-use Rattle.ready_loop.proofs.StandingLemmas.{cold-both, once-queued}
+use Rattle.ready_loop.proofs.LineLemmas.{cold-both}
+use Rattle.ready_loop.proofs.StandingLemmas.{once-queued}
 use Rattle.ready_loop.proofs.queue.Queue.add.Goals as goal
 
 pub invariant_of-self : goal.invariant_of-self

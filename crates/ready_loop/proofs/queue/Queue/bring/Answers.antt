@@ -2,7 +2,8 @@ use Rattle.std.proofs.Common.{◌∙◌, ◌∷◌, ◌++◌, [], List, ap, subs
 use Rattle.ready_hub.specs.declared.thing.Thing.{Thing}
 use Rattle.ready_loop.specs.Lines.{Line}
 use Rattle.ready_loop.specs.Standing.{IsOnce, brought}
-use Rattle.ready_loop.proofs.StandingLemmas.{absent-brought, once-brought, once-taken}
+use Rattle.ready_loop.proofs.LineLemmas.{absent-brought}
+use Rattle.ready_loop.proofs.StandingLemmas.{once-brought, once-taken}
 use Rattle.ready_loop.proofs.queue.Queue.bring.Goals as goal
 
 pub invariant_of-self : goal.invariant_of-self

@@ -1,5 +1,6 @@
 use Rattle.std.proofs.Common.{◌∙◌, ◌<◌, ◌-◌, arith, sym, true}
-use Rattle.ready_loop.proofs.RecallLemmas.{called_all-none, owed-all, owed-more, owed-next, is_owed, upto-zero}
+use Rattle.ready_loop.proofs.NextLemmas.{upto-zero}
+use Rattle.ready_loop.proofs.RecallLemmas.{called_all-none, owed-all, owed-more, owed-next, is_owed}
 use Rattle.ready_loop.proofs.queue.Queue.call_owed.Goals as goal
 
 pub returns-then-not-has_writes : goal.returns-then-not-has_writes

@@ -4,7 +4,8 @@ use Rattle.ready_hub.specs.declared.thing.Thing.{Thing}
 use Rattle.ready_loop.specs.Lines.{Line, without}
 use Rattle.ready_loop.specs.Queues.{dropped}
 use Rattle.ready_loop.specs.Standing.{IsOnce}
-use Rattle.ready_loop.proofs.StandingLemmas.{aside-without, once-filter, once-taken}
+use Rattle.ready_loop.proofs.LineLemmas.{aside-without}
+use Rattle.ready_loop.proofs.StandingLemmas.{once-filter, once-taken}
 use Rattle.ready_loop.proofs.queue.Queue.drop_thing.Goals as goal
 
 pub invariant_of-self : goal.invariant_of-self

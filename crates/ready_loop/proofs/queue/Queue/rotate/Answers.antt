@@ -2,7 +2,8 @@ use Rattle.std.proofs.Common.{◌∙◌, List, ap, subst, sym}
 use Rattle.ready_hub.specs.declared.thing.Thing.{Thing}
 use Rattle.ready_loop.specs.Lines.{Line, sent_back}
 use Rattle.ready_loop.specs.Standing.{IsFront, IsOnce}
-use Rattle.ready_loop.proofs.StandingLemmas.{front-sent_back, once-rotated}
+use Rattle.ready_loop.proofs.LineLemmas.{front-sent_back}
+use Rattle.ready_loop.proofs.StandingLemmas.{once-rotated}
 use Rattle.ready_loop.proofs.queue.Queue.rotate.Goals as goal
 
 pub invariant_of-self-2 : goal.invariant_of-self-2
