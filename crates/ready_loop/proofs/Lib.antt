@@ -2,6 +2,11 @@ pub mod ThingLemmas
 pub mod TestLemmas
 pub mod AsideLemmas
 pub mod FilterLemmas
+pub mod StandingLemmas
+pub mod LineLemmas
+pub mod CallingLemmas
+pub mod NextLemmas
+pub mod RecallLemmas
 pub mod SetLemmas
 pub mod IdleLemmas
 pub mod TurningLemmas
@@ -11,11 +16,6 @@ pub mod StateLemmas
 pub mod QuietLemmas
 pub mod KeepingLemmas
 pub mod TellLemmas
-pub mod StandingLemmas
-pub mod LineLemmas
-pub mod CallingLemmas
-pub mod NextLemmas
-pub mod RecallLemmas
 pub mod BackLemmas
 pub mod AheadLemmas
 pub mod AheadCallLemmas
