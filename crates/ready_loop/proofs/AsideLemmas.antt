@@ -3,8 +3,7 @@ use Rattle.std.proofs.Common.{◌≡◌, ◌∙◌, ℕ, Bool, true, false, List
 use Rattle.std.proofs.lemmas.Bool.Decides.{nat_tests}
 use Rattle.std.specs.List.{filter}
 use Rattle.world_ports.specs.declared.events.Door.{Door}
-use Rattle.world_ports.specs.declared.events.Door.TheVariants.{Clients, Children}
-use Rattle.rising_numbers.specs.Rising.{IsRisingList, inserted, is_among, removed}
+use Rattle.rising_numbers.specs.Rising.{IsRisingList, is_among, removed}
 use Rattle.rising_numbers.proofs.RisingLemmas.{is_among-inserted, removed-filter}
 use Rattle.agent_model.specs.State.{State}
 use Rattle.ready_hub.specs.Servable.{is_servable}
@@ -12,7 +11,7 @@ use Rattle.ready_hub.specs.Things.{Hot, cooled, heated, same_door, same_thing, s
 use Rattle.ready_hub.specs.declared.thing.Thing.{Thing}
 use Rattle.ready_hub.specs.declared.thing.Thing.TheVariants.{Accept, Read, Write}
 use Rattle.ready_loop.specs.Aside.{Aside, accepts_of, put_aside, reads_of, still_aside, taken_back, things_aside, writes_of}
-use Rattle.ready_loop.proofs.ThingLemmas.{same_thing-refl, same_thing-true}
+use Rattle.ready_loop.proofs.ThingLemmas.{same_thing-true}
 
 -- ---- tests
 
@@ -20,12 +19,13 @@ or_assoc : (a b c : Bool) → ((a || b) || c) ≡ (a || (b || c))
 or_assoc true b c = refl
 or_assoc false b c = refl
 
-or_false : (a : Bool) → (a || false) ≡ a
+pub or_false : (a : Bool) → (a || false) ≡ a
 or_false true = refl
 or_false false = refl
 
 -- where a test is false another stays
-kept_by : (here there rest test : Bool) → (here ≡ true → test ≡ there) → (if there then (here || (rest && test)) else (rest && test)) ≡ ((here || rest) && test)
+kept_by : (here there rest test : Bool) → (here ≡ true → test ≡ there)
+    → (if there then (here || (rest && test)) else (rest && test)) ≡ ((here || rest) && test)
 kept_by true true rest test is = sym (is refl)
 kept_by true false rest test is = rw (is refl) (and_false rest)
   where
@@ -42,18 +42,21 @@ same_sets hot other same = λ i thing. same thing i
 -- ---- the set of a list
 
 -- the set of two lists
-pub set_of-append : (first later : List Thing) (thing : Thing) → set_of (first ++ later) thing ≡ (set_of first thing || set_of later thing)
+pub set_of-append : (first later : List Thing) (thing : Thing)
+    → set_of (first ++ later) thing ≡ (set_of first thing || set_of later thing)
 set_of-append [] later thing = refl
 set_of-append (other ∷ first) later thing =
     ap (λ (b : Bool). same_thing other thing || b) (set_of-append first later thing)
     ∙ sym (or_assoc (same_thing other thing) (set_of first thing) (set_of later thing))
 
-cond_at : (b : Bool) (thing other : Thing) (things : List Thing) → set_of (cond b (other ∷ things) things) thing ≡ (if b then (same_thing other thing || set_of things thing) else set_of things thing)
+cond_at : (b : Bool) (thing other : Thing) (things : List Thing)
+    → set_of (cond b (other ∷ things) things) thing ≡ (if b then (same_thing other thing || set_of things thing) else set_of things thing)
 cond_at true thing other things = refl
 cond_at false thing other things = refl
 
 -- of the things that a test lets pass
-pub set_of-filter : (test : Thing → Bool) (things : List Thing) (thing : Thing) → set_of (filter test things) thing ≡ (set_of things thing && test thing)
+pub set_of-filter : (test : Thing → Bool) (things : List Thing) (thing : Thing)
+    → set_of (filter test things) thing ≡ (set_of things thing && test thing)
 set_of-filter test [] thing = refl
 set_of-filter test (other ∷ things) thing =
     cond_at (test other) thing other (filter test things)
@@ -102,17 +105,21 @@ writes-write (other ∷ ports) port =
     ap (λ (b : Bool). b || set_of (writes_of ports) (Write port)) (same_number other port)
     ∙ ap (λ (b : Bool). (port == other) || b) (writes-write ports port)
 
-parts : (aside : Aside) (thing : Thing) → set_of (things_aside aside) thing ≡ (set_of (accepts_of aside.doors) thing || (set_of (reads_of aside.reads) thing || set_of (writes_of aside.writes) thing))
+parts : (aside : Aside) (thing : Thing)
+    → set_of (things_aside aside) thing
+    ≡ (set_of (accepts_of aside.doors) thing || (set_of (reads_of aside.reads) thing || set_of (writes_of aside.writes) thing))
 parts aside thing =
     set_of-append (accepts_of aside.doors ++ reads_of aside.reads) (writes_of aside.writes) thing
     ∙ ap (λ (b : Bool). b || set_of (writes_of aside.writes) thing) (set_of-append (accepts_of aside.doors) (reads_of aside.reads) thing)
     ∙ or_assoc (set_of (accepts_of aside.doors) thing) (set_of (reads_of aside.reads) thing) (set_of (writes_of aside.writes) thing)
 
 -- a listener, a port to read or one to write to is set aside where it is among those
-pub aside-accept : (aside : Aside) (door : Door) → set_of (things_aside aside) (Accept door) ≡ set_of (accepts_of aside.doors) (Accept door)
+pub aside-accept : (aside : Aside) (door : Door)
+    → set_of (things_aside aside) (Accept door) ≡ set_of (accepts_of aside.doors) (Accept door)
 aside-accept aside door =
     parts aside (Accept door)
-    ∙ by_parts (set_of (accepts_of aside.doors) (Accept door)) (set_of (reads_of aside.reads) (Accept door)) (set_of (writes_of aside.writes) (Accept door))
+    ∙ by_parts (set_of (accepts_of aside.doors) (Accept door)) (set_of (reads_of aside.reads) (Accept door))
+    (set_of (writes_of aside.writes) (Accept door))
     (reads-accept aside.reads door) (writes-accept aside.writes door)
   where
     by_parts : (a b c : Bool) → b ≡ false → c ≡ false → (a || (b || c)) ≡ a
@@ -122,7 +129,8 @@ aside-accept aside door =
 pub aside-read : (aside : Aside) (port : ℕ) → set_of (things_aside aside) (Read port) ≡ is_among port aside.reads
 aside-read aside port =
     parts aside (Read port)
-    ∙ by_parts (set_of (accepts_of aside.doors) (Read port)) (set_of (reads_of aside.reads) (Read port)) (set_of (writes_of aside.writes) (Read port))
+    ∙ by_parts (set_of (accepts_of aside.doors) (Read port)) (set_of (reads_of aside.reads) (Read port))
+    (set_of (writes_of aside.writes) (Read port))
     (accepts-read aside.doors port) (writes-read aside.writes port)
     ∙ reads-read aside.reads port
   where
@@ -132,7 +140,8 @@ aside-read aside port =
 pub aside-write : (aside : Aside) (port : ℕ) → set_of (things_aside aside) (Write port) ≡ is_among port aside.writes
 aside-write aside port =
     parts aside (Write port)
-    ∙ by_parts (set_of (accepts_of aside.doors) (Write port)) (set_of (reads_of aside.reads) (Write port)) (set_of (writes_of aside.writes) (Write port))
+    ∙ by_parts (set_of (accepts_of aside.doors) (Write port)) (set_of (reads_of aside.reads) (Write port))
+    (set_of (writes_of aside.writes) (Write port))
     (accepts-write aside.doors port) (reads-write aside.reads port)
     ∙ writes-write aside.writes port
   where
@@ -141,7 +150,8 @@ aside-write aside port =
 
 -- ---- numbers and listeners that a test lets pass
 
-pub is_among-filter : (test : ℕ → Bool) (ports : List ℕ) (port : ℕ) → is_among port (filter test ports) ≡ (is_among port ports && test port)
+pub is_among-filter : (test : ℕ → Bool) (ports : List ℕ) (port : ℕ)
+    → is_among port (filter test ports) ≡ (is_among port ports && test port)
 is_among-filter test [] port = refl
 is_among-filter test (other ∷ ports) port =
     cond_number (test other) port other (filter test ports)
@@ -149,20 +159,26 @@ is_among-filter test (other ∷ ports) port =
     ∙ kept_by (port == other) (test other) (is_among port ports) (test port)
     (λ same. let is : port ≡ other = grind (arith, nat_tests) in ap test is)
   where
-    cond_number : (b : Bool) (port other : ℕ) (ports : List ℕ) → is_among port (cond b (other ∷ ports) ports) ≡ (if b then ((port == other) || is_among port ports) else is_among port ports)
+    cond_number : (b : Bool) (port other : ℕ) (ports : List ℕ)
+        → is_among port (cond b (other ∷ ports) ports) ≡ (if b then ((port == other) || is_among port ports) else is_among port ports)
     cond_number true port other ports = refl
     cond_number false port other ports = refl
 
 -- the listeners that a test lets pass, as things
-accepts-filter : (test : Thing → Bool) (doors : List Door) → accepts_of (filter (λ door. test (Accept door)) doors) ≡ filter test (accepts_of doors)
+accepts-filter : (test : Thing → Bool) (doors : List Door)
+    → accepts_of (filter (λ door. test (Accept door)) doors) ≡ filter test (accepts_of doors)
 accepts-filter test [] = refl
 accepts-filter test (door ∷ doors) = by_test (test (Accept door)) door (accepts-filter test doors)
   where
-    by_test : (b : Bool) (door : Door) → accepts_of (filter (λ door. test (Accept door)) doors) ≡ filter test (accepts_of doors) → accepts_of (cond b (door ∷ filter (λ door. test (Accept door)) doors) (filter (λ door. test (Accept door)) doors)) ≡ cond b (Accept door ∷ filter test (accepts_of doors)) (filter test (accepts_of doors))
+    by_test : (b : Bool) (door : Door)
+        → accepts_of (filter (λ door. test (Accept door)) doors) ≡ filter test (accepts_of doors)
+        → accepts_of (cond b (door ∷ filter (λ door. test (Accept door)) doors) (filter (λ door. test (Accept door)) doors))
+        ≡ cond b (Accept door ∷ filter test (accepts_of doors)) (filter test (accepts_of doors))
     by_test true door rest = ap (λ (ts : List Thing). Accept door ∷ ts) rest
     by_test false door rest = rest
 
-accepts-more : (doors : List Door) (door : Door) (thing : Thing) → set_of (accepts_of (doors ++ door ∷ [])) thing ≡ (same_thing (Accept door) thing || set_of (accepts_of doors) thing)
+accepts-more : (doors : List Door) (door : Door) (thing : Thing)
+    → set_of (accepts_of (doors ++ door ∷ [])) thing ≡ (same_thing (Accept door) thing || set_of (accepts_of doors) thing)
 accepts-more [] door thing = refl
 accepts-more (first ∷ doors) door thing =
     ap (λ (b : Bool). same_thing (Accept first) thing || b) (accepts-more doors door thing)
@@ -175,7 +191,8 @@ accepts-more (first ∷ doors) door thing =
 
 -- ---- what is set aside changes
 
-put_at : (thing : Thing) (aside : Aside) (other : Thing) → set_of (things_aside (put_aside thing aside)) other ≡ heated thing (set_of (things_aside aside)) other
+put_at : (thing : Thing) (aside : Aside) (other : Thing)
+    → set_of (things_aside (put_aside thing aside)) other ≡ heated thing (set_of (things_aside aside)) other
 put_at (Accept door) aside (Accept other) =
     aside-accept (put_aside (Accept door) aside) other ∙ accepts-more aside.doors door (Accept other)
     ∙ sym (ap (λ (b : Bool). same_door door other || b) (aside-accept aside other))
@@ -199,7 +216,8 @@ put_at (Write port) aside (Write other) =
     ∙ sym (ap (λ (b : Bool). (port == other) || b) (aside-write aside other))
 
 -- with one thing more set aside it is the set with it
-pub set_of-put_aside : (thing : Thing) (aside : Aside) → set_of (things_aside (put_aside thing aside)) ≡ heated thing (set_of (things_aside aside))
+pub set_of-put_aside : (thing : Thing) (aside : Aside)
+    → set_of (things_aside (put_aside thing aside)) ≡ heated thing (set_of (things_aside aside))
 set_of-put_aside thing aside =
     same_sets (set_of (things_aside (put_aside thing aside))) (heated thing (set_of (things_aside aside))) (put_at thing aside)
 
@@ -209,17 +227,21 @@ and_swapped true false = refl
 and_swapped false true = refl
 and_swapped false false = refl
 
-accepts-without : (doors : List Door) (door other : Door) → set_of (accepts_of (filter (λ other. not (same_door door other)) doors)) (Accept other) ≡ (not (same_door door other) && set_of (accepts_of doors) (Accept other))
+accepts-without : (doors : List Door) (door other : Door)
+    → set_of (accepts_of (filter (λ other. not (same_door door other)) doors)) (Accept other)
+    ≡ (not (same_door door other) && set_of (accepts_of doors) (Accept other))
 accepts-without doors door other =
     ap (λ (ts : List Thing). set_of ts (Accept other)) (accepts-filter (λ thing. not (same_thing (Accept door) thing)) doors)
     ∙ set_of-filter (λ thing. not (same_thing (Accept door) thing)) (accepts_of doors) (Accept other)
     ∙ and_swapped (set_of (accepts_of doors) (Accept other)) (not (same_door door other))
 
-without_number : (ports : List ℕ) (port other : ℕ) → is_among other (filter (λ other. not (port == other)) ports) ≡ (not (port == other) && is_among other ports)
+without_number : (ports : List ℕ) (port other : ℕ)
+    → is_among other (filter (λ other. not (port == other)) ports) ≡ (not (port == other) && is_among other ports)
 without_number ports port other =
     is_among-filter (λ other. not (port == other)) ports other ∙ and_swapped (is_among other ports) (not (port == other))
 
-taken_at : (thing : Thing) (aside : Aside) (other : Thing) → set_of (things_aside (taken_back thing aside)) other ≡ cooled thing (set_of (things_aside aside)) other
+taken_at : (thing : Thing) (aside : Aside) (other : Thing)
+    → set_of (things_aside (taken_back thing aside)) other ≡ cooled thing (set_of (things_aside aside)) other
 taken_at (Accept door) aside (Accept other) =
     aside-accept (taken_back (Accept door) aside) other ∙ accepts-without aside.doors door other
     ∙ sym (ap (λ (b : Bool). not (same_door door other) && b) (aside-accept aside other))
@@ -243,12 +265,14 @@ taken_at (Write port) aside (Write other) =
     ∙ sym (ap (λ (b : Bool). not (port == other) && b) (aside-write aside other))
 
 -- with one thing less it is the set without it
-pub set_of-taken_back : (thing : Thing) (aside : Aside) → set_of (things_aside (taken_back thing aside)) ≡ cooled thing (set_of (things_aside aside))
+pub set_of-taken_back : (thing : Thing) (aside : Aside)
+    → set_of (things_aside (taken_back thing aside)) ≡ cooled thing (set_of (things_aside aside))
 set_of-taken_back thing aside =
     same_sets (set_of (things_aside (taken_back thing aside))) (cooled thing (set_of (things_aside aside))) (taken_at thing aside)
 
 -- what stays aside is what can't be served
-pub set_of-still_aside : (state : State) (aside : Aside) (thing : Thing) → set_of (things_aside (still_aside state aside)) thing ≡ (set_of (things_aside aside) thing && not (is_servable state thing))
+pub set_of-still_aside : (state : State) (aside : Aside) (thing : Thing)
+    → set_of (things_aside (still_aside state aside)) thing ≡ (set_of (things_aside aside) thing && not (is_servable state thing))
 set_of-still_aside state aside (Accept door) =
     aside-accept (still_aside state aside) door
     ∙ ap (λ (ts : List Thing). set_of ts (Accept door)) (accepts-filter (λ thing. not (is_servable state thing)) aside.doors)
@@ -266,74 +290,22 @@ set_of-still_aside state aside (Write port) =
 -- ---- where a thing is looked for and taken out
 
 -- a thing is set aside as it is told
-pub told : (there : Bool) (view aside : Aside) (thing found : Thing) → view ≡ aside → thing ≡ found → there ≡ set_of (things_aside view) found → there ≡ set_of (things_aside aside) thing
+pub told : (there : Bool) (view aside : Aside) (thing found : Thing) → view ≡ aside → thing ≡ found
+    → there ≡ set_of (things_aside view) found → there ≡ set_of (things_aside aside) thing
 told there view aside thing found same is tells =
     tells ∙ ap (λ (a : Aside). set_of (things_aside a) found) same ∙ ap (set_of (things_aside aside)) (sym is)
 
 -- a number less among the reads, or among the writes
-pub read_taken : (view aside : Aside) (thing : Thing) (port : ℕ) (left : List ℕ) → view ≡ aside → thing ≡ Read port → IsRisingList view.reads → left ≡ removed port view.reads → record view { reads = left } ≡ taken_back thing aside
+pub read_taken : (view aside : Aside) (thing : Thing) (port : ℕ) (left : List ℕ) → view ≡ aside → thing ≡ Read port
+    → IsRisingList view.reads → left ≡ removed port view.reads
+    → record view { reads = left } ≡ taken_back thing aside
 read_taken view aside thing port left same is rising less =
     ap (λ (ports : List ℕ). record view { reads = ports }) (less ∙ removed-filter port view.reads rising)
     ∙ ap (taken_back (Read port)) same ∙ ap (λ (t : Thing). taken_back t aside) (sym is)
 
-pub write_taken : (view aside : Aside) (thing : Thing) (port : ℕ) (left : List ℕ) → view ≡ aside → thing ≡ Write port → IsRisingList view.writes → left ≡ removed port view.writes → record view { writes = left } ≡ taken_back thing aside
+pub write_taken : (view aside : Aside) (thing : Thing) (port : ℕ) (left : List ℕ) → view ≡ aside
+    → thing ≡ Write port → IsRisingList view.writes → left ≡ removed port view.writes
+    → record view { writes = left } ≡ taken_back thing aside
 write_taken view aside thing port left same is rising less =
     ap (λ (ports : List ℕ). record view { writes = ports }) (less ∙ removed-filter port view.writes rising)
     ∙ ap (taken_back (Write port)) same ∙ ap (λ (t : Thing). taken_back t aside) (sym is)
-
--- ---- where a test lets all pass, or none
-
--- of numbers
-pub numbers_all : (test : ℕ → Bool) (ports : List ℕ) → ((port : ℕ) → is_among port ports ≡ true → test port ≡ true) → filter test ports ≡ ports
-numbers_all test [] all = refl
-numbers_all test (first ∷ ports) all =
-    ap (λ (b : Bool). cond b (first ∷ filter test ports) (filter test ports)) (all first (ap (λ (b : Bool). b || is_among first ports) (same_itself first)))
-    ∙ ap (λ (ps : List ℕ). first ∷ ps) (numbers_all test ports (λ port there. all port (later (port == first) (is_among port ports) there)))
-  where
-    same_itself : (n : ℕ) → (n == n) ≡ true
-    same_itself n = grind (arith, nat_tests)
-
-    later : (a b : Bool) → b ≡ true → (a || b) ≡ true
-    later true b is = refl
-    later false b is = is
-
--- of listeners
-pub doors_all : (test : Door → Bool) (doors : List Door) → ((door : Door) → set_of (accepts_of doors) (Accept door) ≡ true → test door ≡ true) → filter test doors ≡ doors
-doors_all test [] all = refl
-doors_all test (first ∷ doors) all =
-    ap (λ (b : Bool). cond b (first ∷ filter test doors) (filter test doors))
-    (all first (ap (λ (b : Bool). b || set_of (accepts_of doors) (Accept first)) (same_thing-refl (Accept first))))
-    ∙ ap (λ (ds : List Door). first ∷ ds)
-      (doors_all test doors (λ door there. all door (later (same_door first door) (set_of (accepts_of doors) (Accept door)) there)))
-  where
-    later : (a b : Bool) → b ≡ true → (a || b) ≡ true
-    later true b is = refl
-    later false b is = is
-
-without_absent : (ports : List ℕ) (port : ℕ) → is_among port ports ≡ false → filter (λ other. not (port == other)) ports ≡ ports
-without_absent ports port absent = numbers_all (λ other. not (port == other)) ports (λ other there. other_than other (port == other) refl there)
-  where
-    other_than : (other : ℕ) (same : Bool) → (port == other) ≡ same → is_among other ports ≡ true → not same ≡ true
-    other_than other true is there =
-        let here : port ≡ other = grind (arith, nat_tests) in
-        let also : is_among port ports ≡ true = ap (λ (n : ℕ). is_among n ports) here ∙ there in
-        cc
-    other_than other false is there = refl
-
-without_door : (doors : List Door) (door : Door) → set_of (accepts_of doors) (Accept door) ≡ false → filter (λ other. not (same_door door other)) doors ≡ doors
-without_door doors door absent = doors_all (λ other. not (same_door door other)) doors (λ other there. other_than other (same_door door other) refl there)
-  where
-    other_than : (other : Door) (same : Bool) → same_door door other ≡ same → set_of (accepts_of doors) (Accept other) ≡ true → not same ≡ true
-    other_than other true is there =
-        let also : set_of (accepts_of doors) (Accept door) ≡ true = ap (set_of (accepts_of doors)) (same_thing-true (Accept door) (Accept other) is) ∙ there in
-        cc
-    other_than other false is there = refl
-
--- without what isn't there
-pub absent-taken : (thing : Thing) (aside : Aside) → set_of (things_aside aside) thing ≡ false → taken_back thing aside ≡ aside
-absent-taken (Accept door) aside absent =
-    ap (λ (doors : List Door). record aside { doors = doors }) (without_door aside.doors door (sym (aside-accept aside door) ∙ absent))
-absent-taken (Read port) aside absent =
-    ap (λ (ports : List ℕ). record aside { reads = ports }) (without_absent aside.reads port (sym (aside-read aside port) ∙ absent))
-absent-taken (Write port) aside absent =
-    ap (λ (ports : List ℕ). record aside { writes = ports }) (without_absent aside.writes port (sym (aside-write aside port) ∙ absent))

@@ -1,7 +1,11 @@
 pub mod ThingLemmas
 pub mod TestLemmas
 pub mod AsideLemmas
+pub mod FilterLemmas
 pub mod StandingLemmas
+pub mod LineLemmas
+pub mod CallingLemmas
+pub mod NextLemmas
 pub mod RecallLemmas
 pub mod SetLemmas
 pub mod IdleLemmas

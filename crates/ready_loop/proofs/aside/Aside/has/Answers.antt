@@ -1,4 +1,4 @@
-use Rattle.std.proofs.Common.{◌∙◌, List, ℕ, ap, sym}
+use Rattle.std.proofs.Common.{◌∙◌, List, ap, sym}
 use Rattle.world_ports.specs.declared.events.Door.{Door}
 use Rattle.rising_numbers.specs.Rising.{is_among}
 use Rattle.ready_hub.specs.Things.{set_of}

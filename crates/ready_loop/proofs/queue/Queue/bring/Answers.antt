@@ -1,22 +1,22 @@
 use Rattle.std.proofs.Common.{◌∙◌, ◌∷◌, ◌++◌, [], List, ap, subst, sym}
 use Rattle.ready_hub.specs.declared.thing.Thing.{Thing}
-use Rattle.ready_loop.specs.Aside.{Aside}
 use Rattle.ready_loop.specs.Lines.{Line}
 use Rattle.ready_loop.specs.Standing.{IsOnce, brought}
-use Rattle.ready_loop.proofs.StandingLemmas.{absent-brought, aside-brought, once-brought, once-taken}
+use Rattle.ready_loop.proofs.LineLemmas.{absent-brought}
+use Rattle.ready_loop.proofs.StandingLemmas.{once-brought, once-taken}
 use Rattle.ready_loop.proofs.queue.Queue.bring.Goals as goal
 
 pub invariant_of-self : goal.invariant_of-self
 invariant_of-self c =
     subst (λ (things : List Thing). IsOnce things c.take.new.self) (sym c.in_ok-push_back.ensures.items)
     (subst (IsOnce (c.self.inside.things.items ++ c.args.thing ∷ [])) (sym c.take.ensures.left)
-        (once-brought c.self.inside.things.items c.self.inside.aside c.args.thing c.self.invariant (sym c.if-take.ensures.there)))
+    (once-brought c.self.inside.things.items c.self.inside.aside c.args.thing c.self.invariant (sym c.if-take.ensures.there)))
 
 pub invariant_of-self-in_err-push_back : goal.invariant_of-self-in_err-push_back
 invariant_of-self-in_err-push_back c =
     subst (λ (things : List Thing). IsOnce things c.take.new.self) (sym c.in_err-push_back.ensures.items)
     (subst (IsOnce c.self.inside.things.items) (sym c.take.ensures.left)
-        (once-taken c.self.inside.things.items c.self.inside.aside c.self.invariant c.args.thing))
+    (once-taken c.self.inside.things.items c.self.inside.aside c.self.invariant c.args.thing))
 
 pub invariant_of-self-else-take : goal.invariant_of-self-else-take
 invariant_of-self-else-take c =

@@ -1,5 +1,6 @@
 use Rattle.std.proofs.Common.{◌∙◌, ◌<◌, ◌-◌, arith, false, sym}
-use Rattle.ready_loop.proofs.RecallLemmas.{called_all-none, child-all, child-more, child-next, is_child_owed, upto-zero}
+use Rattle.ready_loop.proofs.NextLemmas.{upto-zero}
+use Rattle.ready_loop.proofs.RecallLemmas.{called_all-none, child-all, child-more, child-next, is_child_owed}
 use Rattle.ready_loop.proofs.queue.Queue.call_children.Goals as goal
 
 pub returns-then-not-has_writes : goal.returns-then-not-has_writes
@@ -25,7 +26,7 @@ ports-preserved g c =
       rising = c.ports.invariant.rising;
       back = c.in_ok-bring.ensures
           ∙ child-more state c.ports.after c.in-Some.port c.args.self.now c.ports.self c.in-Some.ensures.rising c.in-Some.ensures.next
-            c.ports.invariant.rising c.ports.invariant.back;
+          c.ports.invariant.rising c.ports.invariant.back;
     }
 
 pub returns : goal.returns

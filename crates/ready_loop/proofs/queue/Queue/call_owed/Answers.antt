@@ -1,5 +1,6 @@
 use Rattle.std.proofs.Common.{◌∙◌, ◌<◌, ◌-◌, arith, sym, true}
-use Rattle.ready_loop.proofs.RecallLemmas.{called_all-none, owed-all, owed-more, owed-next, is_owed, upto-zero}
+use Rattle.ready_loop.proofs.NextLemmas.{upto-zero}
+use Rattle.ready_loop.proofs.RecallLemmas.{called_all-none, owed-all, owed-more, owed-next, is_owed}
 use Rattle.ready_loop.proofs.queue.Queue.call_owed.Goals as goal
 
 pub returns-then-not-has_writes : goal.returns-then-not-has_writes
@@ -25,7 +26,7 @@ ports-preserved g c =
       rising = c.ports.invariant.rising;
       back = c.in_ok-bring.ensures
           ∙ owed-more state c.ports.after c.in-Some.port c.args.self.now c.ports.self c.in-Some.ensures.rising c.in-Some.ensures.next
-            c.ports.invariant.rising c.ports.invariant.back;
+          c.ports.invariant.rising c.ports.invariant.back;
     }
 
 pub returns : goal.returns

@@ -1,7 +1,7 @@
 use Rattle.std.proofs.Common.{◌∙◌, ap, subst, sym}
 use Rattle.ready_loop.specs.Lines.{Line, without}
 use Rattle.ready_loop.specs.Standing.{IsFront}
-use Rattle.ready_loop.proofs.StandingLemmas.{front-without}
+use Rattle.ready_loop.proofs.LineLemmas.{front-without}
 use Rattle.ready_loop.proofs.queue.Queue.drop_front.Goals as goal
 
 pub returns : goal.returns

@@ -4,7 +4,8 @@ use Rattle.ready_hub.specs.declared.thing.Thing.{Thing}
 use Rattle.ready_loop.specs.Lines.{Line, without}
 use Rattle.ready_loop.specs.Queues.{dropped}
 use Rattle.ready_loop.specs.Standing.{IsOnce}
-use Rattle.ready_loop.proofs.StandingLemmas.{aside-without, once-filter, once-taken}
+use Rattle.ready_loop.proofs.LineLemmas.{aside-without}
+use Rattle.ready_loop.proofs.StandingLemmas.{once-filter, once-taken}
 use Rattle.ready_loop.proofs.queue.Queue.drop_thing.Goals as goal
 
 pub invariant_of-self : goal.invariant_of-self
@@ -12,8 +13,8 @@ invariant_of-self c =
     let things = c.self.inside.things.items in
     subst (λ (left : List Thing). IsOnce left c.take.new.self) (sym c.drop_from.ensures)
     (subst (IsOnce (dropped c.args.thing things)) (sym c.take.ensures.left)
-        (once-taken (dropped c.args.thing things) c.self.inside.aside
-            (once-filter things c.self.inside.aside c.self.invariant (λ other. not (same_thing c.args.thing other))) c.args.thing))
+    (once-taken (dropped c.args.thing things) c.self.inside.aside
+    (once-filter things c.self.inside.aside c.self.invariant (λ other. not (same_thing c.args.thing other))) c.args.thing))
 
 pub invariant_of-self-else-not-take : goal.invariant_of-self-else-not-take
 invariant_of-self-else-not-take c =

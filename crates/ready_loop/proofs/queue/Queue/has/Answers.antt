@@ -1,8 +1,7 @@
-use Rattle.std.proofs.Common.{◌∙◌, ◌||◌, ap, sym, true, false, refl}
+use Rattle.std.proofs.Common.{◌∙◌, ap, true, false, refl}
 use Rattle.ready_hub.specs.Things.{set_of}
-use Rattle.ready_loop.specs.Aside.{things_aside}
 use Rattle.ready_loop.specs.Lines.{Line, hot_of}
-use Rattle.ready_loop.proofs.StandingLemmas.{hot-either}
+use Rattle.ready_loop.proofs.LineLemmas.{hot-either}
 use Rattle.ready_loop.proofs.queue.Queue.has.Goals as goal
 
 pub returns-then-has : goal.returns-then-has

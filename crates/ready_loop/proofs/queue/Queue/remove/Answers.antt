@@ -1,7 +1,7 @@
 use Rattle.std.proofs.Common.{subst, sym}
 use Rattle.ready_loop.specs.Lines.{Line}
 use Rattle.ready_loop.specs.Standing.{IsFront}
-use Rattle.ready_loop.proofs.StandingLemmas.{settled-front}
+use Rattle.ready_loop.proofs.LineLemmas.{settled-front}
 use Rattle.ready_loop.proofs.queue.Queue.remove.Goals as goal
 
 pub drop_front-requires : goal.drop_front-requires

@@ -1,7 +1,7 @@
 use Rattle.std.proofs.Common.{subst, sym}
 use Rattle.ready_loop.specs.Lines.{Line}
 use Rattle.ready_loop.specs.Standing.{IsFront}
-use Rattle.ready_loop.proofs.StandingLemmas.{settled-front}
+use Rattle.ready_loop.proofs.LineLemmas.{settled-front}
 use Rattle.ready_loop.proofs.queue.Queue.send_back.Goals as goal
 
 pub rotate-requires : goal.rotate-requires

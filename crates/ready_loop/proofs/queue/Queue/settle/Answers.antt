@@ -1,6 +1,6 @@
 use Rattle.std.proofs.Common.{◌∙◌}
 use Rattle.ready_loop.specs.Lines.{Line}
-use Rattle.ready_loop.proofs.StandingLemmas.{stuck-once, stuck-settled}
+use Rattle.ready_loop.proofs.LineLemmas.{stuck-once, stuck-settled}
 use Rattle.ready_loop.proofs.queue.Queue.settle.Goals as goal
 
 pub fronts-preserved : goal.fronts-preserved

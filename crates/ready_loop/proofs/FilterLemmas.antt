@@ -1,0 +1,127 @@
+-- What a test lets pass: all, none, or as many as another test.
+use Rattle.std.proofs.Common.{◌≡◌, ◌∙◌, Bool, true, false, List, [], ◌∷◌, refl, sym, ap, cond, not, ◌||◌, ℕ, ◌==◌, arith}
+use Rattle.std.specs.List.{filter}
+use Rattle.ready_hub.specs.Things.{same_thing, set_of, same_door}
+use Rattle.ready_hub.specs.declared.thing.Thing.{Thing}
+use Rattle.ready_loop.specs.Aside.{Aside, taken_back, things_aside, accepts_of}
+use Rattle.ready_loop.specs.Queues.{dropped}
+use Rattle.std.proofs.lemmas.Bool.Decides.{nat_tests}
+use Rattle.world_ports.specs.declared.events.Door.{Door}
+use Rattle.rising_numbers.specs.Rising.{is_among}
+use Rattle.ready_hub.specs.declared.thing.Thing.TheVariants.{Accept, Read, Write}
+use Rattle.ready_loop.proofs.TestLemmas.{or_left, or_right}
+use Rattle.ready_loop.proofs.ThingLemmas.{false_by, same_thing-refl, same_thing-true}
+use Rattle.ready_loop.proofs.AsideLemmas.{aside-accept, aside-read, aside-write}
+
+-- no test holds and doesn't
+pub true_false : (test : Bool) → test ≡ true → test ≡ false → ⊥
+true_false true is isnt = cc
+true_false false is isnt = cc
+
+-- ---- of things
+
+-- where each passes the test, all are left
+pub filter_all : (test : Thing → Bool) (things : List Thing)
+    → ((thing : Thing) → set_of things thing ≡ true → test thing ≡ true) → filter test things ≡ things
+filter_all test [] all = refl
+filter_all test (first ∷ things) all =
+    ap (λ (b : Bool). cond b (first ∷ filter test things) (filter test things))
+    (all first (or_left (same_thing first first) (set_of things first) (same_thing-refl first)))
+    ∙ ap (λ (ts : List Thing). first ∷ ts)
+    (filter_all test things (λ thing there. all thing (or_right (same_thing first thing) (set_of things thing) there)))
+
+-- where none does, none is
+pub filter_none : (test : Thing → Bool) (things : List Thing)
+    → ((thing : Thing) → set_of things thing ≡ true → test thing ≡ false) → filter test things ≡ []
+filter_none test [] none = refl
+filter_none test (first ∷ things) none =
+    ap (λ (b : Bool). cond b (first ∷ filter test things) (filter test things))
+    (none first (or_left (same_thing first first) (set_of things first) (same_thing-refl first)))
+    ∙ filter_none test things (λ thing there. none thing (or_right (same_thing first thing) (set_of things thing) there))
+
+-- without what isn't there
+pub absent-dropped : (thing : Thing) (things : List Thing) → set_of things thing ≡ false → dropped thing things ≡ things
+absent-dropped thing things absent = filter_all (λ other. not (same_thing thing other)) things (λ other there.
+    ap not (false_by (same_thing thing other) (λ same.
+    true_false (set_of things thing) (ap (set_of things) (same_thing-true thing other same) ∙ there) absent)))
+
+-- ---- of numbers
+
+-- the number in front, where it is kept
+abbrev pub kept : Bool → ℕ → List ℕ → List ℕ
+kept test first ports = cond test (first ∷ ports) ports
+
+itself_among : (first : ℕ) (ports : List ℕ) → (first == first || is_among first ports) ≡ true
+itself_among first ports = or_left (first == first) (is_among first ports) (grind (arith, nat_tests))
+
+-- where each passes the test, all are left
+pub numbers_all : (test : ℕ → Bool) (ports : List ℕ) → ((port : ℕ) → is_among port ports ≡ true → test port ≡ true)
+    → filter test ports ≡ ports
+numbers_all test [] all = refl
+numbers_all test (first ∷ ports) all =
+    ap (λ (b : Bool). kept b first (filter test ports)) (all first (itself_among first ports))
+    ∙ ap (λ (ps : List ℕ). first ∷ ps)
+    (numbers_all test ports (λ port there. all port (or_right (port == first) (is_among port ports) there)))
+
+-- tests that agree on the members leave the same
+pub numbers_alike : (test other : ℕ → Bool) (ports : List ℕ)
+    → ((port : ℕ) → is_among port ports ≡ true → test port ≡ other port) → filter test ports ≡ filter other ports
+numbers_alike test other [] same = refl
+numbers_alike test other (first ∷ ports) same =
+    ap (λ (b : Bool). kept b first (filter test ports)) (same first (itself_among first ports))
+    ∙ ap (kept (other first) first)
+    (numbers_alike test other ports (λ port there. same port (or_right (port == first) (is_among port ports) there)))
+
+-- where none passes, none is left
+pub numbers_none : (ports : List ℕ) → filter (λ port. false) ports ≡ []
+numbers_none [] = refl
+numbers_none (first ∷ ports) = numbers_none ports
+
+-- ---- of listeners
+
+pub doors_all : (test : Door → Bool) (doors : List Door)
+    → ((door : Door) → set_of (accepts_of doors) (Accept door) ≡ true → test door ≡ true)
+    → filter test doors ≡ doors
+doors_all test [] all = refl
+doors_all test (first ∷ doors) all =
+    ap (λ (b : Bool). cond b (first ∷ filter test doors) (filter test doors))
+    (all first (ap (λ (b : Bool). b || set_of (accepts_of doors) (Accept first)) (same_thing-refl (Accept first))))
+    ∙ ap (λ (ds : List Door). first ∷ ds)
+    (doors_all test doors (λ door there. all door (or_right (same_door first door) (set_of (accepts_of doors) (Accept door)) there)))
+
+without_absent : (ports : List ℕ) (port : ℕ) → is_among port ports ≡ false
+    → filter (λ other. not (port == other)) ports ≡ ports
+without_absent ports port absent =
+    numbers_all (λ other. not (port == other)) ports (λ other there. other_than other (port == other) refl there)
+  where
+    other_than : (other : ℕ) (same : Bool) → (port == other) ≡ same → is_among other ports ≡ true → not same ≡ true
+    other_than other true is there =
+        let here : port ≡ other = grind (arith, nat_tests) in
+        let also : is_among port ports ≡ true = ap (λ (n : ℕ). is_among n ports) here ∙ there in
+        cc
+    other_than other false is there = refl
+
+without_door : (doors : List Door) (door : Door) → set_of (accepts_of doors) (Accept door) ≡ false
+    → filter (λ other. not (same_door door other)) doors ≡ doors
+without_door doors door absent =
+    doors_all (λ other. not (same_door door other)) doors (λ other there. other_than other (same_door door other) refl there)
+  where
+    other_than : (other : Door) (same : Bool) → same_door door other ≡ same
+        → set_of (accepts_of doors) (Accept other) ≡ true → not same ≡ true
+    other_than other true is there =
+        let here : Accept door ≡ Accept other = same_thing-true (Accept door) (Accept other) is in
+        let also : set_of (accepts_of doors) (Accept door) ≡ true = ap (set_of (accepts_of doors)) here ∙ there in
+        cc
+    other_than other false is there = refl
+
+-- ---- of what is aside
+
+-- without what isn't there
+pub absent-taken : (thing : Thing) (aside : Aside) → set_of (things_aside aside) thing ≡ false
+    → taken_back thing aside ≡ aside
+absent-taken (Accept door) aside absent =
+    ap (λ (doors : List Door). record aside { doors = doors }) (without_door aside.doors door (sym (aside-accept aside door) ∙ absent))
+absent-taken (Read port) aside absent =
+    ap (λ (ports : List ℕ). record aside { reads = ports }) (without_absent aside.reads port (sym (aside-read aside port) ∙ absent))
+absent-taken (Write port) aside absent =
+    ap (λ (ports : List ℕ). record aside { writes = ports }) (without_absent aside.writes port (sym (aside-write aside port) ∙ absent))
