@@ -30,7 +30,7 @@ use Rattle.ready_hub.specs.Things.{Hot, cooled, cooled_port, heated_port, set_of
 use Rattle.ready_hub.specs.declared.thing.Thing.{Thing}
 use Rattle.ready_hub.specs.declared.thing.Thing.TheVariants.{Accept, Read, Write}
 use Rattle.ready_loop.specs.Aside.{things_aside}
-use Rattle.ready_loop.specs.InTurn.{Turning, in_state, is_in_turn, led, port_of, taken}
+use Rattle.ready_loop.specs.InTurn.{in_state, is_in_turn, led, port_of, taken}
 use Rattle.ready_loop.specs.Lines.{Line, hot_of, queued_all, queued_port, recalled, sent_back, settled, without, without_port}
 use Rattle.ready_loop.specs.Queues.{first_servable, from_servable, is_next, is_thing}
 use Rattle.ready_loop.proofs.AsideLemmas.{set_of-append}

@@ -1,5 +1,5 @@
 -- Nothing that is set aside can be served, whatever calls were added.
-use Rattle.std.proofs.Common.{◌≡◌, ◌∙◌, Bool, true, false, List, Option, Some, Result, Ok, Err, ℕ, refl, sym, ap, subst, not, ◌&&◌}
+use Rattle.std.proofs.Common.{◌≡◌, ◌∙◌, List, Option, Result, Ok, Err, ℕ, sym, ap, subst, not}
 use Rattle.std.specs.Prelude.{OnOk}
 use Rattle.world_ports.specs.declared.answers.Ready.{Ready}
 use Rattle.world_ports.specs.declared.entry.Entry.{Entry}
@@ -9,13 +9,13 @@ use Rattle.ready_hub.specs.Things.{Hot, same_thing, set_of}
 use Rattle.ready_hub.specs.declared.thing.Thing.{Thing}
 use Rattle.ready_loop.specs.Aside.{Aside, things_aside}
 use Rattle.ready_loop.specs.InTurn.{Turning, in_state}
-use Rattle.ready_loop.specs.Lines.{IsQuiet, Line, queued_all, queued_port, settled, without}
+use Rattle.ready_loop.specs.Lines.{IsQuiet, Line, queued_all, queued_port, without}
 use Rattle.ready_loop.specs.Moves.{Goes, Serves, served_by}
 use Rattle.ready_loop.specs.declared.outcome.HubFault.{HubFault}
 use Rattle.ready_loop.specs.declared.outcome.Turn.{Turn}
 use Rattle.ready_loop.proofs.AddingLemmas.{adds-queued_all, adds-queued_port}
 use Rattle.ready_loop.proofs.AsideLemmas.{set_of-taken_back}
-use Rattle.ready_loop.proofs.QuietLemmas.{quiet_kept, quiet_settled}
+use Rattle.ready_loop.proofs.QuietLemmas.{quiet_kept}
 use Rattle.ready_loop.proofs.TestLemmas.{and_both}
 
 -- what holds where memory sufficed, holds

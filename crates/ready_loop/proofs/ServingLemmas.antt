@@ -16,7 +16,7 @@ use Rattle.world_ports.specs.declared.answers.Ready.{Ready}
 use Rattle.world_ports.specs.declared.events.Door.TheVariants.{Clients, Children}
 use Rattle.world_ports.specs.declared.events.Moment.{Moment}
 use Rattle.agent_model.specs.State.{State}
-use Rattle.ready_hub.specs.Answered.{Free, Reading, after_look, only_if}
+use Rattle.ready_hub.specs.Answered.{Free, after_look, only_if}
 use Rattle.ready_hub.specs.Servable.{is_idle}
 use Rattle.ready_loop.specs.InTurn.{Turning, in_state, led, taken, turned}
 use Rattle.ready_loop.specs.Lines.{Line, hot_of}

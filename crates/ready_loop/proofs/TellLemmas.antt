@@ -1,5 +1,5 @@
 -- What an event lets be served of what was set aside.
-use Rattle.std.proofs.Common.{◌≡◌, ◌∙◌, ℕ, ◌-◌, ◌^◌, ◌<◌, ◌≤◌, Bool, true, false, Option, refl, sym, ap, subst, not, ◌||◌, arith}
+use Rattle.std.proofs.Common.{◌≡◌, ◌∙◌, ℕ, ◌-◌, ◌^◌, Bool, true, false, Option, refl, sym, ap, subst, not, ◌||◌, arith}
 use Rattle.std.proofs.lemmas.Bool.Decides.{Decides-ltb}
 use Rattle.world_ports.specs.declared.events.Moment.{Moment}
 use Rattle.agent_model.specs.Events.{Happening, Joined, Heard, Ended, Took, Started, StartFailed, Tick}
@@ -9,11 +9,9 @@ use Rattle.agent_model.specs.Step.{step}
 use Rattle.agent_model.proofs.RunLemmas.{step-last_port, step-rises}
 use Rattle.ready_hub.specs.Elsewhere.{is_clients, is_of, tells_others}
 use Rattle.ready_hub.specs.Servable.{is_servable}
-use Rattle.ready_hub.specs.Things.{set_of}
 use Rattle.ready_hub.specs.declared.thing.Thing.{Thing}
 use Rattle.ready_hub.specs.declared.thing.Thing.TheVariants.{Accept, Read, Write}
 use Rattle.ready_hub.proofs.ElsewhereLemmas.{owed_before, wanted_before}
-use Rattle.ready_loop.specs.Aside.{things_aside}
 use Rattle.ready_loop.specs.Happenings.{number_after}
 use Rattle.ready_loop.specs.InTurn.{port_of}
 use Rattle.ready_loop.specs.Lines.{IsQuiet, Line}

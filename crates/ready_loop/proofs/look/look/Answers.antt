@@ -1,4 +1,4 @@
-use Rattle.std.proofs.Common.{refl, inl, ◌≡◌, ◌∙◌, Ok, Result, Some, None, List, ℕ, true, false, length, [], ◌==◌, ap, sym, arith, subst}
+use Rattle.std.proofs.Common.{refl, inl, ◌≡◌, ◌∙◌, Ok, Result, Some, None, List, ℕ, true, false, length, [], ◌==◌, ap, sym, arith}
 use Rattle.std.specs.declared.alloc.AllocError.{AllocError}
 use Rattle.world_ports.specs.declared.events.Moment.{Moment}
 use Rattle.std.specs.Prelude.{is_err}
@@ -7,8 +7,8 @@ use Rattle.ready_hub.specs.Answered as hub
 use Rattle.ready_hub.specs.Answered.{Due, Free, Polling, due_after_look, due_of}
 use Rattle.ready_hub.specs.Servable.{is_idle}
 use Rattle.ready_loop.specs.InTurn.{in_state, led}
-use Rattle.ready_loop.specs.Lines.{IsQuiet, Line, hot_of, recalled}
-use Rattle.ready_loop.proofs.CallLemmas.{look-any, look-closes, look-none, look-taken, looked-at}
+use Rattle.ready_loop.specs.Lines.{hot_of, recalled}
+use Rattle.ready_loop.proofs.CallLemmas.{look-any, look-closes, look-none, looked-at}
 use Rattle.ready_loop.proofs.KeepingLemmas.{quiet_goes, quiet_is}
 use Rattle.ready_loop.proofs.QuietLemmas.{quiet_recalled}
 use Rattle.ready_loop.proofs.TurningLemmas.{advances, advances_once, goes_stops, one_call, stops_later, stops_short, stops_there, looks_by}

@@ -14,7 +14,7 @@ use Rattle.ready_loop.specs.Lines.{Line, hot_of, queued_port, sent_back, settled
 use Rattle.ready_loop.proofs.QuietLemmas.{quiet_settled}
 use Rattle.ready_loop.proofs.KeepingLemmas.{quiet_is, quiet_queued_port}
 use Rattle.ready_loop.proofs.CallLemmas as calls
-use Rattle.ready_loop.proofs.TurningLemmas.{advances_once, one_call, serves_then, stops_short, stops_there, told_at}
+use Rattle.ready_loop.proofs.TurningLemmas.{one_call, serves_then, stops_short, stops_there, told_at}
 use Rattle.ready_loop.proofs.turn.accept.Goals as goal
 
 pub accept-requires : goal.accept-requires

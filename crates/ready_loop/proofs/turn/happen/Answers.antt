@@ -1,4 +1,4 @@
-use Rattle.std.proofs.Common.{refl, Ok, Result, Some, Option, ℕ, ap, sym, ◌∙◌}
+use Rattle.std.proofs.Common.{refl, Ok, Result, Some, ap, sym, ◌∙◌}
 use Rattle.std.specs.declared.alloc.AllocError.{AllocError}
 use Rattle.world_ports.specs.declared.events.Moment.{Moment}
 use Rattle.std.specs.Prelude.{is_err}

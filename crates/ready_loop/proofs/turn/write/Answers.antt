@@ -11,7 +11,7 @@ use Rattle.ready_hub.specs.declared.thing.Thing.TheVariants.{Write}
 use Rattle.ready_loop.specs.InTurn.{in_state, led}
 use Rattle.ready_loop.specs.Lines.{hot_of, settled, without}
 use Rattle.ready_loop.proofs.CallLemmas as calls
-use Rattle.ready_loop.proofs.TurningLemmas.{advances_once, serves_then, stops_short, told_at}
+use Rattle.ready_loop.proofs.TurningLemmas.{serves_then, stops_short, told_at}
 use Rattle.ready_loop.proofs.turn.write.Goals as goal
 
 pub write-requires : goal.write-requires
