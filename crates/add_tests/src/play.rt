@@ -1,7 +1,7 @@
 // The tool over files, a connection, an input and outputs in memory.
 ghost use Rattle.std.specs.Prelude.{◌<◌};
 
-use crate::fixtures::{F1, F2, HOSTS, PUBLIC};
+use crate::fixtures::{FILE_ONE, FILE_TWO, HOSTS, PUBLIC};
 use add_core::{AddStatus, add_main};
 use std::alloc::{AllocError, Global};
 use std::test::Fail;
@@ -45,8 +45,8 @@ fn file(alloc: Global, path: &str, text: &[u8]) -> Result<(String, Vec<u8>), All
 /// `f1` and `f2` are keys, `f1.pub` is a public one, `kh` has known hosts, and `big` is too long for a key.
 fn files(alloc: Global, failing: u64) -> Result<MapFiles, AllocError> {
     let held = vec![in alloc;
-        file(alloc, "f1", F1.as_bytes())?,
-        file(alloc, "f2", F2.as_bytes())?,
+        file(alloc, "f1", FILE_ONE.as_bytes())?,
+        file(alloc, "f2", FILE_TWO.as_bytes())?,
         file(alloc, "f1.pub", PUBLIC.as_bytes())?,
         file(alloc, "kh", HOSTS.as_bytes())?,
         (
