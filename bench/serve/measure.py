@@ -241,8 +241,9 @@ def tell_instructions():
         ("a list of 100 keys", [bytes([LIST])], dict(keys=100, few=50, more=200)),
     ):
         found = {name: instructions(start, messages, **more) for name, start in starts.items()}
-        for number, which in enumerate(("instructions", "allocations")):
-            tell(f"{which} {what}", {name: counts[number] for name, counts in found.items()}, "")
+        tell(f"instructions {what}", {name: counts[0] for name, counts in found.items()}, "")
+        # neither may take any, so that there is no ratio
+        print(f"allocations {what}: " + ", ".join(f"{name} {counts[1]:.4g}" for name, counts in found.items()), flush=True)
 
 
 def refusals(agents, null):
