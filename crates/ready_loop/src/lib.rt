@@ -19,7 +19,7 @@ pub use agent::Core;
 pub use hub::Hub;
 pub use laws::{
     all_wait_their_turn, what_comes_in_turn_is_legal, what_is_called_back_comes_last,
-    what_is_served_goes_last, what_is_set_aside_cant_be_served,
+    what_is_ready_stands_in_the_line, what_is_served_goes_last, what_is_set_aside_cant_be_served,
 };
 pub use listeners::children_path;
 pub use outcome::{HubFault, ServeEnd, Turn};
