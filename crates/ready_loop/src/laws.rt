@@ -29,7 +29,7 @@ pub fn what_is_ready_stands_in_the_line()
         → to.reading.hot ≡ hot_of to.line }
 {}
 
-/// What is set aside can't be served: so it is at the start, where nothing is set aside, and so it stays.
+/// What is set aside can't be served, where nothing that is set aside could be served before, as when a run begins.
 pub fn what_is_set_aside_cant_be_served()
     ensures { (from to : Turning) (entries : List Entry) → turned from entries ≡ Some to
         → IsQuiet from.reading.state from.line → IsQuiet to.reading.state to.line }
