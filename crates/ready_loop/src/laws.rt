@@ -44,8 +44,8 @@ pub fn what_is_served_goes_last()
         → is_service thing next ≡ true → SetsAside from.reading.state thing from.line to.line }
 {}
 
-/// Between two services of one thing each other thing was served that was ready and could be served all the while. Where
-/// the line begins with what ready_hub says is ready, so does it say between the two.
+/// Between two services of one thing each other thing was served that was ready and could be served all the while. Ready
+/// is what ready_hub says is ready, where the line begins so (`what_is_ready_stands_in_the_line`).
 pub fn all_wait_their_turn()
     ensures { (from to : Turning) (thing other : Thing) (first last : Entry) (between : List Entry)
         → IsQuiet from.reading.state from.line → turned from (first ∷ (between ++ last ∷ [])) ≡ Some to
