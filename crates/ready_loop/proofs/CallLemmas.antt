@@ -20,11 +20,11 @@ use Rattle.world_ports.specs.declared.events.Door.{Door}
 use Rattle.world_ports.specs.declared.events.Job.{Job}
 use Rattle.world_ports.specs.declared.events.Moment.{Moment}
 use Rattle.agent_model.specs.Events.{Happening, Joined, Tick}
-use Rattle.agent_model.specs.State.{State, find_port, find_to_start, is_client, owed_of, starts}
+use Rattle.agent_model.specs.State.{State, find_port, is_client, owed_of, starts}
 use Rattle.agent_model.specs.Step.{step}
 use Rattle.ready_hub.specs.Answered as hub
 use Rattle.ready_hub.specs.Answered.{Closing, Due, Free, Nothing, NowFor, Polling, Reading, at, due_after_look, due_of, only_if, same_wait, wait_of}
-use Rattle.ready_hub.specs.LegalJournal.{allowed, is_first_job, read_room, same_kind}
+use Rattle.ready_hub.specs.LegalJournal.{allowed, is_first_job, read_room}
 use Rattle.ready_hub.specs.Servable.{is_idle, is_servable, may_serve}
 use Rattle.ready_hub.specs.Things.{Hot, cooled, cooled_port, heated_port, set_of}
 use Rattle.ready_hub.specs.declared.thing.Thing.{Thing}
@@ -36,6 +36,7 @@ use Rattle.ready_loop.specs.Queues.{first_servable, from_servable, is_next, is_t
 use Rattle.ready_loop.proofs.AsideLemmas.{set_of-append}
 use Rattle.ready_loop.proofs.IdleLemmas.{first_is_found, first_is_front, owed_is_open, wanted_is_open}
 use Rattle.ready_loop.proofs.SetLemmas.{hot_of-queued_all, hot_of-queued_port, hot_of-recalled, hot_of-sent_back, hot_of-settled, hot_of-without, hot_of-without_port, queue_of-queued_port}
+use Rattle.ready_loop.proofs.TestLemmas.{and_true}
 use Rattle.ready_loop.proofs.ThingLemmas.{same_thing-refl}
 use Rattle.ready_loop.specs.Moves.{Serves, is_poll}
 use Rattle.world_ports.specs.Journal.{Grows}
@@ -152,10 +153,6 @@ pub accept-any : (state : State) (line : Line) (door : Door) (answer : Result Ac
 accept-any state line door answer found =
     served-any state line (Accept door) (entry.Accept door answer) (hub.after_accept door state (hot_of line) answer) found refl refl
 
-and_true : (b c : Bool) → c ≡ true → (b && c) ≡ b
-and_true true c is = is
-and_true false c is = refl
-
 pub read-any : (state : State) (line : Line) (port room : ℕ) (bytes : List ℕ) (answer : Result Got WorldFault) → first_servable state line.queue ≡ Some (Read port) → room ≡ read_room → taken (in_state state line Free) (entry.Read port room bytes answer) ≡ Some (led (in_state state line Free) (entry.Read port room bytes answer) (hub.after_read port bytes state (hot_of line) answer))
 read-any state line port room bytes answer found is =
     let reading = hub.after_read port bytes state (hot_of line) answer in
@@ -235,8 +232,3 @@ write-open state line port found =
 pub write-some : (state : State) (line : Line) (port : ℕ) → first_servable state line.queue ≡ Some (Write port) → 0 < length (owed_of port state)
 write-some state line port found =
     (Decides-ltb 0 (length (owed_of port state))).0 (first_is_found state line.queue (Write port) found).servable
-
--- the first job that waits is one that waits
-pub first-waits : (job : Job) (jobs : List Job) → is_first_job job jobs ≡ true → IsSome (find_to_start job.number jobs)
-first-waits job [] is = cc
-first-waits job (first ∷ later) is = let here : ((job.number == first.number) && same_kind job.kind first.kind) ≡ true = is in grind (arith, nat_tests)

@@ -1,6 +1,6 @@
 -- The first thing of a queue that can be served, and that there is none.
 use Rattle.std.proofs.Common.{◌≡◌, ◌∙◌, ℕ, Bool, true, false, List, [], ◌∷◌, Option, Some, None, suc, length, refl, sym, ap, not, ◌&&◌, ◌||◌, ◌==◌, if◌then◌else◌, arith}
-use Rattle.std.specs.Prelude.{is_some, slice_get}
+use Rattle.std.specs.Prelude.{is_some}
 use Rattle.std.specs.List.{list_any}
 use Rattle.std.proofs.lemmas.Bool.Decides.{nat_tests}
 use Rattle.world_ports.specs.declared.events.Door.TheVariants.{Clients, Children}
@@ -148,8 +148,3 @@ pub idle-is : (state : State) (line : Line) (none : Bool) → IsQuiet state line
 idle-is state line none quiet empty found =
     sym (ap (λ (b : Bool). not b && not (list_any (may_serve state (hot_of line)) (things_of state))) (no_jobs (starts state) empty)
     ∙ ap not (servable-is_some state line quiet ∙ found) ∙ not_not none)
-
--- no first job, no job
-pub no_first : (jobs : List Job) → None ≡ slice_get jobs 0 → (length jobs == 0) ≡ true
-no_first [] none = refl
-no_first (job ∷ jobs) none = cc

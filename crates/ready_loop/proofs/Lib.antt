@@ -16,6 +16,7 @@ pub mod StateLemmas
 pub mod QuietLemmas
 pub mod KeepingLemmas
 pub mod TellLemmas
+pub mod ReadyLemmas
 pub mod BackLemmas
 pub mod AheadLemmas
 pub mod AheadCallLemmas

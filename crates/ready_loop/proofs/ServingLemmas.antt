@@ -28,6 +28,7 @@ use Rattle.ready_loop.specs.declared.outcome.Turn.{Turn}
 use Rattle.ready_loop.specs.declared.outcome.ServeEnd.{ServeEnd}
 use Rattle.ready_loop.specs.declared.outcome.ServeEnd.TheVariants as ends
 use Rattle.ready_loop.specs.declared.outcome.Turn.TheVariants as turns
+use Rattle.ready_loop.proofs.TestLemmas.{and_true}
 use Rattle.ready_loop.proofs.TurningLemmas.{grows_more}
 
 -- ---- one part after another
@@ -103,10 +104,6 @@ quiet_runs setting from to (next ∷ later) quiet legal =
 
 -- ---- a look and a poll
 
-and_true : (b : Bool) → (b && true) ≡ b
-and_true true = refl
-and_true false = refl
-
 poll_step : (setting : Setting) (mid to : Turning) (poll : Entry) (found : Option Turning) (may : Bool) → may ≡ true → taken mid poll ≡ found → option_and_then (λ after. turned after []) found ≡ Some to → option_and_then (λ after. ran setting after []) (running_if may mid poll) ≡ Some (Running to)
 poll_step setting mid to poll found may may_is is legal =
     ap (λ (b : Bool). option_and_then (λ (s : Stage). ran setting s []) (running_if b mid poll)) may_is
@@ -128,7 +125,7 @@ look_step setting state line moment wait items answer to true done legal =
     let mid : Turning = led (in_state state line Free) (entry.Now (Ok moment)) (after_look {E = AllocError} state (hot_of line) (Ok moment)) in
     let poll = entry.Poll wait items answer in
     let may : may_come setting.until_idle mid poll ≡ true =
-    ap (λ (b : Bool). not (setting.until_idle && b)) (sym (and_true (is_deserted (in_state state line Free)))) ∙ ap not done in
+    ap (λ (b : Bool). not (setting.until_idle && b)) (sym (and_true (is_deserted (in_state state line Free)) true refl)) ∙ ap not done in
     poll_step setting mid to poll (taken mid poll) (may_come setting.until_idle mid poll) may refl legal
 
 -- what a look and a poll add is a run, where the loop isn't to end there

@@ -10,6 +10,11 @@ pub both_and : (here there : Bool) → here ≡ true → there ≡ true → (her
 both_and true there is also = also
 both_and false there is also = cc
 
+-- the one that holds leaves the other
+pub and_true : (here there : Bool) → there ≡ true → (here && there) ≡ here
+and_true true there is = is
+and_true false there is = refl
+
 -- the one that doesn't hold leaves the other
 pub or_first : (here there : Bool) → there ≡ false → (here || there) ≡ true → here ≡ true
 or_first true there never is = refl

@@ -21,7 +21,7 @@ use Rattle.ready_loop.specs.declared.outcome.Turn.{Turn}
 use Rattle.ready_loop.specs.declared.outcome.Turn.TheVariants as turns
 use Rattle.ready_loop.specs.InTurn.{Turning, in_state, is_in_turn, led, taken, taken_if, turned}
 use Rattle.ready_loop.specs.Lines.{Line}
-use Rattle.ready_loop.specs.Moves.{Advances, Continues, Goes, GoesBy, PollsOr, Serves, ServesBy, Stops, Turns, Waits, WaitsOnce, is_poll, served_by}
+use Rattle.ready_loop.specs.Moves.{Advances, Continues, Goes, GoesBy, PollsOr, Serves, ServesBy, Stops, Turns, Waits, WaitsOnce, is_poll}
 
 -- ---- the journal grows
 
@@ -223,8 +223,3 @@ waits_short from to old new wait items is (inl told) = inr (record {
 })
 waits_short from to old new wait items is (inr told) =
     inl (stops_there (record { added = []; told = told; legal = refl; quiet = refl }))
-
--- a turn that served something
-pub served_turns : {E : Type 0} (result : Result Unit E) (from : Turning) (old new : Option (List Entry)) (state : State) (line : Line) → Serves result from old new (in_state state line Free) → Turns (served_by result) from old new state line
-served_turns (Ok unit) from old new state line serves = serves.by
-served_turns (Err want) from old new state line serves = inl serves.by

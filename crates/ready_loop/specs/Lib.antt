@@ -8,3 +8,4 @@ pub mod InTurn
 pub mod Moves
 pub mod Serving
 pub mod Fairness
+pub mod Rows

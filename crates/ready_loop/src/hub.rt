@@ -1,8 +1,8 @@
 // The hub: what is ready, and a turn of the loop.
-ghost use Rattle.std.specs.Prelude.{◌≡◌, ◌≤◌, Err, MatchOption, OnOk, [], false, length, true};
+ghost use Rattle.std.specs.Prelude.{◌≡◌, ◌≤◌, Err, MatchOption, OnOk, [], true};
 ghost use Rattle.agent_model.specs.State.{starts};
-ghost use Rattle.ready_hub.specs.Answered.{Free, Polling};
-ghost use Rattle.ready_hub.specs.LegalJournal.{is_first_job, read_room};
+ghost use Rattle.ready_hub.specs.Answered.{Free};
+ghost use Rattle.ready_hub.specs.LegalJournal.{is_first_job};
 ghost use Rattle.ready_hub.specs.Servable.{is_idle};
 ghost use Rattle.ready_loop.specs.InTurn.{in_state};
 ghost use Rattle.ready_loop.specs.Lines.{IsQuiet, empty_line, hot_of};
@@ -23,7 +23,8 @@ use world_ports::{Job, Ready, World};
 /// What is ready to be served: what a poll or an accept said, until a call found otherwise.
 ///
 /// What is served goes to the back of the queue while it is ready, so that nothing waits for ever behind another. What
-/// is ready and can't be served is set aside under its port, and comes back when an event lets it be served.
+/// is ready and can't be served is set aside under its door or port once it comes to the front, and comes back when an
+/// event lets it be served.
 #[derive(Drop)]
 pub struct Hub {
     queue: Queue,
@@ -88,7 +89,7 @@ impl Hub {
     }
 
     /// Starts the first job that waits, or serves the first thing that can be served, or looks at the clock and polls.
-    /// Nothing that is set aside can be served, before a turn and after it.
+    /// Nothing that is set aside can be served, before a turn and after it. After a fault the hub can only be dropped.
     pub fn turn<A: Core, W: World>(
         &mut self,
         agent: &mut A,

@@ -6,6 +6,7 @@ ghost use Rattle.std.specs.declared.alloc.AllocError.{AllocError};
 ghost use Rattle.world_ports.specs.declared.entry.Entry.{Entry};
 ghost use Rattle.world_ports.specs.declared.entry.Entry.TheVariants as entry;
 ghost use Rattle.world_ports.specs.declared.events.Moment.{Moment};
+ghost use Rattle.ready_hub.specs.Answered.{Nothing};
 ghost use Rattle.ready_hub.specs.LegalJournal.{read_on};
 ghost use Rattle.ready_hub.specs.Servable.{is_servable};
 ghost use Rattle.ready_hub.specs.Things.{same_thing, set_of};
@@ -13,7 +14,7 @@ ghost use Rattle.ready_hub.specs.declared.thing.Thing.{Thing};
 ghost use Rattle.ready_loop.specs.Aside.{things_aside};
 ghost use Rattle.ready_loop.specs.Fairness.{ComesBack, GoesLast, SetsAside, if_any, is_service, waits_on};
 ghost use Rattle.ready_loop.specs.InTurn.{Turning, taken, turned};
-ghost use Rattle.ready_loop.specs.Lines.{IsQuiet};
+ghost use Rattle.ready_loop.specs.Lines.{IsQuiet, hot_of};
 
 /// What comes in turn is legal, whatever the order of the queue.
 pub fn what_comes_in_turn_is_legal()
@@ -21,7 +22,14 @@ pub fn what_comes_in_turn_is_legal()
         → read_on from.reading entries ≡ Some to.reading }
 {}
 
-/// What is set aside can't be served: so it is at the start, where nothing is set aside, and so it stays.
+/// What stands in the queue or is set aside is what ready_hub says is ready, wherever a call may come next.
+pub fn what_is_ready_stands_in_the_line()
+    ensures { (from to : Turning) (entries : List Entry) → turned from entries ≡ Some to
+        → from.reading.hot ≡ hot_of from.line → (to.reading.due ≡ Nothing → ⊥)
+        → to.reading.hot ≡ hot_of to.line }
+{}
+
+/// What is set aside can't be served, where nothing that is set aside could be served before, as when a run begins.
 pub fn what_is_set_aside_cant_be_served()
     ensures { (from to : Turning) (entries : List Entry) → turned from entries ≡ Some to
         → IsQuiet from.reading.state from.line → IsQuiet to.reading.state to.line }
@@ -36,7 +44,8 @@ pub fn what_is_served_goes_last()
         → is_service thing next ≡ true → SetsAside from.reading.state thing from.line to.line }
 {}
 
-/// Between two services of one thing each other thing was served that was ready and could be served all the while.
+/// Between two services of one thing each other thing was served that was ready and could be served all the while. Ready
+/// is what ready_hub says is ready, where the line begins so (`what_is_ready_stands_in_the_line`).
 pub fn all_wait_their_turn()
     ensures { (from to : Turning) (thing other : Thing) (first last : Entry) (between : List Entry)
         → IsQuiet from.reading.state from.line → turned from (first ∷ (between ++ last ∷ [])) ≡ Some to

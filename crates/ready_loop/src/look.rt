@@ -1,5 +1,5 @@
 // A look at the clock, and a poll.
-ghost use Rattle.std.specs.Prelude.{◌≡◌, ◌≤◌, ◌-◌, Err, OnOk, Option, option_map, true};
+ghost use Rattle.std.specs.Prelude.{◌≡◌, ◌≤◌, ◌-◌, Err, OnOk, Option, true};
 ghost use Rattle.ready_hub.specs.Answered.{Free, Polling, wait_of};
 ghost use Rattle.ready_hub.specs.Servable.{is_idle};
 ghost use Rattle.ready_loop.specs.InTurn.{in_state};
