@@ -226,7 +226,7 @@ impl Queue {
     fn call<A: Core>(&mut self, agent: &A, thing: Thing) -> Result<(), AllocError>
         ensures { OnOk result (self.new ≡ called (A.state agent.now) thing self.old) }
     {
-        if can_serve(agent, thing) {
+        if self.aside.has(thing) && can_serve(agent, thing) {
             self.bring(thing)?;
         }
         Ok(())
