@@ -2,12 +2,13 @@
 use Rattle.std.proofs.Common.{◌≡◌, ◌∙◌, Bool, true, false, List, [], ◌∷◌, ◌++◌, Some, None, drop, refl, sym, ap, subst, ◌||◌, if◌then◌else◌}
 use Rattle.agent_model.specs.State.{State}
 use Rattle.ready_hub.specs.Servable.{is_servable}
-use Rattle.ready_hub.specs.Things.{set_of}
+use Rattle.ready_hub.specs.Things.{same_thing, set_of}
 use Rattle.ready_hub.specs.declared.thing.Thing.{Thing}
 use Rattle.ready_loop.specs.Aside.{Aside, put_aside, taken_back, things_aside}
 use Rattle.ready_loop.specs.Lines.{Line, aside_with, hot_of, queued, sent_back, settled, without}
 use Rattle.ready_loop.specs.Queues.{dropped, first_servable, from_servable}
-use Rattle.ready_loop.specs.Standing.{AreApart, IsFront, IsOnce, brought, stuck_front}
+use Rattle.ready_loop.specs.Standing.{AreApart, IsFront, IsOnce, brought, front_but, stuck_front}
+use Rattle.ready_loop.proofs.ThingLemmas.{false_by, same_thing-refl, same_thing-true}
 use Rattle.ready_loop.proofs.AsideLemmas.{set_of-append}
 use Rattle.ready_loop.proofs.FilterLemmas.{absent-dropped, absent-taken}
 use Rattle.ready_loop.proofs.StandingLemmas.{aside-absent, front-dropped, front-taken, once-put}
@@ -131,15 +132,20 @@ stuck-settled state line front left more stuck is puts =
           aside = if b then line.aside else aside_with state queue (put_aside first line.aside);
         }) not_it)
 
-pub stuck-once : (state : State) (queue left : List Thing) (aside more : Aside) (front : Thing)
-    → Some front ≡ stuck_front state queue → left ≡ drop 1 queue → more ≡ put_aside front aside → IsOnce queue aside
-    → IsOnce left more
-stuck-once state [] left aside more front stuck is puts once = absurd (cc)
-stuck-once state (first ∷ queue) left aside more front stuck is puts once =
-    let same = (stuck_by (is_servable state first) state first front refl (sym stuck)).0 in
-    subst (λ (things : List Thing). IsOnce things more) (sym is)
+-- the front is set aside
+pub put-once : (queue left : List Thing) (aside more : Aside) (front : Thing) → IsFront front queue
+    → left ≡ drop 1 queue → more ≡ put_aside front aside → IsOnce queue aside → IsOnce left more
+put-once [] left aside more front is less puts once = absurd is
+put-once (first ∷ queue) left aside more front is less puts once =
+    subst (λ (things : List Thing). IsOnce things more) (sym less)
     (subst (IsOnce queue) (sym puts)
-    (subst (λ (t : Thing). IsOnce queue (put_aside t aside)) same (once-put first queue aside once)))
+    (subst (λ (t : Thing). IsOnce queue (put_aside t aside)) is (once-put first queue aside once)))
+
+pub stuck-front : (state : State) (queue : List Thing) (front : Thing) → Some front ≡ stuck_front state queue
+    → IsFront front queue
+stuck-front state [] front stuck = absurd (cc)
+stuck-front state (first ∷ queue) front stuck =
+    (stuck_by (is_servable state first) state first front refl (sym stuck)).0
 
 -- until nothing is left before it
 pub free-settled : (state : State) (line : Line) → None ≡ stuck_front state line.queue → settled state line ≡ line
@@ -170,3 +176,53 @@ settled-front state thing (first ∷ queue) found = by_test (is_servable state f
         → IsFront thing (if test then first ∷ queue else from_servable state queue)
     by_test true later found = let same : first ≡ thing = cc in same
     by_test false later found = later found
+
+-- ---- where the first that can be served is known
+
+pub but-front : (thing : Thing) (queue : List Thing) (front : Thing) → Some front ≡ front_but thing queue
+    → IsFront front queue
+but-front thing [] front stuck = absurd (cc)
+but-front thing (first ∷ queue) front stuck = by_test (same_thing thing first) stuck
+  where
+    by_test : (test : Bool) → Some front ≡ (if test then None else Some first) → first ≡ front
+    by_test true stuck = absurd (cc)
+    by_test false stuck = let same : first ≡ front = cc in same
+
+found-servable : (state : State) (queue : List Thing) (thing : Thing) → first_servable state queue ≡ Some thing
+    → is_servable state thing ≡ true
+found-servable state [] thing found = absurd (cc)
+found-servable state (first ∷ queue) thing found =
+    by_test (is_servable state first) refl (found-servable state queue thing) found
+  where
+    by_test : (test : Bool) → is_servable state first ≡ test
+        → (first_servable state queue ≡ Some thing → is_servable state thing ≡ true)
+        → (if test then Some first else first_servable state queue) ≡ Some thing → is_servable state thing ≡ true
+    by_test true is later found = let same : first ≡ thing = cc in ap (is_servable state) (sym same) ∙ is
+    by_test false is later found = later found
+
+-- what isn't this thing can't be served, up to it
+pub but-stuck : (state : State) (thing : Thing) (queue : List Thing) → first_servable state queue ≡ Some thing
+    → front_but thing queue ≡ stuck_front state queue
+but-stuck state thing [] found = refl
+but-stuck state thing (first ∷ queue) found = by_test (is_servable state first) refl found
+  where
+    by_test : (test : Bool) → is_servable state first ≡ test
+        → (if test then Some first else first_servable state queue) ≡ Some thing
+        → (if same_thing thing first then None else Some first) ≡ (if test then None else Some first)
+    by_test true is found =
+        let same : first ≡ thing = cc in
+        ap (λ (b : Bool). if b then None else Some first) (ap (same_thing thing) same ∙ same_thing-refl thing)
+    by_test false is found =
+        ap (λ (b : Bool). if b then None else Some first) (false_by (same_thing thing first) (λ same.
+        let serves : is_servable state first ≡ true =
+        ap (is_servable state) (sym (same_thing-true thing first same)) ∙ found-servable state queue thing found in
+        cc))
+
+-- it is the first yet when the front is set aside
+pub stuck-found : (state : State) (queue left : List Thing) (front : Thing) → Some front ≡ stuck_front state queue
+    → left ≡ drop 1 queue → first_servable state left ≡ first_servable state queue
+stuck-found state [] left front stuck less = absurd (cc)
+stuck-found state (first ∷ queue) left front stuck less =
+    let is = stuck_by (is_servable state first) state first front refl (sym stuck) in
+    ap (first_servable state) less
+    ∙ sym (ap (λ (b : Bool). if b then Some first else first_servable state queue) (ap (is_servable state) is.0 ∙ is.1))

@@ -3,7 +3,7 @@ use Rattle.std.specs.Prelude.{◌≡◌, ℕ, Bool, true, false, List, [], ◌�
 use Rattle.agent_model.specs.State.{State, find_port}
 use Rattle.ready_hub.specs.Elsewhere.{is_clients}
 use Rattle.ready_hub.specs.Servable.{is_servable}
-use Rattle.ready_hub.specs.Things.{set_of}
+use Rattle.ready_hub.specs.Things.{same_thing, set_of}
 use Rattle.ready_hub.specs.declared.thing.Thing.{Thing}
 use Rattle.ready_hub.specs.declared.thing.Thing.TheVariants.{Accept, Read, Write}
 use Rattle.ready_loop.specs.Aside.{Aside, taken_back, things_aside}
@@ -28,6 +28,11 @@ IsFront thing (first ∷ things) = first ≡ thing
 abbrev pub stuck_front : State → List Thing → Option Thing
 stuck_front state [] = None
 stuck_front state (thing ∷ things) = if is_servable state thing then None else Some thing
+
+-- where it isn't this one
+abbrev pub front_but : Thing → List Thing → Option Thing
+front_but thing [] = None
+front_but thing (first ∷ things) = if same_thing thing first then None else Some first
 
 -- the thing comes back where it was set aside
 abbrev pub brought : Thing → Line → Line

@@ -1,11 +1,11 @@
 // What is ready, in the order in which it is served.
 ghost use Rattle.std.specs.Prelude.{◌≡◌, ◌||◌, None, OnOk, Some, false, length, nat_lt, true};
-ghost use Rattle.agent_model.specs.State.{is_client};
+ghost use Rattle.agent_model.specs.State.{State, is_client};
 ghost use Rattle.rising_numbers.specs.Rising.{IsRisingList};
 ghost use Rattle.ready_hub.specs.declared.thing.Thing.TheVariants.{Accept};
 ghost use Rattle.ready_loop.specs.Lines.{called, called_all, called_own, empty_line, hot_of, queued, queued_all, queued_by, queued_if, queued_port, recalled, sent_back, settled, without, without_port};
 ghost use Rattle.ready_loop.specs.Queues.{dropped, first_servable};
-ghost use Rattle.ready_loop.specs.Standing.{IsFront, IsStirred, brought, stuck_front};
+ghost use Rattle.ready_loop.specs.Standing.{IsFront, IsStirred, brought, front_but, stuck_front};
 
 use crate::Core;
 use crate::aside::Aside;
@@ -37,6 +37,7 @@ impl Model for Queue {
 }
 
 impl Queue {
+    // Takes no memory.
     pub fn new(alloc: Global) -> Queue
         ensures { result ≡ empty_line }
     {
@@ -67,37 +68,39 @@ impl Queue {
     }
 
     // The thing was served, and is still ready: it goes behind all others.
-    pub fn send_back<A: Core>(&mut self, agent: &A, thing: Thing) -> Result<(), AllocError>
-        requires { first_servable (A.state agent.now) self.old.queue ≡ Some thing }
-        ensures { OnOk result (self.new ≡ sent_back thing (settled (A.state agent.now) self.old)) }
+    pub fn send_back(&mut self, thing: Thing) -> Result<(), AllocError>
+        requires { (state : State) × (first_servable state self.old.queue ≡ Some thing) }
+        ensures { (state : State) → first_servable state self.old.queue ≡ Some thing
+            → OnOk result (self.new ≡ sent_back thing (settled state self.old)) }
     {
-        self.settle(agent)?;
+        self.settle_before(thing)?;
         self.rotate(thing)
     }
 
     // The thing was to be served, and isn't ready any more.
-    pub fn remove<A: Core>(&mut self, agent: &A, thing: Thing) -> Result<(), AllocError>
-        requires { first_servable (A.state agent.now) self.old.queue ≡ Some thing }
-        ensures { OnOk result (self.new ≡ without thing (settled (A.state agent.now) self.old)) }
+    pub fn remove(&mut self, thing: Thing) -> Result<(), AllocError>
+        requires { (state : State) × (first_servable state self.old.queue ≡ Some thing) }
+        ensures { (state : State) → first_servable state self.old.queue ≡ Some thing
+            → OnOk result (self.new ≡ without thing (settled state self.old)) }
     {
-        self.settle(agent)?;
+        self.settle_before(thing)?;
         self.drop_front(thing);
         Ok(())
     }
 
     // A connection was accepted at a listener, which goes behind its two directions.
-    pub fn accept<A: Core>(&mut self, agent: &A, door: Door, port: u64) -> Result<(), AllocError>
-        requires { first_servable (A.state agent.now) self.old.queue ≡ Some (Accept door) }
-        ensures { OnOk result (self.new
-            ≡ record (sent_back (Accept door) (queued_port port (settled (A.state agent.now) self.old))) {
+    pub fn accept(&mut self, door: Door, port: u64) -> Result<(), AllocError>
+        requires { (state : State) × (first_servable state self.old.queue ≡ Some (Accept door)) }
+        ensures { (state : State) → first_servable state self.old.queue ≡ Some (Accept door)
+            → OnOk result (self.new ≡ record (sent_back (Accept door) (queued_port port (settled state self.old))) {
               joined = is_client door || self.old.joined;
             }) }
     {
-        self.settle(agent)?;
+        self.settle_before(Thing::Accept(door))?;
         self.add(Thing::Read(port))?;
         self.add(Thing::Write(port))?;
         self.rotate(Thing::Accept(door))?;
-        self.joined = is_clients(door) || self.joined;
+        self.joined = is_client_door(door) || self.joined;
         Ok(())
     }
 
@@ -149,6 +152,18 @@ impl Queue {
         'fronts: while let Some(front) = stuck_front(&self.things, agent) {
             self.things.pop_front();
             self.aside.put(front)?;
+        }
+        Ok(())
+    }
+
+    // Sets aside what stands before this thing, the first that can be served: the agent needn't be asked again.
+    fn settle_before(&mut self, thing: Thing) -> Result<(), AllocError>
+        ensures { (state : State) → first_servable state self.old.queue ≡ Some thing
+            → OnOk result (self.new ≡ settled state self.old) }
+    {
+        'fronts: while let Some(other) = front_but(&self.things, thing) {
+            self.things.pop_front();
+            self.aside.put(other)?;
         }
         Ok(())
     }
@@ -226,7 +241,7 @@ impl Queue {
     fn call<A: Core>(&mut self, agent: &A, thing: Thing) -> Result<(), AllocError>
         ensures { OnOk result (self.new ≡ called (A.state agent.now) thing self.old) }
     {
-        if can_serve(agent, thing) {
+        if self.aside.has(thing) && can_serve(agent, thing) {
             self.bring(thing)?;
         }
         Ok(())
@@ -304,6 +319,16 @@ fn stuck_front<A: Core>(things: &VecDeque<Thing>, agent: &A) -> Option<Thing>
     }
 }
 
+// The thing at the front of the queue, where it isn't this one.
+fn front_but(things: &VecDeque<Thing>, thing: Thing) -> Option<Thing>
+    ensures { result ≡ front_but thing things.now.items }
+{
+    match things.front() {
+        Some(front) if !is_same(thing, *front) => Some(*front),
+        _ => None,
+    }
+}
+
 // Without this thing.
 fn drop_from(things: &mut VecDeque<Thing>, thing: Thing)
     ensures { things.new.items ≡ dropped thing things.old.items }
@@ -312,7 +337,7 @@ fn drop_from(things: &mut VecDeque<Thing>, thing: Thing)
 }
 
 // Whether clients connect at this listener.
-fn is_clients(door: Door) -> bool
+fn is_client_door(door: Door) -> bool
     ensures { result ≡ is_client door }
 {
     match door {

@@ -1,7 +1,7 @@
 // The parts of a turn.
 ghost use Rattle.std.specs.Prelude.{◌≡◌, ◌≤◌, OnOk, Some, length, true};
 ghost use Rattle.agent_model.specs.Events.{Ended, Heard, Took};
-ghost use Rattle.agent_model.specs.State.{Fits, starts};
+ghost use Rattle.agent_model.specs.State.{Fits, State, starts};
 ghost use Rattle.agent_model.specs.Step.{step};
 ghost use Rattle.ready_hub.specs.Answered.{Free, NowFor, due_of};
 ghost use Rattle.ready_hub.specs.Elsewhere.{tells_others};
@@ -115,11 +115,12 @@ fn happen<A: Core, W: World>(
 }
 
 // A call found that the thing isn't ready.
-fn drop_out<A: Core>(queue: &mut Queue, agent: &A, thing: Thing) -> Result<(), CoreMemory>
-    requires { first_servable (A.state agent.now) queue.old.queue ≡ Some thing }
-    ensures { OnOk result (queue.new ≡ without thing (settled (A.state agent.now) queue.old)) }
+fn drop_out(queue: &mut Queue, thing: Thing) -> Result<(), CoreMemory>
+    requires { (state : State) × (first_servable state queue.old.queue ≡ Some thing) }
+    ensures { (state : State) → first_servable state queue.old.queue ≡ Some thing
+        → OnOk result (queue.new ≡ without thing (settled state queue.old)) }
 {
-    queue.remove(agent, thing)?;
+    queue.remove(thing)?;
     Ok(())
 }
 
@@ -140,13 +141,13 @@ pub fn accept<A: Core, W: World>(
 {
     match world.accept(door) {
         Ok(Accepted::Port(number)) => {
-            let Ok(()) = queue.accept(agent, door, number) else {
+            let Ok(()) = queue.accept(door, number) else {
                 return Err(CoreMemory);
             };
             happen(queue, agent, world, &Event::Joined(door))
         }
-        Ok(Accepted::NotNow) => drop_out(queue, agent, Thing::Accept(door)),
-        Err(WorldFault::Failed) => drop_out(queue, agent, Thing::Accept(door)),
+        Ok(Accepted::NotNow) => drop_out(queue, Thing::Accept(door)),
+        Err(WorldFault::Failed) => drop_out(queue, Thing::Accept(door)),
         Err(WorldFault::Memory) => Err(CoreMemory),
     }
 }
@@ -170,7 +171,7 @@ fn hear<A: Core, W: World>(
     ensures ports { OnOk result (W.last_port world.new ≡ (A.state agent.new).last_port) }
     ensures later { W.faults world.old ≤ W.faults world.new }
 {
-    let Ok(()) = queue.send_back(agent, Thing::Read(port)) else {
+    let Ok(()) = queue.send_back(Thing::Read(port)) else {
         return Err(CoreMemory);
     };
     happen(queue, agent, world, &Event::Heard { port, piece })
@@ -195,7 +196,7 @@ fn end<A: Core, W: World>(
     ensures ports { OnOk result (W.last_port world.new ≡ (A.state agent.new).last_port) }
     ensures later { W.faults world.old ≤ W.faults world.new }
 {
-    let Ok(()) = queue.remove(agent, found) else {
+    let Ok(()) = queue.remove(found) else {
         return Err(CoreMemory);
     };
     happen(queue, agent, world, &Event::Ended { port })
@@ -227,7 +228,7 @@ pub fn read<A: Core, W: World>(
             heard
         }
         Ok(Got::End) => end(queue, agent, world, port, Thing::Read(port)),
-        Ok(Got::NotNow) => drop_out(queue, agent, Thing::Read(port)),
+        Ok(Got::NotNow) => drop_out(queue, Thing::Read(port)),
         Err(WorldFault::Failed) => end(queue, agent, world, port, Thing::Read(port)),
         Err(WorldFault::Memory) => Err(CoreMemory),
     }
@@ -252,7 +253,7 @@ fn send<A: Core, W: World>(
     ensures ports { OnOk result (W.last_port world.new ≡ (A.state agent.new).last_port) }
     ensures later { W.faults world.old ≤ W.faults world.new }
 {
-    let Ok(()) = queue.send_back(agent, Thing::Write(port)) else {
+    let Ok(()) = queue.send_back(Thing::Write(port)) else {
         return Err(CoreMemory);
     };
     happen(queue, agent, world, &Event::Took { port, count })
@@ -275,7 +276,7 @@ pub fn write<A: Core, W: World>(
 {
     match world.write(port, agent.owed(port)) {
         Ok(Wrote::Took(n)) => send(queue, agent, world, port, n as usize),
-        Ok(Wrote::NotNow) => drop_out(queue, agent, Thing::Write(port)),
+        Ok(Wrote::NotNow) => drop_out(queue, Thing::Write(port)),
         Err(WorldFault::Failed) => end(queue, agent, world, port, Thing::Write(port)),
         Err(WorldFault::Memory) => Err(CoreMemory),
     }

@@ -45,7 +45,7 @@ returns-in-Ok-clause-legal g c =
     let line = c.args.queue.now in
     serves_then (entry.Accept c.args.door (Ok (accepted.Port c.in-Ok-Port.number))) refl
     (calls.accept-taken state line c.args.door c.in-Ok-Port.number c.requires.next
-    ∙ ap (λ (l : Line). Some (in_state state l (NowFor (Joined c.args.door)))) (sym c.in-Ok.ensures))
+    ∙ ap (λ (l : Line). Some (in_state state l (NowFor (Joined c.args.door)))) (sym (c.in-Ok.ensures state c.requires.next)))
     (told_at (λ r. entry.Accept c.args.door r) (g.W.World.journal c.args.world.now) (g.W.World.journal c.accept.new.self)
     (c.in-Ok-Port.is ∙ ap Ok c.in-Ok-Port.field-0-is) c.accept.ensures.told)
     c.happen.ensures.legal
@@ -57,7 +57,7 @@ returns-in-Ok-NotNow-clause-legal g c =
     calls.serves_dropped c.drop_out.result state line c.drop_out.new.queue (Accept c.args.door)
     (g.W.World.journal c.args.world.now) (g.W.World.journal c.accept.new.self) (entry.Accept c.args.door (Ok accepted.NotNow)) refl
     (calls.accept-any state line c.args.door (Ok accepted.NotNow) c.requires.next)
-    c.drop_out.ensures
+    (c.drop_out.ensures state c.requires.next)
     (told_at (λ r. entry.Accept c.args.door r) (g.W.World.journal c.args.world.now) (g.W.World.journal c.accept.new.self)
     (c.in-Ok-NotNow.is ∙ ap Ok c.in-Ok-NotNow.field-0-is) c.accept.ensures.told)
 
@@ -68,7 +68,7 @@ returns-in-Err-Failed-clause-legal g c =
     calls.serves_dropped c.drop_out-in-Err-Failed.result state line c.drop_out-in-Err-Failed.new.queue (Accept c.args.door)
     (g.W.World.journal c.args.world.now) (g.W.World.journal c.accept.new.self) (entry.Accept c.args.door (Err Failed)) refl
     (calls.accept-any state line c.args.door (Err Failed) c.requires.next)
-    c.drop_out-in-Err-Failed.ensures
+    (c.drop_out-in-Err-Failed.ensures state c.requires.next)
     (told_at (λ r. entry.Accept c.args.door r) (g.W.World.journal c.args.world.now) (g.W.World.journal c.accept.new.self)
     (c.in-Err-Failed.is ∙ ap Err c.in-Err-Failed.field-0-is) c.accept.ensures.told)
 
@@ -92,5 +92,5 @@ happen-requires-clause-quiet g c =
     let line = c.args.queue.now in
     quiet_is state
     (record (sent_back (Accept c.args.door) (queued_port c.in-Ok-Port.number (settled state line))) { joined = is_client c.args.door || line.joined })
-    c.accept-in-Ok-Port.new.self c.in-Ok.ensures
+    c.accept-in-Ok-Port.new.self (c.in-Ok.ensures state c.requires.next)
     (quiet_queued_port state c.in-Ok-Port.number (settled state line) (quiet_settled state line c.requires.quiet))

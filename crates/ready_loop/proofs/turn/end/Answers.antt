@@ -11,5 +11,5 @@ pub happen-requires-clause-quiet : goal.happen-requires-clause-quiet
 happen-requires-clause-quiet g c =
     let state = g.A.Core.state c.args.agent.now in
     let line = c.args.queue.now in
-    quiet_is state (without c.args.found (settled state line)) c.remove.new.self c.in-Ok.ensures
+    quiet_is state (without c.args.found (settled state line)) c.remove.new.self (c.in-Ok.ensures state c.requires.next)
     (quiet_without state c.args.found (settled state line) (quiet_settled state line c.requires.quiet))

@@ -12,5 +12,5 @@ pub happen-requires-clause-quiet : goal.happen-requires-clause-quiet
 happen-requires-clause-quiet g c =
     let state = g.A.Core.state c.args.agent.now in
     let line = c.args.queue.now in
-    quiet_is state (sent_back (Read c.args.port) (settled state line)) c.send_back.new.self c.in-Ok.ensures
+    quiet_is state (sent_back (Read c.args.port) (settled state line)) c.send_back.new.self (c.in-Ok.ensures state c.requires.next)
     (quiet_settled state line c.requires.quiet)

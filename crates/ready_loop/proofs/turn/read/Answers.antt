@@ -69,7 +69,7 @@ returns-in-Ok-NotNow-clause-legal g c =
     calls.serves_dropped c.drop_out.result state line c.drop_out.new.queue (Read c.args.port)
     (g.W.World.journal c.args.world.now) (g.W.World.journal c.read.new.self) (entry.Read c.args.port (length c.args.room.now) [] (Ok got.NotNow)) refl
     (calls.read-any state line c.args.port (length c.args.room.now) [] (Ok got.NotNow) c.requires.next c.requires.room)
-    c.drop_out.ensures
+    (c.drop_out.ensures state c.requires.next)
     (told_at (λ r. entry.Read c.args.port (length c.args.room.now) (got_of r c.read.new.room) r) (g.W.World.journal c.args.world.now) (g.W.World.journal c.read.new.self)
     (c.in-Ok-NotNow.is ∙ ap Ok c.in-Ok-NotNow.field-0-is) c.read.ensures.told)
 

@@ -39,7 +39,7 @@ returns-in-Ok-NotNow-clause-legal g c =
     calls.serves_dropped c.drop_out.result state line c.drop_out.new.queue (Write c.args.port)
     (g.W.World.journal c.args.world.now) (g.W.World.journal c.write.new.self) (entry.Write c.args.port c.owed.result.now (Ok wrote.NotNow)) refl
     (calls.write-any state line c.args.port c.owed.result.now (Ok wrote.NotNow) c.requires.next c.owed.ensures)
-    c.drop_out.ensures
+    (c.drop_out.ensures state c.requires.next)
     (told_at (λ r. entry.Write c.args.port c.owed.result.now r) (g.W.World.journal c.args.world.now) (g.W.World.journal c.write.new.self)
     (c.in-Ok-NotNow.is ∙ ap Ok c.in-Ok-NotNow.field-0-is) c.write.ensures.told)
 

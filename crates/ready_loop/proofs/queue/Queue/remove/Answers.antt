@@ -5,6 +5,6 @@ use Rattle.ready_loop.proofs.LineLemmas.{settled-front}
 use Rattle.ready_loop.proofs.queue.Queue.remove.Goals as goal
 
 pub drop_front-requires : goal.drop_front-requires
-drop_front-requires g c =
-    subst (λ (line : Line). IsFront c.args.thing line.queue) (sym c.in_ok-settle.ensures)
-    (settled-front (g.A.Core.state c.args.agent.now) c.args.thing c.args.self.now.queue c.requires)
+drop_front-requires c =
+    subst (λ (line : Line). IsFront c.args.thing line.queue) (sym (c.in_ok-settle_before.ensures c.requires.0 c.requires.1))
+    (settled-front c.requires.0 c.args.thing c.args.self.now.queue c.requires.1)
