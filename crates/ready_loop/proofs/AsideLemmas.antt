@@ -11,13 +11,10 @@ use Rattle.ready_hub.specs.Things.{Hot, cooled, heated, same_door, same_thing, s
 use Rattle.ready_hub.specs.declared.thing.Thing.{Thing}
 use Rattle.ready_hub.specs.declared.thing.Thing.TheVariants.{Accept, Read, Write}
 use Rattle.ready_loop.specs.Aside.{Aside, accepts_of, put_aside, reads_of, still_aside, taken_back, things_aside, writes_of}
+use Rattle.ready_loop.proofs.TestLemmas.{or_assoc}
 use Rattle.ready_loop.proofs.ThingLemmas.{same_thing-true}
 
 -- ---- tests
-
-or_assoc : (a b c : Bool) → ((a || b) || c) ≡ (a || (b || c))
-or_assoc true b c = refl
-or_assoc false b c = refl
 
 pub or_false : (a : Bool) → (a || false) ≡ a
 or_false true = refl

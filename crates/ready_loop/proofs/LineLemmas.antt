@@ -54,31 +54,12 @@ aside-without thing line left once is there =
     ∙ ap (λ (things : List Thing). record line { queue = things; aside = taken_back thing line.aside })
     (sym (absent-dropped thing line.queue (aside-absent line.queue line.aside once thing there)))
 
--- a thing comes back where it was aside
-pub aside-brought : (thing : Thing) (line : Line) (queue : List Thing) (left : Aside)
-    → queue ≡ line.queue ++ thing ∷ [] → left ≡ taken_back thing line.aside
-    → set_of (things_aside line.aside) thing ≡ true
-    → record line { queue = queue; aside = left } ≡ brought thing line
-aside-brought thing line queue left more less there =
-    ap (λ (things : List Thing). record line { queue = things; aside = left }) more
-    ∙ ap (λ (aside : Aside). record line { queue = line.queue ++ thing ∷ []; aside = aside }) less
-    ∙ sym (ap (λ (b : Bool). if b then record line { queue = line.queue ++ thing ∷ []; aside = taken_back thing line.aside } else line) there)
-
+-- a thing doesn't come back where it wasn't aside
 pub absent-brought : (thing : Thing) (line : Line) (left : Aside) → left ≡ taken_back thing line.aside
     → set_of (things_aside line.aside) thing ≡ false → record line { aside = left } ≡ brought thing line
 absent-brought thing line left less absent =
     ap (λ (aside : Aside). record line { aside = aside }) (less ∙ absent-taken thing line.aside absent)
     ∙ sym (ap (λ (b : Bool). if b then record line { queue = line.queue ++ thing ∷ []; aside = taken_back thing line.aside } else line) absent)
-
--- a thing is ready
-pub old-queued : (thing : Thing) (line : Line) → hot_of line thing ≡ true → line ≡ queued thing line
-old-queued thing line there = sym (ap (λ (b : Bool). if b then line else record line { queue = line.queue ++ thing ∷ [] }) there)
-
-pub new-queued : (thing : Thing) (line : Line) (queue : List Thing) → queue ≡ line.queue ++ thing ∷ []
-    → hot_of line thing ≡ false → record line { queue = queue } ≡ queued thing line
-new-queued thing line queue more new =
-    ap (λ (things : List Thing). record line { queue = things }) more
-    ∙ sym (ap (λ (b : Bool). if b then line else record line { queue = line.queue ++ thing ∷ [] }) new)
 
 -- a thing is in the queue or aside
 pub hot-either : (thing : Thing) (line : Line) (here there : Bool) → here ≡ set_of (things_aside line.aside) thing

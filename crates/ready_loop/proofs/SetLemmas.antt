@@ -13,7 +13,7 @@ use Rattle.ready_loop.specs.Aside.{Aside, put_aside, still_aside, taken_back, th
 use Rattle.ready_loop.specs.Lines.{Line, aside_with, called, called_all, called_own, hot_of, queued, queued_all, queued_by, queued_if, queued_port, recalled, sent_back, settled, without, without_port}
 use Rattle.ready_loop.specs.Queues.{dropped, from_servable, put_back}
 use Rattle.ready_loop.proofs.AsideLemmas.{same_sets, set_of-append, set_of-filter, set_of-put_aside, set_of-still_aside, set_of-taken_back}
-use Rattle.ready_loop.proofs.TestLemmas.{and_both, or_right}
+use Rattle.ready_loop.proofs.TestLemmas.{and_both, or_assoc, or_right}
 use Rattle.ready_loop.proofs.ThingLemmas.{same_thing-alike, same_thing-apart, same_thing-true}
 
 -- ---- without a thing
@@ -124,10 +124,6 @@ hot_of-without_port port line =
     hot_of-without (Write port) (without (Read port) line) ∙ ap (cooled (Write port)) (hot_of-without (Read port) line)
 
 -- ---- a thing becomes ready
-
-or_assoc : (here queue aside : Bool) → ((here || queue) || aside) ≡ (here || (queue || aside))
-or_assoc true queue aside = refl
-or_assoc false queue aside = refl
 
 queued_at : (test : Bool) (thing other : Thing) (line : Line) → hot_of line thing ≡ test → hot_of (if test then line else record line { queue = line.queue ++ thing ∷ [] }) other ≡ heated thing (hot_of line) other
 queued_at true thing other line there =

@@ -145,12 +145,6 @@ front-dropped thing (first ∷ queue) front apart =
     (ap (same_thing thing) front ∙ same_thing-refl thing)
     ∙ absent-dropped thing queue (ap (set_of queue) (sym front) ∙ apart.0)
 
-pub once-dropped : (queue left : List Thing) (aside : Aside) → left ≡ drop 1 queue → IsOnce queue aside
-    → IsOnce left aside
-once-dropped [] left aside is once = subst (λ (things : List Thing). IsOnce things aside) (sym is) once
-once-dropped (first ∷ queue) left aside is once =
-    subst (λ (things : List Thing). IsOnce things aside) (sym is) (once-rest first queue aside once)
-
 -- the front goes behind all others
 pub once-rotated : (thing : Thing) (queue left : List Thing) (aside : Aside) → IsFront thing queue
     → left ≡ drop 1 queue → IsOnce queue aside → IsOnce (left ++ thing ∷ []) aside

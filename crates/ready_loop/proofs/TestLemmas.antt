@@ -41,3 +41,7 @@ not_true false is = refl
 pub false_not : (test : Bool) → test ≡ false → not test ≡ true
 false_not true is = cc
 false_not false is = refl
+
+pub or_assoc : (a b c : Bool) → ((a || b) || c) ≡ (a || (b || c))
+or_assoc true b c = refl
+or_assoc false b c = refl
