@@ -1,9 +1,10 @@
 #!/usr/bin/env bash
 # What the serving agent takes for its answers, beside OpenSSH's ssh-agent and beside an agent that answers five bytes
-# whatever comes: processor time for each refusal, list, signature, addition and removal, memory, system calls and
-# instructions. Rounds take turns; the median of them is printed, and the ratio to ssh-agent's in the same run. The first
-# word is the number of rounds, 7 where there is none; behind it may stand the parts that are to be measured, of refusals,
-# calls, keys, waits, signatures and instructions. Needs python3, gcc and OpenSSH; perf and valgrind where they are.
+# whatever comes: processor time for each refusal, list, signature, addition and removal, memory, system calls,
+# instructions and allocations. Rounds take turns; the median of them is printed, and the ratio to ssh-agent's in the same
+# run. The first word is the number of rounds, 7 where there is none; behind it may stand the parts that are to be
+# measured, of refusals, calls, keys, waits, signatures and instructions, which has the allocations too. Needs python3, gcc
+# and OpenSSH; perf and valgrind where they are.
 # With the environment variable AGENT another program is taken for the agent; with PLOTS=bench/plots the plots there are
 # drawn anew, by gnuplot; with TABLE=FILE a table is written there.
 set -eu

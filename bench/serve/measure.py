@@ -196,7 +196,7 @@ def others_wait(agents):
 def counted(text):
     """The instructions that callgrind's file tells of, and how often memory was asked for."""
     names = dict(re.findall(r"(?m)^c?fn=\((\d+)\) ([^\s'@]+)", text))
-    asks = {number for number, name in names.items() if name in ("malloc", "calloc", "realloc", "aligned_alloc")}
+    asks = {number for number, name in names.items() if name in ("malloc", "calloc", "realloc", "aligned_alloc", "posix_memalign")}
     calls = re.findall(r"(?m)^cfn=\((\d+)\).*\ncalls=(\d+)", text)
     total = int(re.search(r"(?m)^(?:summary|totals): (\d+)", text)[1])
     return total, sum(int(count) for number, count in calls if number in asks)
@@ -215,7 +215,7 @@ def instructions(start, messages, keys=0, few=1000, more=10000):
         if os.path.exists(agent.path):
             os.unlink(agent.path)
         totals.append(counted(out.read_text()))
-    return [(many - few_) / more for few_, many in zip(*totals)]
+    return [(many - less) / more for less, many in zip(*totals)]
 
 
 def tell_instructions():
