@@ -17,7 +17,7 @@ use Rattle.ready_loop.specs.InTurn.{Turning, moved, own_port, taken}
 use Rattle.ready_loop.specs.Lines.{IsQuiet, Line, called, called_all, called_own, recalled}
 use Rattle.ready_loop.proofs.AsideLemmas.{set_of-append, set_of-filter, set_of-still_aside, set_of-taken_back}
 use Rattle.ready_loop.proofs.QuietLemmas.{leads, quiet_taken}
-use Rattle.ready_loop.proofs.TestLemmas.{and_both, both_and, false_not, or_either, or_first, or_left, or_right}
+use Rattle.ready_loop.proofs.TestLemmas.{and_both, both_and, both_if, false_not, or_either, or_first, or_left, or_right}
 use Rattle.ready_loop.proofs.ThingLemmas.{same_thing-true}
 
 -- some comes back, and nothing more is set aside; nor is anything lost
@@ -95,7 +95,9 @@ calls_by false state thing line is = calls-none state line
 
 calls-called : (state : State) (thing : Thing) (line : Line) → Calls state line (called state thing line)
 calls-called state thing line =
-    calls_by (set_of (things_aside line.aside) thing && is_servable state thing) state thing line refl
+    subst (Calls state line) (sym (both_if (set_of (things_aside line.aside) thing) (is_servable state thing)
+    (record line { queue = line.queue ++ thing ∷ []; aside = taken_back thing line.aside }) line))
+    (calls_by (set_of (things_aside line.aside) thing && is_servable state thing) state thing line refl)
 
 calls-own : (state : State) (own : Option ℕ) (line : Line) → Calls state line (called_own state own line)
 calls-own state None line = calls-none state line

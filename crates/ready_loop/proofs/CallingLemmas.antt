@@ -9,8 +9,7 @@ use Rattle.ready_hub.specs.Things.{set_of}
 use Rattle.ready_hub.specs.declared.thing.Thing.{Thing}
 use Rattle.ready_hub.specs.declared.thing.Thing.TheVariants.{Write}
 use Rattle.ready_loop.specs.Aside.{Aside, taken_back, things_aside, writes_of}
-use Rattle.ready_loop.specs.Lines.{Line}
-use Rattle.ready_loop.specs.Standing.{brought}
+use Rattle.ready_loop.specs.Lines.{Line, brought}
 use Rattle.ready_loop.proofs.AsideLemmas.{aside-write, is_among-filter, or_false}
 use Rattle.ready_loop.proofs.FilterLemmas.{kept, numbers_all, numbers_alike, numbers_none}
 

@@ -5,9 +5,9 @@ use Rattle.ready_hub.specs.Servable.{is_servable}
 use Rattle.ready_hub.specs.Things.{same_thing, set_of}
 use Rattle.ready_hub.specs.declared.thing.Thing.{Thing}
 use Rattle.ready_loop.specs.Aside.{Aside, put_aside, taken_back, things_aside}
-use Rattle.ready_loop.specs.Lines.{Line, aside_with, hot_of, queued, sent_back, settled, without}
+use Rattle.ready_loop.specs.Lines.{Line, aside_with, brought, hot_of, queued, sent_back, settled, without}
 use Rattle.ready_loop.specs.Queues.{dropped, first_servable, from_servable}
-use Rattle.ready_loop.specs.Standing.{AreApart, IsFront, IsOnce, brought, front_but, stuck_front}
+use Rattle.ready_loop.specs.Standing.{AreApart, IsFront, IsOnce, front_but, stuck_front}
 use Rattle.ready_loop.proofs.ThingLemmas.{false_by, same_thing-refl, same_thing-true}
 use Rattle.ready_loop.proofs.AsideLemmas.{set_of-append}
 use Rattle.ready_loop.proofs.FilterLemmas.{absent-dropped, absent-taken}

@@ -1,5 +1,5 @@
 -- What comes back to the queue after an event.
-use Rattle.std.proofs.Common.{◌≡◌, ◌∙◌, ℕ, Bool, true, false, List, [], ◌∷◌, ◌++◌, Option, Some, None, length, refl, sym, ap, cond, nat_lt, not, ◌&&◌, ◌||◌, if◌then◌else◌, arith}
+use Rattle.std.proofs.Common.{◌≡◌, ◌∙◌, ℕ, Bool, true, false, List, [], ◌∷◌, ◌++◌, Option, Some, None, length, refl, sym, ap, subst, cond, nat_lt, not, ◌&&◌, ◌||◌, if◌then◌else◌, arith}
 use Rattle.std.proofs.lemmas.Bool.Decides.{nat_tests}
 use Rattle.std.proofs.lemmas.List.Elements.{filter-append}
 use Rattle.std.specs.List.{filter}
@@ -14,8 +14,9 @@ use Rattle.ready_hub.specs.Things.{Hot, same_thing, set_of}
 use Rattle.ready_hub.specs.declared.thing.Thing.{Thing}
 use Rattle.ready_hub.specs.declared.thing.Thing.TheVariants.{Accept, Read, Write}
 use Rattle.ready_loop.specs.Aside.{Aside, accepts_of, reads_of, taken_back, things_aside, writes_of}
-use Rattle.ready_loop.specs.Lines.{Line, called, called_all, called_own}
-use Rattle.ready_loop.specs.Standing.{IsStirred, brought, may_stir}
+use Rattle.ready_loop.specs.Lines.{Line, brought, called, called_all, called_own}
+use Rattle.ready_loop.specs.Standing.{IsStirred, may_stir}
+use Rattle.ready_loop.proofs.TestLemmas.{both_if}
 use Rattle.ready_loop.proofs.ThingLemmas.{false_by, same_thing-true}
 use Rattle.ready_loop.proofs.AsideLemmas.{accepts-read, accepts-write, aside-accept, aside-read, aside-write, reads-accept, reads-read, reads-write, set_of-taken_back}
 use Rattle.ready_loop.proofs.FilterLemmas.{doors_all, filter_none, kept, numbers_all}
@@ -209,7 +210,10 @@ child-all state after line rising none stirred =
 called-aside : (state : State) (thing : Thing) (line : Line) (other : Thing)
     → set_of (things_aside (called state thing line).aside) other ≡ true → is_servable state other ≡ true
     → (set_of (things_aside line.aside) other ≡ true) × (same_thing thing other ≡ false)
-called-aside state thing line other there serves = by_test (set_of (things_aside line.aside) thing && is_servable state thing) refl there
+called-aside state thing line other there serves =
+    by_test (set_of (things_aside line.aside) thing && is_servable state thing) refl
+    (subst (λ (l : Line). set_of (things_aside l.aside) other ≡ true)
+    (both_if (set_of (things_aside line.aside) thing) (is_servable state thing) called_back line) there)
   where
     called_back : Line
     called_back = record line { queue = line.queue ++ thing ∷ []; aside = taken_back thing line.aside }

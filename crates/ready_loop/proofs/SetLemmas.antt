@@ -13,7 +13,7 @@ use Rattle.ready_loop.specs.Aside.{Aside, put_aside, still_aside, taken_back, th
 use Rattle.ready_loop.specs.Lines.{Line, aside_with, called, called_all, called_own, hot_of, queued, queued_all, queued_by, queued_if, queued_port, recalled, sent_back, settled, without, without_port}
 use Rattle.ready_loop.specs.Queues.{dropped, from_servable, put_back}
 use Rattle.ready_loop.proofs.AsideLemmas.{same_sets, set_of-append, set_of-filter, set_of-put_aside, set_of-still_aside, set_of-taken_back}
-use Rattle.ready_loop.proofs.TestLemmas.{and_both, or_assoc, or_right}
+use Rattle.ready_loop.proofs.TestLemmas.{and_both, both_if, or_assoc, or_right}
 use Rattle.ready_loop.proofs.ThingLemmas.{same_thing-alike, same_thing-apart, same_thing-true}
 
 -- ---- without a thing
@@ -189,7 +189,9 @@ called_by true thing other line there =
 
 hot_of-called : (state : State) (thing : Thing) (line : Line) → hot_of (called state thing line) ≡ hot_of line
 hot_of-called state thing line = same_sets (hot_of (called state thing line)) (hot_of line) (λ other.
-    called_by (set_of (things_aside line.aside) thing && is_servable state thing) thing other line
+    ap (λ (l : Line). hot_of l other) (both_if (set_of (things_aside line.aside) thing) (is_servable state thing)
+    (record line { queue = line.queue ++ thing ∷ []; aside = taken_back thing line.aside }) line)
+    ∙ called_by (set_of (things_aside line.aside) thing && is_servable state thing) thing other line
     (λ both. (and_both (set_of (things_aside line.aside) thing) (is_servable state thing) both).0))
 
 hot_of-called_own : (state : State) (own : Option ℕ) (line : Line) → hot_of (called_own state own line) ≡ hot_of line

@@ -1,5 +1,5 @@
 -- Tests that are joined.
-use Rattle.std.proofs.Common.{◌≡◌, ◌⊎◌, inl, inr, Bool, true, false, refl, ◌&&◌, ◌||◌, not}
+use Rattle.std.proofs.Common.{◌≡◌, ◌⊎◌, inl, inr, Bool, true, false, refl, ◌&&◌, ◌||◌, not, if◌then◌else◌}
 
 -- both hold
 pub and_both : (here there : Bool) → (here && there) ≡ true → (here ≡ true) × (there ≡ true)
@@ -41,6 +41,14 @@ not_true false is = refl
 pub false_not : (test : Bool) → test ≡ false → not test ≡ true
 false_not true is = cc
 false_not false is = refl
+
+-- one test in another
+pub both_if : {T : Type 0} (here able : Bool) (there other : T)
+    → (if able then (if here then there else other) else other) ≡ (if here && able then there else other)
+both_if true true there other = refl
+both_if true false there other = refl
+both_if false true there other = refl
+both_if false false there other = refl
 
 pub or_assoc : (a b c : Bool) → ((a || b) || c) ≡ (a || (b || c))
 or_assoc true b c = refl

@@ -87,11 +87,15 @@ queued_all state (item ∷ items) line =
 
 -- ---- an event happened
 
--- this thing comes back where it was set aside and can be served
-abbrev pub called : State → Thing → Line → Line
-called state thing line =
-    if set_of (things_aside line.aside) thing && is_servable state thing
+-- this thing comes back where it was set aside
+abbrev pub brought : Thing → Line → Line
+brought thing line =
+    if set_of (things_aside line.aside) thing
     then record line { queue = line.queue ++ thing ∷ []; aside = taken_back thing line.aside } else line
+
+-- where it can be served as well
+abbrev pub called : State → Thing → Line → Line
+called state thing line = if is_servable state thing then brought thing line else line
 
 -- both directions of the event's port
 abbrev pub called_own : State → Option ℕ → Line → Line

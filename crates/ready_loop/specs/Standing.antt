@@ -1,12 +1,12 @@
 -- What holds of a line in storage, so that the front of its queue and its own port are all that a turn looks at (ours).
-use Rattle.std.specs.Prelude.{◌≡◌, ℕ, Bool, true, false, List, [], ◌∷◌, ◌++◌, Option, Some, None, ◌==◌, ◌||◌, not, if◌then◌else◌}
+use Rattle.std.specs.Prelude.{◌≡◌, ℕ, Bool, true, false, List, [], ◌∷◌, Option, Some, None, ◌==◌, ◌||◌, not, if◌then◌else◌}
 use Rattle.agent_model.specs.State.{State, find_port}
 use Rattle.ready_hub.specs.Elsewhere.{is_clients}
 use Rattle.ready_hub.specs.Servable.{is_servable}
 use Rattle.ready_hub.specs.Things.{same_thing, set_of}
 use Rattle.ready_hub.specs.declared.thing.Thing.{Thing}
 use Rattle.ready_hub.specs.declared.thing.Thing.TheVariants.{Accept, Read, Write}
-use Rattle.ready_loop.specs.Aside.{Aside, taken_back, things_aside}
+use Rattle.ready_loop.specs.Aside.{Aside, things_aside}
 use Rattle.ready_loop.specs.Lines.{Line}
 
 -- nothing stands twice in the queue
@@ -33,12 +33,6 @@ stuck_front state (thing ∷ things) = if is_servable state thing then None else
 abbrev pub front_but : Thing → List Thing → Option Thing
 front_but thing [] = None
 front_but thing (first ∷ things) = if same_thing thing first then None else Some first
-
--- the thing comes back where it was set aside
-abbrev pub brought : Thing → Line → Line
-brought thing line =
-    if set_of (things_aside line.aside) thing
-    then record line { queue = line.queue ++ thing ∷ []; aside = taken_back thing line.aside } else line
 
 -- it is this port
 abbrev pub is_own : ℕ → Option ℕ → Bool

@@ -3,9 +3,9 @@ ghost use Rattle.std.specs.Prelude.{◌≡◌, ◌||◌, None, OnOk, Some, false
 ghost use Rattle.agent_model.specs.State.{State, is_client};
 ghost use Rattle.rising_numbers.specs.Rising.{IsRisingList};
 ghost use Rattle.ready_hub.specs.declared.thing.Thing.TheVariants.{Accept};
-ghost use Rattle.ready_loop.specs.Lines.{called, called_all, called_own, empty_line, hot_of, queued, queued_all, queued_by, queued_if, queued_port, recalled, sent_back, settled, without, without_port};
+ghost use Rattle.ready_loop.specs.Lines.{brought, called, called_all, called_own, empty_line, hot_of, queued, queued_all, queued_by, queued_if, queued_port, recalled, sent_back, settled, without, without_port};
 ghost use Rattle.ready_loop.specs.Queues.{dropped, first_servable};
-ghost use Rattle.ready_loop.specs.Standing.{IsFront, IsStirred, brought, front_but, stuck_front};
+ghost use Rattle.ready_loop.specs.Standing.{IsFront, IsStirred, front_but, stuck_front};
 
 use crate::Core;
 use crate::aside::Aside;
