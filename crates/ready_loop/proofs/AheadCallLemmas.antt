@@ -1,5 +1,5 @@
 -- Which calls leave one thing before another.
-use Rattle.std.proofs.Common.{◌≡◌, ◌∙◌, ℕ, true, false, List, Option, Ok, Err, sym, ap, not}
+use Rattle.std.proofs.Common.{◌≡◌, ◌∙◌, ℕ, Bool, true, false, List, [], ◌∷◌, ◌++◌, Option, Ok, Err, sym, ap, not, if◌then◌else◌}
 use Rattle.world_ports.specs.declared.answers.Accepted.TheVariants as accepted
 use Rattle.world_ports.specs.declared.answers.Got.TheVariants as got
 use Rattle.world_ports.specs.declared.answers.Polled.TheVariants as polled
@@ -12,9 +12,10 @@ use Rattle.ready_hub.specs.Servable.{is_servable}
 use Rattle.ready_hub.specs.Things.{Hot, same_thing, set_of}
 use Rattle.ready_hub.specs.declared.thing.Thing.{Thing}
 use Rattle.ready_hub.specs.declared.thing.Thing.TheVariants.{Accept, Read, Write}
+use Rattle.ready_loop.specs.Aside.{taken_back, things_aside}
 use Rattle.ready_loop.specs.Fairness.{is_service}
 use Rattle.ready_loop.specs.InTurn.{is_in_turn, moved, own_port}
-use Rattle.ready_loop.specs.Lines.{Line, queued_all, queued_port, recalled, settled}
+use Rattle.ready_loop.specs.Lines.{Line, brought, queued_all, queued_port, recalled, settled}
 use Rattle.ready_loop.specs.Queues.{dropped, first_servable, from_servable, is_thing}
 use Rattle.ready_loop.proofs.AddingLemmas.{Adds, adds-queued_all, adds-queued_port}
 use Rattle.ready_loop.proofs.SetLemmas.{set_of-dropped}
@@ -29,7 +30,16 @@ ahead_adds : (other thing : Thing) (line after : Line) → Adds line after → a
 ahead_adds other thing line after adds is =
     ap (ahead other thing) adds.queue ∙ ahead_more other thing line.queue adds.news is
 
--- so does what comes back
+-- so does what is brought back
+ahead_brought : (other thing third : Thing) (line : Line) → ahead other thing line.queue ≡ true
+    → ahead other thing (brought third line).queue ≡ true
+ahead_brought other thing third line is = by_test (set_of (things_aside line.aside) third)
+  where
+    by_test : (b : Bool) → ahead other thing (if b then record line { queue = line.queue ++ third ∷ []; aside = taken_back third line.aside } else line).queue ≡ true
+    by_test true = ahead_more other thing line.queue (third ∷ []) is
+    by_test false = is
+
+-- and all that comes back
 ahead_recalled : (state : State) (own : Option ℕ) (other thing : Thing) (line : Line)
     → ahead other thing line.queue ≡ true → ahead other thing (recalled state own line).queue ≡ true
 ahead_recalled state own other thing line is =
@@ -74,8 +84,8 @@ ahead_after state left due (entry.Accept door (Err fault)) other thing line apar
     ahead_left other thing (Accept door) (from_servable state line.queue) apart
     (ahead_settled state other thing line.queue waits is)
 ahead_after state left due (entry.Read port room bytes (Ok (got.Bytes n))) other thing line apart waits has is =
-    ahead_back other thing (Read port) (from_servable state line.queue) apart
-    (ahead_settled state other thing line.queue waits is)
+    ahead_back other thing (Read port) (brought (Write port) (settled state line)).queue apart
+    (ahead_brought other thing (Write port) (settled state line) (ahead_settled state other thing line.queue waits is))
 ahead_after state left due (entry.Read port room bytes (Ok got.End)) other thing line apart waits has is =
     ahead_left other thing (Read port) (from_servable state line.queue) apart
     (ahead_settled state other thing line.queue waits is)
@@ -117,7 +127,7 @@ ahead_of_served state left due (entry.Accept door (Ok accepted.NotNow)) other th
 ahead_of_served state left due (entry.Accept door (Err fault)) other thing line service apart has =
     left_ahead other thing (Accept door) (from_servable state line.queue) service has
 ahead_of_served state left due (entry.Read port room bytes (Ok (got.Bytes n))) other thing line service apart has =
-    back_ahead other thing (Read port) (from_servable state line.queue) service apart has
+    back_ahead other thing (Read port) (brought (Write port) (settled state line)).queue service apart has
 ahead_of_served state left due (entry.Read port room bytes (Ok got.End)) other thing line service apart has =
     left_ahead other thing (Read port) (from_servable state line.queue) service has
 ahead_of_served state left due (entry.Read port room bytes (Ok got.NotNow)) other thing line service apart has =

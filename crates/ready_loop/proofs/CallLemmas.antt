@@ -31,11 +31,11 @@ use Rattle.ready_hub.specs.declared.thing.Thing.{Thing}
 use Rattle.ready_hub.specs.declared.thing.Thing.TheVariants.{Accept, Read, Write}
 use Rattle.ready_loop.specs.Aside.{things_aside}
 use Rattle.ready_loop.specs.InTurn.{in_state, is_in_turn, led, port_of, taken}
-use Rattle.ready_loop.specs.Lines.{Line, hot_of, queued_all, queued_port, recalled, sent_back, settled, without, without_port}
+use Rattle.ready_loop.specs.Lines.{Line, brought, hot_of, queued_all, queued_port, recalled, sent_back, settled, without, without_port}
 use Rattle.ready_loop.specs.Queues.{first_servable, from_servable, is_next, is_thing}
 use Rattle.ready_loop.proofs.AsideLemmas.{set_of-append}
 use Rattle.ready_loop.proofs.IdleLemmas.{first_is_found, first_is_front, owed_is_open, wanted_is_open}
-use Rattle.ready_loop.proofs.SetLemmas.{hot_of-queued_all, hot_of-queued_port, hot_of-recalled, hot_of-sent_back, hot_of-settled, hot_of-without, hot_of-without_port, queue_of-queued_port}
+use Rattle.ready_loop.proofs.SetLemmas.{hot_of-brought, hot_of-queued_all, hot_of-queued_port, hot_of-recalled, hot_of-sent_back, hot_of-settled, hot_of-without, hot_of-without_port, queue_of-brought, queue_of-queued_port}
 use Rattle.ready_loop.proofs.TestLemmas.{and_true}
 use Rattle.ready_loop.proofs.ThingLemmas.{same_thing-refl}
 use Rattle.ready_loop.specs.Moves.{Serves, is_poll}
@@ -198,6 +198,14 @@ pub back-lands : (state : State) (line : Line) (thing : Thing) (due : Due) → f
 back-lands state line thing due found =
     lands state (sent_back thing (settled state line)) (hot_of line) due
     (hot_of-sent_back thing (settled state line) (still_there state line thing found) ∙ hot_of-settled state line)
+
+-- one that was read goes behind its other direction
+pub read-lands : (state : State) (line : Line) (port : ℕ) (due : Due) → first_servable state line.queue ≡ Some (Read port) → Some (record { reading = at state (hot_of line) due; line = sent_back (Read port) (brought (Write port) (settled state line)) }) ≡ Some (in_state state (sent_back (Read port) (brought (Write port) (settled state line))) due)
+read-lands state line port due found =
+    let there : Line = brought (Write port) (settled state line) in
+    lands state (sent_back (Read port) there) (hot_of line) due
+    (hot_of-sent_back (Read port) there (queue_of-brought (Write port) (settled state line) (Read port) (still_there state line (Read port) found))
+    ∙ hot_of-brought (Write port) (settled state line) ∙ hot_of-settled state line)
 
 -- and so does a listener, behind the two directions of the connection that it gave
 pub accept-taken : (state : State) (line : Line) (door : Door) (number : ℕ) → first_servable state line.queue ≡ Some (Accept door) → taken (in_state state line Free) (entry.Accept door (Ok (accepted.Port number))) ≡ Some (in_state state (record (sent_back (Accept door) (queued_port number (settled state line))) { joined = is_client door || line.joined }) (NowFor (Joined door)))

@@ -1,5 +1,5 @@
 -- What is served stood first, and goes behind all others; what stood before it is set aside.
-use Rattle.std.proofs.Common.{◌≡◌, ◌∙◌, Bool, true, false, List, [], ◌∷◌, ◌++◌, Some, Ok, Err, refl, sym, ap, subst, cond, not}
+use Rattle.std.proofs.Common.{◌≡◌, ◌∙◌, Bool, true, false, List, [], ◌∷◌, ◌++◌, Some, Ok, Err, refl, sym, ap, subst, cond, not, if◌then◌else◌}
 use Rattle.std.proofs.lemmas.List.{append-nil}
 use Rattle.std.proofs.lemmas.List.Elements.{filter-append}
 use Rattle.world_ports.specs.declared.answers.Accepted.TheVariants as accepted
@@ -12,16 +12,16 @@ use Rattle.ready_hub.specs.Answered.{Due}
 use Rattle.ready_hub.specs.Things.{Hot, same_thing, set_of}
 use Rattle.ready_hub.specs.declared.thing.Thing.{Thing}
 use Rattle.ready_hub.specs.declared.thing.Thing.TheVariants.{Accept, Read, Write}
-use Rattle.ready_loop.specs.Aside.{Aside, things_aside}
+use Rattle.ready_loop.specs.Aside.{Aside, taken_back, things_aside}
 use Rattle.ready_loop.specs.Fairness.{GoesLast, SetsAside, is_service}
 use Rattle.ready_loop.specs.InTurn.{Turning, is_in_turn, moved, taken}
-use Rattle.ready_loop.specs.Lines.{Line, aside_with, queued_port, sent_back, settled, without}
+use Rattle.ready_loop.specs.Lines.{Line, aside_with, brought, queued_port, sent_back, settled, without}
 use Rattle.ready_loop.specs.Queues.{dropped, from_servable, is_next, put_back}
 use Rattle.ready_loop.proofs.AddingLemmas.{Adds, adds-none, adds-queued_port}
 use Rattle.ready_loop.proofs.AsideLemmas.{set_of-append, set_of-taken_back}
 use Rattle.ready_loop.proofs.AheadLemmas.{gone_at}
 use Rattle.ready_loop.proofs.QuietLemmas.{leads}
-use Rattle.ready_loop.proofs.TestLemmas.{both_and, false_not, or_left}
+use Rattle.ready_loop.proofs.TestLemmas.{both_and, false_not, or_left, or_right}
 use Rattle.ready_loop.proofs.ThingLemmas.{same_thing-refl, same_thing-true}
 use Rattle.ready_loop.proofs.PassedLemmas.{not_there, others_stay, passed}
 
@@ -60,8 +60,44 @@ dropped-last thing queue =
 abbrev Served : State → Thing → Line → Line → Type 0
 Served state thing line after = GoesLast state thing line.queue after.queue × SetsAside state thing line after
 
+-- more stands behind the queue, and nothing that was set aside is lost
+record Brings (before after : Line) : Type 0 where
+  news : List Thing
+  queue : after.queue ≡ before.queue ++ news
+  aside : (thing : Thing) → set_of (things_aside before.aside) thing ≡ true → set_of after.queue thing ≡ false
+      → set_of (things_aside after.aside) thing ≡ true
+
+brings-adds : (before after : Line) → Adds before after → Brings before after
+brings-adds before after adds = record {
+  news = adds.news;
+  queue = adds.queue;
+  aside = λ thing there gone. ap (λ (a : Aside). set_of (things_aside a) thing) adds.aside ∙ there;
+}
+
+brings-brought : (thing : Thing) (line : Line) → Brings line (brought thing line)
+brings-brought thing line = by_test (set_of (things_aside line.aside) thing)
+  where
+    apart : (same : Bool) (other : Thing) → same_thing thing other ≡ same → set_of (line.queue ++ thing ∷ []) other ≡ false → not same ≡ true
+    apart true other is gone =
+        let there : set_of (line.queue ++ thing ∷ []) other ≡ true =
+        set_of-append line.queue (thing ∷ []) other
+        ∙ or_right (set_of line.queue other) (set_of (thing ∷ []) other) (or_left (same_thing thing other) false is) in
+        cc
+    apart false other is gone = refl
+
+    by_test : (b : Bool) → Brings line (if b then record line { queue = line.queue ++ thing ∷ []; aside = taken_back thing line.aside } else line)
+    by_test true = record {
+      news = thing ∷ [];
+      queue = refl;
+      aside = λ other there gone.
+          ap (λ (hot : Hot). hot other) (set_of-taken_back thing line.aside)
+          ∙ both_and (not (same_thing thing other)) (set_of (things_aside line.aside) other)
+          (apart (same_thing thing other) other refl gone) there;
+    }
+    by_test false = record { news = []; queue = sym (append-nil line.queue); aside = λ other there gone. there }
+
 back_last : (state : State) (thing : Thing) (line base : Line) → is_next state line.queue thing ≡ true
-    → Adds (settled state line) base → Served state thing line (sent_back thing base)
+    → Brings (settled state line) base → Served state thing line (sent_back thing base)
 back_last state thing line base next adds =
     let front = from_servable state line.queue in
     let others : dropped thing (put_back thing base.queue) ≡ dropped thing base.queue =
@@ -81,8 +117,13 @@ back_last state thing line base next adds =
           ∙ or_left (set_of (dropped thing base.queue) other) (set_of (thing ∷ []) other)
           (others_stay thing other base.queue apart more) in
           let aside = passed state other line.queue line.aside there
-          (not_there other front (put_back thing base.queue) stays gone) in
-          (aside.0, ap (λ (a : Aside). set_of (things_aside a) other) adds.aside ∙ aside.1),
+          (not_there other front (put_back thing base.queue) stays gone) in (
+            aside.0,
+            adds.aside other aside.1 (not_there other base.queue (put_back thing base.queue) (λ here.
+                set_of-append (dropped thing base.queue) (thing ∷ []) other
+                ∙ or_left (set_of (dropped thing base.queue) other) (set_of (thing ∷ []) other)
+                (others_stay thing other base.queue apart here)) gone),
+          ),
     )
 
 left_last : (state : State) (thing : Thing) (line : Line) → is_next state line.queue thing ≡ true
@@ -113,7 +154,8 @@ served state left due thing (entry.Poll wait items answer) line service turn = c
 served state left due thing (entry.Accept door (Ok (accepted.Port number))) line service turn =
     let base = queued_port number (settled state line) in
     subst (λ t. Served state t line (sent_back (Accept door) base)) (same_thing-true (Accept door) thing service)
-    (back_last state (Accept door) line base turn (adds-queued_port number (settled state line)))
+    (back_last state (Accept door) line base turn
+    (brings-adds (settled state line) base (adds-queued_port number (settled state line))))
 served state left due thing (entry.Accept door (Ok accepted.NotNow)) line service turn =
     subst (λ t. Served state t line (without (Accept door) (settled state line)))
     (same_thing-true (Accept door) thing service)
@@ -123,9 +165,10 @@ served state left due thing (entry.Accept door (Err fault)) line service turn =
     (same_thing-true (Accept door) thing service)
     (left_last state (Accept door) line turn)
 served state left due thing (entry.Read port room bytes (Ok (got.Bytes n))) line service turn =
-    subst (λ t. Served state t line (sent_back (Read port) (settled state line)))
+    subst (λ t. Served state t line (sent_back (Read port) (brought (Write port) (settled state line))))
     (same_thing-true (Read port) thing service)
-    (back_last state (Read port) line (settled state line) turn (adds-none (settled state line)))
+    (back_last state (Read port) line (brought (Write port) (settled state line)) turn
+    (brings-brought (Write port) (settled state line)))
 served state left due thing (entry.Read port room bytes (Ok got.End)) line service turn =
     subst (λ t. Served state t line (without (Read port) (settled state line)))
     (same_thing-true (Read port) thing service)
@@ -141,7 +184,8 @@ served state left due thing (entry.Read port room bytes (Err fault)) line servic
 served state left due thing (entry.Write port offered (Ok (wrote.Took n))) line service turn =
     subst (λ t. Served state t line (sent_back (Write port) (settled state line)))
     (same_thing-true (Write port) thing service)
-    (back_last state (Write port) line (settled state line) turn (adds-none (settled state line)))
+    (back_last state (Write port) line (settled state line) turn
+    (brings-adds (settled state line) (settled state line) (adds-none (settled state line))))
 served state left due thing (entry.Write port offered (Ok wrote.NotNow)) line service turn =
     subst (λ t. Served state t line (without (Write port) (settled state line)))
     (same_thing-true (Write port) thing service)

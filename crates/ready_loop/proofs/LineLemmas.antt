@@ -28,6 +28,14 @@ front-queued thing other line front = by_test (hot_of line other)
     by_test true = front
     by_test false = front_more thing other line.queue front
 
+pub front-brought : (thing other : Thing) (line : Line) → IsFront thing line.queue
+    → IsFront thing (brought other line).queue
+front-brought thing other line front = by_test (set_of (things_aside line.aside) other)
+  where
+    by_test : (b : Bool) → IsFront thing (if b then record line { queue = line.queue ++ other ∷ []; aside = taken_back other line.aside } else line).queue
+    by_test true = front_more thing other line.queue front
+    by_test false = front
+
 -- ---- a line changes
 
 -- the front goes behind all others

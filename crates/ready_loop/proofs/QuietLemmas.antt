@@ -1,5 +1,5 @@
 -- What is set aside can't be served.
-use Rattle.std.proofs.Common.{◌≡◌, ◌∙◌, inl, inr, ℕ, Bool, true, false, List, [], ◌∷◌, Option, Some, None, Ok, Err, refl, sym, ap, subst, not, if◌then◌else◌}
+use Rattle.std.proofs.Common.{◌≡◌, ◌∙◌, inl, inr, ℕ, Bool, true, false, List, [], ◌∷◌, ◌++◌, Option, Some, None, Ok, Err, refl, sym, ap, subst, not, if◌then◌else◌}
 use Rattle.std.specs.Prelude.{option_and_then, option_map}
 use Rattle.world_ports.specs.declared.answers.Accepted.TheVariants as accepted
 use Rattle.world_ports.specs.declared.answers.Got.TheVariants as got
@@ -16,7 +16,7 @@ use Rattle.ready_hub.specs.declared.thing.Thing.{Thing}
 use Rattle.ready_hub.specs.declared.thing.Thing.TheVariants.{Accept, Read, Write}
 use Rattle.ready_loop.specs.Aside.{Aside, put_aside, taken_back, things_aside}
 use Rattle.ready_loop.specs.InTurn.{Turning, is_in_turn, led, moved, own_port, taken, taken_if, turned}
-use Rattle.ready_loop.specs.Lines.{IsQuiet, Line, aside_with, called_own, queued_all, queued_port, recalled, settled, without}
+use Rattle.ready_loop.specs.Lines.{IsQuiet, Line, aside_with, brought, called_own, queued_all, queued_port, recalled, settled, without}
 use Rattle.ready_loop.proofs.AddingLemmas.{Adds, adds-queued_all, adds-queued_port}
 use Rattle.ready_loop.proofs.AsideLemmas.{set_of-put_aside, set_of-still_aside, set_of-taken_back}
 use Rattle.ready_loop.proofs.StateLemmas.{is_moment, state_stays}
@@ -78,6 +78,14 @@ quiet_without : (state : State) (thing : Thing) (line : Line) → IsQuiet state 
     → IsQuiet state (without thing line)
 quiet_without state thing line quiet = still-taken_back state thing line.aside quiet
 
+pub quiet_brought : (state : State) (thing : Thing) (line : Line) → IsQuiet state line
+    → IsQuiet state (brought thing line)
+quiet_brought state thing line quiet = by_test (set_of (things_aside line.aside) thing)
+  where
+    by_test : (b : Bool) → IsQuiet state (if b then record line { queue = line.queue ++ thing ∷ []; aside = taken_back thing line.aside } else line)
+    by_test true = still-taken_back state thing line.aside quiet
+    by_test false = quiet
+
 -- a call changes nothing of that in the state in which it is made
 quiet_moved : (state left : State) (due : Due) (next : Entry) (line : Line) → is_moment next ≡ false
     → IsQuiet state line → IsQuiet state (moved state due left next line)
@@ -95,7 +103,7 @@ quiet_moved state left due (entry.Accept door (Ok accepted.NotNow)) line other q
 quiet_moved state left due (entry.Accept door (Err fault)) line other quiet =
     quiet_without state (Accept door) (settled state line) (quiet_settled state line quiet)
 quiet_moved state left due (entry.Read port room bytes (Ok (got.Bytes n))) line other quiet =
-    quiet_settled state line quiet
+    quiet_brought state (Write port) (settled state line) (quiet_settled state line quiet)
 quiet_moved state left due (entry.Read port room bytes (Ok got.End)) line other quiet =
     quiet_without state (Read port) (settled state line) (quiet_settled state line quiet)
 quiet_moved state left due (entry.Read port room bytes (Ok got.NotNow)) line other quiet =

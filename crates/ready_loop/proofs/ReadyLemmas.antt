@@ -29,11 +29,11 @@ use Rattle.ready_hub.specs.Things.{Hot, cooled, cooled_port, heated_port, set_of
 use Rattle.ready_hub.specs.declared.thing.Thing.{Thing}
 use Rattle.ready_hub.specs.declared.thing.Thing.TheVariants.{Accept, Read, Write}
 use Rattle.ready_loop.specs.InTurn.{Turning, after_accept, after_close, after_poll, after_read, after_write, is_in_turn, led, moved, own_port, taken, taken_if, turned}
-use Rattle.ready_loop.specs.Lines.{Line, hot_of, queued_port, recalled, sent_back, settled, without, without_port}
+use Rattle.ready_loop.specs.Lines.{Line, brought, hot_of, queued_port, recalled, sent_back, settled, without, without_port}
 use Rattle.ready_loop.specs.Queues.{first_servable, is_next, is_thing}
 use Rattle.ready_loop.proofs.IdleLemmas.{first_is_front}
 use Rattle.ready_loop.proofs.QuietLemmas.{leads}
-use Rattle.ready_loop.proofs.SetLemmas.{hot_of-queued_all, hot_of-queued_port, hot_of-recalled, hot_of-sent_back, hot_of-settled, hot_of-without, hot_of-without_port, queue_of-queued_port}
+use Rattle.ready_loop.proofs.SetLemmas.{hot_of-brought, hot_of-queued_all, hot_of-queued_port, hot_of-recalled, hot_of-sent_back, hot_of-settled, hot_of-without, hot_of-without_port, queue_of-brought, queue_of-queued_port}
 use Rattle.ready_loop.proofs.ThingLemmas.{same_thing-true}
 
 -- wherever a call may come next, what is ready is what stands in the line
@@ -78,7 +78,9 @@ accept_ready door state hot (Err Memory) line there same some = absurd (some ref
 read_ready : (port : ℕ) (bytes : List ℕ) (state : State) (hot : Hot) (answer : Result Got WorldFault) (line : Line)
     → set_of line.queue (Read port) ≡ true → hot ≡ hot_of line
     → IsReady (hub.after_read port bytes state hot answer) (after_read port answer line)
-read_ready port bytes state hot (Ok (got.Bytes n)) line there same some = back_same (Read port) hot line there same
+read_ready port bytes state hot (Ok (got.Bytes n)) line there same some =
+    back_same (Read port) hot (brought (Write port) line) (queue_of-brought (Write port) line (Read port) there)
+    (same ∙ sym (hot_of-brought (Write port) line))
 read_ready port bytes state hot (Ok got.End) line there same some = without_same (Read port) hot line same
 read_ready port bytes state hot (Ok got.NotNow) line there same some = without_same (Read port) hot line same
 read_ready port bytes state hot (Err Failed) line there same some = without_same (Read port) hot line same

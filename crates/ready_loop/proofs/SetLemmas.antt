@@ -10,7 +10,7 @@ use Rattle.ready_hub.specs.declared.thing.Thing.{Thing}
 use Rattle.ready_hub.specs.declared.thing.Thing.TheVariants.{Accept, Read, Write}
 use Rattle.ready_hub.specs.Servable.{is_servable}
 use Rattle.ready_loop.specs.Aside.{Aside, put_aside, still_aside, taken_back, things_aside}
-use Rattle.ready_loop.specs.Lines.{Line, aside_with, called, called_all, called_own, hot_of, queued, queued_all, queued_by, queued_if, queued_port, recalled, sent_back, settled, without, without_port}
+use Rattle.ready_loop.specs.Lines.{Line, aside_with, brought, called, called_all, called_own, hot_of, queued, queued_all, queued_by, queued_if, queued_port, recalled, sent_back, settled, without, without_port}
 use Rattle.ready_loop.specs.Queues.{dropped, from_servable, put_back}
 use Rattle.ready_loop.proofs.AsideLemmas.{same_sets, set_of-append, set_of-filter, set_of-put_aside, set_of-still_aside, set_of-taken_back}
 use Rattle.ready_loop.proofs.TestLemmas.{and_both, both_if, or_assoc, or_right}
@@ -186,6 +186,19 @@ called_by true thing other line there =
     ∙ back_over (same_thing thing other) (set_of line.queue other) (set_of (things_aside line.aside) other)
     (λ same. ap (set_of (things_aside line.aside)) (sym (same_thing-true thing other same)) ∙ there refl)
     ∙ sym (hot_at line other)
+
+pub hot_of-brought : (thing : Thing) (line : Line) → hot_of (brought thing line) ≡ hot_of line
+hot_of-brought thing line = same_sets (hot_of (brought thing line)) (hot_of line) (λ other.
+    called_by (set_of (things_aside line.aside) thing) thing other line (λ there. there))
+
+-- what stood in the queue does so yet
+still_brought : (test : Bool) (line : Line) (thing other : Thing) → set_of line.queue other ≡ true → set_of (if test then record line { queue = line.queue ++ thing ∷ []; aside = taken_back thing line.aside } else line).queue other ≡ true
+still_brought false line thing other there = there
+still_brought true line thing other there =
+    appended_at thing other line.queue ∙ or_right (same_thing thing other) (set_of line.queue other) there
+
+pub queue_of-brought : (thing : Thing) (line : Line) (other : Thing) → set_of line.queue other ≡ true → set_of (brought thing line).queue other ≡ true
+queue_of-brought thing line other there = still_brought (set_of (things_aside line.aside) thing) line thing other there
 
 hot_of-called : (state : State) (thing : Thing) (line : Line) → hot_of (called state thing line) ≡ hot_of line
 hot_of-called state thing line = same_sets (hot_of (called state thing line)) (hot_of line) (λ other.

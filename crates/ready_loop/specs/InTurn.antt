@@ -21,7 +21,7 @@ use Rattle.ready_hub.specs.Answered.{Closing, Due, Free, Nothing, NowFor, Pollin
 use Rattle.ready_hub.specs.LegalJournal.{allowed}
 use Rattle.ready_hub.specs.declared.thing.Thing.{Thing}
 use Rattle.ready_hub.specs.declared.thing.Thing.TheVariants.{Accept, Read, Write}
-use Rattle.ready_loop.specs.Lines.{Line, hot_of, queued_all, queued_port, recalled, sent_back, settled, without, without_port}
+use Rattle.ready_loop.specs.Lines.{Line, brought, hot_of, queued_all, queued_port, recalled, sent_back, settled, without, without_port}
 use Rattle.ready_loop.specs.Queues.{is_next}
 
 -- how a journal was read so far, and the line
@@ -46,9 +46,9 @@ abbrev pub after_accept : Door → Result Accepted WorldFault → Line → Line
 after_accept door (Ok answer) line = after_accepted door answer line
 after_accept door (Err fault) line = without (Accept door) line
 
--- a connection that was read
+-- a connection that was read: bytes may bring it an answer, so that its other direction comes back before it
 abbrev pub after_got : ℕ → Got → Line → Line
-after_got port (got.Bytes n) line = sent_back (Read port) line
+after_got port (got.Bytes n) line = sent_back (Read port) (brought (Write port) line)
 after_got port got.End line = without (Read port) line
 after_got port got.NotNow line = without (Read port) line
 

@@ -2,7 +2,7 @@
 ghost use Rattle.std.specs.Prelude.{◌≡◌, ◌||◌, None, OnOk, Some, false, length, nat_lt, true};
 ghost use Rattle.agent_model.specs.State.{State, is_client};
 ghost use Rattle.rising_numbers.specs.Rising.{IsRisingList};
-ghost use Rattle.ready_hub.specs.declared.thing.Thing.TheVariants.{Accept};
+ghost use Rattle.ready_hub.specs.declared.thing.Thing.TheVariants.{Accept, Read, Write};
 ghost use Rattle.ready_loop.specs.Lines.{brought, called, called_all, called_own, empty_line, hot_of, queued, queued_all, queued_by, queued_if, queued_port, recalled, sent_back, settled, without, without_port};
 ghost use Rattle.ready_loop.specs.Queues.{dropped, first_servable};
 ghost use Rattle.ready_loop.specs.Standing.{IsFront, IsStirred, front_but, stuck_front};
@@ -75,6 +75,18 @@ impl Queue {
     {
         self.settle_before(thing)?;
         self.rotate(thing)
+    }
+
+    // A connection was read, and may be read yet: it goes behind all others, and before it its other direction comes
+    // back, since what was read may bring an answer.
+    pub fn send_back_read(&mut self, port: u64) -> Result<(), AllocError>
+        requires { (state : State) × (first_servable state self.old.queue ≡ Some (Read port)) }
+        ensures { (state : State) → first_servable state self.old.queue ≡ Some (Read port)
+            → OnOk result (self.new ≡ sent_back (Read port) (brought (Write port) (settled state self.old))) }
+    {
+        self.settle_before(Thing::Read(port))?;
+        self.bring(Thing::Write(port))?;
+        self.rotate(Thing::Read(port))
     }
 
     // The thing was to be served, and isn't ready any more.

@@ -2,9 +2,11 @@
 #![tactic(auto, unfolding(wire_text::specs::Frames::front, wire_text::specs::Frames::split_up_to, wire_text::specs::Frames::split, wire_text::specs::Wire::uint32, wire_text::specs::Wire::string, wire_text::specs::Wire::announced_len, agent_msg::specs::Reading::request_of_number, agent_msg::specs::Reading::request_of, agent_msg::specs::Reading::is_addition, agent_msg::specs::Requests::session_bind, agent_msg::specs::Requests::bind_front, agent_msg::specs::Requests::names_bind, identity_table::specs::Identities::alive_at, identity_table::specs::Identities::next_death, identity_table::specs::Identities::find_identity, identity_table::specs::Identities::remove_identity,))]
 
 ghost use Rattle.std.specs.Prelude.{◌≡◌, [], ◌∷◌, None, Some, false, true};
+ghost use Rattle.world_ports.specs.declared.answers.Got.TheVariants as got;
 ghost use Rattle.world_ports.specs.declared.events.Door.TheVariants.{Clients};
 ghost use Rattle.ready_hub.specs.Rows.{accept_as, accept_none, joins, now_at, poll_client, poll_nothing, read_none, read_of, write_of};
 ghost use Rattle.ready_hub.specs.declared.thing.Thing.TheVariants.{Accept, Read, Write};
+ghost use Rattle.ready_loop.specs.InTurn.{after_got};
 ghost use Rattle.ready_loop.specs.Lines.{queued, recalled, sent_back, settled, without};
 ghost use Rattle.ready_loop.specs.Rows.{comes_in_turn, is_legal_in, line_of, no_ports, one_client, queue_of, two_clients};
 
@@ -27,11 +29,13 @@ pub fn what_can_be_served_again_comes_back()
         ≡ line_of (Read 2 ∷ Accept Clients ∷ Read 1 ∷ []) [] [] (2 ∷ []) }
 {}
 
-/// A thing that was served goes behind all others.
+/// A thing that was served goes behind all others, and a connection that was read behind what is to be written to it.
 pub fn what_was_served_stands_last()
     ensures first { sent_back (Read 1) (queue_of (Read 1 ∷ Write 1 ∷ Read 2 ∷ []))
         ≡ queue_of (Write 1 ∷ Read 2 ∷ Read 1 ∷ []) }
     ensures only { sent_back (Read 1) (queue_of (Read 1 ∷ [])) ≡ queue_of (Read 1 ∷ []) }
+    ensures read { after_got 1 (got.Bytes 5) (line_of (Read 1 ∷ Read 2 ∷ []) [] [] (1 ∷ []))
+        ≡ line_of (Read 2 ∷ Write 1 ∷ Read 1 ∷ []) [] [] [] }
 {}
 
 /// A thing that is ready stands in one place, and one that isn't any more in none.

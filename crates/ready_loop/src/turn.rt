@@ -10,7 +10,7 @@ ghost use Rattle.ready_hub.specs.declared.thing.Thing.TheVariants.{Accept, Read,
 ghost use Rattle.agent_core.specs.Happenings.{happening};
 ghost use Rattle.ready_loop.specs.Happenings.{MayJoin, number_after};
 ghost use Rattle.ready_loop.specs.InTurn.{in_state, port_of};
-ghost use Rattle.ready_loop.specs.Lines.{IsQuiet, recalled, sent_back, settled, without};
+ghost use Rattle.ready_loop.specs.Lines.{IsQuiet, brought, recalled, sent_back, settled, without};
 ghost use Rattle.ready_loop.specs.Moves.{Goes, Serves};
 ghost use Rattle.ready_loop.specs.Queues.{first_servable};
 ghost use Rattle.ready_loop.specs.Rooms.{IsWiped};
@@ -165,13 +165,14 @@ fn hear<A: Core, W: World>(
     requires quiet { IsQuiet (A.state agent.old) queue.old }
     requires ports { W.last_port world.old ≡ (A.state agent.old).last_port }
     ensures legal { Goes result
-        (in_state (A.state agent.old) (sent_back (Read port) (settled (A.state agent.old) queue.old))
+        (in_state (A.state agent.old)
+        (sent_back (Read port) (brought (Write port) (settled (A.state agent.old) queue.old)))
         (NowFor (Heard port piece.now)))
         (W.journal world.old) (W.journal world.new) (in_state (A.state agent.new) queue.new Free) }
     ensures ports { OnOk result (W.last_port world.new ≡ (A.state agent.new).last_port) }
     ensures later { W.faults world.old ≤ W.faults world.new }
 {
-    let Ok(()) = queue.send_back(Thing::Read(port)) else {
+    let Ok(()) = queue.send_back_read(port) else {
         return Err(CoreMemory);
     };
     happen(queue, agent, world, &Event::Heard { port, piece })

@@ -1,6 +1,6 @@
-use Rattle.ready_hub.specs.declared.thing.Thing.TheVariants.{Read}
-use Rattle.ready_loop.specs.Lines.{sent_back, settled}
-use Rattle.ready_loop.proofs.QuietLemmas.{quiet_settled}
+use Rattle.ready_hub.specs.declared.thing.Thing.TheVariants.{Read, Write}
+use Rattle.ready_loop.specs.Lines.{brought, sent_back, settled}
+use Rattle.ready_loop.proofs.QuietLemmas.{quiet_brought, quiet_settled}
 use Rattle.ready_loop.proofs.KeepingLemmas.{quiet_is}
 use Rattle.ready_loop.proofs.TurningLemmas.{no_call, stops_there}
 use Rattle.ready_loop.proofs.turn.hear.Goals as goal
@@ -12,5 +12,6 @@ pub happen-requires-clause-quiet : goal.happen-requires-clause-quiet
 happen-requires-clause-quiet g c =
     let state = g.A.Core.state c.args.agent.now in
     let line = c.args.queue.now in
-    quiet_is state (sent_back (Read c.args.port) (settled state line)) c.send_back.new.self (c.in-Ok.ensures state c.requires.next)
-    (quiet_settled state line c.requires.quiet)
+    quiet_is state (sent_back (Read c.args.port) (brought (Write c.args.port) (settled state line))) c.send_back_read.new.self
+    (c.in-Ok.ensures state c.requires.next)
+    (quiet_brought state (Write c.args.port) (settled state line) (quiet_settled state line c.requires.quiet))

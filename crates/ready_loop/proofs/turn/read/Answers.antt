@@ -39,7 +39,7 @@ returns-in-Ok-Bytes-clause-legal g c =
     let bytes = take c.in-Ok-Bytes.n c.read.new.room in
     serves_then (entry.Read c.args.port (length c.args.room.now) bytes answer) refl
     (calls.read-any state line c.args.port (length c.args.room.now) bytes answer c.requires.next c.requires.room
-    ∙ calls.back-lands state line (Read c.args.port) (NowFor (Heard c.args.port bytes)) c.requires.next)
+    ∙ calls.read-lands state line c.args.port (NowFor (Heard c.args.port bytes)) c.requires.next)
     (told_at (λ r. entry.Read c.args.port (length c.args.room.now) (got_of r c.read.new.room) r) (g.W.World.journal c.args.world.now) (g.W.World.journal c.read.new.self)
     (c.in-Ok-Bytes.is ∙ ap Ok c.in-Ok-Bytes.field-0-is) c.read.ensures.told)
     c.hear-heard.ensures.legal
