@@ -4,7 +4,7 @@ use Rattle.std.specs.Prelude.{◌↔◌, IsSome, IsTrue, OnOk}
 use Rattle.agent_msg.specs.Requests.{Addition, ClientRequest, IsRequest, session_bind, ListIdentities, Sign, Add, Remove, RemoveAll, Lock, Unlock, Bind, OtherExtension, Unsupported}
 use Rattle.agent_msg.specs.Reading.{request_of}
 use Rattle.agent_model.specs.Binds.{and_host_key}
-use Rattle.agent_model.specs.Limits.{longest_body}
+use Rattle.wire_text.specs.Bounds.{longest_body}
 use Rattle.agent_model.proofs.BoundLemmas.{private-within, text-within}
 use Rattle.agent_core.specs.Served.{IsShortRequest, IsStatus, asker_of, hides, served_body, served_by}
 use Rattle.agent_core.specs.declared.asker.Asker.{Asker as CoreAsker}

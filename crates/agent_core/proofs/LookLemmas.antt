@@ -2,7 +2,7 @@
 use Rattle.std.proofs.Common.{◌≡◌, ℕ, ◌+◌, ◌≤◌, List, length, arith}
 use Rattle.wire_text.proofs.FrontLemmas.{front_says}
 use Rattle.wire_text.specs.Frames.{front, front_body, Whole}
-use Rattle.agent_model.specs.Limits.{longest_body}
+use Rattle.wire_text.specs.Bounds.{longest_body}
 use Rattle.agent_model.proofs.BoundLemmas.{front_body-within}
 
 -- a whole frame is within the bytes

@@ -2,7 +2,7 @@
 use Rattle.std.specs.Prelude.{◌≡◌, ℕ, ◌+◌, ◌≤◌, Bool, true, false, not, List, Option, None, Some, length}
 use Rattle.identity_table.specs.Identities.{HeldKey, TableState}
 use Rattle.agent_msg.specs.Requests.{ClientRequest, ListIdentities, Sign, Add, Remove, RemoveAll, Lock, Unlock, Bind, OtherExtension, Unsupported}
-use Rattle.agent_model.specs.Limits.{longest_body}
+use Rattle.wire_text.specs.Bounds.{longest_body}
 use Rattle.agent_model.specs.Binds.{agent_request_of, with_host_key}
 use Rattle.agent_model.specs.Dispatch.{Asker, Served, sees, serve}
 use Rattle.agent_model.specs.KeyStates.{KeyState}

@@ -8,7 +8,7 @@ ghost use Rattle.agent_model.specs.Asking.{JobsRise};
 ghost use Rattle.agent_model.specs.Children.{closed};
 ghost use Rattle.agent_model.specs.Consents.{confirmer_heard, grant_concluded, over, over_if};
 ghost use Rattle.agent_model.specs.KeyStates.{KeyState};
-ghost use Rattle.agent_model.specs.Limits.{longest_body};
+ghost use Rattle.wire_text.specs.Bounds.{longest_body};
 ghost use Rattle.agent_model.specs.State.{Port, UnderWay as AnUnderWay, find_port};
 ghost use Rattle.agent_core.specs.Closed.{IsClosedSince};
 ghost use Rattle.agent_core.specs.Confirmers.{AreQuiet, IsHeldFor, grant_of};

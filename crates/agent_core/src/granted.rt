@@ -6,7 +6,7 @@ ghost use Rattle.dest_rule.specs.Rules.{denial_under};
 ghost use Rattle.confirm_desk.specs.Calls.{given_back};
 ghost use Rattle.confirm_desk.specs.Confirmations.{Confirmation};
 ghost use Rattle.agent_model.specs.Consents.{close_confirmer};
-ghost use Rattle.agent_model.specs.Limits.{longest_body};
+ghost use Rattle.wire_text.specs.Bounds.{longest_body};
 ghost use Rattle.agent_model.specs.State.{Port, change_port, find_port};
 ghost use Rattle.agent_model.specs.Verdicts.{Verdict, tell};
 ghost use Rattle.under_way.specs.Parts.{TellsOf};

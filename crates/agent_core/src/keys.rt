@@ -3,7 +3,7 @@
 ghost use Rattle.std.specs.Prelude.{◌≡◌, ◌≤◌, [], None, IfOk, IfSome, OnOk, length};
 ghost use Rattle.identity_table.specs.Identities.{IsSound, next_death};
 ghost use Rattle.agent_model.specs.KeyStates.{expired, no_keys};
-ghost use Rattle.agent_model.specs.Limits.{longest_body};
+ghost use Rattle.wire_text.specs.Bounds.{longest_body};
 ghost use Rattle.agent_model.specs.Step.{attempts};
 ghost use Rattle.agent_model.specs.Verdicts.{verdict_text, verdict_waits};
 ghost use Rattle.confirm_desk.specs.Confirmations.{find_asker};

@@ -1,7 +1,7 @@
 //! What requests do to the identities and the lock, and what they are answered.
 
 ghost use Rattle.std.specs.Prelude.{◌≡◌, ◌+◌, ℕ, List, [], true, None, Option, IsSome, OnOk, IfOk, ◌≤◌, length};
-ghost use Rattle.agent_model.specs.Limits.{longest_body};
+ghost use Rattle.wire_text.specs.Bounds.{longest_body};
 ghost use Rattle.agent_msg.specs.Requests.{Sign, client_request};
 ghost use Rattle.identity_table.specs.Identities.{TableState, find_identity};
 ghost use Rattle.agent_model.specs.Dispatch.{add_by, add_seen, remove_by};

@@ -5,7 +5,7 @@ ghost use Rattle.wire_text.specs.Frames.{after_front, front, front_body, More, W
 ghost use Rattle.frame_core.specs.Looks.{front_of};
 ghost use Rattle.agent_model.specs.Answers.{chain_with, prove};
 ghost use Rattle.agent_model.specs.Children.{heard_more, unheard};
-ghost use Rattle.agent_model.specs.Limits.{longest_body};
+ghost use Rattle.wire_text.specs.Bounds.{longest_body};
 ghost use Rattle.agent_model.specs.Looks.{due};
 ghost use Rattle.agent_model.specs.State.{wants_at};
 ghost use Rattle.agent_model.specs.Step.{attempts, take_frame, took_some};

@@ -6,7 +6,7 @@ use Rattle.wire_text.specs.Frames.{front, front_body, Whole}
 use Rattle.wire_text.proofs.WireLemmas.{length-string}
 use Rattle.wire_text.proofs.FrontLemmas.{IsBody-front_body}
 use Rattle.agent_msg.specs.Requests.{Addition, Add, IsText, IsRequest}
-use Rattle.agent_model.specs.Limits.{longest_body}
+use Rattle.wire_text.specs.Bounds.{longest_body}
 
 -- ---- a body that is taken from what a port heard
 

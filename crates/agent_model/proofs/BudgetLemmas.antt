@@ -12,7 +12,7 @@ use Rattle.agent_model.specs.Budget.{asking_bytes, budget, port_budget, ports_bu
 use Rattle.agent_model.specs.Children.{changed}
 use Rattle.agent_model.specs.Dispatch.{Served}
 use Rattle.agent_model.specs.Events.{Happening, Took}
-use Rattle.agent_model.specs.Limits.{longest_body}
+use Rattle.wire_text.specs.Bounds.{longest_body}
 use Rattle.agent_model.specs.Looks.{due, due_at, due_by}
 use Rattle.agent_model.specs.State.{Nothing, OnAsk, OnConfirmation, Port, State, UnderWay, Waits, change_port, find_port, is_some_bytes, owed_as, owed_by, owed_by_port, owed_of, remove_port, role_of}
 use Rattle.agent_model.specs.Step.{asker_at, at_moment, attempts, looked, step, take_frame, took_at, took_by_role, took_some}

@@ -11,7 +11,7 @@ use Rattle.agent_model.specs.Actions.{Outcome, stay}
 use Rattle.agent_model.specs.Children.{changed, closed, heard_more}
 use Rattle.agent_model.specs.Dispatch.{Served, serve}
 use Rattle.agent_model.specs.Events.{Heard}
-use Rattle.agent_model.specs.Limits.{longest_body}
+use Rattle.wire_text.specs.Bounds.{longest_body}
 use Rattle.agent_model.specs.Looks.{due, due_at}
 use Rattle.agent_model.specs.Runs.{forget_closes}
 use Rattle.agent_model.specs.Sound.{IsRising, IsSound}

@@ -1,10 +1,6 @@
 -- The limits of the agent (ours: docs/DECISIONS.md, "Limits of the agent").
 use Rattle.std.specs.Prelude.{ℕ, ◌-◌, ◌^◌}
 
--- the longest body of a client's message
-abbrev pub longest_body : ℕ
-longest_body = 262144
-
 -- the most clients that may be open at once
 abbrev pub most_clients : ℕ
 most_clients = 128

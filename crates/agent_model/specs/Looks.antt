@@ -1,7 +1,7 @@
 -- What is to be taken of a port (ours).
 use Rattle.std.specs.Prelude.{List, [], ◌∷◌, ℕ, Option, Some, None}
 use Rattle.wire_text.specs.Frames.{Front, More, front}
-use Rattle.agent_model.specs.Limits.{longest_body}
+use Rattle.wire_text.specs.Bounds.{longest_body}
 use Rattle.agent_model.specs.State.{Nothing, OnAsk, OnConfirmation, Port, Waits}
 
 -- nothing while the client waits or is owed bytes, else what stands at the front of its bytes

@@ -8,7 +8,7 @@ use Rattle.wire_text.specs.Frames.{Front, front, Whole, Bad, More}
 use Rattle.identity_table.specs.Identities.{next_death}
 use Rattle.agent_model.specs.KeyStates.{KeyState, no_keys}
 use Rattle.agent_model.specs.Events.{Happening, Joined, Heard, Ended, Took, Started, StartFailed, Tick}
-use Rattle.agent_model.specs.Limits.{longest_body}
+use Rattle.wire_text.specs.Bounds.{longest_body}
 use Rattle.helper_link.specs.HelperLink.{HelperLink, no_link, sendable}
 use Rattle.helper_link.specs.declared.state.LinkState.{LinkState}
 use Rattle.helper_link.specs.declared.state.LinkState.TheVariants as states

@@ -8,7 +8,8 @@ use Rattle.wire_text.specs.Frames.{Front, front, front_body, after_front, Whole,
 use Rattle.helper_link.specs.HelperLink.{sent}
 use Rattle.agent_model.specs.KeyStates.{expired}
 use Rattle.agent_model.specs.Events.{Happening, Joined, Heard, Ended, Took, Started, StartFailed, Tick}
-use Rattle.agent_model.specs.Limits.{longest_body, most_clients, most_unnamed}
+use Rattle.wire_text.specs.Bounds.{longest_body}
+use Rattle.agent_model.specs.Limits.{most_clients, most_unnamed}
 use Rattle.agent_model.specs.NumberLists.{without}
 use Rattle.agent_model.specs.Actions.{Outcome, Requested, stay}
 use Rattle.agent_model.specs.Answers.{helper_heard, lose}

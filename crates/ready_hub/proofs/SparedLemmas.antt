@@ -21,7 +21,7 @@ use Rattle.helper_link.specs.declared.state.LinkState.TheVariants as states
 use Rattle.agent_model.specs.Answers.{Answering, answer_all, answer_by, answer_true, answers_in, close_helper, find_verification, helper_heard, lose, lose_if, prove, tell_each, with_answers}
 use Rattle.agent_model.specs.Children.{changed, closed, confirmer_goes_on, confirmer_named, failed_by, failed_if, first_frame, first_message, heard_more, hello_by, helper_named, job_left, named_by, ticket_by, unheard}
 use Rattle.agent_model.specs.Consents.{close_confirmer, consent_by, find_started, grant_to, grant_work, over, over_if}
-use Rattle.agent_model.specs.Limits.{longest_body}
+use Rattle.wire_text.specs.Bounds.{longest_body}
 use Rattle.agent_model.specs.Sound.{IsRising}
 use Rattle.agent_model.specs.State.{Client, Confirmer, Helper, Nothing, OnAsk, OnConfirmation, Port, Role, StartedJob, State, Unnamed, Verification, Waits, change_port, find_port, remove_port, role_of}
 use Rattle.agent_model.specs.Step.{ended_at, ended_by_role, heard_at, heard_by_role, look_front, look_owed, look_port, look_waits, took_at, took_by_role, took_some}

@@ -15,7 +15,7 @@ use Rattle.confirm_desk.specs.declared.held.Held.{Held as CodeHeld}
 use Rattle.agent_model.specs.Children.{remove_to_start, started_by, started_for}
 use Rattle.agent_model.specs.Consents.{find_started, remove_started, without_confirmation}
 use Rattle.agent_model.specs.Errands.{job_of}
-use Rattle.agent_model.specs.Limits.{longest_body}
+use Rattle.wire_text.specs.Bounds.{longest_body}
 use Rattle.agent_model.specs.State.{StartedJob, UnderWay, find_to_start}
 use Rattle.agent_model.proofs.JobLemmas.{in-by_port, in-found, linked_port}
 use Rattle.under_way.specs.Parts.{AreKept, FitsStarted, HasFailed, IsAwaited, IsFor, IsKept, IsShortIn, confirmer_told, helpers, helpers_coming, is_helper, jobs_of, told_by, told_if}

@@ -8,7 +8,7 @@ use Rattle.world_ports.specs.declared.JobKind.{JobKind}
 use Rattle.world_ports.specs.declared.JobKind.TheVariants as kinds
 use Rattle.confirm_desk.specs.Confirmations.{Confirmation, change_job, find_job, linked, linked_at, remove_job}
 use Rattle.agent_model.specs.Asking.{JobsRise}
-use Rattle.agent_model.specs.Limits.{longest_body}
+use Rattle.wire_text.specs.Bounds.{longest_body}
 use Rattle.agent_model.specs.Children.{remove_to_start}
 use Rattle.agent_model.specs.Consents.{find_started, remove_started}
 use Rattle.agent_model.specs.State.{StartedJob, find_to_start}

@@ -13,7 +13,7 @@ use Rattle.confirm_desk.specs.declared.held.Verdict.{Verdict as DeskVerdict}
 use Rattle.confirm_desk.specs.declared.held.Verdict.TheVariants as verdicts
 use Rattle.agent_model.specs.Asking.{JobsRise}
 use Rattle.agent_model.specs.Consents.{without_confirmation}
-use Rattle.agent_model.specs.Limits.{longest_body}
+use Rattle.wire_text.specs.Bounds.{longest_body}
 use Rattle.agent_model.specs.State.{Nothing, OnAsk, OnConfirmation, StartedJob, UnderWay, find_to_start}
 use Rattle.agent_model.specs.Verdicts.{Awaits, Verdict, verdict_text, verdict_waits}
 use Rattle.under_way.specs.Jobs.{all_started}

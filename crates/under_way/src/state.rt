@@ -12,7 +12,7 @@ ghost use Rattle.agent_model.specs.Answers.{find_verification, remove_verificati
 ghost use Rattle.agent_model.specs.Children.{remove_to_start, started_by, started_if};
 ghost use Rattle.agent_model.specs.Consents.{find_started, remove_started, without_confirmation};
 ghost use Rattle.agent_model.specs.Errands.{Signs, Verifies, ask_user, job_of, link_begun, put_ask};
-ghost use Rattle.agent_model.specs.Limits.{longest_body};
+ghost use Rattle.wire_text.specs.Bounds.{longest_body};
 ghost use Rattle.world_ports.specs.declared.Job.{Job as AJob};
 ghost use Rattle.under_way.specs.Jobs.{started_job};
 ghost use Rattle.agent_model.specs.State.{StartedJob as AStartedJob, find_to_start, nothing_under_way};

@@ -1,2 +1,3 @@
 pub mod Wire
 pub mod Frames
+pub mod Bounds

@@ -34,7 +34,7 @@ pub enum Polled {
 pub enum Accepted {
     /// A connection. It has the number after that of the one before it, from 1, over both listeners.
     Port(u64),
-    /// No connection waits.
+    /// None can be had now. A later poll that reports the listener tells that one can.
     NotNow,
 }
 
@@ -45,7 +45,7 @@ pub enum Got {
     Bytes(u32),
     /// Nothing: the peer sends no more.
     End,
-    /// Nothing has come yet.
+    /// Nothing can be had now. A later poll that reports the connection tells that something can.
     NotNow,
 }
 

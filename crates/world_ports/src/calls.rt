@@ -1,5 +1,5 @@
 // The calls of a source or a sink in memory: which are to fail, and how many were made and failed.
-ghost use Rattle.std.specs.Prelude.{◌≡◌, ◌↔◌, ◌⊎◌, IsErr, IsTrue, false, is_err};
+ghost use Rattle.std.specs.Prelude.{◌≡◌, ◌↔◌, ◌⊎◌, IsErr, IsTrue, is_err};
 ghost use Rattle.world_ports.specs.Causes.{HasCause};
 ghost use Rattle.world_ports.specs.Memory.{CallState, IsNextListed, after_call};
 
@@ -42,12 +42,5 @@ impl Calls {
             return Err(Fault);
         }
         Ok(())
-    }
-
-    // Counts one more call, of a kind that can't fail.
-    pub fn pass(&mut self)
-        ensures { self.new ≡ after_call false self.old }
-    {
-        self.made = self.made.saturating_add(1);
     }
 }

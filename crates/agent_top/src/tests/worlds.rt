@@ -24,7 +24,7 @@ fn a_world_that_fails_gives_its_status(rt: HostRuntime) -> Result<(), Fail> {
     for (call, status) in [
         (1, Status::BindFault),
         (2, Status::BindFault),
-        (4, Status::PollFault),
+        (3, Status::PollFault),
     ] {
         assert_eq!(rt;
             serve_failing(&rt, rt.alloc(), call)?,
