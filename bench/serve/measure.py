@@ -11,7 +11,7 @@ import sys
 import time
 
 TOP = pathlib.Path(__file__).resolve().parents[2]
-sys.path.insert(0, str(TOP / ".ci/serving"))
+sys.path.insert(0, str(TOP / "tests"))
 sys.path.insert(0, str(TOP / "helper/tests"))
 
 import openssh

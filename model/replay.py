@@ -3,8 +3,8 @@
 import re
 from collections.abc import Iterable
 
-from agent import Agent
-from wire import Fault, demand
+from .agent import Agent
+from .wire import Fault, demand
 
 LONGEST_LINE, LONGEST_SCHEDULE = 65536, 268435456
 

@@ -10,9 +10,9 @@ import hmac
 import re
 from dataclasses import dataclass, field
 
-from formats import CERTIFIED, CURVES, ED25519, RESTRICT, RSA
-from formats import PublicKey, added_key, plain_type, public_key
-from wire import Fault, Reader, demand, matches, string, uint32
+from .formats import CERTIFIED, CURVES, ED25519, RESTRICT, RSA
+from .formats import PublicKey, added_key, plain_type, public_key
+from .wire import Fault, Reader, demand, matches, string, uint32
 
 DONE, FAILED, NO_AGENT = 0, 1, 2
 LONGEST_KEY_FILE, LONGEST_HOSTS_FILE, LONGEST_BODY = 1048576, 16777216, 262144

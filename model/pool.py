@@ -5,9 +5,9 @@ from __future__ import annotations
 from dataclasses import dataclass
 from random import Random
 
-from formats import BEHIND_CERTIFICATE, BIND, CERTIFIED, CURVES, ED25519, PRIVATE, PUBLIC
-from formats import RESTRICT, RSA, STAND_IN
-from wire import string, uint32, uint64
+from .formats import BEHIND_CERTIFICATE, BIND, CERTIFIED, CURVES, ED25519, PRIVATE, PUBLIC
+from .formats import RESTRICT, RSA, STAND_IN
+from .wire import string, uint32, uint64
 
 
 def of_forms(forms: list[int | bytes | None], seed: int) -> list[bytes]:

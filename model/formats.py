@@ -9,7 +9,7 @@ from collections.abc import Iterator
 from dataclasses import dataclass
 from typing import Any
 
-from wire import Reader, demand, matches, string, uint32, uint64, within
+from .wire import Reader, demand, matches, string, uint32, uint64, within
 
 ED25519, RSA, STAND_IN = b"ssh-ed25519", b"ssh-rsa", b"keyed-sha256@example.com"
 CURVES = {b"ecdsa-sha2-" + name: name for name in (b"nistp256", b"nistp384", b"nistp521")}

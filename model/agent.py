@@ -8,9 +8,9 @@ from collections import Counter
 from collections.abc import Callable, Iterable
 from dataclasses import dataclass, field
 
-import formats
-from rules import Binding, Chain, Rules, may_sign, visible
-from wire import Fault, demand, string, take_frame, uint32, within
+from . import formats
+from .rules import Binding, Chain, Rules, may_sign, visible
+from .wire import Fault, demand, string, take_frame, uint32, within
 
 # What the agent does beside holding keys: there is a default lifetime; a helper signs; connections
 # are bound to sessions; keys have destination constraints; a user is asked before a key signs.

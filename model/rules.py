@@ -5,8 +5,8 @@ The records are those of OpenSSH's PROTOCOL.agent; how a chain of hosts is judge
 
 from dataclasses import dataclass
 
-from formats import Hop, login, public_key
-from wire import demand, matches, within
+from .formats import Hop, login, public_key
+from .wire import demand, matches, within
 
 Rules = list[tuple[Hop, Hop]]
 

@@ -2,8 +2,8 @@
 
 from __future__ import annotations
 
-from rows import ADD1, ASKS, BINDINGS, H1, H2, K1, LIST, NO, OK, ONE, S1, hear, listing, lock
-from rows import row, st, stand_in, to, u32, u64
+from .rows import ADD1, ASKS, BINDINGS, H1, H2, K1, LIST, NO, OK, ONE, S1, hear, listing, lock
+from .rows import row, st, stand_in, to, u32, u64
 
 # A helper signs
 

@@ -13,14 +13,14 @@ from collections import Counter
 from pathlib import Path
 from random import Random
 
-import add_tool
-import pool
-from add_tool import Talk
-from formats import STAND_IN
-from rows import H1, H2, K1, added, st
-from rows_rules import hop, restrict, rule
-from tools import Told, helper, relay, signature, verdict
-from wire import string, uint32, uint64
+from . import add_tool
+from . import pool
+from .add_tool import Talk
+from .formats import STAND_IN
+from .rows import H1, H2, K1, added, st
+from .rows_rules import hop, restrict, rule
+from .tools import Told, helper, relay, signature, verdict
+from .wire import string, uint32, uint64
 
 T = string(STAND_IN)
 ASKPASS = """#!/bin/sh

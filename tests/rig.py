@@ -14,7 +14,7 @@ import tempfile
 import time
 import traceback
 
-TOP = pathlib.Path(__file__).resolve().parents[2]
+TOP = pathlib.Path(__file__).resolve().parents[1]
 BUILT = TOP / "bin"
 STAND_INS = pathlib.Path(__file__).resolve().parent
 FAILURE, SUCCESS, IDENTITIES, SIGNATURE = 5, 6, 12, 14
@@ -419,7 +419,7 @@ class Checks:
                     (
                         f
                         for f in reversed(frame)
-                        if f.filename.startswith(str(TOP / ".ci")) and "rig" not in f.filename
+                        if f.filename.startswith(str(TOP / "tests")) and "rig" not in f.filename
                     ),
                     frame[-1],
                 )

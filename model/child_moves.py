@@ -2,9 +2,9 @@
 
 from __future__ import annotations
 
-import pool
-from moves import BAD_LENGTHS, Moves
-from wire import string, uint32, uint64
+from . import pool
+from .moves import BAD_LENGTHS, Moves
+from .wire import string, uint32, uint64
 
 
 class ChildMoves(Moves):

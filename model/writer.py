@@ -6,10 +6,10 @@ from collections import Counter
 from collections.abc import Iterable
 from random import Random
 
-import pool
-from agent import Port
-from replay import Run
-from wire import string, uint32
+from . import pool
+from .agent import Port
+from .replay import Run
+from .wire import string, uint32
 
 SESSIONS = [bytes([n]) * size for n, size in enumerate((32, 32, 20, 1, 128, 64), 65)]
 PASSPHRASES = [b"a", b"ab", b"passphrase"]

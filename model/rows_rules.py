@@ -5,10 +5,10 @@ from __future__ import annotations
 import base64
 import hashlib
 
-from rows import ADD1, ALL, CERT, E1, ED25519_CERT, H1, H2, K1, LIST, NO, NOTHING, OK, ONE, ROWS
-from rows import RULES, S1, S2, T, TERMS1, cert, hear, listing, lock, remove, row, st, to, u32
-from rows import u64, unlock
-from rows_children import sign, hello, signed, put1, helper, bind, verify, true, chain
+from .rows import ADD1, ALL, CERT, E1, ED25519_CERT, H1, H2, K1, LIST, NO, NOTHING, OK, ONE, ROWS
+from .rows import RULES, S1, S2, T, TERMS1, cert, hear, listing, lock, remove, row, st, to, u32
+from .rows import u64, unlock
+from .rows_children import sign, hello, signed, put1, helper, bind, verify, true, chain
 
 # Destination constraints
 

@@ -2,9 +2,9 @@
 
 from __future__ import annotations
 
-from replay import LONGEST_LINE
-from wire import string, uint32
-from writer import Writer
+from .replay import LONGEST_LINE
+from .wire import string, uint32
+from .writer import Writer
 
 BAD_LENGTHS = [b"\0\0\0\0", uint32(262145), b"\xff\xff\xff\xff", b"\x01\0\0\0"]
 

@@ -1,4 +1,4 @@
-"""Compares the built agent with the model, and the model with wrong ones. See .ci/differential."""
+"""Compares the built agent with the model, and the model with wrong ones. See tests/differential.sh."""
 
 from __future__ import annotations
 
@@ -15,10 +15,10 @@ from collections import Counter
 from collections.abc import Callable
 from pathlib import Path
 
-from agent import STAGES
-from generate import Case, Schedule, goals
-from replay import LONGEST_LINE, LONGEST_SCHEDULE, replay
-from rows_logins import EVERY_ROW
+from .agent import STAGES
+from .generate import Case, Schedule, goals
+from .replay import LONGEST_LINE, LONGEST_SCHEDULE, replay
+from .rows_logins import EVERY_ROW
 
 HERE = Path(__file__).parent
 Result = tuple[bytes, int]
@@ -200,7 +200,7 @@ def report(count: int, lines: int, seen: Counter, stages: list[str], seconds: fl
 def read_wrong() -> list[dict[str, str]]:
     """Edits of one line each: what is wrong, the file, the old text and the new."""
     edits = []
-    for block in (HERE / "wrong").read_text().split("\n\n"):
+    for block in (HERE / "wrong.txt").read_text().split("\n\n"):
         lines = [line for line in block.split("\n") if line and not line.startswith("#")]
         edit = dict(line.split(": ", 1) for line in lines)
         if not edit:
@@ -221,14 +221,14 @@ def write_case(seed: str) -> Case:
 def first_found(edit: dict[str, str]) -> int | None:
     """The number of the first schedule that tells this wrong model from the right one."""
     with tempfile.TemporaryDirectory() as folder:
+        Path(folder, "wrong_model").mkdir()
         for name in ("wire", "formats", "rules", "agent", "replay"):
             text = (HERE / f"{name}.py").read_text()
             if edit["file"] == f"{name}.py":
                 text = text.replace(edit["old"], edit["new"])
-            Path(folder, f"{name}.py").write_text(text)
-            sys.modules.pop(name, None)
+            Path(folder, "wrong_model", f"{name}.py").write_text(text)
         sys.path.insert(0, folder)
-        wrong = importlib.import_module("replay")
+        wrong = importlib.import_module("wrong_model.replay")
         for place, (text, life, wanted) in enumerate(CASES, 1):
             try:
                 if wrong.replay(text, STAGES, life) != wanted:
@@ -253,7 +253,7 @@ def try_wrong(count: int, seed: str) -> bool:
 
 
 def main() -> int:
-    parser = argparse.ArgumentParser(prog=".ci/differential")
+    parser = argparse.ArgumentParser(prog="tests/differential.sh")
     parser.add_argument("program")
     parser.add_argument("count", type=int)
     parser.add_argument("seed", nargs="?", default=str(int.from_bytes(os.urandom(4), "big")))

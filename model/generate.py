@@ -10,12 +10,12 @@ from collections import Counter
 from collections.abc import Iterable
 from random import Random
 
-import pool
-from agent import LIMITS
-from child_moves import ChildMoves
-from replay import LONGEST_LINE, Run
-from wire import string, uint32, uint64
-from writer import Over
+from . import pool
+from .agent import LIMITS
+from .child_moves import ChildMoves
+from .replay import LONGEST_LINE, Run
+from .wire import string, uint32, uint64
+from .writer import Over
 
 Case = tuple[bytes, int | None, tuple[bytes, int]]
 

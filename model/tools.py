@@ -7,8 +7,8 @@ import hmac
 import re
 from dataclasses import dataclass
 
-from formats import STAND_IN
-from wire import Fault, Reader, demand, string, uint32, uint64
+from .formats import STAND_IN
+from .wire import Fault, Reader, demand, string, uint32, uint64
 
 DONE, BAD_FRAME, USAGE, FILE_FAULT, BAD_FILE, TORN_END = 0, 1, 2, 3, 4, 8
 LONGEST_BODY = LONGEST_FILE = 1048576

@@ -11,11 +11,11 @@ import re
 from dataclasses import dataclass
 from pathlib import Path
 
-from rows import LIST, NO, NOTHING, OK, RULES, hear, listing, row, st, to, u32, u64
-from rows_children import chain, hello, sign, signed
-from rows_rules import EVERY_ROW as EARLIER
+from .rows import LIST, NO, NOTHING, OK, RULES, hear, listing, row, st, to, u32, u64
+from .rows_children import chain, hello, sign, signed
+from .rows_rules import EVERY_ROW as EARLIER
 
-RECORDED = Path(__file__).parents[2] / "crates/dest_rule/src/tests"
+RECORDED = Path(__file__).parents[1] / "crates/dest_rule/src/tests"
 COMMENT = b"user@host"
 # A second of 2026, at which the certificates of the hosts are good.
 WALL = 1795000000

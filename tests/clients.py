@@ -1,0 +1,888 @@
+#!/usr/bin/env python3
+"""Real clients against the built agent, on loopback: each check is made with OpenSSH's agent too, in the same run, and
+what that gives is the expected value. It starts an sshd of its own, with its own keys, at free ports. Words choose checks:
+the parts ssh, destinations, programs, others and scripts, or a part of a check's name. Where agent_prog doesn't serve yet,
+it says so and ends with 0; with the environment variable AGENT another program is taken for it."""
+
+import atexit
+import contextlib
+import functools
+import os
+import pathlib
+import re
+import shutil
+import signal
+import subprocess
+import sys
+import tempfile
+import time
+
+sys.dont_write_bytecode = True
+TOP = pathlib.Path(__file__).resolve().parents[1]
+
+import rig
+from hosts import SSHD, USER, Hosts, certify, keygen
+from rig import Skip, openssh_agent, our_agent, run, until
+
+check = rig.Checks("clients")
+PROGRAM = rig.agent_program()
+KINDS = (("ed25519", 256), ("rsa", 2048), ("rsa", 3072), ("ecdsa", 256), ("ecdsa", 384), ("ecdsa", 521))
+
+
+def alike(folder, case, *words, **more):
+    """Has a case answered by OpenSSH's agent and then by ours: the answers are the same."""
+    with openssh_agent(folder, *words) as theirs:
+        wanted = case(theirs)
+    with our_agent(PROGRAM, folder, *words, **more) as ours:
+        seen = case(ours)
+    assert seen == wanted, f"ours {seen}, ssh-agent {wanted}"
+    return wanted
+
+
+def log_in(folder, keys, names=("one",), words=("one", "echo in"), added=(), **more):
+    """Logs in with keys that an agent holds."""
+    with Hosts(folder, *names, **more) as hosts:
+        hosts.allow(*keys)
+
+        def case(agent):
+            answers = []
+            for key in keys:
+                agent.run("ssh-add", "-q", *added, key)
+                answers.append(hosts.ssh(agent, *words))
+                agent.run("ssh-add", "-q", "-D")
+            return [*answers, hosts.ssh(agent, *words)]
+
+        return alike(folder, case)
+
+
+# ssh.
+check.part = "ssh"
+
+
+@check
+def logins_by_every_kind_of_key(folder):
+    keys = [keygen(folder / f"{kind}{bits}", kind, bits) for kind, bits in KINDS]
+    *ins, out = log_in(folder, keys)
+    assert ins == [(0, "in\n")] * len(KINDS) and out[0] == 255
+
+
+@check
+def logins_by_every_kind_of_certificate(folder):
+    keys = [keygen(folder / f"{kind}{bits}", kind, bits) for kind, bits in KINDS]
+    with Hosts(folder, "one") as hosts:
+        for key in keys:
+            certify(hosts.authority, key, "-n", USER)
+
+        def case(agent):
+            answers = []
+            for key in keys:
+                agent.run("ssh-add", "-q", key)
+                agent.run("ssh-add", "-q", "-d", "-k", key)
+                answers.append(agent.run("ssh-add", "-L"))
+                answers.append(hosts.ssh(agent, "one", "echo in"))
+                agent.run("ssh-add", "-q", "-D")
+            return answers
+
+        assert alike(folder, case).count((0, "in\n")) == len(KINDS)
+
+
+@check
+def logins_by_every_algorithm_of_rsa(folder):
+    key = keygen(folder / "rsa", "rsa", 2048)
+    for algorithm in ("ssh-rsa", "rsa-sha2-256", "rsa-sha2-512"):
+        place = folder / algorithm
+        place.mkdir()
+        words = ("-o", f"PubkeyAcceptedAlgorithms={algorithm}", "one", "echo in")
+        assert log_in(place, [key], words=words)[0] == (0, "in\n")
+
+
+@check
+def sixteen_logins_at_once(folder):
+    key = keygen(folder / "key")
+    with Hosts(folder, "one") as hosts:
+        hosts.allow(key)
+
+        def case(agent):
+            agent.run("ssh-add", "-q", key)
+            started = [
+                subprocess.Popen(
+                    ["ssh", "-F", hosts.config, "one", "echo in"],
+                    stdin=subprocess.DEVNULL,
+                    stdout=subprocess.PIPE,
+                    stderr=subprocess.STDOUT,
+                    env=agent.environment,
+                )
+                for _ in range(16)
+            ]
+            return [(process.communicate(timeout=60)[0], process.returncode) for process in started]
+
+        assert alike(folder, case) == [(b"in\n", 0)] * 16
+
+
+@check
+def a_locked_agent_logs_nobody_in(folder):
+    key = keygen(folder / "key")
+    with Hosts(folder, "one") as hosts:
+        hosts.allow(key)
+
+        def lock(agent, word, typed):
+            done = subprocess.run(
+                ["ssh-add", word],
+                input=typed,
+                stdout=subprocess.DEVNULL,
+                stderr=subprocess.DEVNULL,
+                env=agent.environment,
+                start_new_session=True,
+            )
+            return done.returncode
+
+        def case(agent):
+            agent.run("ssh-add", "-q", key)
+            return [
+                lock(agent, "-x", b"word\nword\n"),
+                hosts.ssh(agent, "one", "echo in"),
+                lock(agent, "-X", b"other\n"),
+                hosts.ssh(agent, "one", "echo in"),
+                lock(agent, "-X", b"word\n"),
+                hosts.ssh(agent, "one", "echo in"),
+            ]
+
+        answers = alike(folder, case)
+        assert [status for status, _ in answers[1::2]] == [255, 255, 0]
+
+
+@check
+def a_key_that_ran_out_logs_nobody_in(folder):
+    key = keygen(folder / "key")
+    with Hosts(folder, "one") as hosts:
+        hosts.allow(key)
+
+        def case(agent):
+            agent.run("ssh-add", "-q", "-t", "8", key)
+            first = hosts.ssh(agent, "one", "echo in")
+            time.sleep(9.2)
+            return [first, hosts.ssh(agent, "one", "echo in")]
+
+        assert [status for status, _ in alike(folder, case)] == [0, 255]
+
+
+@check
+def a_use_is_confirmed_or_denied(folder):
+    key = keygen(folder / "key")
+    rig.needs_confirmations(PROGRAM)
+    relay = [] if rig.is_stand_in(PROGRAM) else [rig.built("confirm_relay")]
+    asker = rig.script(folder / "ask", f'echo "$1" >> {folder}/asked; exit "$(cat {folder}/status)"')
+    with Hosts(folder, "one") as hosts:
+        hosts.allow(key)
+
+        def case(agent):
+            agent.run("ssh-add", "-q", "-c", key)
+            answers = []
+            for status in ("0", "1", "0"):
+                (folder / "status").write_text(status)
+                answers.append(hosts.ssh(agent, "one", "echo in"))
+            asked = (folder / "asked").read_text()
+            (folder / "asked").unlink()
+            return [*answers, re.findall("SHA256:\\S+", asked.replace(".\n", "\n"))]
+
+        environment = dict(os.environ, SSH_ASKPASS=str(asker), SSH_ASKPASS_REQUIRE="force", DISPLAY=":none")
+        with openssh_agent(folder, env=environment) as theirs:
+            wanted = case(theirs)
+        words = ["--relay", *relay, "--askpass", asker] if relay else ["--relay", "/bin/true", "--askpass", asker]
+        with our_agent(PROGRAM, folder, *words) as ours:
+            assert case(ours) == wanted
+        assert [status for status, _ in wanted[:3]] == [0, 255, 0]
+
+
+@check
+def forwarding_over_one_two_and_three_hosts(folder):
+    key = keygen(folder / "key")
+    with Hosts(folder, "one", "two", "three") as hosts:
+        hosts.allow(key)
+        ssh = f"ssh -F {hosts.config} -A"
+
+        def case(agent):
+            agent.run("ssh-add", "-q", key)
+            return [
+                hosts.ssh(agent, "-A", "one", "ssh-add -l"),
+                hosts.ssh(agent, "-A", "one", f"{ssh} two ssh-add -l"),
+                hosts.ssh(agent, "-A", "one", f"{ssh} two {ssh} three ssh-add -l"),
+                hosts.ssh(agent, "-A", "one", f"ssh-add -T {key}.pub"),
+                hosts.ssh(agent, "-a", "one", "ssh-add -l"),
+            ]
+
+        answers = alike(folder, case)
+        assert [status for status, _ in answers] == [0, 0, 0, 0, 2], answers
+
+
+@check
+def jumps_and_shared_connections(folder):
+    key = keygen(folder / "key")
+    with Hosts(folder, "one", "two", "three") as hosts:
+        hosts.allow(key)
+
+        def case(agent):
+            agent.run("ssh-add", "-q", key)
+            share = ("-o", f"ControlPath={folder}/%n-{os.path.basename(agent.path)}")
+            return [
+                hosts.ssh(agent, "-J", "one", "two", "echo in"),
+                hosts.ssh(agent, "-J", "one,two", "three", "echo in"),
+                hosts.ssh(agent, *share, "-o", "ControlPersist=30", "-M", "-fN", "one"),
+                hosts.ssh(agent, *share, "one", "echo shared"),
+                hosts.ssh(agent, *share, "-O", "exit", "one")[0],
+            ]
+
+        answers = alike(folder, case)
+        assert [answer[0] for answer in answers[:4]] == [0, 0, 0, 0], answers
+
+
+@check
+def a_client_that_dies_in_the_middle_disturbs_nobody(folder):
+    key = keygen(folder / "key")
+    with Hosts(folder, "one") as hosts:
+        hosts.allow(key)
+
+        def case(agent):
+            agent.run("ssh-add", "-q", key)
+            for wait in (0, 0.01, 0.03, 0.1, 0.2, 0.3):
+                process = subprocess.Popen(
+                    ["ssh", "-F", hosts.config, "-A", "one", "sleep 5"],
+                    env=agent.environment,
+                    stdin=subprocess.DEVNULL,
+                    stdout=subprocess.DEVNULL,
+                    stderr=subprocess.DEVNULL,
+                )
+                time.sleep(wait)
+                process.kill()
+                process.wait()
+            return [hosts.ssh(agent, "one", "echo in"), agent.run("ssh-add", "-l")]
+
+        assert alike(folder, case)[0] == (0, "in\n")
+
+
+# Destinations.
+check.part = "destinations"
+
+
+def destinations(folder, rules, tries, **more):
+    """Adds a key under rules, and tries ways through the hosts `one`, `two` and `three`: a way is the hosts in order."""
+    rig.needs_destinations(PROGRAM)
+    key = keygen(folder / "key")
+    with Hosts(folder, "one", "two", "three", **more) as hosts:
+        hosts.allow(key)
+
+        def case(agent):
+            words = [word for rule in rules for word in ("-h", rule)]
+            answers = [agent.run("ssh-add", "-q", *words, "-H", hosts.known, key, status=None)]
+            for way in tries:
+                first, *rest = way
+                command = "ssh-add -l; echo in"
+                for name in reversed(rest):
+                    command = (
+                        f"ssh -F {hosts.config} -A {name} '{command}'"
+                        if "'" not in command
+                        else (f'ssh -F {hosts.config} -A {name} "{command}"')
+                    )
+                answers.append(hosts.ssh(agent, "-A", first, command))
+            return [*answers, agent.run("ssh-add", "-l", status=None)]
+
+        return alike(folder, case)
+
+
+WAYS = (("one",), ("two",), ("one", "two"), ("two", "one"), ("one", "two", "three"), ("one", "three"))
+
+
+@check
+def destinations_by_host(folder):
+    for number, rules in enumerate(
+        (["one"], ["one", "one>two"], ["one", "one>two", "two>three"], ["two", "one>two"], ["none"])
+    ):
+        place = folder / str(number)
+        place.mkdir()
+        destinations(place, rules, WAYS)
+
+
+@check
+def destinations_by_user(folder):
+    for number, rules in enumerate(
+        (
+            [f"{USER}@one"],
+            ["nobody@one"],
+            [f"{USER[0]}*@one"],
+            [f"!{USER},*@one"],
+            ["one", f"one>{USER}@two"],
+            ["one", "one>nobody@two"],
+        )
+    ):
+        place = folder / str(number)
+        place.mkdir()
+        destinations(place, rules, WAYS[:4])
+
+
+@check
+def destinations_by_certified_hosts(folder):
+    destinations(folder, ["one", "one>two"], WAYS, certified=True)
+
+
+@check
+def destinations_in_hashed_known_hosts(folder):
+    destinations(folder, ["one", "one>two"], WAYS, hashed=True)
+
+
+# Other programs of OpenSSH and git.
+check.part = "programs"
+
+
+@check
+def scp_sftp_and_rsync(folder):
+    key = keygen(folder / "key")
+    with Hosts(folder, "one") as hosts:
+        hosts.allow(key)
+        (folder / "file").write_bytes(bytes(range(256)) * 400)
+
+        def case(agent):
+            agent.run("ssh-add", "-q", key)
+            place = folder / f"from_{os.path.basename(agent.path)}"
+            place.mkdir()
+            statuses = []
+            for number, words in enumerate(
+                (
+                    ["scp", "-q", "-F", hosts.config, f"one:{folder}/file", place / "0"],
+                    ["scp", "-q", "-O", "-F", hosts.config, f"one:{folder}/file", place / "1"],
+                    ["sftp", "-q", "-F", hosts.config, f"one:{folder}/file", place / "2"],
+                    ["rsync", "-e", f"ssh -F {hosts.config}", f"one:{folder}/file", place / "3"],
+                )
+            ):
+                agent.run(*words)
+                statuses.append((place / str(number)).read_bytes() == (folder / "file").read_bytes())
+            return statuses
+
+        assert alike(folder, case) == [True] * 4
+
+
+@check
+def ssh_keygen_signs_files_and_others_verify(folder):
+    keys = [keygen(folder / f"{kind}{bits}", kind, bits) for kind, bits in KINDS]
+    allowed = folder / "allowed"
+    allowed.write_text("".join(f"me {pathlib.Path(f'{key}.pub').read_text()}" for key in keys))
+    message = folder / "message"
+    message.write_text("a message\n")
+
+    def case(agent):
+        answers = []
+        for key in keys:
+            agent.run("ssh-add", "-q", key)
+            for more in ([], ["-O", "hashalg=sha256"]):
+                agent.run("ssh-keygen", "-Y", "sign", "-f", f"{key}.pub", "-n", "file", *more, message)
+                with open(message) as text:
+                    answers.append(
+                        run(
+                            [
+                                "ssh-keygen",
+                                "-Y",
+                                "verify",
+                                "-f",
+                                allowed,
+                                "-I",
+                                "me",
+                                "-n",
+                                "file",
+                                "-s",
+                                f"{message}.sig",
+                            ],
+                            stdin=text,
+                        )
+                    )
+                (folder / "message.sig").unlink()
+            agent.run("ssh-add", "-q", "-d", key)
+            said = subprocess.run(
+                ["ssh-keygen", "-Y", "sign", "-f", f"{key}.pub", "-n", "file", message],
+                env=agent.environment,
+                stdin=subprocess.DEVNULL,
+                stdout=subprocess.DEVNULL,
+                stderr=subprocess.DEVNULL,
+                start_new_session=True,
+            )
+            # Without the agent's key it reads the private file that lies beside.
+            answers.append(said.returncode)
+            (folder / "message.sig").unlink(missing_ok=True)
+        return answers
+
+    answers = alike(folder, case)
+    assert sum("Good" in str(answer) for answer in answers) == 2 * len(keys)
+
+
+@check
+def a_certificate_authority_s_key_can_stay_in_the_agent(folder):
+    authority, key = keygen(folder / "authority"), keygen(folder / "key")
+
+    def case(agent):
+        agent.run("ssh-add", "-q", authority)
+        agent.run("ssh-keygen", "-q", "-U", "-s", f"{authority}.pub", "-I", "id", "-n", "me", "-z", "7", f"{key}.pub")
+        said = run(["ssh-keygen", "-L", "-f", f"{key}-cert.pub"])
+        return re.sub(r"Valid: .*", "", said)
+
+    assert "Serial: 7" in alike(folder, case)
+
+
+@check
+def git_signs_commits_and_tags(folder):
+    key = keygen(folder / "key")
+    (folder / "allowed").write_text(f"me@example.org {pathlib.Path(f'{key}.pub').read_text()}")
+    hidden = pathlib.Path(f"{key}.hidden")
+
+    def case(agent):
+        place = folder / f"git {os.path.basename(agent.path)}"
+        place.mkdir()
+        git = [
+            "git",
+            "-C",
+            place,
+            "-c",
+            "user.name=me",
+            "-c",
+            "user.email=me@example.org",
+            "-c",
+            "gpg.format=ssh",
+            "-c",
+            f"user.signingkey={key}.pub",
+            "-c",
+            f"gpg.ssh.allowedSignersFile={folder}/allowed",
+        ]
+        agent.run("ssh-add", "-q", key)
+        os.rename(key, hidden)
+        try:
+            agent.run(*git, "init", "-q")
+            agent.run(*git, "commit", "-q", "-S", "--allow-empty", "-m", "signed")
+            agent.run(*git, "tag", "-s", "-m", "signed", "v1")
+            said = [agent.run(*git, "verify-commit", "HEAD"), agent.run(*git, "verify-tag", "v1")]
+            agent.run("ssh-add", "-q", "-D")
+            refused = subprocess.run(
+                [str(word) for word in git] + ["commit", "-q", "-S", "--allow-empty", "-m", "x"],
+                env=agent.environment,
+                stdin=subprocess.DEVNULL,
+                stdout=subprocess.DEVNULL,
+                stderr=subprocess.DEVNULL,
+                start_new_session=True,
+            )
+            return [*said, refused.returncode]
+        finally:
+            os.rename(hidden, key)
+
+    commit, tag, refused = alike(folder, case)
+    assert "Good" in commit and "Good" in tag and refused != 0
+
+
+# Other people's clients.
+check.part = "others"
+
+
+def system_python(module):
+    python = "/usr/bin/python3"
+    if subprocess.run([python, "-c", f"import {module}"], stderr=subprocess.DEVNULL).returncode:
+        raise Skip(f"no {module}")
+    return python
+
+
+@check
+def paramiko_logs_in(folder):
+    python = system_python("paramiko")
+    keys = [keygen(folder / f"{kind}{bits}", kind, bits) for kind, bits in KINDS]
+    with Hosts(folder, "one") as hosts:
+        script = folder / "login.py"
+        script.write_text(
+            f"""import paramiko
+client = paramiko.SSHClient()
+client.set_missing_host_key_policy(paramiko.AutoAddPolicy())
+client.connect("127.0.0.1", {hosts.one}, username={USER!r}, allow_agent=True, look_for_keys=False)
+print(client.exec_command("echo in")[1].read().decode(), end="")
+print([key.get_name() for key in paramiko.Agent().get_keys()])
+"""
+        )
+        hosts.allow(*keys)
+
+        def case(agent):
+            answers = []
+            for key in keys:
+                agent.run("ssh-add", "-q", key)
+                answers.append(agent.run(python, "-W", "ignore", script))
+                agent.run("ssh-add", "-q", "-D")
+            return answers
+
+        assert all(answer.startswith("in\n") for answer in alike(folder, case))
+
+
+@check
+def asyncssh_logs_in(folder):
+    python = system_python("asyncssh")
+    keys = [keygen(folder / f"{kind}{bits}", kind, bits) for kind, bits in KINDS]
+    with Hosts(folder, "one") as hosts:
+        script = folder / "login.py"
+        script.write_text(
+            f"""import asyncio, asyncssh
+async def main():
+    async with asyncssh.connect("127.0.0.1", {hosts.one}, username={USER!r}, known_hosts=None, config=None) as connection:
+        print((await connection.run("echo in")).stdout, end="")
+asyncio.run(main())
+"""
+        )
+        hosts.allow(*keys)
+
+        def case(agent):
+            answers = []
+            for key in keys:
+                agent.run("ssh-add", "-q", key)
+                answers.append(agent.run(python, "-W", "ignore", script))
+                agent.run("ssh-add", "-q", "-D")
+            return answers
+
+        assert alike(folder, case) == ["in\n"] * len(keys)
+
+
+@check
+def plink_and_dbclient_log_in(folder):
+    key = keygen(folder / "key")
+    with Hosts(folder, "one") as hosts:
+        hosts.allow(key)
+        finger = run(["ssh-keygen", "-lf", folder / "host_one.pub"]).split()[1]
+
+        def case(agent):
+            agent.run("ssh-add", "-q", key)
+            answers = []
+            if shutil.which("plink"):
+                words = [
+                    "plink",
+                    "-ssh",
+                    "-batch",
+                    "-agent",
+                    "-hostkey",
+                    finger,
+                    "-P",
+                    hosts.one,
+                    f"{USER}@127.0.0.1",
+                ]
+                answers.append(agent.run(*words, "echo in", env={"HOME": str(folder)}))
+            if shutil.which("dbclient"):
+                words = ["dbclient", "-y", "-y", "-p", hosts.one, f"{USER}@127.0.0.1"]
+                said = agent.run(*words, "echo in", env={"HOME": str(folder)}, stdin=subprocess.DEVNULL)
+                answers.append(said.splitlines()[-1])
+            return answers
+
+        answers = alike(folder, case)
+        if not answers:
+            raise Skip("neither plink nor dbclient")
+
+
+LIBSSH2 = r"""
+#include <libssh2.h>
+#include <netinet/in.h>
+#include <stdio.h>
+#include <stdlib.h>
+#include <string.h>
+#include <sys/socket.h>
+
+int main(int argc, char **argv)
+{
+    struct sockaddr_in address = { .sin_family = AF_INET, .sin_port = htons(atoi(argv[1])) };
+    address.sin_addr.s_addr = htonl(INADDR_LOOPBACK);
+    int fd = socket(AF_INET, SOCK_STREAM, 0);
+    if (connect(fd, (struct sockaddr *)&address, sizeof address))
+        return 2;
+    libssh2_init(0);
+    LIBSSH2_SESSION *session = libssh2_session_init();
+    if (libssh2_session_handshake(session, fd))
+        return 3;
+    LIBSSH2_AGENT *agent = libssh2_agent_init(session);
+    if (libssh2_agent_connect(agent) || libssh2_agent_list_identities(agent))
+        return 4;
+    struct libssh2_agent_publickey *key = NULL, *last = NULL;
+    int status = 5;
+    while (status && libssh2_agent_get_identity(agent, &key, last) == 0) {
+        printf("%s\n", key->comment);
+        status = libssh2_agent_userauth(agent, argv[2], key) ? 5 : 0;
+        last = key;
+    }
+    return status;
+}
+"""
+
+
+@check
+def libssh2_logs_in(folder):
+    if not pathlib.Path("/usr/include/libssh2.h").exists():
+        raise Skip("no libssh2-1-dev")
+    (folder / "login.c").write_text(LIBSSH2)
+    run(["gcc", "-o", folder / "login", folder / "login.c", "-lssh2"])
+    keys = [keygen(folder / f"{kind}{bits}", kind, bits) for kind, bits in KINDS]
+    with Hosts(folder, "one") as hosts:
+        hosts.allow(*keys)
+
+        def case(agent):
+            answers = []
+            for key in keys:
+                agent.run("ssh-add", "-q", key)
+                answers.append(agent.run(folder / "login", hosts.one, USER, status=None))
+                agent.run("ssh-add", "-q", "-D")
+            return [*answers, agent.run(folder / "login", hosts.one, USER, status=5)]
+
+        assert alike(folder, case) == [*(f"{key.name}\n" for key in keys), ""]
+
+
+GO = r"""
+package main
+
+import (
+	"fmt"
+	"net"
+	"os"
+
+	"golang.org/x/crypto/ssh"
+	"golang.org/x/crypto/ssh/agent"
+)
+
+func main() {
+	socket, err := net.Dial("unix", os.Getenv("SSH_AUTH_SOCK"))
+	if err != nil {
+		panic(err)
+	}
+	keys := agent.NewClient(socket)
+	config := &ssh.ClientConfig{
+		User:            os.Args[2],
+		Auth:            []ssh.AuthMethod{ssh.PublicKeysCallback(keys.Signers)},
+		HostKeyCallback: ssh.InsecureIgnoreHostKey(),
+	}
+	client, err := ssh.Dial("tcp", os.Args[1], config)
+	if err != nil {
+		fmt.Println("refused")
+		os.Exit(5)
+	}
+	session, _ := client.NewSession()
+	said, err := session.Output("echo in")
+	fmt.Printf("%s%v\n", said, err)
+	held, err := keys.List()
+	for _, key := range held {
+		fmt.Println(key.Type(), key.Comment)
+	}
+	fmt.Println(keys.Lock([]byte("word")), keys.Unlock([]byte("word")), keys.RemoveAll())
+}
+"""
+
+
+@check
+def go_s_client_logs_in_and_lists_locks_and_removes(folder):
+    if not pathlib.Path("/usr/share/gocode/src/golang.org/x/crypto/ssh/agent").exists():
+        raise Skip("no golang-golang-x-crypto-dev")
+    (folder / "login.go").write_text(GO)
+    # The packages of Debian lie in a tree of sources of their own.
+    environment = {
+        "PATH": os.environ["PATH"],
+        "GO111MODULE": "off",
+        "GOPATH": "/usr/share/gocode",
+        "GOCACHE": str(folder / "cache"),
+        "GOFLAGS": "-p=2",
+    }
+    run(["/usr/bin/go", "build", "-o", folder / "login", folder / "login.go"], env=environment, timeout=900)
+    keys = [keygen(folder / f"{kind}{bits}", kind, bits) for kind, bits in KINDS]
+    with Hosts(folder, "one") as hosts:
+        hosts.allow(*keys)
+
+        def case(agent):
+            answers = []
+            for key in keys:
+                agent.run("ssh-add", "-q", key)
+                answers.append(agent.run(folder / "login", f"127.0.0.1:{hosts.one}", USER))
+            return [*answers, agent.run(folder / "login", f"127.0.0.1:{hosts.one}", USER, status=5)]
+
+        answers = alike(folder, case)
+        assert all(answer.startswith("in\n") for answer in answers[:-1]), answers
+
+
+# OpenSSH's own scripts.
+check.part = "scripts"
+
+
+def source_of_openssh(folder):
+    """The source of Debian's package, by apt."""
+    release = dict(
+        line.split("=", 1) for line in pathlib.Path("/etc/os-release").read_text().splitlines() if "=" in line
+    )
+    name = release.get("VERSION_CODENAME", "").strip('"')
+    (folder / "lists/partial").mkdir(parents=True)
+    signed = "[signed-by=/usr/share/keyrings/debian-archive-keyring.gpg] http://deb.debian.org"
+    lines = f"deb-src {signed}/debian {name} main\ndeb-src {signed}/debian-security {name}-security main\n"
+    (folder / "sources.list").write_text(lines)
+    options = [f"Dir::Etc::sourcelist={folder}/sources.list", "Dir::Etc::sourceparts=/dev/null"]
+    apt = ["apt-get", "-q", *(f"-o{option}" for option in (*options, f"Dir::State::lists={folder}/lists"))]
+    quiet = dict(cwd=folder, stdout=subprocess.DEVNULL, stderr=subprocess.DEVNULL)
+    for words in (["update"], ["source", "--download-only", "openssh"]):
+        if subprocess.run([*apt, *words], **quiet).returncode:
+            raise Skip("the source of Debian's openssh can't be had")
+    (archive,) = folder.glob("openssh_*.orig.tar.gz")
+    run(["tar", "xzf", archive], cwd=folder)
+    return next(folder.glob("openssh-*/regress"))
+
+
+@functools.cache
+def regress():
+    """The folder of OpenSSH's scripts, beside one with our programs as they are installed."""
+    folder = pathlib.Path(tempfile.mkdtemp(prefix="mk-"))
+    atexit.register(shutil.rmtree, folder, ignore_errors=True)
+    folder.chmod(0o755)
+    os.makedirs("/run/sshd", exist_ok=True)
+    bin = folder / "bin"
+    bin.mkdir()
+    helper = pathlib.Path("/bin/true") if rig.is_stand_in(PROGRAM) else rig.BUILT / "mortarleek-helper"
+    front = TOP / "scripts/mortarleek-agent"
+    for name, source in (("agent_prog", PROGRAM), ("mortarleek-helper", helper), ("mortarleek-agent", front)):
+        shutil.copy(source, bin / name)
+        (bin / name).chmod(0o755)
+    # DSA is left out of the kinds of key: it is refused, by choice.
+    rig.script(folder / "ssh", 'case " $* " in *" -Q "*) ssh "$@" | grep -v dss ;; *) exec /usr/bin/ssh "$@" ;; esac')
+    return source_of_openssh(folder), bin, folder / "ssh"
+
+
+def openssh_script(folder, name, change=lambda text: text):
+    """Runs a script of OpenSSH's for agents with our front end in the place of ssh-agent, and beside it with ssh-agent.
+    Answers for each of them why it failed, or nothing."""
+    source, bin, ssh = regress()
+    folder.chmod(0o755)
+    # The scripts look for their other files beside them.
+    script = source / f"our-{name}.sh"
+    script.write_text(change((source / f"{name}.sh").read_text()))
+    environment = {
+        "PATH": os.environ["PATH"],
+        "HOME": os.environ.get("HOME", "/"),
+        "TEST_SHELL": "sh",
+        "TEST_SSH_SSH": str(ssh),
+        "TEST_SSH_SSHD": SSHD,
+        "TEST_SSH_SSHADD": "/usr/bin/ssh-add",
+        "TEST_SSH_SSHKEYGEN": "/usr/bin/ssh-keygen",
+        "TEST_SSH_SFTPSERVER": "/usr/lib/openssh/sftp-server",
+    }
+    started = []
+    for agent in (bin / "mortarleek-agent", "/usr/bin/ssh-agent"):
+        place = folder / os.path.basename(agent)
+        shutil.rmtree(place, ignore_errors=True)
+        place.mkdir()
+        log = open(place / "said", "w")
+        more = dict(cwd=source, stdin=subprocess.DEVNULL, stdout=log, stderr=log, start_new_session=True)
+        words = ["sh", source / "test-exec.sh", place, script]
+        process = subprocess.Popen(words, env=dict(environment, TEST_SSH_SSHAGENT=str(agent)), **more)
+        started.append((process, place / "said"))
+    answers = []
+    try:
+        for process, log in started:
+            status = process.wait(900)
+            said = log.read_text()
+            passed = status == 0 and re.search(r"(?m)^ok ", said) and "skipped" not in said.lower()
+            answers.append("" if passed else f"status {status}: {said[-600:]}")
+    finally:
+        for process, _ in started:
+            with contextlib.suppress(ProcessLookupError):
+                os.killpg(process.pid, signal.SIGKILL)
+        # a script that failed leaves its agents behind
+        for guard in pathlib.Path("/proc").glob("[0-9]*/cmdline"):
+            with contextlib.suppress(OSError):
+                if f"{bin}/mortarleek-agent\0--guard" in guard.read_text(errors="replace"):
+                    os.kill(int(guard.parent.name), signal.SIGTERM)
+    return answers
+
+
+def passes(folder, name):
+    ours, theirs = openssh_script(folder, name)
+    assert ours == "", f"{ours}\nwith ssh-agent: {theirs or 'passed'}"
+
+
+@check
+def openssh_s_script_agent(folder):
+    passes(folder, "agent")
+
+
+@check
+def openssh_s_script_agent_timeout(folder):
+    # It adds keys for ten seconds and lists them all: where the machine is too busy for that, they get longer.
+    for seconds in (10, 40, 120):
+        longer = lambda text: text.replace("SSHAGENT_TIMEOUT=10\n", f"SSHAGENT_TIMEOUT={seconds}\n")
+        ours, theirs = openssh_script(folder, "agent-timeout", longer)
+        if not ours:
+            return
+    raise AssertionError(f"{ours}\nwith ssh-agent: {theirs or 'passed'}")
+
+
+@check
+def openssh_s_script_agent_subprocess(folder):
+    passes(folder, "agent-subprocess")
+
+
+@check
+def openssh_s_script_agent_restrict(folder):
+    rig.needs_destinations(PROGRAM)
+    passes(folder, "agent-restrict")
+
+
+@check
+def other_programs_of_the_user_can_t_trace_it(folder):
+    """What agent-ptrace.sh asks, of the agent's own process: SSH_AGENT_PID is its guard, a shell that holds no key."""
+    if os.geteuid() != 0:
+        raise Skip("it takes root to install programs that their user can't read")
+    folder.chmod(0o755)
+    place = folder / "place"
+    place.mkdir()
+    place.chmod(0o777)
+    # A shell between, since setpriv itself could still read every file when it starts a program.
+    user = ["setpriv", "--reuid=65534", "--regid=65534", "--clear-groups", "sh", "-c", 'exec "$@"', "sh"]
+    environment = {"PATH": os.environ["PATH"], "HOME": str(place), "TMPDIR": str(place)}
+
+    def tracing(program, words):
+        """What gdb says of the process of a program that the user started."""
+        path = place / "sock"
+        with subprocess.Popen([*user, program, *words, "-a", path], env=environment, **quiet) as process:
+            try:
+                until(path.exists, what="the agent's socket")
+                return run([*user, "gdb", "-nx", "-batch", "-p", process.pid], None, env=environment)
+            finally:
+                process.terminate()
+                process.wait()
+                for left in place.iterdir():
+                    left.unlink()
+
+    quiet = dict(stdin=subprocess.DEVNULL, stdout=subprocess.DEVNULL, stderr=subprocess.DEVNULL)
+    serve = ["serve", "--helper", "/bin/false"]
+    refused = "Operation not permitted"
+    for mode in (0o711, 0o755):
+        shutil.copy(PROGRAM, folder / "agent_prog")
+        (folder / "agent_prog").chmod(mode)
+        said = tracing(folder / "agent_prog", serve)
+        # where its user can read it, the user's programs may trace it: so the refusal is the mode's
+        assert (refused in said) == (mode == 0o711), (oct(mode), said[-600:])
+    assert refused in tracing("ssh-agent", ["-D"])
+
+
+if __name__ == "__main__":
+    if PROGRAM is None:
+        print("clients: skipped: agent_prog doesn't serve yet")
+        sys.exit(0)
+    try:
+        rig.install(
+            "clients",
+            "openssh-client",
+            "openssh-server",
+            "git",
+            "rsync",
+            "python3-paramiko",
+            "python3-asyncssh",
+            "putty-tools",
+            "dropbear-bin",
+            "gcc",
+            "libssh2-1-dev",
+            "golang-go",
+            "golang-golang-x-crypto-dev",
+            "gdb",
+            "util-linux",
+        )
+        if not rig.is_stand_in(PROGRAM):
+            rig.built("mortarleek-helper")
+    except Skip as reason:
+        print(f"clients: not run: {reason}")
+        sys.exit(1)
+    check.run(sys.argv[1:])
