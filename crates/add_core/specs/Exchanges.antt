@@ -39,7 +39,7 @@ verdict_of (Ok (Identities identities)) = Some BadReply
 verdict_of (Ok (Signature signature)) = Some BadReply
 verdict_of (Err fault) = Some BadReply
 
--- it goes on or not
+-- nothing more is done where there is no fault; a fault ends the work
 abbrev pub judged : Option AddFault → List ℕ → Step
 judged None left = nothing left
 judged (Some fault) left = failing fault

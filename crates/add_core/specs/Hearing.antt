@@ -6,7 +6,7 @@ use Rattle.wire_text.specs.Wire.{announced_len}
 use Rattle.wire_text.specs.Frames.{Front, Whole, Bad, More, front, front_body, after_front}
 use Rattle.world_ports.specs.Streams.{StreamView}
 
--- by what stands at the front: a body, and the bytes behind it
+-- the body of the frame that stands at the front, where a whole one does, and the bytes behind it
 abbrev pub answer_of : Front → List ℕ → Option (List ℕ × List ℕ)
 answer_of (Whole body_len) bytes = Some (front_body body_len bytes, after_front body_len bytes)
 answer_of (Bad announced) bytes = None

@@ -39,11 +39,11 @@ line_of listing (Err fault) identity = []
 abbrev pub identity_line : Listing → List ℕ × List ℕ → List ℕ
 identity_line listing identity = line_of listing (public_key_of identity.0) identity
 
--- a line each
+-- the lines of all identities, one each
 abbrev pub lines_of : Listing → List (List ℕ × List ℕ) → List ℕ
 lines_of listing identities = flat_map (identity_line listing) identities
 
--- what is written where there is none
+-- what is written where the agent has no identities
 abbrev pub none_line : List ℕ
 none_line = codes "The agent has no identities.\n"
 
@@ -53,7 +53,7 @@ listed listing [] left =
     record { sent = []; told = none_line; left = []; fault = Some NoIdentities }
 listed listing (identity ∷ identities) left = telling (lines_of listing (identity ∷ identities)) left
 
--- by the reply
+-- what is done with the reply to a request for the list
 abbrev pub list_reply : Listing → Result AgentReply ReplyFault → List ℕ → Step
 list_reply listing (Ok (Identities identities)) left = listed listing identities left
 list_reply listing (Ok Failure) left = failing Refused

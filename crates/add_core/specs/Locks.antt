@@ -10,6 +10,7 @@ abbrev pub lock_body : Bool → List ℕ → List ℕ
 lock_body true passphrase = 22 ∷ string passphrase
 lock_body false passphrase = 23 ∷ string passphrase
 
+-- the line that tells of a lock or of an unlock
 abbrev pub lock_line : Bool → List ℕ
 lock_line true = codes "Agent locked.\n"
 lock_line false = codes "Agent unlocked.\n"

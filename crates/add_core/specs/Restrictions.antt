@@ -13,7 +13,7 @@ use Rattle.add_core.specs.Sendings.{place_of, text_held}
 
 -- ---- files of known hosts
 
--- a text and those behind it, or the first fault
+-- the text of a file and the texts behind it, or the first fault
 abbrev pub with_text : Result (List ℕ) AddFault → Result (List (List ℕ)) AddFault
     → Result (List (List ℕ)) AddFault
 with_text (Err fault) others = Err fault
@@ -29,13 +29,13 @@ hosts_held held place (path ∷ paths) =
 
 -- ---- constraints
 
--- under these destination constraints
+-- the terms that the words ask for, with these destination constraints
 abbrev pub terms_with : PlainWords → Result (List Constraint) DestFault → Result Terms AddFault
 terms_with words (Ok rules) =
     Ok record { life = words.life; confirm = words.confirm; rules = rules }
 terms_with words (Err fault) = Err (Destination fault)
 
--- by the texts of the files of known hosts
+-- the terms that the words ask for, over these texts of files of known hosts
 abbrev pub terms_by : PlainWords → Result (List (List ℕ)) AddFault → Result Terms AddFault
 terms_by words (Ok hosts) = terms_with words (rules_of hosts words.destinations)
 terms_by words (Err fault) = Err fault

@@ -37,6 +37,7 @@ telling text left = record { sent = []; told = text; left = left; fault = None }
 
 -- ---- one after another
 
+-- a step and what is done after it, unless the step has a fault
 abbrev pub followed_by : Option AddFault → Step → Step → Step
 followed_by (Some fault) step after = step
 followed_by None step after = record {

@@ -29,7 +29,7 @@ abbrev pub add_step : PlainWords → (List ℕ → Option (List ℕ)) → List �
 add_step words held replies =
     stepped (terms_for words held) (λ terms. each_file (Add terms) held 0 words.files replies)
 
--- by what is to be done
+-- what is done for a command
 abbrev pub step_for : Command → PlainWords → (List ℕ → Option (List ℕ)) → List ℕ → List ℕ → Step
 step_for does.Add words held input replies = add_step words held replies
 step_for does.Remove words held input replies = each_file Remove held 0 words.files replies
@@ -39,10 +39,11 @@ step_for does.ListKeys words held input replies = list_step Keys replies
 step_for does.Lock words held input replies = lock_step true input replies
 step_for does.Unlock words held input replies = lock_step false input replies
 
+-- what is done for the command of the words
 abbrev pub run_step : PlainWords → (List ℕ → Option (List ℕ)) → List ℕ → List ℕ → Step
 run_step words held input replies = step_for words.command words held input replies
 
--- what is told is a list, which goes to the output; all else goes to the errors
+-- the command writes a list, which goes to the output; what others tell goes to the errors
 abbrev pub is_list : Command → Bool
 is_list does.List = true
 is_list does.ListKeys = true
@@ -62,7 +63,7 @@ pub record Transcript : Type 0 where
   pub lines : List ℕ
   pub status : AddStatus
 
--- the last line's word
+-- the word of a fault in the last line on the errors
 abbrev pub word_of : AddFault → List ℕ
 word_of why.Usage = codes "usage"
 word_of (why.File place) = codes "file"
@@ -93,33 +94,34 @@ abbrev pub status_of : Option AddFault → AddStatus
 status_of None = Done
 status_of (Some fault) = Failed fault
 
--- the same of the code's answer
+-- how the tool ends after the code's answer
 abbrev pub ended : {T : Type 0} → Result T Stop → AddStatus
 ended (Ok value) = Done
 ended (Err of_stop.Memory) = Memory
 ended (Err (of_stop.Fault fault)) = Failed fault
 
--- nothing is sent and written but the last line
+-- the transcript of a tool that sends nothing and writes the last line alone
 abbrev pub only_ends : AddStatus → Transcript
 only_ends status = record { sent = []; output = []; lines = []; status = status }
 
--- by where what is told goes
+-- the transcript of a step, by whether what it tells goes to the output or to the errors
 abbrev pub told_by : Bool → Step → Transcript
 told_by true step =
     record { sent = step.sent; output = step.told; lines = []; status = status_of step.fault }
 told_by false step =
     record { sent = step.sent; output = []; lines = step.told; status = status_of step.fault }
 
--- where there is an agent
+-- the transcript of words of the tool's form, by whether there is an agent
 abbrev pub talk_with : Bool → PlainWords → (List ℕ → Option (List ℕ)) → List ℕ → List ℕ → Transcript
 talk_with true words held input replies = told_by (is_list words.command) (run_step words held input replies)
 talk_with false words held input replies = only_ends NoAgent
 
+-- the transcript of words, where they are of the tool's form
 abbrev pub talk_for : Option PlainWords → Bool → (List ℕ → Option (List ℕ)) → List ℕ → List ℕ → Transcript
 talk_for None has_agent held input replies = only_ends (Failed why.Usage)
 talk_for (Some words) has_agent held input replies = talk_with has_agent words held input replies
 
--- words, whether there is an agent, files, input, the agent's bytes
+-- the transcript for words, whether there is an agent, the files, the input and the agent's bytes
 abbrev pub talk : List (List ℕ) → Bool → (List ℕ → Option (List ℕ)) → List ℕ → List ℕ → Transcript
 talk words has_agent held input replies = talk_for (words_of words) has_agent held input replies
 

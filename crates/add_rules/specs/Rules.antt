@@ -42,7 +42,7 @@ user_of (Some user) = user
 
 -- ---- constraints
 
--- both hops, or the first one's fault, or the second one's
+-- the constraint from one hop to another, or the first one's fault, or the second one's
 abbrev pub between : Result Hop DestFault → Result Hop DestFault → Result Constraint DestFault
 between (Err fault) to = Err fault
 between (Ok from) (Err fault) = Err fault
@@ -62,7 +62,7 @@ rule_for files typed = rule_unless (first_fault typed) files typed
 unfoldable pub rule_of : List (List ℕ) → List ℕ → Result Constraint DestFault
 rule_of files word = rule_for files (destination_of word)
 
--- a constraint and those behind it, or the first fault
+-- a constraint and the constraints behind it, or the first fault
 abbrev pub onto : Result Constraint DestFault → Result (List Constraint) DestFault
     → Result (List Constraint) DestFault
 onto (Err fault) others = Err fault

@@ -48,23 +48,23 @@ nothing_given = record {
 
 -- ---- the next word, or nothing where it is refused
 
--- a lifetime that was read, where it was
+-- what is given and a lifetime, where the word was read as one
 abbrev pub with_life : Given → Option ℕ → Option Given
 with_life given None = None
 with_life given (Some life) = Some record given { wanted = None; life = Some life }
 
--- the value that the option before it wants
+-- what a word adds as the value of the option before it
 abbrev pub after_value : Wanted → Given → List ℕ → Option Given
 after_value Life given word = with_life given (life_of word)
 after_value Destination given word =
     Some record given { wanted = None; destinations = given.destinations ++ word ∷ [] }
 after_value Hosts given word = Some record given { wanted = None; hosts = given.hosts ++ word ∷ [] }
 
--- a file
+-- what is given and one more file
 abbrev pub with_file : Given → List ℕ → Option Given
 with_file given word = Some record given { files = given.files ++ word ∷ [] }
 
--- an option, which says only once what is to be done, that uses are confirmed, and a lifetime; or a file
+-- what a word adds that is an option or a file: a command, `-c` and a lifetime may stand only once
 abbrev pub after_kind : Word → Given → List ℕ → Option Given
 after_kind (Does command) given word =
     if is_some given.command then None else Some record given { command = Some command }
@@ -77,19 +77,20 @@ after_kind Ends given word = Some record given { ended = true }
 after_kind Unknown given word = None
 after_kind File given word = with_file given word
 
+-- what a word adds, by which option it is or else as a file
 abbrev pub after_option : Given → List ℕ → Option Given
 after_option given word = after_kind (option_of word) given word
 
--- where no value is wanted: a file where only files follow
+-- what a word adds where no value is wanted, by whether only files follow
 abbrev pub after_unwanted : Bool → Given → List ℕ → Option Given
 after_unwanted true given word = with_file given word
 after_unwanted false given word = after_option given word
 
--- by whether a value is wanted
+-- what a word adds, by the value that is wanted, where one is
 abbrev pub after_wanted : Option Wanted → Given → List ℕ → Option Given
 after_wanted (Some wanted) given word = after_value wanted given word
 after_wanted None given word = after_unwanted given.ended given word
 
--- the next word
+-- what the next word adds to what is given
 abbrev pub after_word : Given → List ℕ → Option Given
 after_word given word = after_wanted given.wanted given word

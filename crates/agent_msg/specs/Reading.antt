@@ -80,7 +80,8 @@ bind_at bytes = field_then (string_at bytes) (λ host_key after_key.
       forwarding = forwarding;
     }) rest))))
 
--- by whether the name is that of the extension that binds; another one's contents are not looked at
+-- the request of an extension, by whether its name is that of the one that binds: the contents of any
+-- other aren't looked at
 abbrev pub extension_by : Bool → List ℕ → List ℕ → Result ClientRequest MsgFault
 extension_by true name contents = bind_at contents
 extension_by false name contents = Ok (OtherExtension name)

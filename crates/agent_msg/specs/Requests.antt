@@ -154,6 +154,6 @@ pub record NamesBind (body : List ℕ) : Type 0 where
   pub contents : List ℕ
   pub begins : body ≡ bind_front ++ contents
 
--- the same as a test
+-- `NamesBind` as a test: the body begins as a request to bind
 unfoldable pub names_bind : List ℕ → Bool
 names_bind body = starts_with (λ x y. x == y) body bind_front

@@ -20,7 +20,7 @@ to_child_body (Sign s) =
 to_child_body (Verify v) = 2 ∷ (uint64 v.ask ++ (string v.host_key ++ (string v.signature ++ string v.session)))
 to_child_body (Confirm job prompt) = 3 ∷ (uint64 job ++ string prompt)
 
--- how many bytes such a body has: by the lengths of its fields alone
+-- how many bytes the body of a child process's message has, by the lengths of its fields alone
 abbrev pub from_child_length : FromChildMessage → ℕ
 from_child_length (Hello job ticket) = 13 + length ticket
 from_child_length (Signed ask signature) = 13 + length signature
@@ -30,7 +30,7 @@ from_child_length (False ask) = 9
 from_child_length (Granted job) = 9
 from_child_length (Denied job) = 9
 
--- how many bytes such a body has: by the lengths of its fields alone
+-- how many bytes the body of a message to a child process has, by the lengths of its fields alone
 abbrev pub to_child_length : ToChildMessage → ℕ
 to_child_length (Sign s) = 25 + length s.private + length s.blob + length s.message
 to_child_length (Verify v) = 21 + length v.host_key + length v.signature + length v.session

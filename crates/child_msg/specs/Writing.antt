@@ -16,7 +16,8 @@ pub record IsFromChildWriting (message : FromChildMessage) : Type 0 where
   pub alone : (other : FromChildMessage) → FromChildFits other → from_child_body other ≡ from_child_body message
       → other ≡ message
 
--- the same of a message to a child process
+-- the body of a message to a child process is in the grammar and is read back, its frame is found whatever follows, and
+-- no other message has it
 pub record IsToChildWriting (message : ToChildMessage) : Type 0 where
   pub in_grammar : IsToChild (to_child_body message) message
   pub read_back : to_child_of (to_child_body message) ≡ Ok message

@@ -15,6 +15,7 @@ use Rattle.constraint_rec.specs.declared.constraint.Constraint.{Constraint}
 abbrev pub IsReadingOf : {A : Type 0} → Result A TermFault → Result A TermFault → Type 0
 IsReadingOf defined result = IsAnswerUnless Memory (λ value. value) result defined
 
+-- the list has no element
 abbrev pub is_empty : {A : Type 0} → List A → Bool
 is_empty list = length list == 0
 
@@ -24,7 +25,7 @@ field_at bytes = ok_or (string_at bytes) Short
 
 -- ---- one after another
 
--- elements, each read by one, to the end of the bytes: at most so many
+-- the elements that `one` reads to the end of the bytes, at most so many of them
 unfoldable pub all_up_to : {A : Type 0} → (List ℕ → Result (A × List ℕ) TermFault) → ℕ → List ℕ → Result (List A) TermFault
 all_up_to one zero bytes = Ok []
 all_up_to one (suc count) [] = Ok []
@@ -33,7 +34,7 @@ all_up_to one (suc count) (byte ∷ rest) = do
   others ← all_up_to one count first.1
   Ok (first.0 ∷ others)
 
--- elements to the end of the bytes: each takes a byte at least
+-- the elements that `one` reads to the end of the bytes: each takes a byte at least
 unfoldable pub all_of : {A : Type 0} → (List ℕ → Result (A × List ℕ) TermFault) → List ℕ → Result (List A) TermFault
 all_of one bytes = all_up_to one (length bytes) bytes
 
@@ -66,8 +67,8 @@ hop_in bytes = do
   keys ← all_of key_at rest
   Ok (record { user = user.0; host = host.0; keys = keys })
 
--- the hop that is left, where it is one: a user is found before one of hostname and keys without the
--- other
+-- the hop, where it may be one that is left: a user is a fault before a hostname without keys or keys
+-- without a hostname is
 unfoldable pub as_from : Hop → Result Hop TermFault
 as_from hop =
     if not (is_empty hop.user) then Err FromUser
@@ -75,7 +76,7 @@ as_from hop =
     else if is_empty hop.keys then Err FromHalf
     else Ok hop
 
--- the hop that is entered, where it is one
+-- the hop, where it may be one that is entered: it has a hostname and keys
 unfoldable pub as_to : Hop → Result Hop TermFault
 as_to hop =
     if is_empty hop.host then Err ToHalf

@@ -45,12 +45,15 @@ list_text constraints = flat_map (λ constraint. string (constraint_text constra
 
 -- ---- what they say
 
+-- the key that a key's record says
 abbrev pub key_of : SpeltKey → KeySpec
 key_of key = record { blob = key.blob; authority = boolean_of key.is_ca }
 
+-- the hop that a hop's record says
 abbrev pub hop_of : SpeltHop → Hop
 hop_of hop = record { user = hop.user; host = hop.host; keys = map key_of hop.keys }
 
+-- the constraint that a constraint's record says
 abbrev pub constraint_of : SpeltConstraint → Constraint
 constraint_of constraint = record { from = hop_of constraint.from; to = hop_of constraint.to }
 
@@ -72,7 +75,7 @@ pub record IsToHop (hop : Hop) : Type 0 where
   pub some : hop.keys ≢ []
   pub readable : All IsReadable hop.keys
 
--- both hops are such
+-- the hop that is left and the hop that is entered are as such hops have to be
 pub record IsDestination (constraint : Constraint) : Type 0 where
   pub from : IsFromHop constraint.from
   pub to : IsToHop constraint.to

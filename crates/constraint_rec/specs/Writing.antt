@@ -16,30 +16,37 @@ abbrev pub is_ca_byte : Bool → ℕ
 is_ca_byte true = 1
 is_ca_byte false = 0
 
+-- the record of a key
 abbrev pub spelt_key : KeySpec → SpeltKey
 spelt_key key = record { blob = key.blob; is_ca = is_ca_byte key.authority }
 
+-- the record of a hop
 abbrev pub spelt_hop : Hop → SpeltHop
 spelt_hop hop = record { user = hop.user; host = hop.host; keys = map spelt_key hop.keys }
 
+-- the record of a constraint
 abbrev pub spelt_constraint : Constraint → SpeltConstraint
 spelt_constraint constraint =
     record { from = spelt_hop constraint.from; to = spelt_hop constraint.to }
 
 -- ---- the constraints of terms, in order
 
+-- the lifetime, where there is one
 abbrev pub life_items : Option ℕ → List Item
 life_items None = []
 life_items (Some seconds) = Life seconds ∷ []
 
+-- the wish for confirmation, where there is one
 abbrev pub confirm_items : Bool → List Item
 confirm_items true = Confirmation ∷ []
 confirm_items false = []
 
+-- the destination constraints in one extension, where there are any
 abbrev pub rule_items : List Constraint → List Item
 rule_items [] = []
 rule_items (rule ∷ rules) = Rules (map spelt_constraint (rule ∷ rules)) ∷ []
 
+-- the constraints of the terms, in the order in which they are written
 abbrev pub items_of : Terms → List Item
 items_of terms = life_items terms.life ++ (confirm_items terms.confirm ++ rule_items terms.rules)
 

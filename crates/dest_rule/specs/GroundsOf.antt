@@ -3,7 +3,7 @@ use Rattle.std.specs.Option.{option_map}
 use Rattle.dest_rule.specs.declared.grounds.Grounds.{Grounds as Held}
 use Rattle.dest_rule.specs.Rules.{Grounds}
 
--- the same without where it lies in memory
+-- what the code judges a chain by, without where it lies in memory
 abbrev pub grounds_of : Held → Grounds
 grounds_of held = record {
   rules = held.rules.now;

@@ -5,7 +5,7 @@ use Rattle.std.specs.Option.{option_map}
 use Rattle.dest_rule.specs.Chains.{Binding}
 use Rattle.dest_rule.specs.Rules.{Grounds, is_good}
 
--- the host key before a place of the chain, where this one is before the first
+-- the host key before a place of the chain, where `origin` is before the first
 abbrev pub key_before : Option (List ℕ) → List Binding → ℕ → Option (List ℕ)
 key_before origin chain zero = origin
 key_before origin chain (suc place) =

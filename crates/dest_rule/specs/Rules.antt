@@ -30,7 +30,7 @@ fits_key None host_key host wall key = not key.authority && bytes_eq key.blob ho
 fits_key (Some certificate) host_key host wall key =
     key.authority && bytes_eq key.blob certificate.signer && is_valid certificate host wall
 
--- as the host key reads: one that doesn't is no host's
+-- a host key that was read is that of the hop's host; one that wasn't read is no host's
 abbrev pub fits_hop : Result KeyParts KeyFault → Hop → List ℕ → ℕ → Bool
 fits_hop (Ok key) hop host_key wall =
     list_any (fits_key key.certificate host_key hop.host wall) hop.keys
@@ -64,13 +64,13 @@ permits_pair grounds previous host_key rule =
     leaves rule.from previous grounds.wall && is_hop rule.to host_key grounds.wall
     && admits rule.to.user grounds.user
 
--- some constraint does
+-- some constraint permits to go from the previous host key, or the agent's own host, to this one
 abbrev pub is_pair : Grounds → Option (List ℕ) → List ℕ → Bool
 is_pair grounds previous host_key = list_any (permits_pair grounds previous host_key) grounds.rules
 
 -- ---- a chain
 
--- the same where nobody is to log in
+-- the grounds without a user: nobody is to log in on the way
 abbrev pub on_the_way : Grounds → Grounds
 on_the_way grounds = record grounds { user = None }
 
@@ -79,7 +79,7 @@ abbrev pub is_good_between : Grounds → Option (List ℕ) → Binding → Bool
 is_good_between grounds previous binding =
     binding.forwarding && is_pair (on_the_way grounds) previous binding.host_key
 
--- a user logs in where the agent isn't forwarded to
+-- the newest binding may be the last: with a user who is to log in, it isn't forwarding
 abbrev pub ends : Option (List ℕ) → Bool → Bool
 ends None forwarding = true
 ends (Some user) forwarding = not forwarding
@@ -107,7 +107,7 @@ bad_place_from grounds place previous binding (next ∷ later) =
 unfoldable pub bad_place : Grounds → Binding → List Binding → Option ℕ
 bad_place grounds binding later = bad_place_from grounds 0 None binding later
 
--- the same of a chain that may be empty
+-- the first place that isn't good, from 0, of a chain that may be empty
 abbrev pub bad_place_in : Grounds → List Binding → Option ℕ
 bad_place_in grounds [] = None
 bad_place_in grounds (binding ∷ later) = bad_place grounds binding later
@@ -116,7 +116,7 @@ bad_place_in grounds (binding ∷ later) = bad_place grounds binding later
 abbrev pub leads_on : Grounds → List ℕ → Bool
 leads_on grounds host_key = list_any (λ rule. is_hop rule.from host_key grounds.wall) grounds.rules
 
--- where nobody is to log in and the newest binding is forwarding, its host may be left again
+-- the binding isn't forwarding, or some constraint permits to leave its host
 abbrev pub goes_on : Grounds → Binding → Bool
 goes_on grounds binding = not binding.forwarding || leads_on grounds binding.host_key
 
@@ -128,8 +128,8 @@ permits_way grounds binding later =
 
 -- ---- what a connection sees, and what it may have signed
 
--- of a connection with these bindings, by whether it tried to bind: nothing is seen where every try
--- failed
+-- an identity under constraints is seen by a connection with these bindings, by whether it tried to
+-- bind: nothing is seen where every try failed
 abbrev pub visible_from : List Constraint → List Binding → Bool → ℕ → Bool
 visible_from rules [] attempted wall = not attempted
 visible_from rules (binding ∷ later) attempted wall =
@@ -141,27 +141,28 @@ unfoldable pub visible : List Constraint → List Binding → Bool → ℕ → B
 visible [] chain attempted wall = true
 visible (rule ∷ rules) chain attempted wall = visible_from (rule ∷ rules) chain attempted wall
 
--- the login is bound to the newest host's key, or to none where there is no other host
+-- why the host key that a login is bound to isn't permitted: it is the newest host's, or there is none
+-- and no other host
 abbrev pub denial_of_key : Option (List ℕ) → List ℕ → Bool → Option Denial
 denial_of_key (Some host_key) newest is_only =
     if bytes_eq host_key newest then None else Some OtherHostKey
 denial_of_key None newest is_only = if is_only then None else Some NoHostKey
 
--- the login is to the newest binding's session, and bound to its host key, which it has to be
--- where there are others
+-- why a login isn't permitted by the newest binding: its session has to be that binding's, and its
+-- host key too, which has to be there where there are other hosts
 abbrev pub denial_of_newest : Login → Binding → Bool → Option Denial
 denial_of_newest login newest is_only =
     if bytes_eq login.session newest.session
     then denial_of_key login.host_key newest.host_key is_only
     else Some OtherSession
 
--- the chain is permitted for the login's user
+-- why a login isn't permitted, by the first place of its chain that isn't good
 abbrev pub denial_of_place : Option ℕ → Login → Binding → List Binding → Option Denial
 denial_of_place (Some place) login binding later = Some (BadHop place)
 denial_of_place None login binding later =
     denial_of_newest login (newest_after binding later) (is_empty later)
 
--- the message is a login
+-- why a message that was read isn't permitted: it has to be a login
 abbrev pub denial_of_login : Result Login AuthFault → List Constraint → ℕ → Binding → List Binding
     → Option Denial
 denial_of_login (Err fault) rules wall binding later = Some (NotUserAuth fault)
@@ -176,7 +177,7 @@ denial rules blob [] message wall = Some Unbound
 denial rules blob (binding ∷ later) message wall =
     denial_of_login (auth_of message blob) rules wall binding later
 
--- the same of a key that may have no constraints: such a key is used for any message
+-- why a key isn't to sign the message for a connection so bound: one without constraints signs any
 abbrev pub denial_under : List Constraint → List ℕ → List Binding → List ℕ → ℕ → Option Denial
 denial_under [] blob chain message wall = None
 denial_under (rule ∷ rules) blob chain message wall = denial (rule ∷ rules) blob chain message wall

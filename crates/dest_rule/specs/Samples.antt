@@ -41,7 +41,7 @@ known byte = record {
   keys = record { blob = key byte; authority = false } ∷ [];
 }
 
--- the same for users whose names match a pattern
+-- a host known by its key, for users whose names match a pattern
 abbrev pub known_for : List ℕ → ℕ → Hop
 known_for pattern byte = record (known byte) { user = pattern }
 
@@ -53,7 +53,7 @@ certified = record {
   keys = record { blob = key 9; authority = true } ∷ [];
 }
 
--- from one hop to another
+-- the constraint from one hop to another
 abbrev pub to_go : Hop → Hop → Constraint
 to_go from to = record { from = from; to = to }
 
@@ -69,7 +69,7 @@ ending host_key session = record { host_key = host_key; session = session; forwa
 
 -- ---- logins
 
--- by these constraints, for the user `root`, at this second
+-- the grounds of these constraints, for the user `root`, at this second
 abbrev pub for_root : List Constraint → ℕ → Grounds
 for_root rules wall = record { rules = rules; user = Some (codes "root"); wall = wall }
 

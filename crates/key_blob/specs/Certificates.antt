@@ -60,13 +60,15 @@ pub record IsCertificateFront (bytes : List ℕ) (parts : CertificateParts) (res
 
 -- ---- reading from left to right
 
--- a string, or a uint32, or a uint64
+-- the string at the front, and the bytes that follow
 abbrev pub text_at : List ℕ → Result (List ℕ × List ℕ) KeyFault
 text_at bytes = ok_or (string_at bytes) Short
 
+-- the uint32 at the front, and the bytes that follow
 abbrev pub u32_at : List ℕ → Result (ℕ × List ℕ) KeyFault
 u32_at bytes = ok_or (uint32_at bytes) Short
 
+-- the uint64 at the front, and the bytes that follow
 abbrev pub u64_at : List ℕ → Result (ℕ × List ℕ) KeyFault
 u64_at bytes = ok_or (uint64_at bytes) Short
 

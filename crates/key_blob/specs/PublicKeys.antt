@@ -21,7 +21,7 @@ pub record KeyParts : Type 0 where
   pub fields : List ℕ
   pub certificate : Option CertificateParts
 
--- the type of a key of this kind that a certificate carries, or none does
+-- the type of a key of this kind: of a certificate where one carries the key, else the plain type
 abbrev pub form_with : KeyKind → Option CertificateParts → Form
 form_with kind None = Plain kind
 form_with kind (Some certificate) = Certified kind

@@ -9,7 +9,7 @@ abbrev pub named_in : List ℕ → Option (List ℕ × List ℕ) → (List ℕ �
 named_in host None later = false
 named_in host (Some found) later = is_match host found.0 || later found.1
 
--- the same of so many strings at most
+-- one of the first strings, so many at most, is a pattern that matches the host
 unfoldable pub names_host_up_to : ℕ → List ℕ → List ℕ → Bool
 names_host_up_to zero host bytes = false
 names_host_up_to (suc count) host bytes =

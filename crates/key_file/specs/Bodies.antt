@@ -49,7 +49,7 @@ pub record IsBody (bytes : List ℕ) (file : KeyFile) : Type 0 where
   pub short_blob : length file.key.blob < 2 ^ 32
   pub text : bytes ≡ body_with file.key.blob private_part
 
--- the text, with blanks wherever they stand, is the base64 of such a body
+-- the text, with blanks wherever they stand, is the base64 of a body with this key and comment
 pub record IsBodyText (text : List ℕ) (file : KeyFile) : Type 0 where
   pub bytes : List ℕ
   pub encoded : IsBase64 (without_blanks text) bytes

@@ -6,12 +6,12 @@ use Rattle.key_file.specs.declared.fault.KeyFileFault.TheVariants as body
 use Rattle.key_file.specs.declared.fault.PubFault.{PubFault}
 use Rattle.key_file.specs.declared.fault.PubFault.TheVariants as line
 
--- as the fault of a private key's body
+-- a key's fault as the fault of the private key's body that it stands in
 abbrev pub body_fault : KeyFault → KeyFileFault
 body_fault NoMemory = body.Memory
 body_fault fault = body.Key fault
 
--- as the fault of a public key's line
+-- a key's fault as the fault of the public key's line that it stands in
 abbrev pub line_fault : KeyFault → PubFault
 line_fault NoMemory = line.Memory
 line_fault fault = line.Key fault

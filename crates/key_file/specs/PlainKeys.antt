@@ -24,7 +24,7 @@ pub record IsPlainAddition (key : AddedKey) : Type 0 where
 abbrev pub certificate_ending : List ℕ
 certificate_ending = codes "-cert-v01@openssh.com"
 
--- the string that was read, where one was, ends so
+-- a type's name was read, and it ends as the names of certificates' types do
 abbrev pub has_ending : Option (List ℕ × List ℕ) → Bool
 has_ending None = false
 has_ending (Some name) = ends_with nat_eq name.0 certificate_ending

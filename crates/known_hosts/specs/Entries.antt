@@ -50,7 +50,7 @@ pub record IsEntry (line : List ℕ) (entry : Entry) : Type 0 where
 
 -- ---- reading
 
--- the entry of a host field and those behind it; what follows the key isn't read
+-- the entry of a host field and the fields behind it; what follows the key isn't read
 unfoldable pub entry_with : Bool → List ℕ → List (List ℕ) → Option Entry
 entry_with authority hosts (type_name ∷ encoded ∷ more) = Some record {
   hosts = hosts;

@@ -31,7 +31,7 @@ entry_key entry =
     option_map (λ blob. record { blob = blob; authority = entry.authority })
     (result_ok (typed_key entry.type_name entry.encoded))
 
--- the same, where the entry takes in the host
+-- the key of an entry that takes in the host
 abbrev pub key_for : List ℕ → Option Entry → Option KeySpec
 key_for host None = None
 key_for host (Some entry) = if takes_in entry.hosts host then entry_key entry else None

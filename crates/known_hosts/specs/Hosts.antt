@@ -45,7 +45,7 @@ is_digest None digest message = false
 is_digest (Some salt) None message = false
 is_digest (Some salt) (Some digest) message = bytes_eq digest (hmac sha1 salt message)
 
--- the same of the base64 of both
+-- the digest, in base64, is that of the message under the salt, in base64
 unfoldable pub is_hash : List ℕ → List ℕ → List ℕ → Bool
 is_hash salt digest message = is_digest (bytes_of salt) (bytes_of digest) message
 

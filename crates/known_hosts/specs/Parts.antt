@@ -25,7 +25,7 @@ abbrev pub is_some_part : List ℕ → Bool
 is_some_part [] = false
 is_some_part (byte ∷ rest) = true
 
--- those that aren't empty
+-- the parts that aren't empty
 abbrev pub some_parts : List (List ℕ) → List (List ℕ)
 some_parts parts = filter is_some_part parts
 

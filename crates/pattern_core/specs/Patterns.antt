@@ -32,7 +32,7 @@ abbrev pub is_nothing : List ℕ → Bool
 is_nothing [] = true
 is_nothing (_ ∷ _) = false
 
--- the same as a test, case by case: it tries each run of each `*` in turn
+-- `Matches` as a test, case by case: it tries each run of each `*` in turn
 unfoldable pub is_match : List ℕ → List ℕ → Bool
 is_match text [] = is_nothing text
 is_match text (wanted ∷ pattern) = if wanted == star

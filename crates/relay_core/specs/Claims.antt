@@ -19,7 +19,7 @@ pub record Seen : Type 0 where
 abbrev pub Relaying : Type 0
 Relaying = List ℕ → RunAnswer → Transcript
 
--- one run was made, and this one; where it wants memory, it may be missing among those that are told
+-- this run and no other was made; where it wants memory, it may be missing among the runs that are told
 pub record HasRun (asked : Asking) (answer : RunAnswer) (old new : SpawnerView) : Type 0 where
   pub told : Tells old.runs new.runs (is_short_run answer) (record { program = asked.program; word = asked.word; answer = answer })
   pub cause : MatchResult answer (λ _. new.faults ≡ old.faults) (λ fault. CountsRun fault old.faults new.faults)

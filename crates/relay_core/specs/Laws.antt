@@ -13,7 +13,7 @@ pub record IsConsent (status : ℤ) (output : List ℕ) : Type 0 where
   pub zero : status ≡ pos 0
   pub word : (first_line output ≡ []) ⊎ (map to_ascii_lowercase (first_line output) ≡ map to_ascii_lowercase (codes "yes"))
 
--- the program ran to its end and said so
+-- the program ran to its end, and its status and output are a consent
 pub record ConsentsBy (answer : RunAnswer) : Type 0 where
   pub ran : Ran
   pub ended : answer ≡ Ok ran

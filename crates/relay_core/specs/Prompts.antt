@@ -24,6 +24,6 @@ prompt_in job (Some (Sign request)) = None
 prompt_in job (Some (Verify request)) = None
 prompt_in job None = None
 
--- the prompt of a body that does so
+-- the prompt of a body that asks for this job by a plain prompt
 unfoldable pub prompt_of : ℕ → List ℕ → Option (List ℕ)
 prompt_of job body = prompt_in job (result_ok (to_child_of body))

@@ -28,29 +28,29 @@ pub record Transcript : Type 0 where
 abbrev pub RunAnswer : Type 0
 RunAnswer = Result Ran SpawnFault
 
--- the user consents; not where the program could not be run to its end
+-- the run says that the user consents; one that didn't come to its end doesn't
 abbrev pub is_granted : RunAnswer → Bool
 is_granted (Ok ran) = verdict_of ran.status ran.output
 is_granted (Err fault) = false
 
--- what the agent is told
+-- the message that tells the agent whether the user consents
 abbrev pub verdict_message : ℕ → Bool → FromChildMessage
 verdict_message job true = Granted job
 verdict_message job false = Denied job
 
--- HELLO
+-- the frame of HELLO, with the job and the ticket of the words
 abbrev pub hello_frame : ChildWords → List ℕ
 hello_frame words = string (from_child_body (Hello words.job words.ticket))
 
--- the frame that tells the agent
+-- the frame that tells the agent how the run ended
 abbrev pub verdict_frame : ChildWords → RunAnswer → List ℕ
 verdict_frame words answer = string (from_child_body (verdict_message words.job (is_granted answer)))
 
--- HELLO alone is sent
+-- the transcript of a relay that sends HELLO alone and ends so
 abbrev pub only_greeted : ChildWords → RelayStatus → Transcript
 only_greeted words status = record { sent = hello_frame words; asked = None; status = status }
 
--- the program is run with the prompt, and the agent told
+-- the transcript where the program is run with the prompt and the agent told, or where there is no prompt
 abbrev pub asked_with : ChildWords → List ℕ → Option (List ℕ) → RunAnswer → Transcript
 asked_with words program (Some prompt) answer = record {
   sent = hello_frame words ++ verdict_frame words answer;
@@ -59,21 +59,21 @@ asked_with words program (Some prompt) answer = record {
 }
 asked_with words program None answer = only_greeted words BadFrame
 
--- by what stands in front of the agent's stream: bodies have at most 1048576 bytes
+-- the transcript for what stands in front of the agent's stream, whose bodies have at most 1048576 bytes
 abbrev pub heard_from : ChildWords → List ℕ → Front → List ℕ → RunAnswer → Transcript
 heard_from words program (Whole body_len) stream answer = asked_with words program (prompt_of words.job (front_body body_len stream)) answer
 heard_from words program (Bad announced) stream answer = only_greeted words BadFrame
 heard_from words program More stream answer = only_greeted words TornEnd
 
--- the words of a relay
+-- the transcript of a relay with these words, over the agent's stream and how the run ended
 unfoldable pub heard_of : ChildWords → List ℕ → List ℕ → RunAnswer → Transcript
 heard_of words program stream answer = heard_from words program (front 1048576 stream) stream answer
 
--- nothing is sent
+-- the transcript of words that aren't a relay's: nothing is sent
 abbrev pub refused : Transcript
 refused = record { sent = []; asked = None; status = Usage }
 
--- the last word is the program that asks the user
+-- the transcript of a relay whose last word, where it is there, is the program that asks the user
 abbrev pub heard_with : ChildWords → Option (List ℕ) → List ℕ → RunAnswer → Transcript
 heard_with words (Some program) stream answer = heard_of words program stream answer
 heard_with words None stream answer = refused

@@ -8,10 +8,10 @@ abbrev pub first_line : List ℕ → List ℕ
 first_line [] = []
 first_line (byte ∷ bytes) = if (byte == 13) || (byte == 10) then [] else byte ∷ first_line bytes
 
--- nothing, or `yes` in any case
+-- the word consents: it is empty, or `yes` in any case
 abbrev pub is_consent : List ℕ → Bool
 is_consent word = (length word == 0) || str_eq_ignore_ascii_case word (codes "yes")
 
--- the user consents: the status is 0, and the first line says so
+-- the user consents: the status is 0, and the first line is empty or `yes` in any case
 unfoldable pub verdict_of : ℤ → List ℕ → Bool
 verdict_of status output = int_eq status (pos 0) && is_consent (first_line output)

@@ -130,7 +130,8 @@ step_of_fields (word ∷ fields) =
     else if bytes_eq word (codes "failed") then failed_step fields
     else Err Word
 
--- the same of a line that isn't too long: where it is empty or begins with `#`, it is skipped
+-- what a line that isn't too long asks for, or its first fault; an empty one, and one that begins with
+-- `#`, is skipped
 abbrev pub step_of_short : List ℕ → Result Step LineFault
 step_of_short [] = Ok Skip
 step_of_short (first ∷ more) = if first == 35 then Ok Skip else step_of_fields (fields_of (first ∷ more))

@@ -41,7 +41,7 @@ step_text (Failed job) = one_text (codes "failed") job
 unfoldable pub step_line : Step → List ℕ
 step_line step = step_text step ++ codes "\n"
 
--- what is heard is one byte at least, and so is what is taken
+-- the step hears or takes one byte at least, where it hears or takes
 abbrev pub SaysSome : Step → Type 0
 SaysSome (Hear port bytes) = 0 < length bytes
 SaysSome (Take port count) = 0 < count

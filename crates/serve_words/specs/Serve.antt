@@ -7,7 +7,7 @@ use Rattle.clap.specs.Walk.{first_of, is_empty}
 use Rattle.serve_words.specs.Rules.{flag_rule, long_rule, short_rule}
 use Rattle.world_ports.specs.Life.{life_of}
 
--- the command line: -a PATH and --helper PROGRAM, which both have to be there, and those that may be
+-- the command line: -a PATH and --helper PROGRAM have to be there, and the other options may be
 unfoldable pub serve_app : App
 serve_app =
     with_rule (with_rule (with_rule (with_rule (with_rule (with_rule (with_rule (new_app (codes "serve"))

@@ -23,7 +23,7 @@ abbrev pub ReadsLine : Bool → List ℕ → List ℕ → List ℕ → Type 0
 ReadsLine true line tag secret = HoldsPair line tag secret
 ReadsLine false line tag secret = host_at line ≡ None
 
--- the pairs are those of the text
+-- the pairs are those of the hosts that the text has
 pub record HoldsHosts (text pairs : List ℕ) : Type 0 where
   pub hosts : List Host
   pub read : hosts_of text ≡ Some hosts

@@ -16,17 +16,17 @@ pub record Transcript : Type 0 where
   pub sent : List ℕ
   pub status : HelperStatus
 
--- these bytes first
+-- a transcript with these bytes sent before it
 abbrev pub after : List ℕ → Transcript → Transcript
 after sent later = record { sent = sent ++ later.sent; status = later.status }
 
--- nothing is sent
+-- the transcript of a helper that sends nothing and ends so
 abbrev pub ended : HelperStatus → Transcript
 ended status = record { sent = []; status = status }
 
 -- ---- the agent's stream
 
--- an answer, and those to the bodies behind it
+-- the answer to a body and the answers to the bodies behind it; none where there is no answer
 abbrev pub then_answers : Option FromChildMessage → List FromChildMessage → List FromChildMessage
 then_answers (Some answer) answers = answer ∷ answers
 then_answers None answers = []
@@ -36,17 +36,17 @@ unfoldable pub answers_to : List Host → List (List ℕ) → List FromChildMess
 answers_to hosts [] = []
 answers_to hosts (body ∷ bodies) = then_answers (answer_of hosts body) (answers_to hosts bodies)
 
--- each of them is a request to a helper
+-- each body is a request to a helper
 unfoldable pub are_requests : List Host → List (List ℕ) → Bool
 are_requests hosts [] = true
 are_requests hosts (body ∷ bodies) = is_some (answer_of hosts body) && are_requests hosts bodies
 
--- the end at what is left of a stream: within a frame or not
+-- how the helper ends at what is left of a stream: within a frame or not
 abbrev pub torn_or_done : List ℕ → HelperStatus
 torn_or_done [] = Done
 torn_or_done (byte ∷ rest) = TornEnd
 
--- the end at what is left of a stream
+-- how the helper ends at what is left of a stream, by what stands in front of it
 abbrev pub status_at : Front → List ℕ → HelperStatus
 status_at (Whole body_len) rest = BadFrame
 status_at (Bad announced) rest = BadFrame

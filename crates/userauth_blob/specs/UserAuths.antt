@@ -29,7 +29,7 @@ login auth = record {
 abbrev pub connection : List ℕ
 connection = codes "ssh-connection"
 
--- the name of the method that a login with such a host key is by
+-- the name of the method of a login, by whether it is bound to a host key
 abbrev pub method_name : Option (List ℕ) → List ℕ
 method_name None = codes "publickey"
 method_name (Some host_key) = codes "publickey-hostbound-v00@openssh.com"
