@@ -11,15 +11,15 @@ if ! command -v ssh-agent > /dev/null || ! command -v ssh-keygen > /dev/null; th
     { apt-get -q update && apt-get -qy install --no-install-recommends openssh-client; } > /dev/null || exit 1
 fi
 make --no-print-directory bin/add_tool > /dev/null || exit 1
-tool=$PWD/bin/add_tool
+top=$PWD tool=$PWD/bin/add_tool
 passed=0 failed=0
 work=$(mktemp -d) || exit 1
 cd "$work" || exit 1
 unset SSH_AGENT_PID
 ssh-agent -D -a "$work/agent" > agent.log 2>&1 &
 agent=$!
-recorders=
-trap 'kill "$agent" $recorders 2> /dev/null; rm -rf "$work"' EXIT
+recorders=()
+trap 'kill "$agent" "${recorders[@]}" 2> /dev/null; rm -rf "$work"' EXIT
 export SSH_AUTH_SOCK=$work/agent
 for _ in $(seq 100); do [ -S "$SSH_AUTH_SOCK" ] && break; sleep 0.1; done
 
@@ -167,39 +167,24 @@ run 'destinations without hosts' 1 'ssh-add: usage' "$tool" -h scylla.example.or
 same 'none was added' 'The agent has no identities.' "$(ssh-add -l 2>&1)"
 
 # What is sent is what OpenSSH's ssh-add sends.
-cat > record << 'END'
-import os, socket, sys
-
-listener = socket.socket(socket.AF_UNIX)
-listener.bind(sys.argv[1])
-listener.listen()
-with open(sys.argv[2], "w") as sent:
-    while True:
-        stream = listener.accept()[0].makefile("rwb")
-        while len(header := stream.read(4)) == 4:
-            body = stream.read(int.from_bytes(header, "big"))
-            sent.write(body.hex() + "\n")
-            sent.flush()
-            stream.write(b"\0\0\0\1" + (b"\6" if body[0] in (17, 18, 19, 25) else b"\5"))
-            stream.flush()
-END
 if command -v python3 > /dev/null; then
     for name in ours theirs; do
-        python3 record "$work/$name.sock" "$work/$name" &
-        recorders+=" $!"
+        python3 "$top/tests/recorder.py" "$work/$name.sock" "$work/$name" &
+        recorders+=("$!")
     done
     for _ in $(seq 100); do [ -S ours.sock ] && [ -S theirs.sock ] && break; sleep 0.1; done
-    for words in "-h $way" '-h scylla.example.org' "-h medea@charybdis.example.org -h $way -h scylla.example.org" \
+    for line in "-h $way" '-h scylla.example.org' "-h medea@charybdis.example.org -h $way -h scylla.example.org" \
         "-c -t 90 -h $way"; do
+        read -ra words <<< "$line"
         for name in ed25519 rsa ec256 ec384 ec521; do
-            SSH_AUTH_SOCK=$work/ours.sock "$tool" -H plain -H hashed $words $name.body 2> /dev/null
-            SSH_AUTH_SOCK=$work/theirs.sock ssh-add -q -H plain -H hashed $words $name 2> /dev/null
+            SSH_AUTH_SOCK=$work/ours.sock "$tool" -H plain -H hashed "${words[@]}" $name.body 2> /dev/null
+            SSH_AUTH_SOCK=$work/theirs.sock ssh-add -q -H plain -H hashed "${words[@]}" $name 2> /dev/null
         done
     done
     same 'the requests of both tools: how many' 20 "$(wc -l < ours)"
     same 'the requests of both tools' "$(cat theirs)" "$(cat ours)"
-    kill $recorders
-    recorders=
+    kill "${recorders[@]}"
+    recorders=()
 fi
 
 echo "add_tool: $passed passed, $failed failed"

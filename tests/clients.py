@@ -1,8 +1,8 @@
 #!/usr/bin/env python3
 """Real clients against the built agent, on loopback: each check is made with OpenSSH's agent too, in the same run, and
 what that gives is the expected value. It starts an sshd of its own, with its own keys, at free ports. Words choose checks:
-the parts ssh, destinations, programs, others and scripts, or a part of a check's name. Where agent_prog doesn't serve yet,
-it says so and ends with 0; with the environment variable AGENT another program is taken for it."""
+the parts ssh, destinations, programs, others and scripts, or a part of a check's name. With the environment variable AGENT
+another program is taken for agent_prog."""
 
 import atexit
 import contextlib
@@ -169,8 +169,7 @@ def a_key_that_ran_out_logs_nobody_in(folder):
 @check
 def a_use_is_confirmed_or_denied(folder):
     key = keygen(folder / "key")
-    rig.needs_confirmations(PROGRAM)
-    relay = [] if rig.is_stand_in(PROGRAM) else [rig.built("confirm_relay")]
+    relay = [rig.built("confirm_relay")]
     asker = rig.script(folder / "ask", f'echo "$1" >> {folder}/asked; exit "$(cat {folder}/status)"')
     with Hosts(folder, "one") as hosts:
         hosts.allow(key)
@@ -266,7 +265,6 @@ check.part = "destinations"
 
 def destinations(folder, rules, tries, **more):
     """Adds a key under rules, and tries ways through the hosts `one`, `two` and `three`: a way is the hosts in order."""
-    rig.needs_destinations(PROGRAM)
     key = keygen(folder / "key")
     with Hosts(folder, "one", "two", "three", **more) as hosts:
         hosts.allow(key)
@@ -731,7 +729,7 @@ def regress():
     os.makedirs("/run/sshd", exist_ok=True)
     bin = folder / "bin"
     bin.mkdir()
-    helper = pathlib.Path("/bin/true") if rig.is_stand_in(PROGRAM) else rig.BUILT / "mortarleek-helper"
+    helper = rig.built("mortarleek-helper")
     front = TOP / "scripts/mortarleek-agent"
     for name, source in (("agent_prog", PROGRAM), ("mortarleek-helper", helper), ("mortarleek-agent", front)):
         shutil.copy(source, bin / name)
@@ -816,7 +814,6 @@ def openssh_s_script_agent_subprocess(folder):
 
 @check
 def openssh_s_script_agent_restrict(folder):
-    rig.needs_destinations(PROGRAM)
     passes(folder, "agent-restrict")
 
 
@@ -859,10 +856,9 @@ def other_programs_of_the_user_can_t_trace_it(folder):
 
 
 if __name__ == "__main__":
-    if PROGRAM is None:
-        print("clients: skipped: agent_prog doesn't serve yet")
-        sys.exit(0)
     try:
+        rig.there(PROGRAM)
+        rig.built("mortarleek-helper")
         rig.install(
             "clients",
             "openssh-client",
@@ -880,8 +876,6 @@ if __name__ == "__main__":
             "gdb",
             "util-linux",
         )
-        if not rig.is_stand_in(PROGRAM):
-            rig.built("mortarleek-helper")
     except Skip as reason:
         print(f"clients: not run: {reason}")
         sys.exit(1)

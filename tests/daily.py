@@ -1,8 +1,7 @@
 #!/usr/bin/env python3
 """The front end, as a user meets it: each option of mortarleek-agent and mortarleek-add beside what ssh-agent and ssh-add
 do with the same words, life and end of a daemon, folders that others can't reach, manuals, completions, the unit, and
-what is installed. Words choose checks by a part of their names. Where agent_prog doesn't serve yet a stand-in, which is
-OpenSSH's agent, serves in its place."""
+what is installed. Words choose checks by a part of their names."""
 
 import hashlib
 import hmac
@@ -14,7 +13,6 @@ import signal
 import struct
 import subprocess
 import sys
-import tempfile
 import time
 
 sys.dont_write_bytecode = True
@@ -42,18 +40,14 @@ class Installed:
         libexec.mkdir(parents=True)
         for script in ("mortarleek-agent", "mortarleek-add"):
             shutil.copy(TOP / "scripts" / script, bin)
-        shutil.copy(PROGRAM or rig.STAND_INS / "stand_in_agent", bin / "agent_prog")
+        shutil.copy(PROGRAM, bin / "agent_prog")
         for name in ("mortarleek-helper", "standin_helper", "confirm_relay"):
             if not helper and name == "mortarleek-helper":
                 continue
             if (rig.BUILT / name).exists():
                 shutil.copy(rig.BUILT / name, libexec)
-            elif not PROGRAM:
-                shutil.copy("/bin/true", libexec / name)
-        if tool and (rig.BUILT / "add_tool").exists():
-            shutil.copy(rig.BUILT / "add_tool", libexec)
-        elif tool:
-            shutil.copy(rig.STAND_INS / "stand_in_add_tool", libexec / "add_tool")
+        if tool:
+            shutil.copy(rig.built("add_tool"), libexec)
         if helper and not (libexec / "mortarleek-helper").exists():
             raise Skip("bin/mortarleek-helper isn't built: make helper")
         self.agent, self.add = bin / "mortarleek-agent", bin / "mortarleek-add"
@@ -139,7 +133,7 @@ def both(installed, words, status=None, environment={}):
 @check
 def the_scripts_are_plain_sh(folder):
     scripts = [TOP / "scripts/mortarleek-agent", TOP / "scripts/mortarleek-add"]
-    run(["shellcheck", "-s", "sh", *scripts, rig.STAND_INS / "stand_in_add_tool"])
+    run(["shellcheck", "-s", "sh", *scripts])
     for script in scripts:
         run(["dash", "-n", script])
         run(["bash", "--posix", "-n", script])
@@ -334,7 +328,7 @@ def words_reach_the_agent(folder):
             relayed = words[words.index("--askpass") + 1]
             run([relayed, "a question"], env={"PATH": os.environ["PATH"]})
             assert (folder / "asked").read_text() == "a question|confirm\n"
-        elif (rig.BUILT / "confirm_relay").exists() or not PROGRAM:
+        elif (rig.BUILT / "confirm_relay").exists():
             raise AssertionError(words)
 
 
@@ -404,8 +398,6 @@ def another_user_can_t_reach_it(folder):
 def what_root_installed_is_closed_to_its_user(folder):
     if os.geteuid() != 0:
         raise Skip("it takes root to be another user")
-    if PROGRAM is None or rig.is_stand_in(PROGRAM):
-        raise Skip("agent_prog doesn't serve yet")
     folder.chmod(0o755)
     installed = Installed(folder)
     installed.temporary.chmod(0o1777)
@@ -665,11 +657,8 @@ def of_twenty_starts_at_one_path_one_has_it(folder):
 
 @check
 def confirmations_leave_no_process_behind(folder):
-    if PROGRAM:
-        rig.needs_confirmations(PROGRAM)
+    rig.built("confirm_relay")
     installed = Installed(folder)
-    if PROGRAM and not (rig.BUILT / "confirm_relay").exists():
-        raise Skip("bin/confirm_relay isn't built")
     asker = rig.script(folder / "ask", f'echo "$1" >> {folder}/asked; exit "$(cat {folder}/status)"')
     key = keygen(folder / "key")
     with installed.start(environment={"SSH_ASKPASS": str(asker)}) as daemon:
@@ -681,18 +670,14 @@ def confirmations_leave_no_process_behind(folder):
         asked = (folder / "asked").read_text()
         assert asked.count("Allow use of key") == 50 and run(["ssh-keygen", "-lf", f"{key}.pub"]).split()[1] in asked
         (agent,) = children(daemon.pid)
-        if PROGRAM:
-            assert len(children(agent)) <= 2 and zombies(agent) <= 17, (children(agent), zombies(agent))
+        assert len(children(agent)) <= 2 and zombies(agent) <= 17, (children(agent), zombies(agent))
 
 
 @check
 def a_dialog_asks_on_a_display(folder):
     """With the variable PICTURE a picture of the dialog is written there."""
-    if PROGRAM:
-        rig.needs_confirmations(PROGRAM)
+    rig.built("confirm_relay")
     installed = Installed(folder)
-    if PROGRAM and not (rig.BUILT / "confirm_relay").exists():
-        raise Skip("bin/confirm_relay isn't built")
     rig.install("daily", "xvfb", "xdotool", "ssh-askpass", "imagemagick")
     key = keygen(folder / "key", comment="a key of mine")
     reader, writer = os.pipe()
@@ -1097,7 +1082,7 @@ def what_is_installed_works_and_is_taken_away_again(folder):
             assert found[name].stat().st_mode & 0o7777 == 0o711, name
     assert found["bin/mortarleek-agent"].stat().st_mode & 0o7777 == 0o755
     assert "ExecStart=/usr/bin/mortarleek-agent" in found["lib/systemd/user/mortarleek-agent.service"].read_text()
-    if PROGRAM and "libexec/mortarleek/mortarleek-helper" in found:
+    if "libexec/mortarleek/mortarleek-helper" in found:
         said = run(
             [target / "usr/bin/mortarleek-agent", "sh", "-c", "ssh-add -l || :"],
             env={"PATH": os.environ["PATH"], "TMPDIR": str(folder)},
@@ -1117,8 +1102,6 @@ def copy_of_the_repository(folder):
 @check
 def a_new_user_installs_it_and_logs_in(folder):
     """What README says to type, but for the build, and a line in the profile of a home that has nothing else."""
-    if PROGRAM is None or rig.is_stand_in(PROGRAM):
-        raise Skip("agent_prog doesn't serve yet")
     home, source = folder / "home", folder / "source"
     home.mkdir(mode=0o700)
     source.mkdir()
@@ -1167,6 +1150,7 @@ def the_package_has_no_faults(folder):
 
 if __name__ == "__main__":
     try:
+        rig.there(PROGRAM)
         rig.install(
             "daily",
             "openssh-client",
@@ -1190,6 +1174,4 @@ if __name__ == "__main__":
     except Skip as reason:
         print(f"daily: not run: {reason}")
         sys.exit(1)
-    if PROGRAM is None:
-        print("daily: agent_prog doesn't serve yet: a stand-in does")
     check.run(sys.argv[1:])

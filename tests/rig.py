@@ -1,7 +1,6 @@
 """What the checks of the serving agent share: counting, packages, agents, and clients that speak for themselves."""
 
 import contextlib
-import functools
 import os
 import pathlib
 import shutil
@@ -14,9 +13,10 @@ import tempfile
 import time
 import traceback
 
+from frames import Frames, string, strings
+
 TOP = pathlib.Path(__file__).resolve().parents[1]
 BUILT = TOP / "bin"
-STAND_INS = pathlib.Path(__file__).resolve().parent
 FAILURE, SUCCESS, IDENTITIES, SIGNATURE = 5, 6, 12, 14
 LIST, SIGN, ADD, REMOVE, REMOVE_ALL, LOCK, UNLOCK, ADD_LIMITED, EXTENSION = 11, 13, 17, 18, 19, 22, 23, 25, 27
 
@@ -69,46 +69,21 @@ def until(condition, seconds=10, what="it"):
 # Programs.
 
 
-def serves(program):
-    """Whether a built agent_prog knows `serve`: without a helper's word it refuses, and with one it binds."""
-    if not program.exists():
-        return False
-    with tempfile.TemporaryDirectory() as folder:
-        path = folder + "/s"
-        agent = subprocess.Popen(
-            [program, "serve", "-a", path, "--helper", "/bin/false"],
-            stdin=subprocess.DEVNULL,
-            stdout=subprocess.DEVNULL,
-            stderr=subprocess.DEVNULL,
-        )
-        try:
-            until(lambda: agent.poll() is not None or os.path.exists(path + ".children"), what="the agent")
-            return agent.poll() is None
-        except AssertionError:
-            return False
-        finally:
-            agent.kill()
-            agent.wait()
-
-
 def agent_program():
-    """The built agent where it serves, or where AGENT names another, that one; else None."""
-    if "AGENT" in os.environ:
-        return pathlib.Path(os.environ["AGENT"])
-    program = BUILT / "agent_prog"
-    return program if serves(program) else None
+    """The built agent, or where AGENT names another program, that one."""
+    return pathlib.Path(os.environ.get("AGENT", BUILT / "agent_prog"))
 
 
-def is_stand_in(program):
-    """Whether a program isn't an agent of ours, but OpenSSH's in its words."""
-    return program.name == "stand_in_agent"
+def there(program):
+    """A program that is there, or a `Skip`."""
+    if not program.exists():
+        raise Skip(f"{program} isn't built")
+    return program
 
 
 def built(name):
     """A built program, or a `Skip`."""
-    if not (BUILT / name).exists():
-        raise Skip(f"bin/{name} isn't built")
-    return BUILT / name
+    return there(BUILT / name)
 
 
 # Processes.
@@ -150,37 +125,26 @@ def spent(pid):
 # The agent's protocol.
 
 
-def string(content):
-    return struct.pack(">I", len(content)) + content
+def connected(path, seconds=20):
+    """A socket that is connected to the one at a path."""
+    connection = socket.socket(socket.AF_UNIX)
+    connection.settimeout(seconds)
+    connection.connect(str(path))
+    return connection
 
 
-def strings(content):
-    found = []
-    while content:
-        (length,) = struct.unpack_from(">I", content)
-        found.append(content[4 : 4 + length])
-        content = content[4 + length :]
-    return found
+class Peer(Frames):
+    """A client of an agent, over a socket that is connected."""
 
-
-class Ended(Exception):
-    """The agent closed the connection where a reply was due."""
-
-
-class Peer:
-    """A client of an agent."""
-
-    def __init__(self, path, seconds=20):
-        self.socket = socket.socket(socket.AF_UNIX)
+    def __init__(self, connection, seconds=20):
+        super().__init__(connection)
         self.socket.settimeout(seconds)
-        self.socket.connect(str(path))
-        self.heard = b""
 
     def __enter__(self):
         return self
 
     def __exit__(self, *_):
-        self.socket.close()
+        self.close()
 
     def close(self):
         self.socket.close()
@@ -190,14 +154,7 @@ class Peer:
 
     def reply(self):
         """The body of the next reply."""
-        while len(self.heard) < 4 or len(self.heard) < 4 + int.from_bytes(self.heard[:4], "big"):
-            more = self.socket.recv(1 << 16)
-            if not more:
-                raise Ended()
-            self.heard += more
-        end = 4 + int.from_bytes(self.heard[:4], "big")
-        body, self.heard = self.heard[4:end], self.heard[end:]
-        return body
+        return self.body()
 
     def ask(self, number, *content):
         self.send(bytes([number]) + b"".join(content))
@@ -258,7 +215,7 @@ class Agent:
             return self.process.wait()
 
     def peer(self, **more):
-        return Peer(self.path, **more)
+        return Peer(connected(self.path), **more)
 
     def run(self, *words, status=0, **more):
         more["env"] = dict(self.environment, **more.pop("env", {}))
@@ -311,10 +268,7 @@ class Child:
             self.process = subprocess.Popen(
                 command, stdin=subprocess.DEVNULL, stdout=subprocess.PIPE, stderr=subprocess.PIPE
             )
-            self.peer = Peer.__new__(Peer)
-            self.peer.socket, _ = listener.accept()
-            self.peer.socket.settimeout(20)
-            self.peer.heard = b""
+            self.peer = Peer(listener.accept()[0])
         if said:
             assert self.peer.reply() == struct.pack(">BQ", 1, job) + string(ticket)
 
@@ -332,53 +286,6 @@ def script(path, text):
     path.write_text(f"#!/bin/sh\n{text}\n")
     path.chmod(0o700)
     return path
-
-
-# What an agent does already.
-
-
-@functools.cache
-def holds_destinations(program):
-    """Whether keys are held that may be used towards some hosts alone."""
-    hop = lambda host, *keys: string(string(b"") + string(host) + string(b"") + b"".join(keys))
-    fields, comment, blob = plain_key(b"k" * 32)
-    rule = string(hop(b"") + hop(b"host", string(blob) + b"\0") + string(b""))
-    terms = b"\xff" + string(b"restrict-destination-v00@openssh.com") + string(rule)
-    with tempfile.TemporaryDirectory() as folder, our_agent(program, folder, helper="/bin/false") as agent:
-        with agent.peer() as peer:
-            return peer.ask(ADD_LIMITED, fields, comment, terms) == bytes([SUCCESS])
-
-
-@functools.cache
-def asks_the_user(program):
-    """Whether the user is asked where a key is used that was added so."""
-    if is_stand_in(program):
-        return True
-    fields, comment, blob = plain_key(b"k" * 32)
-    with tempfile.TemporaryDirectory() as folder:
-        relay = script(f"{folder}/relay", f"touch {folder}/started")
-        words = ("--relay", relay, "--askpass", "/bin/true")
-        with our_agent(program, folder, *words, helper="/bin/false") as agent, agent.peer() as peer:
-            if peer.ask(ADD_LIMITED, fields, comment, b"\x02") != bytes([SUCCESS]):
-                return False
-            peer.send(bytes([SIGN]) + string(blob) + string(b"message") + bytes(4))
-            with contextlib.suppress(AssertionError):
-                return until(pathlib.Path(f"{folder}/started").exists, 2)
-    return False
-
-
-# What the agent may lack yet. Checks of it are left out where it does; without a word here they are always made.
-LACKING = set()
-
-
-def needs_destinations(program):
-    if "destinations" in LACKING and not holds_destinations(program):
-        raise Skip("the agent holds no keys for some destinations yet")
-
-
-def needs_confirmations(program):
-    if "confirmations" in LACKING and not asks_the_user(program):
-        raise Skip("the agent doesn't ask the user yet")
 
 
 # Counting.

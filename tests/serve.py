@@ -1,8 +1,7 @@
 #!/usr/bin/env python3
 """`agent_prog serve` on real sockets: OpenSSH's ssh-add does to it what it does to ssh-agent in the same run, and it
 bears many clients, clients that don't read, helpers that are killed, a stop, and a shortage of descriptors. Words choose
-checks by a part of their names. Where agent_prog doesn't serve yet, it says so and ends with 0; with the environment
-variable AGENT another program is taken for it."""
+checks by a part of their names; with the environment variable AGENT another program is taken for agent_prog."""
 
 import atexit
 import functools
@@ -24,6 +23,7 @@ sys.dont_write_bytecode = True
 TOP = pathlib.Path(__file__).resolve().parents[1]
 
 import rig
+from frames import Ended, string
 from rig import (
     ADD,
     EXTENSION,
@@ -33,15 +33,14 @@ from rig import (
     SIGN,
     SIGNATURE,
     SUCCESS,
-    Ended,
     Peer,
     Skip,
     children,
+    connected,
     is_alive,
     openssh_agent,
     our_agent,
     run,
-    string,
     stand_in_key,
     until,
     zombies,
@@ -82,14 +81,6 @@ def keys_of_each_kind(folder, name):
 
 def serve(folder, *words, **more):
     return our_agent(PROGRAM, folder, *words, **more)
-
-
-def needs_ours(*programs):
-    """The check is about what is ours alone, and takes these programs, which have to be built."""
-    if rig.is_stand_in(PROGRAM):
-        raise Skip("the stand-in is another's agent")
-    for program in programs:
-        rig.built(program)
 
 
 def added(peer, tag=b"t" * 32, key=rig.plain_key):
@@ -226,7 +217,6 @@ def constraints_are_taken_as_ssh_agent_does(folder):
 
 @check
 def destinations_are_taken_as_ssh_agent_does(folder):
-    rig.needs_destinations(PROGRAM)
     key = keygen(folder / "key")
     keygen(folder / "host")
     hosts = folder / "known_hosts"
@@ -260,8 +250,7 @@ def what_no_agent_knows_is_refused(folder):
 
 @check
 def keys_of_each_kind_sign(folder):
-    if not rig.is_stand_in(PROGRAM):
-        rig.built("mortarleek-helper")
+    rig.built("mortarleek-helper")
     with serve(folder) as ours, openssh_agent(folder) as theirs:
         for key in keys_of_each_kind(folder, "certified"):
             for agent in (ours, theirs):
@@ -307,7 +296,6 @@ def a_stale_socket_is_replaced_and_a_live_one_never(folder):
 
 @check
 def what_isn_t_a_socket_is_left_alone(folder):
-    needs_ours()
     path = folder / "ours.sock"
     for place in (path, folder / "ours.sock.children"):
         for make in (
@@ -324,7 +312,6 @@ def what_isn_t_a_socket_is_left_alone(folder):
 
 @check
 def statuses_and_their_lines(folder):
-    needs_ours()
     path = str(folder / "s")
     for words in (
         [],
@@ -345,7 +332,6 @@ def statuses_and_their_lines(folder):
 
 @check
 def until_idle_it_ends_with_0_and_takes_both_sockets_away(folder):
-    needs_ours()
     agent = serve(folder, "--until-idle")
     time.sleep(0.3)
     assert agent.process.poll() is None
@@ -393,20 +379,19 @@ def a_hundred_and_twenty_eight_clients_at_once(folder):
                 peer.send(bytes([LIST]), b"\xc8")
             for peer in peers:
                 assert blob in peer.reply() and peer.reply() == bytes([FAILURE])
-        if not rig.is_stand_in(PROGRAM):
-            # one more is turned away, and has room again once one has left
+        # one more is turned away, and has room again once one has left
+        with agent.peer() as more:
+            assert more.has_ended()
+        peers.pop().close()
+
+        def comes_in():
             with agent.peer() as more:
-                assert more.has_ended()
-            peers.pop().close()
+                try:
+                    return more.ask(LIST)[0] == IDENTITIES
+                except (Ended, ConnectionError):
+                    return False
 
-            def comes_in():
-                with agent.peer() as more:
-                    try:
-                        return more.ask(LIST)[0] == IDENTITIES
-                    except (Ended, ConnectionError):
-                        return False
-
-            until(comes_in, what="room for one more client")
+        until(comes_in, what="room for one more client")
         for peer in peers:
             peer.close()
 
@@ -470,13 +455,12 @@ def requests_in_single_bytes_and_many_at_once(folder):
         peer.send(b"\xc8" * 262144)
         assert peer.reply() == bytes([FAILURE])
         # what came before a length that no message has is answered, and then the connection ends
-        if not rig.is_stand_in(PROGRAM):
-            peer.socket.sendall(string(b"\xc8") + struct.pack(">I", 262145) + b"rest")
-            assert peer.reply() == bytes([FAILURE])
-            assert peer.has_ended()
-            with agent.peer() as other:
-                other.socket.sendall(bytes(4))
-                assert other.has_ended()
+        peer.socket.sendall(string(b"\xc8") + struct.pack(">I", 262145) + b"rest")
+        assert peer.reply() == bytes([FAILURE])
+        assert peer.has_ended()
+        with agent.peer() as other:
+            other.socket.sendall(bytes(4))
+            assert other.has_ended()
         # Bytes and the end at once: the reply may come or not, as with ssh-agent, and the connection ends.
         with agent.peer() as other:
             other.send(bytes([LIST]))
@@ -525,7 +509,6 @@ def a_stopped_agent_goes_on(folder):
 
 @check
 def a_shortage_of_descriptors_starves_nobody(folder):
-    needs_ours()
     with serve(folder, limits=["prlimit", "--nofile=20:20"]) as agent:
         peers = [agent.peer() for _ in range(30)]
         for peer in peers:
@@ -576,7 +559,7 @@ def signed(agent, key):
 
 @check
 def a_killed_helper_is_started_again_at_the_next_request(folder):
-    needs_ours("mortarleek-helper")
+    rig.built("mortarleek-helper")
     key = keygen(folder / "key")
     with serve(folder) as agent:
         agent.run("ssh-add", "-q", key)
@@ -594,7 +577,7 @@ def a_killed_helper_is_started_again_at_the_next_request(folder):
 
 @check
 def many_helpers_leave_no_process_behind(folder):
-    needs_ours("mortarleek-helper")
+    rig.built("mortarleek-helper")
     key = keygen(folder / "key")
     with serve(folder) as agent, agent.peer() as peer:
         agent.run("ssh-add", "-q", key)
@@ -616,7 +599,7 @@ def many_helpers_leave_no_process_behind(folder):
 
 @check
 def clients_that_sign_at_once_get_an_answer_each(folder):
-    needs_ours("mortarleek-helper")
+    rig.built("mortarleek-helper")
     key = keygen(folder / "key")
     with serve(folder) as agent:
         agent.run("ssh-add", "-q", key)
@@ -639,7 +622,7 @@ def clients_that_sign_at_once_get_an_answer_each(folder):
 
 @check
 def a_helper_that_dies_while_it_signs_is_a_refusal(folder):
-    needs_ours("mortarleek-helper")
+    rig.built("mortarleek-helper")
     key = keygen(folder / "key")
     with serve(folder) as agent:
         agent.run("ssh-add", "-q", key)
@@ -659,7 +642,6 @@ def a_helper_that_dies_while_it_signs_is_a_refusal(folder):
 
 @check
 def a_helper_that_isn_t_there_is_a_refusal(folder):
-    needs_ours()
     key = keygen(folder / "key")
     for helper in ("/nowhere/at/all", "/etc/passwd"):
         with serve(folder, helper=helper) as agent:
@@ -674,7 +656,6 @@ KEPT = "PATH HOME LANG TERM DISPLAY XAUTHORITY WAYLAND_DISPLAY XDG_RUNTIME_DIR D
 
 @check
 def a_helper_gets_its_words_the_kept_variables_and_three_descriptors(folder):
-    needs_ours()
     # `read` is the shell's own, so the process that is looked at is the one that the agent started.
     helper = rig.script(
         folder / "helper", f'printf "%s\\n" "$$" "$@" > {folder}/words; mv {folder}/words {folder}/told; read x < {folder}/end'
@@ -708,17 +689,16 @@ def a_helper_gets_its_words_the_kept_variables_and_three_descriptors(folder):
 
 @check
 def a_false_ticket_is_turned_away(folder):
-    needs_ours()
     helper = rig.script(folder / "helper", f'printf "%s\\n" "$3" > {folder}/ticket; sleep 5')
     with serve(folder, helper=helper) as agent, agent.peer() as peer:
         blob = added(peer, key=stand_in_key)
         peer.send(bytes([SIGN]) + string(blob) + string(b"message") + bytes(4))
         ticket = bytes.fromhex(until(lambda: (folder / "ticket").exists() and (folder / "ticket").read_text()))
         hello = lambda told: string(struct.pack(">BQ", 1, 1) + string(told))
-        with Peer(agent.path + ".children") as liar:
+        with Peer(connected(agent.path + ".children")) as liar:
             liar.socket.sendall(hello(bytes(16)))
             assert liar.has_ended()
-        with Peer(agent.path + ".children") as child:
+        with Peer(connected(agent.path + ".children")) as child:
             child.socket.sendall(hello(ticket))
             body = child.reply()
             assert body[0] == 1 and blob in body
@@ -729,7 +709,7 @@ def a_false_ticket_is_turned_away(folder):
 
 @check
 def the_helper_for_tests_signs(folder):
-    needs_ours("standin_helper")
+    rig.built("standin_helper")
     with serve(folder, "--until-idle", helper=rig.BUILT / "standin_helper") as agent:
         with agent.peer() as peer:
             blob = added(peer, key=stand_in_key)
@@ -741,8 +721,8 @@ def the_helper_for_tests_signs(folder):
 
 @check
 def a_confirmation_is_asked_and_holds_up_nobody(folder):
-    needs_ours("confirm_relay", "mortarleek-helper")
-    rig.needs_confirmations(PROGRAM)
+    rig.built("confirm_relay")
+    rig.built("mortarleek-helper")
     relay = rig.BUILT / "confirm_relay"
     key = keygen(folder / "key")
     asker = rig.script(
@@ -792,10 +772,8 @@ def a_confirmation_is_asked_and_holds_up_nobody(folder):
 
 
 if __name__ == "__main__":
-    if PROGRAM is None:
-        print("serve: skipped: agent_prog doesn't serve yet")
-        sys.exit(0)
     try:
+        rig.there(PROGRAM)
         rig.install("serve", "openssh-client", "util-linux")
     except Skip as reason:
         print(f"serve: not run: {reason}")

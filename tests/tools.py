@@ -16,6 +16,10 @@ import sys
 import tempfile
 import threading
 
+sys.dont_write_bytecode = True
+
+from frames import string
+
 ROOT = os.path.dirname(os.path.dirname(os.path.abspath(__file__)))
 HELPER = os.path.join(ROOT, "bin", "standin_helper")
 RELAY = os.path.join(ROOT, "bin", "confirm_relay")
@@ -32,10 +36,6 @@ def check(what, seen, wanted):
     else:
         failed += 1
         print(f"tools: {what}: failed: {repr(seen)[:300]} and not {repr(wanted)[:300]}")
-
-
-def string(text):
-    return struct.pack(">I", len(text)) + text
 
 
 def message(kind, number, fields=b""):

@@ -6,7 +6,7 @@
 set -u
 cd "$(dirname "$0")/.." || exit 2
 names=("$@")
-[ $# != 0 ] || names=($(ls tests/wrong_definitions))
+[ $# != 0 ] || mapfile -t names < <(ls tests/wrong_definitions)
 work=$(mktemp -d) || exit 2
 trap 'rm -rf "$work"' EXIT
 git ls-files -z crates crates.txt HANDLES | xargs -0 cp --parents -t "$work" || exit 2

@@ -17,8 +17,9 @@ sys.path.insert(0, str(TOP / "helper/tests"))
 import openssh
 import plots
 import rig
+from frames import string
 from rig import ADD, ADD_LIMITED, FAILURE, LIST, LOCK, REMOVE, REMOVE_ALL, SIGN, SIGNATURE, SUCCESS, UNLOCK
-from rig import Agent, children, openssh_agent, our_agent, plain_key, string, until
+from rig import Agent, children, openssh_agent, our_agent, plain_key, until
 
 WORK, ROUNDS, CHOSEN = pathlib.Path(sys.argv[1]), int(sys.argv[2]), sys.argv[3:]
 PROGRAM = rig.agent_program()
@@ -176,12 +177,9 @@ def others_wait(agents):
     """What 15 clients get while one unlocks with wrong passphrases, and while one waits for a confirmation."""
     found = {name: share(agent, lambda: guess(agent)) for name, agent in agents.items()}
     tell_shares("refusals of 15 clients while one guesses the passphrase of the lock", found)
-    relay = "/bin/true" if rig.is_stand_in(PROGRAM) else rig.BUILT / "confirm_relay"
+    relay = rig.BUILT / "confirm_relay"
     if not os.path.exists(relay):
         print("serve: no confirmations: bin/confirm_relay isn't built")
-        return
-    if not rig.asks_the_user(PROGRAM):
-        print("serve: no confirmations: the agent doesn't ask the user yet")
         return
     asker = rig.script(WORK / "ask", "sleep 1; exit 1")
     variables = dict(os.environ, SSH_ASKPASS=str(asker), SSH_ASKPASS_REQUIRE="force", DISPLAY=":none")
@@ -307,8 +305,8 @@ def waits(agents, null):
 
 
 def instruction_counts(agents, null):
-    if VALGRIND is None or rig.is_stand_in(PROGRAM):
-        print("serve: no instructions: valgrind or the agent isn't there")
+    if VALGRIND is None:
+        print("serve: no instructions: valgrind isn't there")
         return
     tell_instructions()
 
@@ -324,8 +322,8 @@ PARTS = {
 
 
 def main():
-    if PROGRAM is None:
-        print("serve: skipped: agent_prog doesn't serve yet")
+    if not PROGRAM.exists():
+        print(f"serve: skipped: {PROGRAM} isn't built")
         return
     if set(CHOSEN) - set(PARTS):
         sys.exit(f"serve: the parts are {' '.join(PARTS)}")

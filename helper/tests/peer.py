@@ -5,34 +5,24 @@ import pathlib
 import socket
 import struct
 import subprocess
+import sys
 import tempfile
 import time
 
 FOLDER = pathlib.Path(__file__).resolve().parents[1]
+sys.path.append(str(FOLDER.parent / "tests"))
+
+from frames import Ended, Frames, string, strings
+
 PROGRAM = os.environ.get("HELPER", str(FOLDER / "target/release/mortarleek-helper"))
 
 SIGN, VERIFY, CONFIRM = 1, 2, 3
 HELLO, SIGNED, REFUSED, TRUE, FALSE = 1, 101, 102, 103, 104
 
 
-def string(content):
-    """A string of RFC 4251: its length and its bytes."""
-    return struct.pack(">I", len(content)) + content
-
-
 def mpint(number):
     """A number that isn't negative, as RFC 4251 writes it."""
     return string(number.to_bytes(number.bit_length() // 8 + 1, "big") if number else b"")
-
-
-def strings(content):
-    """The strings that the bytes hold, to their end."""
-    found = []
-    while content:
-        (length,) = struct.unpack_from(">I", content)
-        found.append(content[4 : 4 + length])
-        content = content[4 + length :]
-    return found
 
 
 def sign_body(number, private, blob, message, flags=0):
@@ -43,10 +33,6 @@ def sign_body(number, private, blob, message, flags=0):
 def verify_body(number, host_key, signature, session):
     fields = string(host_key) + string(signature) + string(session)
     return struct.pack(">BQ", VERIFY, number) + fields
-
-
-class Ended(Exception):
-    """The helper ended where an answer was due."""
 
 
 class Helper:
@@ -71,6 +57,7 @@ class Helper:
                 self.process.wait()
                 raise Ended(self.process.returncode) from None
         self.peer.settimeout(60)
+        self.frames = Frames(self.peer)
         self.asks = 0
         self.hello = self.body()
 
@@ -87,15 +74,6 @@ class Helper:
         self.folder.cleanup()
         return status
 
-    def read(self, count):
-        content = b""
-        while len(content) < count:
-            piece = self.peer.recv(count - len(content))
-            if not piece:
-                raise Ended(self.process.wait(20))
-            content += piece
-        return content
-
     def trickle(self, content):
         """Sends the bytes one by one, each for itself to be read."""
         for byte in content:
@@ -103,9 +81,11 @@ class Helper:
             time.sleep(0.0005)
 
     def body(self):
-        """The body of the helper's next frame."""
-        (length,) = struct.unpack(">I", self.read(4))
-        return self.read(length)
+        """The body of the helper's next frame; `Ended` has the helper's status."""
+        try:
+            return self.frames.body()
+        except Ended:
+            raise Ended(self.process.wait(20)) from None
 
     def ask(self, body):
         """The kind, number and fields that answer the body."""
