@@ -1,12 +1,12 @@
-//! Tests of the agent, as bytes of its clients and child processes.
+//! Tests of the agent: what is asked of it beside the bytes of its clients and child processes.
 //! Stands on agent_core and world_ports.
 #![tactic(auto)]
 
 #[cfg(test)]
-mod bind_tests;
-#[cfg(test)]
-mod confirm_tests;
-#[cfg(test)]
 mod helper_tests;
+#[cfg(test)]
+mod memory_tests;
+#[cfg(test)]
+mod play;
 #[cfg(test)]
 mod tests;

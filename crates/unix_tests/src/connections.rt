@@ -1,29 +1,56 @@
 //! Connections: bytes come as they were sent, and a wait reports what became ready.
+use crate::calls::{accepts, holds, polls, reads, receives, sends, writes};
 use crate::no_programs::no_programs;
-use std::io::{Read, Write};
+use std::io::Read;
 use std::os::unix::net::UnixStream;
-use std::test::Fail;
+use std::process::Abort;
+use std::test::*;
 use unix_world::UnixWorld;
-use world_ports::{Accepted, Door, Got, Polled, Spot, World, WorldFault, Wrote};
+use world_ports::{Accepted, Door, Got, Polled, Ready, Spot, World, WorldFault, Wrote};
 
 #[test]
 fn a_client_is_reported_and_heard_to_its_end(rt: HostRuntime) -> Result<(), Fail> {
     let alloc = rt.alloc();
     let mut world = UnixWorld::new(&rt, alloc, String::new(alloc), no_programs(alloc))?;
-    world.bind(Door::Clients, "heard.socket")?;
-    assert_eq!(rt; world.accept(Door::Clients)?, Accepted::NotNow);
-    let mut client = UnixStream::connect(&rt, "heard.socket")?;
-    client.write_all(b"abc")?;
+    holds(
+        &rt,
+        world.bind(Door::Clients, "heard.socket").is_ok(),
+        "a listener",
+    );
+    accepts(
+        &rt,
+        world.accept(Door::Clients),
+        Accepted::NotNow,
+        "no client yet",
+    );
+    let mut client = UnixStream::connect(&rt, "heard.socket").expect(&rt, "a client");
+    sends(&rt, &mut client, b"abc");
     drop(client);
     let mut ready = Vec::new(alloc);
-    assert_eq!(rt; world.poll(None, &mut ready)?, Polled::Some);
-    assert_eq!(rt; ready.len(), 1);
-    assert_eq!(rt; ready[0].spot, Spot::Door(Door::Clients));
-    assert_eq!(rt; world.accept(Door::Clients)?, Accepted::Port(1));
+    polls(
+        &rt,
+        &mut world,
+        None,
+        &mut ready,
+        Polled::Some,
+        "a client came",
+    );
+    holds(&rt, ready.len() == 1, "one thing is ready");
+    holds(&rt, at_door(&ready, Door::Clients), "it is the listener");
+    accepts(
+        &rt,
+        world.accept(Door::Clients),
+        Accepted::Port(1),
+        "the client",
+    );
     let mut room = [7; 9];
-    assert_eq!(rt; world.read(1, &mut room)?, Got::Bytes(3));
-    assert_eq!(rt; room, [97, 98, 99, 7, 7, 7, 7, 7, 7]);
-    assert_eq!(rt; world.read(1, &mut room)?, Got::End);
+    reads(&rt, &mut world, 1, &mut room, Got::Bytes(3), "its bytes");
+    holds(
+        &rt,
+        room == [97, 98, 99, 7, 7, 7, 7, 7, 7],
+        "as they were sent",
+    );
+    reads(&rt, &mut world, 1, &mut room, Got::End, "its end");
     world.remove_files();
     Ok(())
 }
@@ -32,55 +59,118 @@ fn a_client_is_reported_and_heard_to_its_end(rt: HostRuntime) -> Result<(), Fail
 fn a_reply_arrives_and_a_closed_connection_is_refused(rt: HostRuntime) -> Result<(), Fail> {
     let alloc = rt.alloc();
     let mut world = UnixWorld::new(&rt, alloc, String::new(alloc), no_programs(alloc))?;
-    world.bind(Door::Children, "reply.socket")?;
-    let mut child = UnixStream::connect(&rt, "reply.socket")?;
-    assert_eq!(rt; world.accept(Door::Children)?, Accepted::Port(1));
+    holds(
+        &rt,
+        world.bind(Door::Children, "reply.socket").is_ok(),
+        "a listener",
+    );
+    let mut child = UnixStream::connect(&rt, "reply.socket").expect(&rt, "a child");
+    accepts(
+        &rt,
+        world.accept(Door::Children),
+        Accepted::Port(1),
+        "the child",
+    );
     let mut room = [0; 4];
-    assert_eq!(rt; world.read(1, &mut room)?, Got::NotNow);
-    assert_eq!(rt; world.write(1, b"defg")?, Wrote::Took(4));
-    child.read_exact(&mut room)?;
-    assert_eq!(rt; room, *b"defg");
-    world.close(1)?;
-    assert_eq!(rt; child.read(&mut room)?, 0);
-    assert!(rt; matches!(world.read(1, &mut room), Err(WorldFault::Failed)));
+    reads(
+        &rt,
+        &mut world,
+        1,
+        &mut room,
+        Got::NotNow,
+        "nothing was sent",
+    );
+    writes(&rt, &mut world, 1, b"defg", Wrote::Took(4), "a reply");
+    receives(&rt, &mut child, b"defg");
+    holds(&rt, world.close(1).is_ok(), "a close");
+    receives(&rt, &mut child, b"");
+    let refused = matches!(world.read(1, &mut room), Err(WorldFault::Failed));
+    holds(&rt, refused, "a read behind the close");
     world.remove_files();
     Ok(())
 }
 
-#[test]
-fn room_for_a_write_is_reported_once_there_is_some(rt: HostRuntime) -> Result<(), Fail> {
-    let alloc = rt.alloc();
-    let mut world = UnixWorld::new(&rt, alloc, String::new(alloc), no_programs(alloc))?;
-    world.bind(Door::Clients, "room.socket")?;
-    let mut client = UnixStream::connect(&rt, "room.socket")?;
-    assert_eq!(rt; world.accept(Door::Clients)?, Accepted::Port(1));
-    let bytes = vec![in alloc; 5; 65536]?;
+// Writes until there is no room, 4096 times at the most: how many bytes were taken.
+fn fill<W: World>(rt: &impl Abort, world: &mut W, bytes: &[u8]) -> u64 {
+    assert!(rt; !bytes.is_empty());
     let mut sent = 0_u64;
     for _ in 0..4096 {
-        match world.write(1, &bytes)? {
+        match world.write(1, bytes).expect(rt, "a write") {
             Wrote::Took(count) => sent = sent.saturating_add(u64::from(count)),
             Wrote::NotNow => break,
         }
     }
-    let mut ready = Vec::new(alloc);
-    world.poll(Some(0), &mut ready)?;
-    world.poll(Some(0), &mut ready)?;
-    assert_eq!(rt; ready.len(), 0);
-    let mut room = vec![in alloc; 0; 65536]?;
+    sent
+}
+
+// Reads until so many bytes came, 65536 times at the most.
+fn drain(rt: &impl Abort, client: &mut impl Read, room: &mut [u8], sent: u64) {
     let mut came = 0_u64;
     for _ in 0..65536 {
         if came >= sent {
             break;
         }
-        came = came.saturating_add(client.read(&mut room)? as u64);
+        let count = client.read(room).expect(rt, "what was sent");
+        came = came.saturating_add(count as u64);
     }
-    world.poll(Some(5), &mut ready)?;
-    assert!(rt;
-        ready
-            .iter()
-            .any(|item| item.spot == Spot::Port(1) && item.writable)
+}
+
+// The listener is the first thing that is ready.
+fn at_door(ready: &[Ready], door: Door) -> bool {
+    ready
+        .first()
+        .is_some_and(|item| item.spot == Spot::Door(door))
+}
+
+// A write has room.
+fn has_room(ready: &[Ready], port: u64) -> bool {
+    ready
+        .iter()
+        .any(|item| item.spot == Spot::Port(port) && item.writable)
+}
+
+#[test]
+fn room_for_a_write_is_reported_once_there_is_some(rt: HostRuntime) -> Result<(), Fail> {
+    let alloc = rt.alloc();
+    let bytes = vec![in alloc; 5; 65536]?;
+    let mut room = vec![in alloc; 0; 65536]?;
+    let mut world = UnixWorld::new(&rt, alloc, String::new(alloc), no_programs(alloc))?;
+    holds(
+        &rt,
+        world.bind(Door::Clients, "room.socket").is_ok(),
+        "a listener",
     );
-    assert_eq!(rt; world.write(1, b"more")?, Wrote::Took(4));
+    let mut client = UnixStream::connect(&rt, "room.socket").expect(&rt, "a client");
+    accepts(
+        &rt,
+        world.accept(Door::Clients),
+        Accepted::Port(1),
+        "the client",
+    );
+    let sent = fill(&rt, &mut world, &bytes);
+    let mut ready = Vec::new(alloc);
+    holds(
+        &rt,
+        world.poll(Some(0), &mut ready).is_ok(),
+        "what came before",
+    );
+    holds(&rt, world.poll(Some(0), &mut ready).is_ok(), "and then");
+    holds(&rt, ready.is_empty(), "nothing");
+    drain(&rt, &mut client, &mut room, sent);
+    holds(
+        &rt,
+        world.poll(Some(5), &mut ready).is_ok(),
+        "a wait for room",
+    );
+    holds(&rt, has_room(&ready, 1), "there is room");
+    writes(
+        &rt,
+        &mut world,
+        1,
+        b"more",
+        Wrote::Took(4),
+        "a write with room",
+    );
     world.remove_files();
     Ok(())
 }
