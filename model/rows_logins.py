@@ -1,6 +1,6 @@
 """Logins over three hosts that OpenSSH's programs made, as rows: from `ssh-add -h` to the signature.
 
-What was recorded stands in crates/dest_rule/src/tests: hosts, sessions, what `ssh` gave to sign and
+What was recorded stands in crates/part_tests/src/logins: hosts, sessions, what `ssh` gave to sign and
 what `ssh-add -h` sent, and beside it what OpenSSH's agent listed and signed. The private key and the
 signatures weren't recorded; no agent looks at them.
 """
@@ -13,9 +13,9 @@ from pathlib import Path
 
 from .rows import LIST, NO, NOTHING, OK, RULES, hear, listing, row, st, to, u32, u64
 from .rows_children import chain, hello, sign, signed
-from .rows_rules import EVERY_ROW as EARLIER
+from .rows_runs import EVERY_ROW as EARLIER
 
-RECORDED = Path(__file__).parents[1] / "crates/dest_rule/src/tests"
+RECORDED = Path(__file__).parents[1] / "crates/part_tests/src/logins"
 COMMENT = b"user@host"
 # A second of 2026, at which the certificates of the hosts are good.
 WALL = 1795000000

@@ -6,8 +6,6 @@
 mod agent;
 mod serving;
 mod status;
-#[cfg(test)]
-mod tests;
 mod top;
 mod words;
 

@@ -12,8 +12,6 @@ mod list;
 mod pending;
 mod question;
 mod rows;
-#[cfg(test)]
-mod tests;
 
 pub use desk::Desk;
 pub use fault::DeskFault;

@@ -30,6 +30,3 @@ pub use rows::{
     a_login_is_to_the_newest_host, bindings_are_judged_in_order, each_hop_counts,
 };
 pub use rules::{may_sign, visible};
-
-#[cfg(test)]
-mod tests;

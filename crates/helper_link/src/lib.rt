@@ -11,8 +11,6 @@ mod link;
 mod settle;
 mod state;
 mod stop;
-#[cfg(test)]
-mod tests;
 
 pub use answer::{Answer, Settled, Told};
 pub use ask::{Ask, AskKind};

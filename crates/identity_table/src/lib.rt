@@ -11,8 +11,6 @@ mod laws;
 mod list;
 mod lock;
 mod table;
-#[cfg(test)]
-mod tests;
 
 pub use fault::AddFault;
 pub use identity::Identity;

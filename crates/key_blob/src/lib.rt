@@ -28,6 +28,3 @@ pub use laws::{
 };
 pub use public_key::{Certificate, PublicKey, algorithm_fits, read_public, type_word};
 pub use size::bits;
-
-#[cfg(test)]
-mod tests;

@@ -11,8 +11,6 @@ mod numbers;
 mod read;
 mod step;
 mod step_line;
-#[cfg(test)]
-mod tests;
 mod texts;
 mod write;
 

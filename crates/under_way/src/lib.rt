@@ -5,8 +5,6 @@
 
 mod jobs;
 mod state;
-#[cfg(test)]
-mod tests;
 mod verification;
 
 pub use jobs::Started;

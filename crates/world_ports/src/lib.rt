@@ -41,6 +41,3 @@ pub use stream::{Fault, Pulled, Sink, Source, Stream};
 pub use vec_sink::VecSink;
 pub use whole::write_all;
 pub use world::World;
-
-#[cfg(test)]
-mod tests;

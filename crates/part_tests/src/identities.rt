@@ -3,8 +3,8 @@
 
 ghost use Rattle.std.specs.Prelude.{◌≡◌, ◌≤◌, IfOk, length};
 
-use super::*;
 use constraint_rec::Terms;
+use identity_table::*;
 use key_blob::AddedKey;
 use plain_lists::{Bytes, PlainList};
 use secret_buf::SecretBytes;

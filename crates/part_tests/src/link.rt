@@ -3,7 +3,7 @@
 ghost use Rattle.std.specs.Prelude.{◌≡◌, ◌<◌, ◌≤◌, [], length, OnOk};
 ghost use Rattle.helper_link.specs.HelperLink.{IsLinked};
 
-use crate::*;
+use helper_link::*;
 use plain_lists::Bytes;
 use secret_buf::SecretBytes;
 use std::alloc::{AllocError, Global};

@@ -1,8 +1,8 @@
 //! Scripts played from their first cue to their end.
-use crate::*;
 use plain_lists::{Bytes, PlainList};
 use std::alloc::{AllocError, Global};
 use std::test::Fail;
+use world_ports::*;
 
 fn bytes(alloc: Global, text: &[u8]) -> Result<Bytes, AllocError> {
     Ok(Bytes::from_vec(Vec::from_slice(alloc, text)?))

@@ -2,12 +2,12 @@
 
 ghost use Rattle.std.specs.Prelude.{◌≡◌, []};
 
-use crate::*;
 use agent_msg::{Request, read_request};
 use helper_link::LinkState;
 use identity_table::Table;
 use std::alloc::Global;
 use std::test::*;
+use under_way::*;
 use world_ports::{Job, JobKind};
 
 // SSH_AGENTC_ADD_IDENTITY of draft-miller-ssh-agent, 17, with a key of the type keyed-sha256@example.com, its

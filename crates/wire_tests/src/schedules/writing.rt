@@ -1,7 +1,7 @@
 //! That the definitions say what docs/PROTOCOL.md says of lines that are written.
 
-use crate::{Deed, LineFault, Step, put_deed, put_step};
 use plain_lists::Bytes;
+use schedule_text::{Deed, LineFault, Step, put_deed, put_step};
 use std::test::Fail;
 use world_ports::{Door, Job, JobKind, Moment};
 

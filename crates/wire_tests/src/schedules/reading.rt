@@ -1,7 +1,7 @@
 //! That the definitions say what docs/PROTOCOL.md says of lines that are read.
 
-use crate::{LineFault, Step, read_line};
 use plain_lists::Bytes;
+use schedule_text::{LineFault, Step, read_line};
 use std::test::Fail;
 use world_ports::{Door, Moment};
 

@@ -3,7 +3,7 @@
 ghost use Rattle.std.specs.Prelude.{◌≡◌, IfOk};
 ghost use Rattle.confirm_desk.specs.Samples.{two_linked};
 
-use crate::*;
+use confirm_desk::*;
 use plain_lists::Bytes;
 use std::alloc::{AllocError, Global};
 use std::test::Fail;

@@ -1,5 +1,5 @@
 //! Lifetimes as sshd_config(5) writes them, and the edges of their range.
-use crate::read_life;
+use world_ports::read_life;
 
 #[test]
 fn lifetimes_are_read(rt: HostRuntime) {

@@ -6,9 +6,9 @@ mod life;
 mod script_world;
 mod tools;
 
-use super::*;
 use std::io::{self, Error, ErrorKind, Read, Write};
 use std::test::Fail;
+use world_ports::*;
 
 // What code over any source learns of one read.
 fn pull<I: Source>(input: &mut I, room: &mut [u8]) -> Option<u32>

@@ -1,8 +1,8 @@
 //! Files and runs in memory.
-use crate::*;
 use plain_lists::Bytes;
 use std::alloc::{AllocError, Global};
 use std::test::Fail;
+use world_ports::*;
 
 fn file(alloc: Global, path: &str, bytes: &[u8]) -> Result<(String, Vec<u8>), AllocError> {
     Ok((

@@ -8,8 +8,8 @@ mod hosts;
 mod users;
 mod vectors;
 
-use super::*;
 use base64::engine::general_purpose::STANDARD;
+use key_blob::*;
 use std::test::Fail;
 use vectors::VECTORS;
 use wire_core::Cursor;

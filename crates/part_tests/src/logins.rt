@@ -10,8 +10,8 @@ ghost use Rattle.std.specs.Prelude.{◌<◌};
 mod certificates;
 mod plain_keys;
 
-use super::*;
 use constraint_rec::{Constraint, TermFault, Terms, read_constraints};
+use dest_rule::*;
 use key_blob::read_public;
 use std::alloc::{AllocError, Global};
 use std::process::Abort;
