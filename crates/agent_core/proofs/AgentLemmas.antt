@@ -19,7 +19,7 @@ use Rattle.agent_model.proofs.ClosesLemmas.{gone-none}
 use Rattle.agent_model.proofs.PortsLemmas.{found_number, numbers-change_port}
 use Rattle.agent_model.proofs.SecondLemmas.{second-serve}
 use Rattle.agent_core.specs.Parts.{state_of, with_closes}
-use Rattle.rising_numbers.specs.Rising.{inserted}
+use Rattle.lists.specs.Rising.{inserted}
 use Rattle.agent_core.specs.Roles.{role_by}
 use Rattle.agent_core.specs.Served.{served_at}
 use Rattle.agent_core.specs.Slots.{OpenPorts}

@@ -8,7 +8,7 @@ use Rattle.agent_model.specs.State.{Port, find_port, numbers, remove_port}
 use Rattle.agent_model.specs.Step.{gone}
 use Rattle.agent_model.proofs.ClosesLemmas.{gone-none, gone-same_last, has-below}
 use Rattle.agent_core.specs.Closed.{IsClosedSince}
-use Rattle.rising_numbers.specs.Rising.{IsRisingNumbers, inserted}
+use Rattle.lists.specs.Rising.{IsRisingNumbers, inserted}
 use Rattle.agent_core.specs.Slots.{OpenPorts}
 
 -- ---- numbers

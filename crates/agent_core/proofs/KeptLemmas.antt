@@ -13,8 +13,8 @@ use Rattle.agent_core.specs.declared.waits.Waits.TheVariants as waits
 use Rattle.agent_core.specs.declared.slot.Slot.{Slot}
 use Rattle.agent_core.specs.Places.{IsPlace}
 use Rattle.agent_core.specs.Listed.{noted}
-use Rattle.rising_numbers.specs.Rising.{IsRisingList, inserted, removed}
-use Rattle.rising_numbers.proofs.RisingLemmas.{length-inserted, rising_list, rising_list-inserted}
+use Rattle.lists.specs.Rising.{IsRisingList, inserted, removed}
+use Rattle.lists.proofs.RisingLemmas.{length-inserted, rising_list, rising_list-inserted}
 use Rattle.agent_core.specs.Slots.{IsKept, is_owing, owing_of, port_of, ports_of, waits_of}
 use Rattle.agent_core.proofs.OwingLemmas.{length-owing_of, listed-changed, owing_of-owed, owing_of-append, owing_of-kept, owing_of-remove_port, rising_numbers}
 use Rattle.agent_core.proofs.PlaceLemmas.{length-ports_of, no_slot}

@@ -8,8 +8,8 @@ use Rattle.agent_model.specs.Sound.{IsRising}
 use Rattle.agent_model.specs.State.{Port, change_port, find_port, new_port, remove_port}
 use Rattle.agent_model.proofs.PortsLemmas.{found_above}
 use Rattle.agent_core.specs.Listed.{noted}
-use Rattle.rising_numbers.specs.Rising.{IsRisingNumbers, inserted, removed}
-use Rattle.rising_numbers.proofs.RisingLemmas.{inserted_below, removed_below, rising_lower}
+use Rattle.lists.specs.Rising.{IsRisingNumbers, inserted, removed}
+use Rattle.lists.proofs.RisingLemmas.{inserted_below, removed_below, rising_lower}
 use Rattle.agent_core.specs.Slots.{is_owing, owing_of}
 
 -- a number may be listed in front or left out

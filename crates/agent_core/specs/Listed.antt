@@ -1,6 +1,6 @@
 -- A list of numbers that follows which numbers have a property (ours).
 use Rattle.std.specs.Prelude.{ℕ, Bool, true, false, List}
-use Rattle.rising_numbers.specs.Rising.{inserted, removed}
+use Rattle.lists.specs.Rising.{inserted, removed}
 
 -- with this number or without it
 abbrev pub noted : Bool → ℕ → List ℕ → List ℕ

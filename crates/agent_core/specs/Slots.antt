@@ -4,7 +4,7 @@ use Rattle.dest_rule.specs.Chains.{ChainState}
 use Rattle.agent_core.specs.declared.slot.Slot.{Slot}
 use Rattle.agent_core.specs.declared.waits.Waits.{Waits as CoreWaits}
 use Rattle.agent_core.specs.declared.waits.Waits.TheVariants as waits
-use Rattle.rising_numbers.specs.Rising.{IsRisingList}
+use Rattle.lists.specs.Rising.{IsRisingList}
 use Rattle.agent_model.specs.Sound.{IsRising}
 use Rattle.agent_model.specs.State.{Nothing, OnAsk, OnConfirmation, Port, Waits, is_client, is_some_bytes}
 

@@ -1,7 +1,7 @@
 //! The agent's core: one event of its clients at a time, with no input or output of its own.
 //! Each step is one step of the abstract agent (agent_model), which answers requests of the SSH agent protocol
 //! (draft-miller-ssh-agent). Stands on agent_model, identity_table, dest_rule, under_way, confirm_desk, agent_msg,
-//! frame_core, secret_buf and rising_numbers.
+//! frame_core, secret_buf and lists.
 #![tactic(auto)]
 
 mod agent;

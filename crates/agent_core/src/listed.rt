@@ -7,7 +7,7 @@ ghost use Rattle.agent_model.specs.Looks.{due};
 ghost use Rattle.agent_model.specs.Step.{attempts, take_frame, took_some};
 ghost use Rattle.agent_model.specs.Verdicts.{HelperLost, Refuses, Verdict, tell};
 ghost use Rattle.under_way.specs.Parts.{TellsOf};
-ghost use Rattle.rising_numbers.specs.Rising.{IsRisingList, inserted};
+ghost use Rattle.lists.specs.Rising.{IsRisingList, inserted};
 ghost use Rattle.agent_core.specs.Listed.{noted};
 ghost use Rattle.confirm_desk.specs.Confirmations.{find_asker};
 ghost use Rattle.agent_core.specs.Served.{served_at};
@@ -32,9 +32,9 @@ fn note_owed(slot: &Slot, owing: &mut Vec<u64>)
     ensures room { vec_capacity owing.old ≤ vec_capacity owing.new }
 {
     if slot.door == Door::Clients && !slot.owed.bytes().is_empty() {
-        rising_numbers::put_in(owing, slot.number);
+        lists::put_in(owing, slot.number);
     } else {
-        rising_numbers::take_out(owing, slot.number);
+        lists::take_out(owing, slot.number);
     }
 }
 

@@ -12,7 +12,7 @@ ghost use Rattle.agent_model.specs.Step.{admitted, attempts, gone, take_frame, t
 ghost use Rattle.agent_model.specs.Verdicts.{HelperLost, Refuses, Verdict, tell};
 ghost use Rattle.under_way.specs.Parts.{TellsOf};
 ghost use Rattle.agent_core.specs.Closed.{IsClosedSince};
-ghost use Rattle.rising_numbers.specs.Rising.{first_above, inserted};
+ghost use Rattle.lists.specs.Rising.{first_above, inserted};
 ghost use Rattle.agent_core.specs.Owing.{is_client_at};
 ghost use Rattle.agent_core.specs.Roles.{door_by};
 ghost use Rattle.confirm_desk.specs.Confirmations.{find_asker};
@@ -159,7 +159,7 @@ impl Ports {
         ensures next { result ≡ first_above after (owing_of self.now.ports) }
         ensures rising { IsRising 0 self.now.last self.now.ports }
     {
-        rising_numbers::next_above(&self.owing, after)
+        lists::next_above(&self.owing, after)
     }
 
     /// An event begins: none was closed by it yet.
@@ -187,7 +187,7 @@ impl Ports {
             self.admit(door)?;
         } else {
             self.last += 1;
-            rising_numbers::put_in(&mut self.closed, self.last);
+            lists::put_in(&mut self.closed, self.last);
         }
         Ok(())
     }
@@ -339,8 +339,8 @@ impl Ports {
             unreachable!()
         };
         self.slots.remove(place).close();
-        rising_numbers::take_out(&mut self.owing, number);
-        rising_numbers::put_in(&mut self.closed, number);
+        lists::take_out(&mut self.owing, number);
+        lists::put_in(&mut self.closed, number);
     }
 }
 

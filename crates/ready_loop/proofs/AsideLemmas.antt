@@ -3,8 +3,8 @@ use Rattle.std.proofs.Common.{◌≡◌, ◌∙◌, ℕ, Bool, true, false, List
 use Rattle.std.proofs.lemmas.Bool.Decides.{nat_tests}
 use Rattle.std.specs.List.{filter}
 use Rattle.world_ports.specs.declared.events.Door.{Door}
-use Rattle.rising_numbers.specs.Rising.{IsRisingList, is_among, removed}
-use Rattle.rising_numbers.proofs.RisingLemmas.{is_among-inserted, removed-filter}
+use Rattle.lists.specs.Rising.{IsRisingList, is_among, removed}
+use Rattle.lists.proofs.RisingLemmas.{is_among-inserted, removed-filter}
 use Rattle.agent_model.specs.State.{State}
 use Rattle.ready_hub.specs.Servable.{is_servable}
 use Rattle.ready_hub.specs.Things.{Hot, cooled, heated, same_door, same_thing, set_of}

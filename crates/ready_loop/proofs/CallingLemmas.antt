@@ -3,8 +3,8 @@ use Rattle.std.proofs.Common.{◌≡◌, ◌∙◌, ℕ, ◌<◌, Bool, true, fa
 use Rattle.std.proofs.lemmas.Bool.Decides.{nat_tests}
 use Rattle.std.proofs.lemmas.List.{append-nil}
 use Rattle.std.specs.List.{filter}
-use Rattle.rising_numbers.specs.Rising.{IsRisingList, IsRisingNumbers, is_among}
-use Rattle.rising_numbers.proofs.RisingLemmas.{is_among-above, rising_list}
+use Rattle.lists.specs.Rising.{IsRisingList, IsRisingNumbers, is_among}
+use Rattle.lists.proofs.RisingLemmas.{is_among-above, rising_list}
 use Rattle.ready_hub.specs.Things.{set_of}
 use Rattle.ready_hub.specs.declared.thing.Thing.{Thing}
 use Rattle.ready_hub.specs.declared.thing.Thing.TheVariants.{Write}

@@ -7,7 +7,7 @@ use Rattle.ready_loop.specs.Aside.{Aside, taken_back, things_aside, accepts_of}
 use Rattle.ready_loop.specs.Queues.{dropped}
 use Rattle.std.proofs.lemmas.Bool.Decides.{nat_tests}
 use Rattle.world_ports.specs.declared.events.Door.{Door}
-use Rattle.rising_numbers.specs.Rising.{is_among}
+use Rattle.lists.specs.Rising.{is_among}
 use Rattle.ready_hub.specs.declared.thing.Thing.TheVariants.{Accept, Read, Write}
 use Rattle.ready_loop.proofs.TestLemmas.{or_left, or_right}
 use Rattle.ready_loop.proofs.ThingLemmas.{false_by, same_thing-refl, same_thing-true}

@@ -4,7 +4,7 @@ use Rattle.std.proofs.lemmas.Bool.Decides.{nat_tests}
 use Rattle.std.proofs.lemmas.List.Elements.{filter-append}
 use Rattle.std.specs.List.{filter}
 use Rattle.world_ports.specs.declared.events.Door.{Door}
-use Rattle.rising_numbers.specs.Rising.{IsRisingList, is_among}
+use Rattle.lists.specs.Rising.{IsRisingList, is_among}
 use Rattle.agent_model.specs.Sound.{IsRising}
 use Rattle.agent_model.specs.State.{Port, State, UnderWay, find_port, is_client, is_some_bytes, next_owed, next_owed_in, owed_by, owed_by_port}
 use Rattle.agent_core.specs.Owing.{next_child_owed, next_child_owed_in}

@@ -1,13 +1,13 @@
 // What is ready and can't be served, set aside under its door or port.
 ghost use Rattle.std.specs.Prelude.{◌≡◌, OnErr, OnOk, filter, length, nat_lt, not};
-ghost use Rattle.rising_numbers.specs.Rising.{IsRisingList, inserted};
+ghost use Rattle.lists.specs.Rising.{IsRisingList, inserted};
 ghost use Rattle.ready_hub.specs.Things.{same_door, set_of};
 ghost use Rattle.ready_hub.specs.declared.thing.Thing.TheVariants.{Accept};
 ghost use Rattle.ready_loop.specs.Aside.{accepts_of, none_aside, put_aside, taken_back, things_aside};
 
 use crate::things::is_same_door;
 use ready_hub::Thing;
-use rising_numbers as rising;
+use lists as rising;
 use std::alloc::{AllocError, Global};
 use std::marker::Model;
 use world_ports::Door;
@@ -22,7 +22,7 @@ pub struct Aside {
 }
 
 impl Model for Aside {
-    ghost use Rattle.rising_numbers.specs.Rising.{IsRisingList};
+    ghost use Rattle.lists.specs.Rising.{IsRisingList};
     ghost use Rattle.ready_loop.specs.Aside.{Aside as Things};
 
     ghost Value = { Things };

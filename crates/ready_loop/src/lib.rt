@@ -1,5 +1,5 @@
 //! The readiness loop: which call on the world comes next, and what the agent is told of its answer.
-//! Stands on ready_hub (which journals are legal), agent_model and agent_core (the agent's steps), rising_numbers and
+//! Stands on ready_hub (which journals are legal), agent_model and agent_core (the agent's steps), lists and
 //! world_ports.
 #![tactic(auto)]
 

@@ -1,7 +1,7 @@
 // What is ready, in the order in which it is served.
 ghost use Rattle.std.specs.Prelude.{◌≡◌, ◌||◌, None, OnOk, Some, false, length, nat_lt, true};
 ghost use Rattle.agent_model.specs.State.{State, is_client};
-ghost use Rattle.rising_numbers.specs.Rising.{IsRisingList};
+ghost use Rattle.lists.specs.Rising.{IsRisingList};
 ghost use Rattle.ready_hub.specs.declared.thing.Thing.TheVariants.{Accept, Read, Write};
 ghost use Rattle.ready_loop.specs.Lines.{brought, called, called_all, called_own, empty_line, hot_of, queued, queued_all, queued_by, queued_if, queued_port, recalled, sent_back, settled, without, without_port};
 ghost use Rattle.ready_loop.specs.Queues.{dropped, first_servable};

@@ -1,7 +1,7 @@
 use Rattle.std.proofs.Common.{◌≡◌, ◌+◌, ◌≤◌, length, arith, subst, sym}
 use Rattle.std.specs.Prelude.{vec_capacity, vec_len}
-use Rattle.rising_numbers.specs.Rising.{IsRisingList}
-use Rattle.rising_numbers.proofs.RisingLemmas.{length-inserted, rising_list-inserted}
+use Rattle.lists.specs.Rising.{IsRisingList}
+use Rattle.lists.proofs.RisingLemmas.{length-inserted, rising_list-inserted}
 use Rattle.ready_loop.proofs.aside.put_in.Goals as goal
 
 pub put_in-requires-clause-room : goal.put_in-requires-clause-room

@@ -1,6 +1,6 @@
 use Rattle.std.proofs.Common.{◌≡◌, ◌∙◌, [], ◌<◌, ◌^◌, ◌+◌, suc, ap, add-one, arith, length, sym, false}
 use Rattle.agent_model.proofs.ClosesLemmas.{gone-admitted}
-use Rattle.rising_numbers.specs.Rising.{inserted}
+use Rattle.lists.specs.Rising.{inserted}
 use Rattle.agent_core.specs.Slots.{OpenPorts, ports_of}
 use Rattle.agent_core.proofs.KeptLemmas.{kept-refused}
 use Rattle.agent_core.proofs.PlaceLemmas.{length-ports_of}

@@ -1,5 +1,5 @@
 use Rattle.std.proofs.Common.{◌∙◌, ap}
-use Rattle.rising_numbers.specs.Rising.{first_above}
+use Rattle.lists.specs.Rising.{first_above}
 use Rattle.agent_core.proofs.KeptLemmas.{kept_numbers}
 use Rattle.agent_core.proofs.ports.Ports.next_owed.Goals as goal
 

@@ -1,6 +1,6 @@
 use Rattle.std.proofs.Common.{◌∙◌, sym, subst}
-use Rattle.rising_numbers.specs.Rising.{IsRisingList}
-use Rattle.rising_numbers.proofs.RisingLemmas.{rising_list-removed}
+use Rattle.lists.specs.Rising.{IsRisingList}
+use Rattle.lists.proofs.RisingLemmas.{rising_list-removed}
 use Rattle.ready_hub.specs.declared.thing.Thing.TheVariants.{Accept, Read, Write}
 use Rattle.ready_loop.specs.Aside.{Aside}
 use Rattle.ready_loop.proofs.AsideLemmas.{aside-accept, aside-read, aside-write, read_taken, told, write_taken}

@@ -1,5 +1,5 @@
 use Rattle.std.proofs.Common.{◌≡◌, ◌-◌}
-use Rattle.rising_numbers.specs.Rising.{IsRisingList}
+use Rattle.lists.specs.Rising.{IsRisingList}
 use Rattle.ready_loop.proofs.RecallLemmas.{child_upto}
 use Rattle.ready_loop.proofs.queue.Queue.call_children.Given as goal
 

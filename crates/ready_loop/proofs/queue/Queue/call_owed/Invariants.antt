@@ -1,5 +1,5 @@
 use Rattle.std.proofs.Common.{◌≡◌, ◌-◌}
-use Rattle.rising_numbers.specs.Rising.{IsRisingList}
+use Rattle.lists.specs.Rising.{IsRisingList}
 use Rattle.ready_loop.proofs.RecallLemmas.{owed_upto}
 use Rattle.ready_loop.proofs.queue.Queue.call_owed.Given as goal
 

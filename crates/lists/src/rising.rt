@@ -1,7 +1,7 @@
 //! A rising list of numbers.
 
 ghost use Rattle.std.specs.Prelude.{◌≡◌, ◌≤◌, MatchResult, length, vec_capacity};
-ghost use Rattle.rising_numbers.specs.Rising.{IsAbsent, IsFound, IsRisingList, first_above, inserted, is_among, removed};
+ghost use Rattle.lists.specs.Rising.{IsAbsent, IsFound, IsRisingList, first_above, inserted, is_among, removed};
 
 // Where the number stands, or else where it goes.
 fn search(numbers: &[u64], number: u64) -> Result<usize, usize>

@@ -2,7 +2,7 @@
 use Rattle.std.proofs.Common.{◌≡◌, ℕ, ◌+◌, ◌<◌, ◌≤◌, List, [], ◌∷◌, length, refl, arith, Bool, true, false, not, ◌==◌, ◌||◌, ◌&&◌, nat_lt, if◌then◌else◌, filter, inl, inr}
 use Rattle.std.proofs.lemmas.Bool.{cases_eq}
 use Rattle.std.proofs.lemmas.Bool.Decides.{nat_tests}
-use Rattle.rising_numbers.specs.Rising.{IsRisingList, IsRisingNumbers, inserted, is_among, removed}
+use Rattle.lists.specs.Rising.{IsRisingList, IsRisingNumbers, inserted, is_among, removed}
 
 -- ---- which lists rise
 

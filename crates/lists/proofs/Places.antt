@@ -7,8 +7,8 @@ use Rattle.std.proofs.lemmas.List.Sorted.{searched}
 use Rattle.std.specs.List.{insert, remove}
 use Rattle.std.specs.List.Sorted.{IsBinarySearchResult}
 use Rattle.std.specs.Ordering.{nat_cmp}
-use Rattle.rising_numbers.specs.Rising.{IsAbsent, IsFound, IsRisingList, IsRisingNumbers, first_above, inserted, is_among, removed}
-use Rattle.rising_numbers.proofs.RisingLemmas.{inserted-among, removed-not_among, rising_list}
+use Rattle.lists.specs.Rising.{IsAbsent, IsFound, IsRisingList, IsRisingNumbers, first_above, inserted, is_among, removed}
+use Rattle.lists.proofs.RisingLemmas.{inserted-among, removed-not_among, rising_list}
 
 -- each number is above the bound
 rising-above : (low : ℕ) (xs : List ℕ) (i : ℕ) → IsRisingNumbers low xs → i < length xs → low < get_or xs i 0

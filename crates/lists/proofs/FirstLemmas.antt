@@ -1,0 +1,351 @@
+-- Lemmas on the first element that passes a test.
+use Rattle.std.proofs.Common.{◌≡◌, ℕ, zero, suc, ◌+◌, ◌<◌, ◌≤◌, Bool, true, false, cond, List, [], ◌∷◌, ◌++◌, length, get_or, set, map, filter, Option, Some, None, MatchOption, refl, sym, ap, ◌∙◌, arith}
+use Rattle.std.specs.List.{find, position, position_from, remove}
+use Rattle.std.specs.Option.{option_map}
+use Rattle.std.proofs.lemmas.Bool.Decides.{nat_tests}
+use Rattle.std.proofs.lemmas.List.Quantifiers.{position-Some}
+use Rattle.std.proofs.lemmas.Iterator.Adapters.{position_from-zero}
+use Rattle.lists.specs.Firsts.{IsFirst, IsOnly, change_first, remove_first}
+
+-- what is none is neither here nor later
+pub some_or_later : {A : Type 0} (is : Bool) (one : A) (found : Option A) →
+    cond is (Some one) found ≡ None → (is ≡ false) × (found ≡ None)
+some_or_later true one found none = absurd cc
+some_or_later false one found none = (refl, none)
+
+-- ---- what is found
+
+-- it passes
+pub found_passes : {A : Type 0} (test : A → Bool) (all : List A) (one : A) →
+    find test all ≡ Some one → test one ≡ true
+found_passes test [] one found = absurd cc
+found_passes test (first ∷ all) one found =
+    by_test (test first) refl (found_passes test all one) found
+  where
+    by_test : (is : Bool) → test first ≡ is → (find test all ≡ Some one → test one ≡ true) →
+        cond is (Some first) (find test all) ≡ Some one → test one ≡ true
+    by_test true passes later there = let same : first ≡ one = cc in ap test (sym same) ∙ passes
+    by_test false fails later there = later there
+
+-- ---- without the first that passes
+
+pub find-remove_none : {A : Type 0} (test other : A → Bool) (all : List A) → find test all ≡ None →
+    find test (remove_first other all) ≡ None
+find-remove_none test other [] none = refl
+find-remove_none test other (one ∷ all) none =
+    let both = some_or_later (test one) one (find test all) none in
+    let rest : find test (remove_first other all) ≡ None = find-remove_none test other all both.1 in
+    let fails : test one ≡ false = both.0 in
+    let later : find test all ≡ None = both.1 in
+    grind (arith, nat_tests)
+
+pub find-remove_apart : {A : Type 0} (test other : A → Bool) (all : List A) →
+    ((one : A) → other one ≡ true → test one ≡ false) →
+    find test (remove_first other all) ≡ find test all
+find-remove_apart test other [] apart = refl
+find-remove_apart test other (one ∷ all) apart =
+    by_test (other one) refl (find-remove_apart test other all apart)
+  where
+    by_test : (is : Bool) → other one ≡ is → find test (remove_first other all) ≡ find test all →
+        find test (cond is all (one ∷ remove_first other all)) ≡ find test (one ∷ all)
+    by_test true is rest = rw (apart one is) refl
+    by_test false is rest = ap (cond (test one) (Some one)) rest
+
+pub remove-none : {A : Type 0} (test : A → Bool) (all : List A) → find test all ≡ None →
+    remove_first test all ≡ all
+remove-none test [] none = refl
+remove-none test (one ∷ all) none =
+    let both = some_or_later (test one) one (find test all) none in
+    rw both.0 (ap (λ rest. one ∷ rest) (remove-none test all both.1))
+
+pub length-remove : {A : Type 0} (test : A → Bool) (all : List A) →
+    length (remove_first test all) ≤ length all
+length-remove test [] = omega arith
+length-remove test (one ∷ all) =
+    let rest : length (remove_first test all) ≤ length all = length-remove test all in
+    grind (arith, nat_tests)
+
+-- where no other passes, none is left that does
+pub find-removed : {A : Type 0} (test : A → Bool) (all : List A) → IsOnly test all →
+    find test (remove_first test all) ≡ None
+find-removed test [] only = refl
+find-removed test (one ∷ all) only = by_test (test one) refl only.0 (find-removed test all only.1)
+  where
+    by_test : (is : Bool) → test one ≡ is → (test one ≡ true → find test all ≡ None) →
+        find test (remove_first test all) ≡ None →
+        find test (cond is all (one ∷ remove_first test all)) ≡ None
+    by_test true is behind rest = behind is
+    by_test false is behind rest = rw is rest
+
+-- ---- with the first that passes changed
+
+-- a change that keeps the test is found
+pub find-change : {A : Type 0} (test : A → Bool) (f : A → A) (all : List A) →
+    ((one : A) → test (f one) ≡ test one) →
+    find test (change_first test f all) ≡ option_map f (find test all)
+find-change test f [] keeps = refl
+find-change test f (one ∷ all) keeps = by_test (test one) refl (find-change test f all keeps)
+  where
+    by_test : (is : Bool) → test one ≡ is →
+        find test (change_first test f all) ≡ option_map f (find test all) →
+        find test (cond is (f one ∷ all) (one ∷ change_first test f all)) ≡ option_map f (cond is (Some one) (find test all))
+    by_test true is rest = rw (keeps one, is) refl
+    by_test false is rest = rw is rest
+
+-- what is changed passes no more than before
+pub find-change_none : {A : Type 0} (test other : A → Bool) (f : A → A) (all : List A) →
+    ((one : A) → test one ≡ false → test (f one) ≡ false) →
+    find test all ≡ None → find test (change_first other f all) ≡ None
+find-change_none test other f [] keeps none = refl
+find-change_none test other f (one ∷ all) keeps none =
+    let both = some_or_later (test one) one (find test all) none in
+    by_test (other one) (keeps one both.0) both.0 both.1 (find-change_none test other f all keeps both.1)
+  where
+    by_test : (is : Bool) → test (f one) ≡ false → test one ≡ false → find test all ≡ None →
+        find test (change_first other f all) ≡ None →
+        find test (cond is (f one ∷ all) (one ∷ change_first other f all)) ≡ None
+    by_test true changed fails behind rest = rw changed behind
+    by_test false changed fails behind rest = rw fails rest
+
+-- what is changed passes neither before nor after
+pub find-change_apart : {A : Type 0} (test other : A → Bool) (f : A → A) (all : List A) →
+    ((one : A) → other one ≡ true → test one ≡ false) →
+    ((one : A) → other one ≡ true → test (f one) ≡ false) →
+    find test (change_first other f all) ≡ find test all
+find-change_apart test other f [] apart keeps = refl
+find-change_apart test other f (one ∷ all) apart keeps =
+    by_test (other one) refl (find-change_apart test other f all apart keeps)
+  where
+    by_test : (is : Bool) → other one ≡ is → find test (change_first other f all) ≡ find test all →
+        find test (cond is (f one ∷ all) (one ∷ change_first other f all)) ≡ cond (test one) (Some one) (find test all)
+    by_test true is rest = rw (apart one is, keeps one is) refl
+    by_test false is rest = ap (cond (test one) (Some one)) rest
+
+pub change-none : {A : Type 0} (test : A → Bool) (f : A → A) (all : List A) → find test all ≡ None →
+    change_first test f all ≡ all
+change-none test f [] none = refl
+change-none test f (one ∷ all) none =
+    let both = some_or_later (test one) one (find test all) none in
+    rw both.0 (ap (λ rest. one ∷ rest) (change-none test f all both.1))
+
+-- a change to what is there is none
+pub change-same : {A : Type 0} (test : A → Bool) (f : A → A) (all : List A) (one : A) →
+    find test all ≡ Some one → f one ≡ one → change_first test f all ≡ all
+change-same test f [] one found same = refl
+change-same test f (first ∷ all) one found same =
+    by_test (test first) found (λ there. change-same test f all one there same)
+  where
+    by_test : (is : Bool) → cond is (Some first) (find test all) ≡ Some one →
+        (find test all ≡ Some one → change_first test f all ≡ all) →
+        cond is (f first ∷ all) (first ∷ change_first test f all) ≡ first ∷ all
+    by_test true there later =
+        let is : first ≡ one = cc in let changed : f first
+        ≡ first = ap f is ∙ same ∙ sym is in ap (λ here. here ∷ all) changed
+    by_test false there later = ap (λ rest. first ∷ rest) (later there)
+
+-- two changes that agree on what is found are one
+pub change-agree : {A : Type 0} (test : A → Bool) (f g : A → A) (all : List A) (one : A) →
+    find test all ≡ Some one → f one ≡ g one →
+    change_first test f all ≡ change_first test g all
+change-agree test f g [] one found same = refl
+change-agree test f g (first ∷ all) one found same =
+    by_test (test first) found (λ there. change-agree test f g all one there same)
+  where
+    by_test : (is : Bool) → cond is (Some first) (find test all) ≡ Some one →
+        (find test all ≡ Some one → change_first test f all ≡ change_first test g all) →
+        cond is (f first ∷ all) (first ∷ change_first test f all) ≡ cond is (g first ∷ all) (first ∷ change_first test g all)
+    by_test true there later =
+        let is : first ≡ one = cc in let changed : f first
+        ≡ g first = ap f is ∙ same ∙ ap g (sym is) in ap (λ here. here ∷ all) changed
+    by_test false there later = ap (λ rest. first ∷ rest) (later there)
+
+pub change-twice : {A : Type 0} (test : A → Bool) (f g : A → A) (all : List A) →
+    ((one : A) → test (f one) ≡ test one) →
+    change_first test g (change_first test f all) ≡ change_first test (λ one. g (f one)) all
+change-twice test f g [] keeps = refl
+change-twice test f g (one ∷ all) keeps = by_test (test one) refl (change-twice test f g all keeps)
+  where
+    by_test : (is : Bool) → test one ≡ is →
+        change_first test g (change_first test f all) ≡ change_first test (λ one. g (f one)) all →
+        change_first test g (cond is (f one ∷ all) (one ∷ change_first test f all)) ≡ cond is (g (f one) ∷ all) (one ∷ change_first test (λ one. g (f one)) all)
+    by_test true is rest = rw (keeps one, is) refl
+    by_test false is rest = rw is (ap (λ rest. one ∷ rest) rest)
+
+-- what is removed may be changed before
+pub remove-change : {A : Type 0} (test : A → Bool) (f : A → A) (all : List A) →
+    ((one : A) → test (f one) ≡ test one) →
+    remove_first test (change_first test f all) ≡ remove_first test all
+remove-change test f [] keeps = refl
+remove-change test f (one ∷ all) keeps = by_test (test one) refl (remove-change test f all keeps)
+  where
+    by_test : (is : Bool) → test one ≡ is →
+        remove_first test (change_first test f all) ≡ remove_first test all →
+        remove_first test (cond is (f one ∷ all) (one ∷ change_first test f all)) ≡ cond is all (one ∷ remove_first test all)
+    by_test true is rest = rw (keeps one, is) refl
+    by_test false is rest = rw is (ap (λ rest. one ∷ rest) rest)
+
+pub length-change : {A : Type 0} (test : A → Bool) (f : A → A) (all : List A) →
+    length (change_first test f all) ≡ length all
+length-change test f [] = refl
+length-change test f (one ∷ all) =
+    let rest : length (change_first test f all) ≡ length all = length-change test f all in
+    grind (arith, nat_tests)
+
+-- what a change keeps of each, it keeps of all
+pub map-change : {A B : Type 0} (test : A → Bool) (f : A → A) (part : A → B) (all : List A) →
+    ((one : A) → part (f one) ≡ part one) →
+    map part (change_first test f all) ≡ map part all
+map-change test f part [] keeps = refl
+map-change test f part (one ∷ all) keeps = by_test (test one) (map-change test f part all keeps)
+  where
+    by_test : (is : Bool) → map part (change_first test f all) ≡ map part all →
+        map part (cond is (f one ∷ all) (one ∷ change_first test f all)) ≡ part one ∷ map part all
+    by_test true rest = ap (λ here. here ∷ map part all) (keeps one)
+    by_test false rest = ap (λ rest. part one ∷ rest) rest
+
+-- ---- with one more at the end
+
+-- one that fails
+pub find-push_other : {A : Type 0} (test : A → Bool) (all : List A) (last : A) → test last ≡ false →
+    find test (all ++ last ∷ []) ≡ find test all
+find-push_other test [] last fails = rw fails refl
+find-push_other test (one ∷ all) last fails =
+    ap (cond (test one) (Some one)) (find-push_other test all last fails)
+
+-- one that passes, where none did
+pub find-pushed : {A : Type 0} (test : A → Bool) (all : List A) (last : A) → test last ≡ true →
+    find test all ≡ None → find test (all ++ last ∷ []) ≡ Some last
+find-pushed test [] last passes none = rw passes refl
+find-pushed test (one ∷ all) last passes none =
+    let both = some_or_later (test one) one (find test all) none in
+    rw both.0 (find-pushed test all last passes both.1)
+
+-- ---- of those that are kept
+
+pub find-filter_none : {A : Type 0} (test keep : A → Bool) (all : List A) → find test all ≡ None →
+    find test (filter keep all) ≡ None
+find-filter_none test keep [] none = refl
+find-filter_none test keep (one ∷ all) none =
+    let both = some_or_later (test one) one (find test all) none in
+    by_test (keep one) both.0 (find-filter_none test keep all both.1)
+  where
+    by_test : (kept : Bool) → test one ≡ false → find test (filter keep all) ≡ None →
+        find test (cond kept (one ∷ filter keep all) (filter keep all)) ≡ None
+    by_test true fails rest = rw fails rest
+    by_test false fails rest = rest
+
+-- what was found, where it is kept
+abbrev pub if_kept : {A : Type 0} → (A → Bool) → Option A → Option A
+if_kept keep None = None
+if_kept keep (Some one) = cond (keep one) (Some one) None
+
+pub find-filter : {A : Type 0} (test keep : A → Bool) (all : List A) → IsOnly test all →
+    find test (filter keep all) ≡ if_kept keep (find test all)
+find-filter test keep [] only = refl
+find-filter test keep (one ∷ all) only =
+    by_tests (keep one) (test one) refl refl only.0 (find-filter test keep all only.1)
+  where
+    by_tests : (kept is : Bool) → keep one ≡ kept → test one ≡ is →
+        (test one ≡ true → find test all ≡ None) →
+        find test (filter keep all) ≡ if_kept keep (find test all) →
+        find test (cond kept (one ∷ filter keep all) (filter keep all)) ≡ if_kept keep (cond is (Some one) (find test all))
+    by_tests true true k is behind rest = rw (is, k) refl
+    by_tests true false k is behind rest = rw is rest
+    by_tests false true k is behind rest = rw k (rest ∙ ap (if_kept keep) (behind is))
+    by_tests false false k is behind rest = rest
+
+-- ---- of other elements that are seen as these
+
+module _ {A B : Type 0} (see : A → B) (test : B → Bool) (same : A → Bool) where
+  pub find-map : ((one : A) → test (see one) ≡ same one) → (all : List A) →
+      find test (map see all) ≡ option_map see (find same all)
+  find-map is [] = refl
+  find-map is (one ∷ all) =
+      ap (λ b. cond b (Some (see one)) (find test (map see all))) (is one) ∙ by_test (same one) (find-map is all)
+    where
+      by_test : (here : Bool) → find test (map see all) ≡ option_map see (find same all) →
+          cond here (Some (see one)) (find test (map see all)) ≡ option_map see (cond here (Some one) (find same all))
+      by_test true rest = refl
+      by_test false rest = rest
+
+  pub remove-map : ((one : A) → test (see one) ≡ same one) → (all : List A) →
+      remove_first test (map see all) ≡ map see (remove_first same all)
+  remove-map is [] = refl
+  remove-map is (one ∷ all) =
+      ap (λ b. cond b (map see all) (see one ∷ remove_first test (map see all))) (is one) ∙ by_test (same one) (remove-map is all)
+    where
+      by_test : (here : Bool) → remove_first test (map see all) ≡ map see (remove_first same all) →
+          cond here (map see all) (see one ∷ remove_first test (map see all)) ≡ map see (cond here all (one ∷ remove_first same all))
+      by_test true rest = refl
+      by_test false rest = ap (λ rest. see one ∷ rest) rest
+
+-- ---- at a place
+
+-- behind the first the place is one less
+later : {A : Type 0} (test : A → Bool) (one : A) (others : List A) (place : ℕ) →
+    IsFirst test (one ∷ others) (suc place) → IsFirst test others place
+later test one others place at = record {
+  within = omega (arith, at.within);
+  there = at.there;
+  before = λ k other earlier. at.before (suc k) other (omega (arith, earlier));
+}
+
+pub found_there : {A : Type 0} (test : A → Bool) (all : List A) (place : ℕ) (other : A) →
+    IsFirst test all place → find test all ≡ Some (get_or all place other)
+found_there test [] place other at = absurd (omega (arith, at.within))
+found_there test (one ∷ all) zero other at = rw (at.there other) refl
+found_there test (one ∷ all) (suc place) other at =
+    rw (at.before 0 other (omega arith)) (found_there test all place other (later test one all place at))
+
+pub changed_there : {A : Type 0} (test : A → Bool) (f : A → A) (all : List A) (place : ℕ) (other : A) → IsFirst test all place →
+    change_first test f all ≡ set all place (f (get_or all place other))
+changed_there test f [] place other at = absurd (omega (arith, at.within))
+changed_there test f (one ∷ all) zero other at = rw (at.there other) refl
+changed_there test f (one ∷ all) (suc place) other at =
+    rw (at.before 0 other (omega arith)) (ap (λ rest. one ∷ rest) (changed_there test f all place other (later test one all place at)))
+
+pub removed_there : {A : Type 0} (test : A → Bool) (all : List A) (place : ℕ) →
+    IsFirst test all place → remove_first test all ≡ remove all place
+removed_there test [] place at = absurd (omega (arith, at.within))
+removed_there test (one ∷ all) zero at = rw (at.there one) refl
+removed_there test (one ∷ all) (suc place) at =
+    rw (at.before 0 one (omega arith)) (ap (λ rest. one ∷ rest) (removed_there test all place (later test one all place at)))
+
+-- what was there is changed in its place
+pub changed_to : {A : Type 0} (test : A → Bool) (f : A → A) (all : List A) (place : ℕ) (here new : A) →
+    IsFirst test all place → here ≡ get_or all place here → new ≡ f here →
+    set all place new ≡ change_first test f all
+changed_to test f all place here new at is changed =
+    ap (set all place) (changed ∙ ap f is) ∙ sym (changed_there test f all place here at)
+
+-- ---- where a search stops
+
+-- a search that doesn't stop here and finds nothing later finds nothing
+found_neither : {A : Type 0} (test : Bool) (one : A) (i : ℕ) (later : Option ℕ) (found : Option A) →
+    cond test (Some i) later ≡ None → (later ≡ None → found ≡ None) →
+    cond test (Some one) found ≡ None
+found_neither true one i later found is step = absurd cc
+found_neither false one i later found is step = step is
+
+found_nowhere : {A : Type 0} (test : A → Bool) (i : ℕ) (all : List A) →
+    position_from test i all ≡ None → find test all ≡ None
+found_nowhere test i [] is = refl
+found_nowhere test i (one ∷ all) is =
+    found_neither (test one) one i (position_from test (i + 1) all) (find test all) is (found_nowhere test (i + 1) all)
+
+-- a search of a list without elements doesn't stop
+stops_within : {A : Type 0} (test : A → Bool) (all : List A) (place : ℕ) →
+    position test all ≡ Some place → place < length all
+stops_within test [] place is = absurd cc
+stops_within test (one ∷ all) place is = (position-Some test (one ∷ all) place one is).0
+
+-- it stops at the first that passes, or nowhere
+pub is_place : {A : Type 0} (test : A → Bool) (all : List A) (result : Option ℕ) →
+    result ≡ position test all →
+    MatchOption result (find test all ≡ None) (IsFirst test all)
+is_place test all None is = found_nowhere test 0 all (sym (position_from-zero test all) ∙ sym is)
+is_place test all (Some place) is = record {
+  within = stops_within test all place (sym is);
+  there = λ other. (position-Some test all place other (sym is)).1;
+  before = λ k other earlier. (position-Some test all place other (sym is)).2 k earlier;
+}

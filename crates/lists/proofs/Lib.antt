@@ -1,0 +1,5 @@
+pub mod RisingLemmas
+pub mod Places
+pub mod FirstLemmas
+pub mod KeyedLemmas
+pub mod SearchLemmas

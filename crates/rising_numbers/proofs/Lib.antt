@@ -1,2 +1,0 @@
-pub mod RisingLemmas
-pub mod Places
