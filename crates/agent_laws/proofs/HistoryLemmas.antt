@@ -5,13 +5,13 @@ use Rattle.std.proofs.Math.Nat.{le-max_left}
 use Rattle.world_ports.specs.declared.Door.{Door}
 use Rattle.world_ports.specs.declared.Moment.{Moment}
 use Rattle.dest_rule.specs.declared.binding.Binding.{Binding}
-use Rattle.agent_model.specs.Actions.{Action, Outcome, stay}
+use Rattle.agent_model.specs.Actions.{Action, Outcome}
 use Rattle.agent_model.specs.Bindings.{bound_after, bound_by, chain_at, chain_of}
 use Rattle.agent_model.specs.Events.{Happening, Timed}
 use Rattle.agent_model.specs.Runs.{Stamped, history, run, stamped}
 use Rattle.agent_model.specs.Sound.{IsJudged, IsTied}
 use Rattle.agent_model.specs.State.{Port, State, find_port, first_state}
-use Rattle.agent_model.specs.Step.{at_moment, joined, step}
+use Rattle.agent_model.specs.Step.{at_moment, join, step}
 use Rattle.agent_model.proofs.FatedLemmas.{first-tied, step-fated, tied-opened}
 use Rattle.agent_model.proofs.JudgedRunLemmas.{Adds, first-judged, step-judged}
 use Rattle.agent_model.proofs.PortsLemmas.{found_within}
@@ -67,7 +67,7 @@ module _ (life : Option ℕ) (past : List Stamped) (state : State) (moment : Mom
     jobs = numbers.jobs;
   }
 
-  goes-joined : (door : Door) → Goes life past opened (stay (joined door opened))
+  goes-joined : (door : Door) → Goes life past opened (join door opened)
   goes-joined door = record { lawful = is_opened.agrees.idle; agrees = is_opened.agrees; moment = refl }
 
   goes : Goes life past opened after

@@ -1,104 +1,321 @@
--- Lemmas on the ports that an event closes.
-use Rattle.std.proofs.Common.{◌≡◌, ◌≢◌, ℕ, ◌<◌, ◌≤◌, List, [], ◌∷◌, ◌++◌, refl, ap, arith, sym, ◌∙◌, suc, Some, Bool, true, false, nat_lt, inl, inr, if◌then◌else◌}
-use Rattle.std.proofs.lemmas.List.{append-nil}
-use Rattle.agent_model.specs.Step.{admitted, gone}
+-- The ports that an event closes are those that were open or joined and aren't open after.
+use Rattle.std.proofs.Common.{◌≡◌, ◌≢◌, ◌==◌, ◌&&◌, ◌<◌, ◌+◌, ℕ, List, [], ◌∷◌, ◌++◌, refl, ap, arith, sym, subst, ◌∙◌, suc, Option, Some, None, is_some, Bool, true, false, not, nat_lt, inl, inr, if◌then◌else◌}
 use Rattle.std.proofs.lemmas.Bool.{cases_eq}
 use Rattle.std.proofs.lemmas.Bool.Decides.{nat_tests}
+use Rattle.std.proofs.lemmas.List.{append-nil}
+use Rattle.helper_link.specs.HelperLink.{askers}
+use Rattle.helper_link.specs.Telling.{telling}
+use Rattle.helper_link.specs.declared.answer.Settled.{Settled}
+use Rattle.helper_link.specs.declared.fault.LinkFault.{LinkFault}
+use Rattle.helper_link.specs.declared.state.LinkState.{LinkState}
+use Rattle.helper_link.specs.declared.state.LinkState.TheVariants as states
+use Rattle.lists.specs.Rising.{IsRisingList, IsRisingNumbers, inserted, is_among, removed}
+use Rattle.lists.proofs.RisingLemmas.{is_among-above, is_among-removed, removed-not_among, rising_list, rising_list-removed}
 use Rattle.world_ports.specs.declared.Door.{Door}
+use Rattle.world_ports.specs.declared.Moment.{Moment}
+use Rattle.agent_model.specs.Actions.{Outcome, closing}
+use Rattle.agent_model.specs.Answers.{Answering, answer_all, answer_by, answers_in, close_helper, helper_closes, lose, lose_if, tell_each, with_answers}
+use Rattle.agent_model.specs.Children.{unheard}
+use Rattle.agent_model.specs.Closings.{closed_between, joined_between}
+use Rattle.agent_model.specs.Consents.{close_confirmer, confirmer_closes, grant_work}
+use Rattle.agent_model.specs.Events.{Happening}
+use Rattle.agent_model.specs.NumberLists.{put_all, without}
 use Rattle.agent_model.specs.Sound.{IsRising}
-use Rattle.agent_model.specs.State.{Port, find_port, remove_port, numbers, new_port}
-use Rattle.agent_model.specs.NumberLists.{has, without}
-use Rattle.agent_model.proofs.PortsLemmas.{rising_bound}
+use Rattle.agent_model.specs.State.{Port, State, change_port, find_port, new_port, numbers, remove_port}
+use Rattle.agent_model.specs.Step.{admitted, at_moment, has_room, step, turned_away}
+use Rattle.agent_model.specs.Verdicts.{HelperLost, NotConfirmed, Refuses, Verdict, tell}
+use Rattle.agent_model.proofs.FateLemmas.{answers_as}
+use Rattle.agent_model.proofs.LeadLemmas.{follows-makes, same}
+use Rattle.agent_model.proofs.MakeLemmas.{Makes, Quiet, alters, by_event, closes, first, goes_on, grants, links, loses, names, overs, serves, shuts, stays, tells}
+use Rattle.agent_model.proofs.PortsLemmas.{numbers-change_port, rising_bound}
 
--- a number that isn't above the bound isn't there
-pub has-below : (number low high : ℕ) (ports : List Port) → number ≤ low → IsRising low high ports → has number (numbers ports) ≡ false
-has-below number low high [] below rising = refl
-has-below number low high (port ∷ ports) below rising =
-    let rest : has number (numbers ports) ≡ false = has-below number port.number high ports (omega (arith, rising.0)) rising.1 in
-    let above : low < port.number = rising.0 in
+-- ---- numbers that are taken out one after another
+
+-- the second list is the first without these, each of which stands in it
+abbrev pub TakenOut : List ℕ → List ℕ → List ℕ → Type 0
+TakenOut [] before after = after ≡ before
+TakenOut (number ∷ others) before after =
+    (is_among number before ≡ true) × TakenOut others (removed number before) after
+
+taken-append : (some more before mid after : List ℕ) → TakenOut some before mid →
+    TakenOut more mid after → TakenOut (some ++ more) before after
+taken-append [] more before mid after out rest = subst (λ ns. TakenOut more ns after) out rest
+taken-append (number ∷ some) more before mid after out rest =
+    (out.0, taken-append some more (removed number before) mid after out.1 rest)
+
+-- where those that are kept are the same but for a lesser number, those that aren't are the same
+without-same : (low number : ℕ) (ns kept left : List ℕ) → IsRisingNumbers low ns → number < low + 1 →
+    ((x : ℕ) → x ≢ number → is_among x left ≡ is_among x kept) → without ns left ≡ without ns kept
+without-same low number [] kept left rising below others = refl
+without-same low number (n ∷ ns) kept left rising below others =
+    let above : low < n = rising.0 in
+    let rest : without ns left ≡ without ns kept =
+    without-same n number ns kept left rising.1 (omega arith) others in
+    let here : is_among n left ≡ is_among n kept = others n (λ is. omega arith) in
+    rw (here, rest) refl
+
+-- a number before all others goes first
+inserted-first : (low number : ℕ) (ns kept : List ℕ) → IsRisingNumbers low ns → number < low + 1 →
+    inserted number (without ns kept) ≡ number ∷ without ns kept
+inserted-first low number [] kept rising below = refl
+inserted-first low number (n ∷ ns) kept rising below =
+    by_test (is_among n kept) (inserted-first n number ns kept rising.1 (omega (arith, rising.0)))
+  where
+    by_test : (test : Bool) → inserted number (without ns kept) ≡ number ∷ without ns kept →
+        inserted number (if test then without ns kept else n ∷ without ns kept)
+        ≡ number ∷ (if test then without ns kept else n ∷ without ns kept)
+    by_test true rest = rest
+    by_test false rest =
+        let above : low < n = rising.0 in
+        grind (arith, nat_tests)
+
+-- one number less is kept: it is one more of those that aren't
+inserted-without : (low number : ℕ) (ns kept left : List ℕ) → IsRisingNumbers low ns →
+    is_among number ns ≡ true → is_among number kept ≡ true → is_among number left ≡ false →
+    ((x : ℕ) → x ≢ number → is_among x left ≡ is_among x kept) →
+    inserted number (without ns kept) ≡ without ns left
+inserted-without low number [] kept left rising there was is others = absurd (cc)
+inserted-without low number (n ∷ ns) kept left rising there was is others = elim (cases_eq number n) [
+  | inl here ↦
+      (let above = subst (λ m. IsRisingNumbers m ns) (sym here) rising.1 in
+      let one : inserted number (without ns kept) ≡ number ∷ without ns kept =
+      inserted-first number number ns kept above (omega arith) in
+      let rest : without ns left ≡ without ns kept =
+      without-same number number ns kept left above (omega arith) others in
+      let n_was : is_among n kept ≡ true = subst (λ m. is_among m kept ≡ true) here was in
+      let n_is : is_among n left ≡ false = subst (λ m. is_among m left ≡ false) here is in
+      rw (n_was, n_is)
+      (one ∙ ap (λ ms. number ∷ ms) (sym rest) ∙ ap (λ m. m ∷ without ns left) here))
+  | inr apart ↦
+      (let later : is_among number ns ≡ true = grind (arith, nat_tests) in
+      let rest : inserted number (without ns kept) ≡ without ns left =
+      inserted-without n number ns kept left rising.1 later was is others in
+      let less : n < number = is_among-above n number ns rising.1 later in
+      let here : is_among n left ≡ is_among n kept = others n (λ e. apart (sym e)) in
+      rw here (by_test (is_among n kept) rest less))
+]
+  where
+    by_test : (test : Bool) → inserted number (without ns kept) ≡ without ns left → n < number →
+        inserted number (if test then without ns kept else n ∷ without ns kept)
+        ≡ (if test then without ns left else n ∷ without ns left)
+    by_test true rest less = rest
+    by_test false rest less = grind (arith, nat_tests)
+
+-- what is taken out, put in order behind what isn't kept any more, is what isn't kept then
+put-taken : (low : ℕ) (all out kept left : List ℕ) → IsRisingNumbers low all → IsRisingList kept →
+    ((x : ℕ) → is_among x kept ≡ true → is_among x all ≡ true) → TakenOut out kept left →
+    put_all (without all kept) out ≡ without all left
+put-taken low all [] kept left rising order within taken = ap (without all) (sym taken)
+put-taken low all (number ∷ out) kept left rising order within taken =
+    let is : (x : ℕ) → is_among x (removed number kept) ≡ (not (number == x) && is_among x kept) =
+    λ x. is_among-removed x number kept order in
+    ap (λ ns. put_all ns out)
+    (inserted-without low number all kept (removed number kept) rising (within number taken.0) taken.0
+    (is number ∙ grind (arith, nat_tests)) (λ x apart. is x ∙ grind (arith, nat_tests)))
+    ∙ put-taken low all out (removed number kept) left rising (rising_list-removed number kept order)
+    (λ x there. within x (let was = sym (is x) ∙ there in grind (arith, nat_tests))) taken.1
+
+-- ---- ports
+
+-- the numbers of rising ports rise
+rising-numbers : (low high : ℕ) (ports : List Port) → IsRising low high ports →
+    IsRisingNumbers low (numbers ports)
+rising-numbers low high [] rising = tt
+rising-numbers low high (port ∷ ports) rising = (rising.0, rising-numbers port.number high ports rising.1)
+
+numbers-remove_port : (number : ℕ) (ports : List Port) →
+    numbers (remove_port number ports) ≡ removed number (numbers ports)
+numbers-remove_port number [] = refl
+numbers-remove_port number (port ∷ ports) =
+    let rest : numbers (remove_port number ports) ≡ removed number (numbers ports) =
+    numbers-remove_port number ports in
     grind (arith, nat_tests)
 
--- a number above the last isn't there
-pub has-above : (number low high : ℕ) (ports : List Port) → high < number → IsRising low high ports → has number (numbers ports) ≡ false
-has-above number low high [] above rising = refl
-has-above number low high (port ∷ ports) above rising =
-    let rest : has number (numbers ports) ≡ false = has-above number port.number high ports above rising.1 in
-    let below : port.number ≤ high = rising_bound port.number high ports rising.1 in
+-- an open port's number is among the numbers
+is_among-open : (number : ℕ) (ports : List Port) →
+    is_among number (numbers ports) ≡ is_some (find_port number ports)
+is_among-open number [] = refl
+is_among-open number (port ∷ ports) =
+    let rest : is_among number (numbers ports) ≡ is_some (find_port number ports) =
+    is_among-open number ports in
     grind (arith, nat_tests)
 
--- numbers that all stay aren't gone
-pub without-all : (xs ys : List ℕ) → ((x : ℕ) → has x xs ≡ true → has x ys ≡ true) → without xs ys ≡ []
+-- one that is closed is taken out, and then the others
+taken-closing : (number : ℕ) (ports : List Port) (later after : List ℕ) →
+    TakenOut later (numbers (remove_port number ports)) after →
+    TakenOut (closing number ports later) (numbers ports) after
+taken-closing number ports later after rest =
+    by_found (is_some (find_port number ports)) (is_among-open number ports)
+    (subst (λ ns. TakenOut later ns after) (numbers-remove_port number ports) rest)
+  where
+    by_found : (is : Bool) → is_among number (numbers ports) ≡ is →
+        TakenOut later (removed number (numbers ports)) after →
+        TakenOut (if is then number ∷ later else later) (numbers ports) after
+    by_found true there taken = (there, taken)
+    by_found false there taken =
+        subst (λ ns. TakenOut later ns after) (removed-not_among number (numbers ports) there) taken
+
+-- changes leave the numbers
+taken-changed : (number : ℕ) (f : Port → Port) (ports : List Port) (out after : List ℕ) →
+    ((p : Port) → (f p).number ≡ p.number) → TakenOut out (numbers (change_port number f ports)) after →
+    TakenOut out (numbers ports) after
+taken-changed number f ports out after keeps =
+    subst (λ ns. TakenOut out ns after) (numbers-change_port number f ports keeps)
+
+numbers-tell_each : (verdict : Verdict) (clients : List ℕ) (ports : List Port) →
+    numbers (tell_each verdict clients ports) ≡ numbers ports
+numbers-tell_each verdict [] ports = refl
+numbers-tell_each verdict (number ∷ others) ports =
+    numbers-tell_each verdict others (change_port number (tell verdict) ports)
+    ∙ numbers-change_port number (tell verdict) ports (λ p. refl)
+
+numbers-answers : (settled : List Settled) (before : Answering) →
+    numbers (answer_all settled before).ports ≡ numbers before.ports
+numbers-answers [] before = refl
+numbers-answers (one ∷ later) before =
+    let told_as = answers_as one.answer one before in
+    numbers-answers later (answer_by one.answer one before) ∙ ap numbers told_as.ports
+    ∙ numbers-change_port one.asker told_as.change before.ports told_as.number
+
+-- ---- what an event makes
+
+-- the ports that it closes are taken out
+abbrev Closed : State → Outcome → Type 0
+Closed old outcome = TakenOut outcome.closes (numbers old.ports) (numbers outcome.state.ports)
+
+closed-confirmer : (at : Option ℕ) (asker : ℕ) (verdict : Verdict) (ports : List Port) →
+    TakenOut (confirmer_closes at ports) (numbers ports)
+    (numbers (change_port asker (tell verdict) (close_confirmer at ports)))
+closed-confirmer None asker verdict ports = numbers-change_port asker (tell verdict) ports (λ p. refl)
+closed-confirmer (Some port) asker verdict ports =
+    taken-closing port ports [] _
+    (numbers-change_port asker (tell verdict) (remove_port port ports) (λ p. refl))
+
+closed-helper : (link : LinkState) (ports : List Port) →
+    TakenOut (helper_closes link ports) (numbers ports) (numbers (close_helper link ports))
+closed-helper states.None ports = refl
+closed-helper (states.Starting job) ports = refl
+closed-helper (states.Linked port) ports = taken-closing port ports [] _ refl
+
+closed-lose : (state : State) → Closed state (lose state)
+closed-lose state =
+    subst (λ ns. TakenOut (helper_closes state.under_way.link.state state.ports) (numbers state.ports) ns)
+    (sym (numbers-tell_each (Refuses HelperLost) (askers state.under_way.link.asks)
+    (close_helper state.under_way.link.state state.ports)))
+    (closed-helper state.under_way.link.state state.ports)
+
+closed-lose_if : (fault : Option LinkFault) (state : State) → Closed state (lose_if fault state)
+closed-lose_if None state = refl
+closed-lose_if (Some fault) state = closed-lose state
+
+closed-quiet : {event : Happening} {old new : State} (quiet : Quiet event old new) (out after : List ℕ) →
+    TakenOut out (numbers new.ports) after → TakenOut (shuts quiet out) (numbers old.ports) after
+closed-quiet {old = old} (alters number f mild) out after rest =
+    taken-changed number f old.ports out after mild.number rest
+closed-quiet {old = old} (closes number may) out after rest = taken-closing number old.ports out after rest
+closed-quiet (goes_on new asks) out after rest = rest
+closed-quiet {old = old} (names job number port found door free) out after rest =
+    taken-changed number unheard old.ports out after (λ p. refl) rest
+closed-quiet {old = old} (links job number port found door free other) out after rest =
+    taken-changed number unheard old.ports out after (λ p. refl) rest
+
+closed-makes : {event : Happening} {old : State} {outcome : Outcome} → Makes event old outcome →
+    Closed old outcome
+closed-makes (stays state) = refl
+closed-makes (first {outcome = outcome} quiet rest) =
+    closed-quiet quiet outcome.closes (numbers outcome.state.ports) (closed-makes rest)
+closed-makes (serves body_len port state found door waits owed) =
+    numbers-change_port port.number _ _ (λ p. refl)
+    ∙ numbers-change_port port.number _ state.ports (λ p. refl)
+closed-makes (tells piece state) =
+    let told = telling piece state.under_way.link in
+    let answers : Answering = answers_in told.settled state in
+    let mid : State = with_answers told.link answers state in
+    subst (λ ns. TakenOut (lose_if told.fault mid).closes ns (numbers (lose_if told.fault mid).state.ports))
+    (numbers-answers told.settled _) (closed-lose_if told.fault mid)
+closed-makes (loses state) = closed-lose state
+closed-makes (overs confirmation state there) =
+    closed-confirmer confirmation.port confirmation.asker (Refuses NotConfirmed) state.ports
+closed-makes (grants confirmation port state there opened) =
+    closed-confirmer confirmation.port confirmation.asker
+    (grant_work port.chain confirmation state).verdict state.ports
+
+-- ---- an event
+
+-- numbers that all stay aren't left out
+without-all : (xs ys : List ℕ) → ((x : ℕ) → is_among x xs ≡ true → is_among x ys ≡ true) → without xs ys ≡ []
 without-all [] ys stay = refl
 without-all (x ∷ xs) ys stay =
-    let here : has x ys ≡ true = stay x (grind (arith, nat_tests)) in
+    let here : is_among x ys ≡ true = stay x (grind (arith, nat_tests)) in
     let rest : without xs ys ≡ [] = without-all xs ys (λ y there. stay y (grind (arith, nat_tests))) in
     grind (arith, nat_tests)
 
-pub without-same : (xs : List ℕ) → without xs xs ≡ []
-without-same xs = without-all xs xs (λ x there. there)
-
--- one more that stays and isn't among them makes no difference
-pub without-extra : (x : ℕ) (xs ys : List ℕ) → has x xs ≡ false → without xs (x ∷ ys) ≡ without xs ys
-without-extra x [] ys absent = refl
-without-extra x (y ∷ xs) ys absent =
-    let apart : x ≢ y = grind (arith, nat_tests) in
-    let later : has x xs ≡ false = grind (arith, nat_tests) in
-    let rest : without xs (x ∷ ys) ≡ without xs ys = without-extra x xs ys later in
-    grind (arith, nat_tests)
-
--- the port that is removed is gone, and no other
-pub without-remove_port : (number low high : ℕ) (ports : List Port) (port : Port) → IsRising low high ports → find_port number ports ≡ Some port → without (numbers ports) (numbers (remove_port number ports)) ≡ number ∷ []
-without-remove_port number low high [] port rising found = absurd (cc)
-without-remove_port number low high (other ∷ ports) port rising found = elim (cases_eq number other.number) [
-  | inl here ↦
-      (let gone : has other.number (numbers ports) ≡ false = has-below other.number other.number high ports (omega arith) rising.1 in
-      let rest : without (numbers ports) (numbers ports) ≡ [] = without-same (numbers ports) in
-      grind (arith, nat_tests))
-  | inr apart ↦
-      (let later : find_port number ports ≡ Some port = grind (arith, nat_tests) in
-      let rest : without (numbers ports) (numbers (remove_port number ports)) ≡ number ∷ [] = without-remove_port number other.number high ports port rising.1 later in
-      let absent : has other.number (numbers ports) ≡ false = has-below other.number other.number high ports (omega arith) rising.1 in
-      let extra : without (numbers ports) (other.number ∷ numbers (remove_port number ports)) ≡ without (numbers ports) (numbers (remove_port number ports)) = without-extra other.number (numbers ports) (numbers (remove_port number ports)) absent in
-      grind (arith, nat_tests))
-]
-
--- a number behind others that stay is gone where it isn't among them
-pub without-behind : (x : ℕ) (xs ys : List ℕ) → ((y : ℕ) → has y xs ≡ true → has y ys ≡ true) → has x ys ≡ false → without (xs ++ x ∷ []) ys ≡ x ∷ []
+-- a number behind others that stay is left out where it isn't among them
+without-behind : (x : ℕ) (xs ys : List ℕ) → ((y : ℕ) → is_among y xs ≡ true → is_among y ys ≡ true) →
+    is_among x ys ≡ false → without (xs ++ x ∷ []) ys ≡ x ∷ []
 without-behind x [] ys stay absent = grind (arith, nat_tests)
 without-behind x (y ∷ xs) ys stay absent =
-    let here : has y ys ≡ true = stay y (grind (arith, nat_tests)) in
-    let rest : without (xs ++ x ∷ []) ys ≡ x ∷ [] = without-behind x xs ys (λ z there. stay z (grind (arith, nat_tests))) absent in
+    let here : is_among y ys ≡ true = stay y (grind (arith, nat_tests)) in
+    let rest : without (xs ++ x ∷ []) ys ≡ x ∷ [] =
+    without-behind x xs ys (λ z there. stay z (grind (arith, nat_tests))) absent in
     grind (arith, nat_tests)
 
--- a port behind the others
-pub numbers-append : (number : ℕ) (door : Door) (ports : List Port) → numbers (ports ++ new_port number door ∷ []) ≡ numbers ports ++ number ∷ []
+-- a number above the last isn't there
+among-above : (number low high : ℕ) (ports : List Port) → high < number → IsRising low high ports →
+    is_among number (numbers ports) ≡ false
+among-above number low high [] above rising = refl
+among-above number low high (port ∷ ports) above rising =
+    let rest : is_among number (numbers ports) ≡ false =
+    among-above number port.number high ports above rising.1 in
+    let below = rising_bound port.number high ports rising.1 in
+    grind (arith, nat_tests)
+
+numbers-append : (number : ℕ) (door : Door) (ports : List Port) →
+    numbers (ports ++ new_port number door ∷ []) ≡ numbers ports ++ number ∷ []
 numbers-append number door [] = refl
 numbers-append number door (port ∷ ports) = ap (λ xs. port.number ∷ xs) (numbers-append number door ports)
 
--- where the last number stays, only the open ports can be gone
-pub gone-same_last : (last : ℕ) (old new : List Port) → gone last old last new ≡ without (numbers old) (numbers new)
-gone-same_last last old new =
-    let not_above : nat_lt last last ≡ false = grind (arith, nat_tests) in
-    ap (λ b. without (numbers old ++ (if b then last ∷ [] else [])) (numbers new)) not_above ∙ ap (λ xs. without xs (numbers new)) (append-nil (numbers old))
-
--- one port that is removed is gone alone
-pub gone-removed : (number last : ℕ) (ports : List Port) (port : Port) → find_port number ports ≡ Some port → IsRising 0 last ports → gone last ports last (remove_port number ports) ≡ number ∷ []
-gone-removed number last ports port found rising =
-    gone-same_last last ports (remove_port number ports) ∙ without-remove_port number 0 last ports port rising found
-
--- where the numbers stay, none is gone
-pub gone-none : (last : ℕ) (old new : List Port) → numbers new ≡ numbers old → gone last old last new ≡ []
-gone-none last old new same =
-    gone-same_last last old new ∙ ap (without (numbers old)) same ∙ without-same (numbers old)
-
--- a port that is not admitted is gone at once
-pub gone-admitted : (is_in : Bool) (last : ℕ) (door : Door) (ports : List Port) → IsRising 0 last ports → gone last ports (suc last) (admitted is_in (suc last) door ports) ≡ (if is_in then [] else suc last ∷ [])
-gone-admitted true last door ports rising =
+-- a port that joins is closed where it isn't admitted
+closed-joined : (is_in : Bool) (last : ℕ) (door : Door) (ports : List Port) → IsRising 0 last ports →
+    put_all [] (turned_away is_in (suc last))
+    ≡ without (numbers ports ++ joined_between last (suc last)) (numbers (admitted is_in (suc last) door ports))
+closed-joined true last door ports rising =
     let above : nat_lt last (suc last) ≡ true = grind (arith, nat_tests) in
-    ap (λ b. without (numbers ports ++ (if b then suc last ∷ [] else [])) (numbers (ports ++ new_port (suc last) door ∷ []))) above
-    ∙ ap (λ ns. without ns (numbers (ports ++ new_port (suc last) door ∷ []))) (sym (numbers-append (suc last) door ports))
-    ∙ without-same (numbers (ports ++ new_port (suc last) door ∷ []))
-gone-admitted false last door ports rising =
+    let all : List Port = ports ++ new_port (suc last) door ∷ [] in
+    sym (ap (λ b. without (numbers ports ++ (if b then suc last ∷ [] else [])) (numbers all)) above
+    ∙ ap (λ ns. without ns (numbers all)) (sym (numbers-append (suc last) door ports))
+    ∙ without-all (numbers all) (numbers all) (λ x there. there))
+closed-joined false last door ports rising =
     let above : nat_lt last (suc last) ≡ true = grind (arith, nat_tests) in
-    ap (λ b. without (numbers ports ++ (if b then suc last ∷ [] else [])) (numbers ports)) above
-    ∙ without-behind (suc last) (numbers ports) (numbers ports) (λ y there. there) (has-above (suc last) 0 last ports (omega arith) rising)
+    sym (ap (λ b. without (numbers ports ++ (if b then suc last ∷ [] else [])) (numbers ports)) above
+    ∙ without-behind (suc last) (numbers ports) (numbers ports) (λ y there. there)
+    (among-above (suc last) 0 last ports (omega arith) rising))
+
+-- where the last number stays, only the open ports can have been closed
+closed-stays : (old : State) (outcome : Outcome) → IsRising 0 old.last_port old.ports →
+    outcome.state.last_port ≡ old.last_port → Closed old outcome →
+    put_all [] outcome.closes ≡ closed_between old outcome.state
+closed-stays old outcome rising last out =
+    let all : List ℕ = numbers old.ports in
+    let left : List ℕ = numbers outcome.state.ports in
+    let order : IsRisingNumbers 0 all = rising-numbers 0 old.last_port old.ports rising in
+    let not_above : nat_lt old.last_port old.last_port ≡ false = grind (arith, nat_tests) in
+    ap (λ ns. put_all ns outcome.closes) (sym (without-all all all (λ x there. there)))
+    ∙ put-taken 0 all outcome.closes all left order (rising_list 0 all order) (λ x there. there) out
+    ∙ ap (λ ns. without ns left) (sym (append-nil all))
+    ∙ ap (λ b. without (all ++ (if b then old.last_port ∷ [] else [])) left) (sym not_above)
+    ∙ ap (λ n. without (all ++ joined_between old.last_port n) left) (sym last)
+
+-- the ports that an event closed are those that were open or joined and aren't open after
+pub closes-closed : (state : State) (moment : Moment) (event : Happening) →
+    IsRising 0 state.last_port state.ports →
+    (step state moment event).closes ≡ closed_between state (step state moment event).state
+closes-closed state moment event rising =
+    by_event (λ outcome. put_all [] outcome.closes ≡ closed_between state outcome.state) event start
+    (λ door. closed-joined (has_room door start.ports start.under_way) state.last_port door state.ports rising)
+    (λ outcome makes.
+    closed-stays start outcome rising
+    (follows-makes event start makes record { last = refl; ports = same }).last (closed-makes makes))
+  where
+    start : State
+    start = at_moment moment state

@@ -1,6 +1,6 @@
 -- Where a confirmer's bytes are cut does not matter.
 use Rattle.std.proofs.Common.{◌≡◌, ◌≢◌, ℕ, List, [], ◌∷◌, ◌++◌, refl, ap, sym, ◌∙◌, ◌==◌, Option, Some, None, Bool, true, false, cond}
-use Rattle.std.proofs.lemmas.List.{append-nil, append_assoc}
+use Rattle.std.proofs.lemmas.List.{append_assoc}
 use Rattle.world_ports.specs.declared.Door.{Door}
 use Rattle.world_ports.specs.declared.Door.TheVariants.{Clients, Children}
 use Rattle.world_ports.specs.declared.Moment.{Moment}
@@ -17,7 +17,6 @@ use Rattle.agent_model.specs.Asking.{IsAttended}
 use Rattle.agent_model.specs.Consents.{close_confirmer, confirmer_heard, consent_by, grant, grant_by, grant_concluded, grant_to, grant_unless, grant_with, grant_work, over, with_heard, without_confirmation}
 use Rattle.agent_model.specs.Events.{Heard}
 use Rattle.agent_model.specs.KeyStates.{KeyState}
-use Rattle.agent_model.specs.Runs.{forget_closes}
 use Rattle.agent_model.specs.Sound.{IsTied}
 use Rattle.agent_model.specs.State.{Confirmer, Port, State, UnderWay, change_port, find_port, is_linked_to, role_by_helper, role_of}
 use Rattle.agent_model.specs.Step.{at_moment, handle, heard_at, heard_by_role, step}
@@ -29,7 +28,7 @@ use Rattle.agent_model.proofs.JobLemmas.{in-by_port, in-found, linked-changed, l
 use Rattle.agent_model.proofs.LeadLemmas.{changes, same}
 use Rattle.agent_model.proofs.MakeLemmas.{role-confirmer, role-door}
 use Rattle.agent_model.proofs.PartsLemmas.{same_body}
-use Rattle.agent_model.proofs.PiecesLemmas.{Agree}
+use Rattle.agent_model.proofs.PiecesLemmas.{Agree, agree-over, agree-waits, heard_next}
 use Rattle.agent_model.proofs.PortsLemmas.{find_port-remove_port, found_number}
 use Rattle.agent_model.proofs.RunLemmas.{at_moment-twice, leads-absent}
 
@@ -98,7 +97,7 @@ pub handle-confirmer : (number : ℕ) (piece : List ℕ) (port : Port) (confirma
 handle-confirmer number piece port confirmation state found role =
     ap (λ o. heard_at o piece state) found ∙ ap (λ r. heard_by_role r port piece state) role
 
-module _ (moment : Moment) (state : State) (closes : List ℕ) (number : ℕ) (a b : List ℕ) (port : Port) (confirmation : Confirmation) (taken_in : at_moment moment state ≡ state) (tied : IsTied state) (attended : IsAttended state) (found : find_port number state.ports ≡ Some port) (role : role_of port.door port.number state.under_way ≡ Confirmer confirmation) where
+module _ (moment : Moment) (state : State) (number : ℕ) (a b : List ℕ) (port : Port) (confirmation : Confirmation) (taken_in : at_moment moment state ≡ state) (tied : IsTied state) (attended : IsAttended state) (found : find_port number state.ports ≡ Some port) (role : role_of port.door port.number state.under_way ≡ Confirmer confirmation) where
   abbrev uw : UnderWay
   uw = state.under_way
 
@@ -126,23 +125,12 @@ module _ (moment : Moment) (state : State) (closes : List ℕ) (number : ℕ) (a
   granted : grant confirmation state ≡ grant_concluded (grant_work asker.0.chain confirmation state) confirmation state
   granted = ap (λ o. grant_to o confirmation state) asker.1
 
-  -- nothing comes of what is sent behind
-  decided : (first : Outcome) → find_port number first.state.ports ≡ None → Agree moment first first (handle (Heard number b) (at_moment moment (record first.state { closes = closes })))
-  decided first gone =
-      let then : State = at_moment moment (record first.state { closes = closes }) in
-      let second : handle (Heard number b) then ≡ stay then = ap (λ o. heard_at o b then) gone in
-      record {
-        state = ap forget_closes (sym (at_moment-twice first.state moment)) ∙ ap (λ (o : Outcome). forget_closes (at_moment moment o.state)) (sym second);
-        actions = sym (append-nil first.actions) ∙ ap (λ (o : Outcome). first.actions ++ o.actions) (sym second);
-        put = sym (append-nil first.put) ∙ ap (λ (o : Outcome). first.put ++ o.put) (sym second);
-      }
-
   -- the first part was heard, and the next event begins
   abbrev next : State
-  next = record (with_heard confirmation.job a state) { closes = closes }
+  next = with_heard confirmation.job a state
 
   next_is : at_moment moment next ≡ next
-  next_is = ap (λ s. let t : State = record s { ports = state.ports; under_way = next.under_way; closes = closes } in t) taken_in
+  next_is = ap (λ s. let t : State = record s { under_way = next.under_way } in t) taken_in
 
   next_role : role_of port.door port.number next.under_way ≡ Confirmer (heard_more a confirmation)
   next_role =
@@ -162,29 +150,17 @@ module _ (moment : Moment) (state : State) (closes : List ℕ) (number : ℕ) (a
   granted_next =
       ap (λ o. grant_to o (heard_more a confirmation) next) asker.1 ∙ ap (λ w. grant_concluded w (heard_more a confirmation) next) work_same
 
-  over_next : over (heard_more a confirmation) next ≡ record (over confirmation state) { state = record (over confirmation state).state { closes = closes } }
+  over_next : over (heard_more a confirmation) next ≡ over confirmation state
   over_next =
-      ap (λ u. let o : Outcome = record (over confirmation state) { state = record (over confirmation state).state { under_way = u; closes = closes } } in o) left_same
+      ap (λ u. let o : Outcome = record (over confirmation state) { state = record (over confirmation state).state { under_way = u } } in o) left_same
 
   -- by what is said then, the rest brings what the whole brings
-  rest_alike : (says : Consent) → (forget_closes (consent_by says confirmation (a ++ b) state).state ≡ forget_closes (consent_by says (heard_more a confirmation) b next).state)
-      × ((consent_by says confirmation (a ++ b) state).actions ≡ (consent_by says (heard_more a confirmation) b next).actions)
-      × ((consent_by says confirmation (a ++ b) state).put ≡ (consent_by says (heard_more a confirmation) b next).put)
-  rest_alike NotYet = (
-    ap (λ confirmations. let s : State = record state { under_way = record uw { confirmations = confirmations }; closes = [] } in s) (sym (told-twice confirmation.job a b uw.confirmations)),
-    refl,
-    refl,
-  )
-  rest_alike Yes = (
-    ap (λ (o : Outcome). forget_closes o.state) granted ∙ ap (λ (o : Outcome). forget_closes o.state) (sym granted_next),
-    ap (λ (o : Outcome). o.actions) granted ∙ ap (λ (o : Outcome). o.actions) (sym granted_next),
-    ap (λ (o : Outcome). o.put) granted ∙ ap (λ (o : Outcome). o.put) (sym granted_next),
-  )
-  rest_alike No = (
-    ap (λ (o : Outcome). forget_closes o.state) (sym over_next),
-    ap (λ (o : Outcome). o.actions) (sym over_next),
-    ap (λ (o : Outcome). o.put) (sym over_next),
-  )
+  rest_alike : (says : Consent) → consent_by says confirmation (a ++ b) state ≡ consent_by says (heard_more a confirmation) b next
+  rest_alike NotYet =
+      ap (λ confirmations. stay (record state { under_way = record uw { confirmations = confirmations } }))
+      (sym (told-twice confirmation.job a b uw.confirmations))
+  rest_alike Yes = granted ∙ sym granted_next
+  rest_alike No = sym over_next
 
   whole_decided : (says : Consent) → consent confirmation.job (confirmation.heard ++ a) ≡ says → says ≢ NotYet → consent confirmation.job (confirmation.heard ++ (a ++ b)) ≡ says
   whole_decided says is other =
@@ -193,35 +169,18 @@ module _ (moment : Moment) (state : State) (closes : List ℕ) (number : ℕ) (a
 
   confirmer_parts : (says : Consent) → consent confirmation.job (confirmation.heard ++ a) ≡ says →
       Agree moment (confirmer_heard confirmation (a ++ b) state) (consent_by says confirmation a state)
-      (handle (Heard number b) (at_moment moment (record (consent_by says confirmation a state).state { closes = closes })))
+      (heard_next moment number b (consent_by says confirmation a state).state)
   confirmer_parts Yes is =
-      let whole : confirmer_heard confirmation (a ++ b) state ≡ grant confirmation state = ap (λ c. consent_by c confirmation (a ++ b) state) (whole_decided Yes is (λ no. absurd (cc))) in
-      let agree = decided (grant confirmation state) (ap (λ (o : Outcome). find_port number o.state.ports) granted ∙ shut (tell (grant_work asker.0.chain confirmation state).verdict) (λ p. refl) (λ p. refl)) in
-      record {
-        state = ap (λ (o : Outcome). forget_closes (at_moment moment o.state)) whole ∙ agree.state;
-        actions = ap (λ (o : Outcome). o.actions) whole ∙ agree.actions;
-        put = ap (λ (o : Outcome). o.put) whole ∙ agree.put;
-      }
+      agree-over moment number b _ _ (ap (λ c. consent_by c confirmation (a ++ b) state) (whole_decided Yes is (λ no. absurd (cc))))
+      (ap (λ (o : Outcome). find_port number o.state.ports) granted ∙ shut (tell (grant_work asker.0.chain confirmation state).verdict) (λ p. refl) (λ p. refl))
   confirmer_parts No is =
-      let whole : confirmer_heard confirmation (a ++ b) state ≡ over confirmation state = ap (λ c. consent_by c confirmation (a ++ b) state) (whole_decided No is (λ no. absurd (cc))) in
-      let agree = decided (over confirmation state) (shut (tell (Refuses NotConfirmed)) (λ p. refl) (λ p. refl)) in
-      record {
-        state = ap (λ (o : Outcome). forget_closes (at_moment moment o.state)) whole ∙ agree.state;
-        actions = ap (λ (o : Outcome). o.actions) whole ∙ agree.actions;
-        put = ap (λ (o : Outcome). o.put) whole ∙ agree.put;
-      }
+      agree-over moment number b _ _ (ap (λ c. consent_by c confirmation (a ++ b) state) (whole_decided No is (λ no. absurd (cc))))
+      (shut (tell (Refuses NotConfirmed)) (λ p. refl) (λ p. refl))
   confirmer_parts NotYet is =
       let says : Consent = consent confirmation.job ((confirmation.heard ++ a) ++ b) in
-      let whole : confirmer_heard confirmation (a ++ b) state ≡ consent_by says confirmation (a ++ b) state =
-      ap (λ bytes. consent_by (consent confirmation.job bytes) confirmation (a ++ b) state) (sym (append_assoc confirmation.heard a b)) in
-      let second : handle (Heard number b) (at_moment moment next) ≡ consent_by says (heard_more a confirmation) b next =
-      ap (handle (Heard number b)) next_is ∙ handle-confirmer number b port (heard_more a confirmation) next found next_role in
-      let alike = rest_alike says in
-      record {
-        state = ap (λ (o : Outcome). forget_closes (at_moment moment o.state)) whole ∙ ap (at_moment moment) alike.0 ∙ ap (λ (o : Outcome). forget_closes (at_moment moment o.state)) (sym second);
-        actions = ap (λ (o : Outcome). o.actions) whole ∙ alike.1 ∙ ap (λ (o : Outcome). o.actions) (sym second);
-        put = ap (λ (o : Outcome). o.put) whole ∙ alike.2 ∙ ap (λ (o : Outcome). o.put) (sym second);
-      }
+      agree-waits moment number b _ _ next refl next_is
+      (ap (λ bytes. consent_by (consent confirmation.job bytes) confirmation (a ++ b) state) (sym (append_assoc confirmation.heard a b))
+      ∙ rest_alike says ∙ sym (handle-confirmer number b port (heard_more a confirmation) next found next_role))
 
 -- two parts of a confirmer's piece are the piece
 pub confirmer_parts_agree : (state : State) (moment : Moment) (number : ℕ) (a b : List ℕ) (port : Port) (confirmation : Confirmation) → IsTied state → IsAttended state → find_port number state.ports ≡ Some port → role_of port.door port.number state.under_way ≡ Confirmer confirmation →
@@ -229,13 +188,12 @@ pub confirmer_parts_agree : (state : State) (moment : Moment) (number : ℕ) (a 
     (step (step state moment (Heard number a)).state moment (Heard number b))
 confirmer_parts_agree state moment number a b port confirmation tied attended found role =
     let start : State = at_moment moment state in
-    let closes : List ℕ = (step state moment (Heard number a)).state.closes in
     let first : handle (Heard number a) start ≡ confirmer_heard confirmation a start = handle-confirmer number a port confirmation start found role in
     let whole : handle (Heard number (a ++ b)) start ≡ confirmer_heard confirmation (a ++ b) start = handle-confirmer number (a ++ b) port confirmation start found role in
-    let second : (o : Outcome) → Outcome = λ o. handle (Heard number b) (at_moment moment (record o.state { closes = closes })) in
-    let parts = confirmer_parts moment start closes number a b port confirmation (at_moment-twice state moment) (tied-opened moment state tied) attended found role _ refl in
+    let second : (o : Outcome) → Outcome = λ o. heard_next moment number b o.state in
+    let parts = confirmer_parts moment start number a b port confirmation (at_moment-twice state moment) (tied-opened moment state tied) attended found role _ refl in
     record {
-      state = ap (λ (o : Outcome). forget_closes (at_moment moment o.state)) whole ∙ parts.state ∙ ap (λ (o : Outcome). forget_closes (at_moment moment (second o).state)) (sym first);
+      state = ap (λ (o : Outcome). at_moment moment o.state) whole ∙ parts.state ∙ ap (λ (o : Outcome). at_moment moment (second o).state) (sym first);
       actions = ap (λ (o : Outcome). o.actions) whole ∙ parts.actions ∙ ap (λ (o : Outcome). o.actions ++ (second o).actions) (sym first);
       put = ap (λ (o : Outcome). o.put) whole ∙ parts.put ∙ ap (λ (o : Outcome). o.put ++ (second o).put) (sym first);
     }

@@ -13,17 +13,16 @@ use Rattle.helper_link.specs.declared.answer.Settled.{Settled}
 use Rattle.helper_link.specs.declared.fault.LinkFault.{LinkFault}
 use Rattle.helper_link.specs.declared.state.LinkState.TheVariants as states
 use Rattle.helper_link.proofs.CutLemmas.{told_in_turn-joined}
-use Rattle.agent_model.specs.Actions.{Action, Outcome, acted, and_then, stay}
-use Rattle.agent_model.specs.Answers.{Answering, answer_all, answer_by, answer_true, answers_in, find_verification, helper_tells, lose, lose_if, with_answers}
+use Rattle.agent_model.specs.Actions.{Action, Outcome, acted, and_then}
+use Rattle.agent_model.specs.Answers.{Answering, answer_all, answer_by, answer_true, answers_in, find_verification, helper_tells, lose_if, with_answers}
 use Rattle.agent_model.specs.Events.{Heard}
 use Rattle.agent_model.specs.Fates.{answer_verdict, fate_of, fault_fate, or_later, settled_fate}
-use Rattle.agent_model.specs.Runs.{forget_closes}
 use Rattle.agent_model.specs.Sound.{IsRising, IsSound}
 use Rattle.agent_model.specs.State.{Port, State, Verification, change_port, find_port, is_linked_to, role_by_helper, role_of}
 use Rattle.agent_model.specs.Step.{at_moment, handle, heard_at, heard_by_role, step}
 use Rattle.agent_model.proofs.FateLemmas.{AnswersAs, answers_as, fate-append, settled-fates}
 use Rattle.agent_model.proofs.LeadLemmas.{leads-answers, same}
-use Rattle.agent_model.proofs.PiecesLemmas.{Agree}
+use Rattle.agent_model.proofs.PiecesLemmas.{Agree, agree-over, heard_next}
 use Rattle.agent_model.proofs.PortsLemmas.{find_port-apart, find_port-change_port, found_number}
 use Rattle.agent_model.proofs.RunLemmas.{at_moment-twice, leads-rising, lost-closed}
 
@@ -98,12 +97,7 @@ handle-helper number piece port state found door linked =
     ∙ ap (λ l. heard_by_role (role_by_helper (is_linked_to number l) number state.under_way.confirmations) port piece state) linked
     ∙ ap (λ b. heard_by_role (role_by_helper b number state.under_way.confirmations) port piece state) here_it_is
 
--- the loss doesn't look at which ports the last event closed
-lose-closes : (fault : Option LinkFault) (state : State) (closes : List ℕ) → (forget_closes (lose_if fault (record state { closes = closes })).state ≡ forget_closes (lose_if fault state).state) × ((lose_if fault (record state { closes = closes })).actions ≡ (lose_if fault state).actions) × ((lose_if fault (record state { closes = closes })).put ≡ (lose_if fault state).put)
-lose-closes None state closes = (refl, refl, refl)
-lose-closes (Some fault) state closes = (refl, refl, refl)
-
-module _ (moment : Moment) (state : State) (closes : List ℕ) (number : ℕ) (a b : List ℕ) (port : Port) (taken_in : at_moment moment state ≡ state) (rising : IsRising 0 state.last_port state.ports) (found : find_port number state.ports ≡ Some port) (door : port.door ≡ Children) (linked : state.under_way.link.state ≡ states.Linked number) where
+module _ (moment : Moment) (state : State) (number : ℕ) (a b : List ℕ) (port : Port) (taken_in : at_moment moment state ≡ state) (rising : IsRising 0 state.last_port state.ports) (found : find_port number state.ports ≡ Some port) (door : port.door ≡ Children) (linked : state.under_way.link.state ≡ states.Linked number) where
   abbrev first_told : Telling
   first_told = telling a state.under_way.link
 
@@ -114,45 +108,30 @@ module _ (moment : Moment) (state : State) (closes : List ℕ) (number : ℕ) (a
   mid = with_answers first_told.link first_answers state
 
   -- as the next event begins
-  abbrev next : State
-  next = record mid { closes = closes }
-
-  next_is : at_moment moment next ≡ next
-  next_is = ap (λ s. let t : State = record s { ports = mid.ports; under_way = mid.under_way; closes = closes } in t) taken_in
+  mid_is : at_moment moment mid ≡ mid
+  mid_is = ap (λ s. let t : State = record s { ports = mid.ports; under_way = mid.under_way } in t) taken_in
 
   helper_parts : (fault : Option LinkFault) → first_told.fault ≡ fault →
       Agree moment (helper_tells (unless_faulty fault first_told (telling b)) state) (and_then (acted first_answers.actions mid) (lose_if fault))
-      (handle (Heard number b) (at_moment moment (record (and_then (acted first_answers.actions mid) (lose_if fault)).state { closes = closes })))
+      (heard_next moment number b (and_then (acted first_answers.actions mid) (lose_if fault)).state)
   helper_parts None is =
       let open_yet = stays_open number first_told.settled (fresh state) port found in
       let told : Telling = telling b first_told.link in
-      let later : Answering = answers_in told.settled next in
-      let second : handle (Heard number b) (at_moment moment next) ≡ helper_tells told next =
-      ap (handle (Heard number b)) next_is ∙ handle-helper number b open_yet.0 next open_yet.1 (open_yet.2 ∙ door) linked in
+      let later : Answering = answers_in told.settled mid in
+      let second : heard_next moment number b mid ≡ helper_tells told mid =
+      ap (handle (Heard number b)) mid_is ∙ handle-helper number b open_yet.0 mid open_yet.1 (open_yet.2 ∙ door) linked in
       let whole : helper_tells (settled_before first_told.settled told) state ≡ and_then (acted (first_answers.actions ++ later.actions) (with_answers told.link later mid)) (lose_if told.fault) =
       ap (λ (answering : Answering). and_then (acted answering.actions (with_answers told.link answering state)) (lose_if told.fault)) (in_turn first_told.settled told.settled state) in
-      let alike = lose-closes told.fault (with_answers told.link later mid) closes in
       record {
-        state = ap (λ (o : Outcome). forget_closes (at_moment moment o.state)) whole ∙ ap (at_moment moment) (sym alike.0) ∙ ap (λ (o : Outcome). forget_closes (at_moment moment o.state)) (sym second);
+        state = ap (λ (o : Outcome). at_moment moment o.state) whole ∙ ap (λ (o : Outcome). at_moment moment o.state) (sym second);
         actions = ap (λ (o : Outcome). o.actions) whole ∙ append_assoc first_answers.actions later.actions _
-            ∙ ap (λ some. first_answers.actions ++ (later.actions ++ some)) (sym alike.1)
-            ∙ ap (λ some. some ++ (helper_tells told next).actions) (sym (append-nil first_answers.actions))
+            ∙ ap (λ some. some ++ (helper_tells told mid).actions) (sym (append-nil first_answers.actions))
             ∙ ap (λ (o : Outcome). (first_answers.actions ++ []) ++ o.actions) (sym second);
-        put = ap (λ (o : Outcome). o.put) whole ∙ sym alike.2 ∙ ap (λ (o : Outcome). o.put) (sym second);
+        put = ap (λ (o : Outcome). o.put) whole ∙ ap (λ (o : Outcome). o.put) (sym second);
       }
   helper_parts (Some fault) is =
-      let gone : find_port number (lose mid).state.ports ≡ None =
-      lost-closed mid number (leads-rising 0 state.last_port state.ports (leads-answers state.ports first_told.settled (fresh state) same) rising) linked in
-      let left : State = (lose mid).state in
-      let then : State = at_moment moment (record left { closes = closes }) in
-      let second : handle (Heard number b) then ≡ stay then = ap (λ o. heard_at o b then) gone in
-      let whole : helper_tells first_told state ≡ and_then (acted first_answers.actions mid) lose = ap (λ f. and_then (acted first_answers.actions mid) (lose_if f)) is in
-      record {
-        state = ap (λ (o : Outcome). forget_closes (at_moment moment o.state)) whole ∙ ap forget_closes (sym (at_moment-twice left moment))
-            ∙ ap (λ (o : Outcome). forget_closes (at_moment moment o.state)) (sym second);
-        actions = ap (λ (o : Outcome). o.actions) whole ∙ sym (append-nil _) ∙ ap (λ (o : Outcome). (and_then (acted first_answers.actions mid) lose).actions ++ o.actions) (sym second);
-        put = ap (λ (o : Outcome). o.put) whole ∙ sym (append-nil _) ∙ ap (λ (o : Outcome). (and_then (acted first_answers.actions mid) lose).put ++ o.put) (sym second);
-      }
+      agree-over moment number b _ _ (ap (λ f. and_then (acted first_answers.actions mid) (lose_if f)) is)
+      (lost-closed mid number (leads-rising 0 state.last_port state.ports (leads-answers state.ports first_told.settled (fresh state) same) rising) linked)
 
 -- two parts of the helper's piece are the piece
 pub helper_parts_agree : (state : State) (moment : Moment) (number : ℕ) (a b : List ℕ) (port : Port) → IsSound state → find_port number state.ports ≡ Some port → port.door ≡ Children → state.under_way.link.state ≡ states.Linked number →
@@ -160,15 +139,14 @@ pub helper_parts_agree : (state : State) (moment : Moment) (number : ℕ) (a b :
     (step (step state moment (Heard number a)).state moment (Heard number b))
 helper_parts_agree state moment number a b port sound found door linked =
     let start : State = at_moment moment state in
-    let closes : List ℕ = (step state moment (Heard number a)).state.closes in
     let link = state.under_way.link in
     let first : handle (Heard number a) start ≡ helper_tells (telling a link) start = handle-helper number a port start found door linked in
     let whole : handle (Heard number (a ++ b)) start ≡ helper_tells (unless_faulty (telling a link).fault (telling a link) (telling b)) start =
     handle-helper number (a ++ b) port start found door linked ∙ ap (λ t. helper_tells t start) (sym (told_in_turn-joined a (b ∷ []) link)) in
-    let second : (o : Outcome) → Outcome = λ o. handle (Heard number b) (at_moment moment (record o.state { closes = closes })) in
-    let parts = helper_parts moment start closes number a b port (at_moment-twice state moment) sound.rising found door linked (telling a link).fault refl in
+    let second : (o : Outcome) → Outcome = λ o. heard_next moment number b o.state in
+    let parts = helper_parts moment start number a b port (at_moment-twice state moment) sound.rising found door linked (telling a link).fault refl in
     record {
-      state = ap (λ (o : Outcome). forget_closes (at_moment moment o.state)) whole ∙ parts.state ∙ ap (λ (o : Outcome). forget_closes (at_moment moment (second o).state)) (sym first);
+      state = ap (λ (o : Outcome). at_moment moment o.state) whole ∙ parts.state ∙ ap (λ (o : Outcome). at_moment moment (second o).state) (sym first);
       actions = ap (λ (o : Outcome). o.actions) whole ∙ parts.actions ∙ ap (λ (o : Outcome). o.actions ++ (second o).actions) (sym first);
       put = ap (λ (o : Outcome). o.put) whole ∙ parts.put ∙ ap (λ (o : Outcome). o.put ++ (second o).put) (sym first);
     }

@@ -33,7 +33,7 @@ use Rattle.agent_model.specs.KeyStates.{KeyState}
 use Rattle.agent_model.specs.Runs.{run}
 use Rattle.agent_model.specs.Sound.{AreTied, IsTied, IsWaiting}
 use Rattle.agent_model.specs.State.{Nothing, OnAsk, OnConfirmation, Port, State, UnderWay, change_port, find_port, first_state, new_port, Waits}
-use Rattle.agent_model.specs.Step.{admitted, asker_at, at_moment, attempts, concluded, has_room, step, take_frame}
+use Rattle.agent_model.specs.Step.{admitted, asker_at, at_moment, attempts, concluded, has_room, step, take_frame, turned_away}
 use Rattle.agent_model.specs.Verdicts.{Awaits, NoLongerAllowed, NotConfirmed, Refuses, Replies, Verdict, tell, verdict_waits}
 use Rattle.agent_model.proofs.FateLemmas.{answer-waits, fate-answers, fate-append, tied-answers, tied-lost, told-apart, told-here, told-lost, waits-lost}
 use Rattle.agent_model.proofs.GrantLemmas.{IsGranted, allowed, disallowed, grant-ends, unasked}
@@ -196,7 +196,7 @@ module _ (event : Happening) (body : List ℕ) (take : Port → Port) (mild : Is
       other n (sym nothing ∙ ap (λ (q : Port). q.waits) equal ∙ is)
 
   -- it waits for no ask
-  silent : (held : KeyState) (under_way : UnderWay) (verdict : Verdict) (actions : List Action) (put : List ToChildMessage) → under_way.link ≡ state.under_way.link → AreRaised under_way.confirmations under_way.last_job (change_port port.number (change verdict) state.ports) state.last_port → ((ask : ℕ) → verdict_waits verdict ≢ OnAsk ask) → ((ask : ℕ) → fate_of ask actions ≡ Unanswered) → Fated event state (record { state = left held under_way verdict; actions = actions; put = put })
+  silent : (held : KeyState) (under_way : UnderWay) (verdict : Verdict) (actions : List Action) (put : List ToChildMessage) → under_way.link ≡ state.under_way.link → AreRaised under_way.confirmations under_way.last_job (change_port port.number (change verdict) state.ports) state.last_port → ((ask : ℕ) → verdict_waits verdict ≢ OnAsk ask) → ((ask : ℕ) → fate_of ask actions ≡ Unanswered) → Fated event state (record { state = left held under_way verdict; actions = actions; put = put; closes = [] })
   silent held under_way verdict actions put link consents waits fates = record {
     tied = assemble state (left held under_way verdict) (follows-left held under_way verdict) tied (rw link tied.order)
         (rw link (subst (λ ports. AreTied ports state.under_way.link.asks) (twice verdict) (tied-silent state.ports state.under_way.link.asks tied.tied port.number (change verdict) (waits_not OnAsk (λ n is. absurd (cc))) mild.number (λ p. waits))))
@@ -211,7 +211,7 @@ module _ (event : Happening) (body : List ℕ) (take : Port → Port) (mild : Is
       raised-silent state.ports tied.raised port.number (change verdict) (waits_not OnConfirmation (λ n is. absurd (cc))) mild.number mild.door (λ p. waits)
 
   -- it puts an ask
-  puts : (held : KeyState) (errand : Errand) → Fated event state (record { state = left held (with_ask errand port.number state.under_way) (Awaits (OnAsk (state.under_way.link.last + 1))); actions = Requested (record { port = port.number; body = body; verdict = Awaits (OnAsk (state.under_way.link.last + 1)) }) ∷ Asked (record { ask = state.under_way.link.last + 1; port = port.number; purpose = purpose_of errand }) ∷ []; put = message_of errand (state.under_way.link.last + 1) ∷ [] })
+  puts : (held : KeyState) (errand : Errand) → Fated event state (record { state = left held (with_ask errand port.number state.under_way) (Awaits (OnAsk (state.under_way.link.last + 1))); actions = Requested (record { port = port.number; body = body; verdict = Awaits (OnAsk (state.under_way.link.last + 1)) }) ∷ Asked (record { ask = state.under_way.link.last + 1; port = port.number; purpose = purpose_of errand }) ∷ []; put = message_of errand (state.under_way.link.last + 1) ∷ []; closes = [] })
   puts held errand =
       let link = state.under_way.link in
       let verdict : Verdict = Awaits (OnAsk (link.last + 1)) in
@@ -459,7 +459,7 @@ found_still number port (other ∷ ports) more found = by_test (number == other.
     by_test true later there = there
     by_test false later there = later there
 
-fated-admitted : (event : Happening) (door : Door) (state : State) (room : Bool) → IsTied state → Fated event state (stay (record state { ports = admitted room (suc state.last_port) door state.ports; last_port = suc state.last_port }))
+fated-admitted : (event : Happening) (door : Door) (state : State) (room : Bool) → IsTied state → Fated event state (record (stay (record state { ports = admitted room (suc state.last_port) door state.ports; last_port = suc state.last_port })) { closes = turned_away room (suc state.last_port) })
 fated-admitted event door state false tied = record {
   tied = record {
     rising = rising_higher 0 state.last_port (suc state.last_port) state.ports (omega arith) tied.rising;

@@ -16,7 +16,7 @@ use Rattle.agent_model.specs.Looks.{due}
 use Rattle.agent_model.specs.Runs.{run}
 use Rattle.agent_model.specs.Sound.{AreApart, IsJudged, IsRising, IsTied}
 use Rattle.agent_model.specs.State.{Port, State, find_port, first_state, new_port}
-use Rattle.agent_model.specs.Step.{admitted, asker_at, at_moment, has_room, look_front, look_port, looked, step}
+use Rattle.agent_model.specs.Step.{admitted, asker_at, at_moment, has_room, look_front, look_port, looked, step, turned_away}
 use Rattle.agent_model.proofs.BindLemmas.{bound_after-append}
 use Rattle.agent_model.proofs.ClientLemmas.{handle-heard, looked-found}
 use Rattle.agent_model.proofs.FatedLemmas.{step-fated, tied-opened}
@@ -73,7 +73,7 @@ module _ (door : Door) (state : State) (tied : IsTied state) (judged : IsJudged 
         absurd (omega (arith, numbered, is, known)))
   ]
 
-  goes-admitted : (room : Bool) → Goes state (stay (with_port room))
+  goes-admitted : (room : Bool) → Goes state (record (stay (with_port room)) { closes = turned_away room (suc state.last_port) })
   goes-admitted false = record {
     judged = record { verified = judged.verified; noted = judged.noted; given = judged.given; chains = judged.chains };
     adds = λ number. record { bound = λ port found. ap chain_of (sym found); silent = λ chain none. refl };

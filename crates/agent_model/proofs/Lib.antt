@@ -1,5 +1,4 @@
 pub mod PortsLemmas
-pub mod ClosesLemmas
 pub mod HeldLemmas
 pub mod JobLemmas
 pub mod ServeLemmas
@@ -8,6 +7,7 @@ pub mod SecondLemmas
 pub mod BoundLemmas
 pub mod ClientLemmas
 pub mod LeadLemmas
+pub mod ClosesLemmas
 pub mod RunLemmas
 pub mod GrowLemmas
 pub mod GrantLemmas

@@ -18,14 +18,14 @@ use Rattle.child_msg.specs.declared.fault.ChildFault.{ChildFault}
 use Rattle.confirm_desk.specs.Confirmations.{Confirmation, Consent, No, NotYet, Yes, change_job, consent, find_asker, find_job, find_linked}
 use Rattle.confirm_desk.specs.Confirmations as desk
 use Rattle.helper_link.specs.Telling.{telling}
-use Rattle.agent_model.specs.Actions.{Outcome, stay}
+use Rattle.agent_model.specs.Actions.{Outcome, closing, stay}
 use Rattle.agent_model.specs.Answers.{helper_tells, lose}
-use Rattle.agent_model.specs.Children.{changed, closed, confirmer_goes_on, confirmer_named, failed_by, failed_if, first_frame, first_message, heard_more, hello_by, helper_named, job_left, job_started, named_by, ticket_by, unheard}
+use Rattle.agent_model.specs.Children.{changed, closed, confirmer_goes_on, confirmer_named, failed_by, failed_if, first_frame, first_message, heard_more, hello_by, helper_named, job_left, job_started, named_by, shut, ticket_by, unheard}
 use Rattle.agent_model.specs.Consents.{consent_by, find_started, grant_concluded, grant_to, grant_work, over, over_if, with_heard}
 use Rattle.agent_model.specs.Events.{Happening, Joined, Heard, Ended, Took, Started, StartFailed, Tick}
 use Rattle.wire_text.specs.Bounds.{longest_body}
 use Rattle.agent_model.specs.State.{Client, Confirmer, Helper, Nothing, OnAsk, OnConfirmation, Port, Role, StartedJob, State, UnderWay, Unnamed, Waits, change_port, find_port, find_to_start, is_linked_to, role_by_helper, role_by_link, role_of}
-use Rattle.agent_model.specs.Step.{confirmer_took, ended_at, ended_by_role, handle, heard_at, heard_by_role, helper_took, joined, look_front, look_owed, look_port, look_waits, taken, took_at, took_by_role, took_some}
+use Rattle.agent_model.specs.Step.{confirmer_took, ended_at, ended_by_role, handle, heard_at, heard_by_role, helper_took, join, look_front, look_owed, look_port, look_waits, taken, took_at, took_by_role, took_some}
 use Rattle.agent_model.proofs.JobLemmas.{IsIn, in-by_asker, in-by_job, in-by_port}
 use Rattle.agent_model.proofs.PortsLemmas.{find_port-change_port, found_number}
 
@@ -78,10 +78,22 @@ pub data Quiet (event : Happening) (old : State) : State → Type 0 where
   names : (job number : ℕ) (port : Port) → find_port number old.ports ≡ Some port → port.door ≡ Children → find_linked number old.under_way.confirmations ≡ None → Quiet event old (helper_named job number old)
   links : (job number : ℕ) (port : Port) → find_port number old.ports ≡ Some port → port.door ≡ Children → find_linked number old.under_way.confirmations ≡ None → old.under_way.link.state ≢ states.Linked number → Quiet event old (confirmer_named job number old)
 
+-- the ports that such a change closes, and then these
+abbrev pub shuts : {event : Happening} {old new : State} → Quiet event old new → List ℕ → List ℕ
+shuts (alters number f mild) later = later
+shuts {old = old} (closes number may) later = closing number old.ports later
+shuts (goes_on new same) later = later
+shuts (names job number port found door free) later = later
+shuts (links job number port found door free other) later = later
+
+-- what comes behind it
+abbrev pub after_quiet : {event : Happening} {old new : State} → Quiet event old new → Outcome → Outcome
+after_quiet quiet outcome = record outcome { closes = shuts quiet outcome.closes }
+
 -- what an event does in a state: quiet changes, and then at most one thing that is told
 pub data Makes (event : Happening) : State → Outcome → Type 0 where
   stays : (state : State) → Makes event state (stay state)
-  first : {old mid : State} {outcome : Outcome} → Quiet event old mid → Makes event mid outcome → Makes event old outcome
+  first : {old mid : State} {outcome : Outcome} (quiet : Quiet event old mid) → Makes event mid outcome → Makes event old (after_quiet quiet outcome)
   serves : (body_len : ℕ) (port : Port) (state : State) → find_port port.number state.ports ≡ Some port → port.door ≡ Clients → port.waits ≡ Nothing → port.owed ≡ [] → Makes event state (taken body_len (front_body body_len port.heard) port state)
   tells : (piece : List ℕ) (state : State) → Makes event state (helper_tells (telling piece state.under_way.link) state)
   loses : (state : State) → Makes event state (lose state)
@@ -229,8 +241,8 @@ module _ (event : Happening) where
 
   -- a child process that hasn't named itself
   module _ (number : ℕ) (port : Port) (state : State) (found : find_port number state.ports ≡ Some port) (door : port.door ≡ Children) (free : find_linked number state.under_way.confirmations ≡ None) (other : state.under_way.link.state ≢ states.Linked number) where
-    shut : Makes event state (stay (closed number state))
-    shut = first (closes number (child port found door free)) (stays (closed number state))
+    makes-shut : Makes event state (shut number state)
+    makes-shut = first (closes number (child port found door free)) (stays (closed number state))
 
     makes-named : (kind : JobKind) (job : ℕ) (rest : List ℕ) → Makes event state (named_by kind job number rest state)
     makes-named kinds.Helper job rest = first (names job number port found door free) (tells rest (helper_named job number state))
@@ -239,25 +251,25 @@ module _ (event : Happening) where
 
     makes-ticket : (same : Bool) (job : Job) (rest : List ℕ) → Makes event state (ticket_by same job number rest state)
     makes-ticket true job rest = makes-named job.kind job.number rest
-    makes-ticket false job rest = shut
+    makes-ticket false job rest = makes-shut
 
     makes-hello : (started : Option StartedJob) (ticket rest : List ℕ) → Makes event state (hello_by started ticket number rest state)
-    makes-hello None ticket rest = shut
+    makes-hello None ticket rest = makes-shut
     makes-hello (Some one) ticket rest = makes-ticket (bytes_eq one.ticket ticket) one.job rest
 
     makes-message : (read : Result FromChildMessage ChildFault) (rest : List ℕ) → Makes event state (first_message read number rest state)
     makes-message (Ok (Hello job ticket)) rest = makes-hello (find_started job state.under_way.started) ticket rest
-    makes-message (Ok (Signed ask signature)) rest = shut
-    makes-message (Ok (Refused ask)) rest = shut
-    makes-message (Ok (True ask)) rest = shut
-    makes-message (Ok (False ask)) rest = shut
-    makes-message (Ok (Granted job)) rest = shut
-    makes-message (Ok (Denied job)) rest = shut
-    makes-message (Err fault) rest = shut
+    makes-message (Ok (Signed ask signature)) rest = makes-shut
+    makes-message (Ok (Refused ask)) rest = makes-shut
+    makes-message (Ok (True ask)) rest = makes-shut
+    makes-message (Ok (False ask)) rest = makes-shut
+    makes-message (Ok (Granted job)) rest = makes-shut
+    makes-message (Ok (Denied job)) rest = makes-shut
+    makes-message (Err fault) rest = makes-shut
 
     makes-frame : (answer : Front) (heard : List ℕ) → Makes event state (first_frame answer number heard state)
     makes-frame (Whole body_len) heard = makes-message (from_child_of (front_body body_len heard)) (after_front body_len heard)
-    makes-frame (Bad announced) heard = shut
+    makes-frame (Bad announced) heard = makes-shut
     makes-frame More heard = stays state
 
   makes-heard_role : (role : Role) (port : Port) (piece : List ℕ) (state : State) → find_port port.number state.ports ≡ Some port → role_of port.door port.number state.under_way ≡ role → Makes event state (heard_by_role role port piece state)
@@ -327,7 +339,7 @@ makes-handle (StartFailed job) state other = makes-failed (StartFailed job) (fin
 makes-handle Tick state other = stays state
 
 -- what holds of a joining and of what the other events make holds of every event
-pub by_event : (R : Outcome → Type 0) (event : Happening) (state : State) → ((door : Door) → R (stay (joined door state))) → ((outcome : Outcome) → Makes event state outcome → R outcome) → R (handle event state)
+pub by_event : (R : Outcome → Type 0) (event : Happening) (state : State) → ((door : Door) → R (join door state)) → ((outcome : Outcome) → Makes event state outcome → R outcome) → R (handle event state)
 by_event R (Joined door) state joins makes = joins door
 by_event R (Heard port piece) state joins makes = makes _ (makes-handle (Heard port piece) state (λ door is. absurd (cc)))
 by_event R (Took port count) state joins makes = makes _ (makes-handle (Took port count) state (λ door is. absurd (cc)))

@@ -1,5 +1,5 @@
 -- A piece of a client's bytes whose first part holds a whole request, or a bad length.
-use Rattle.std.proofs.Common.{◌≡◌, ℕ, ◌+◌, ◌-◌, ◌≤◌, List, [], ◌∷◌, ◌++◌, length, take, drop, refl, ap, arith, sym, ◌∙◌, Option, Some, None}
+use Rattle.std.proofs.Common.{◌≡◌, ℕ, ◌+◌, ◌-◌, ◌≤◌, List, [], ◌∷◌, ◌++◌, length, take, drop, refl, ap, arith, sym, ◌∙◌, Option, Some, None, is_some, if◌then◌else◌}
 use Rattle.std.proofs.lemmas.List.{append-nil, append_assoc, drop-append-le, length-drop, take-append-le}
 use Rattle.std.specs.Option.{IfSome, option_map}
 use Rattle.wire_text.specs.Frames.{Front, front, front_body, after_front, Whole, Bad, More}
@@ -7,13 +7,12 @@ use Rattle.wire_text.proofs.FrontLemmas.{front-append_bad, front-append_whole, f
 use Rattle.world_ports.specs.declared.Moment.{Moment}
 use Rattle.world_ports.specs.declared.Door.TheVariants.{Clients}
 use Rattle.agent_model.specs.Binds.{agent_request_of}
-use Rattle.agent_model.specs.Actions.{Outcome, stay}
-use Rattle.agent_model.specs.Children.{changed, closed, heard_more}
+use Rattle.agent_model.specs.Actions.{Outcome, closing, stay}
+use Rattle.agent_model.specs.Children.{changed, heard_more, shut}
 use Rattle.agent_model.specs.Dispatch.{Served, serve}
 use Rattle.agent_model.specs.Events.{Heard}
 use Rattle.wire_text.specs.Bounds.{longest_body}
 use Rattle.agent_model.specs.Looks.{due, due_at}
-use Rattle.agent_model.specs.Runs.{forget_closes}
 use Rattle.agent_model.specs.Sound.{IsRising, IsSound}
 use Rattle.agent_model.specs.State.{Nothing, OnAsk, OnConfirmation, Port, State, Waits, change_port, find_port, remove_port}
 use Rattle.agent_model.specs.Step.{step, asker_at, at_moment, attempts, handle, heard_at, take_frame, taken}
@@ -23,7 +22,7 @@ use Rattle.agent_model.proofs.PortsLemmas.{change_port-by, change_port-twice, fi
 use Rattle.agent_model.proofs.RunLemmas.{at_moment-twice}
 use Rattle.agent_model.proofs.ServeLemmas.{serve-ends}
 use Rattle.agent_model.proofs.ToldLemmas.{told_more}
-use Rattle.agent_model.proofs.PiecesLemmas.{Agree, after_nothing, found_more}
+use Rattle.agent_model.proofs.PiecesLemmas.{Agree, after_nothing, agree-over, found_more, heard_next}
 
 -- ---- the first part holds a whole request
 
@@ -56,10 +55,10 @@ bad_longer heard a b announced bad =
 due-idle : (port : Port) → port.waits ≡ Nothing → port.owed ≡ [] → due port ≡ front longest_body port.heard
 due-idle port waits owed = ap (λ (w : Waits). due_at w port.owed port.heard) waits ∙ ap (λ (bytes : List ℕ). due_at Nothing bytes port.heard) owed
 
-after_request : (moment : Moment) (state : State) (closes : List ℕ) (number : ℕ) (a b : List ℕ) (port : Port) (body_len : ℕ) → find_port number state.ports ≡ Some port → port.door ≡ Clients → port.waits ≡ Nothing → port.owed ≡ [] → front longest_body (port.heard ++ a) ≡ Whole body_len →
+after_request : (moment : Moment) (state : State) (number : ℕ) (a b : List ℕ) (port : Port) (body_len : ℕ) → find_port number state.ports ≡ Some port → port.door ≡ Clients → port.waits ≡ Nothing → port.owed ≡ [] → front longest_body (port.heard ++ a) ≡ Whole body_len →
     Agree moment (handle (Heard number (a ++ b)) state) (handle (Heard number a) state)
-    (handle (Heard number b) (at_moment moment (record (handle (Heard number a) state).state { closes = closes })))
-after_request moment state closes number a b port body_len found door waits owed whole =
+    (heard_next moment number b (handle (Heard number a) state).state)
+after_request moment state number a b port body_len found door waits owed whole =
     let body : List ℕ = front_body body_len (port.heard ++ a) in
     let served : Served = serve (agent_request_of body) (asker_at state.moment port) state.held state.under_way in
     let take_first : Port → Port = take_frame body_len (attempts state.held.lock body) in
@@ -77,9 +76,8 @@ after_request moment state closes number a b port body_len found door waits owed
     ∙ change_port-twice number (λ p. take_first (heard_more a p)) told state.ports (λ p. refl) in
     let left : State = one (change_port number gave state.ports) in
     let first_state_is : (handle (Heard number a) state).state ≡ left = ap (λ (o : Outcome). o.state) first ∙ ap one first_ports in
-    let next : State = at_moment moment (record left { closes = closes }) in
-    let then : at_moment moment (record (handle (Heard number a) state).state { closes = closes }) ≡ next =
-    ap (λ (s : State). at_moment moment (record s { closes = closes })) first_state_is in
+    let next : State = at_moment moment left in
+    let begun : at_moment moment (handle (Heard number a) state).state ≡ next = ap (at_moment moment) first_state_is in
     let there : find_port number next.ports ≡ Some (gave port) =
     find_port-change_port number gave state.ports (λ p. refl) ∙ ap (option_map gave) found in
     let still : due (heard_more b (gave port)) ≡ More =
@@ -88,8 +86,8 @@ after_request moment state closes number a b port body_len found door waits owed
     let second : handle (Heard number b) next ≡ stay (changed number (heard_more b) next) =
     handle-heard number b (gave port) next there door
     ∙ looked-found number (heard_more b (gave port)) (changed number (heard_more b) next) More (found_more number b next.ports (gave port) there) still in
-    let later : handle (Heard number b) (at_moment moment (record (handle (Heard number a) state).state { closes = closes })) ≡ stay (changed number (heard_more b) next) =
-    ap (handle (Heard number b)) then ∙ second in
+    let later : heard_next moment number b (handle (Heard number a) state).state ≡ stay (changed number (heard_more b) next) =
+    ap (handle (Heard number b)) begun ∙ second in
     let all : handle (Heard number (a ++ b)) state ≡ taken body_len body (heard_more (a ++ b) port) (changed number (heard_more (a ++ b)) state) =
     handle-heard number (a ++ b) port state found door
     ∙ looked-found number (heard_more (a ++ b) port) (changed number (heard_more (a ++ b)) state) (Whole body_len) (found_more number (a ++ b) state.ports port found)
@@ -107,10 +105,10 @@ after_request moment state closes number a b port body_len found door waits owed
     ∙ sym (change_port-twice number gave (heard_more b) state.ports (λ p. refl)) in
     let parts : State = one (change_port number (heard_more b) (change_port number gave state.ports)) in
     record {
-      state = ap (λ (o : Outcome). forget_closes (at_moment moment o.state)) all
-          ∙ ap (λ (ps : List Port). forget_closes (at_moment moment (one ps))) all_ports
-          ∙ ap forget_closes (sym (at_moment-twice parts moment))
-          ∙ ap (λ (o : Outcome). forget_closes (at_moment moment o.state)) (sym later);
+      state = ap (λ (o : Outcome). at_moment moment o.state) all
+          ∙ ap (λ (ps : List Port). at_moment moment (one ps)) all_ports
+          ∙ sym (at_moment-twice parts moment)
+          ∙ ap (λ (o : Outcome). at_moment moment o.state) (sym later);
       actions = ap (λ (o : Outcome). o.actions) all
           ∙ sym (append-nil (taken body_len body (heard_more a port) (changed number (heard_more a) state)).actions)
           ∙ ap (λ (o : Outcome). o.actions ++ []) (sym first)
@@ -123,84 +121,62 @@ after_request moment state closes number a b port body_len found door waits owed
 
 -- ---- the first part holds a bad length
 
-after_bad : (moment : Moment) (state : State) (closes : List ℕ) (number last : ℕ) (a b : List ℕ) (port : Port) (announced : ℕ) → IsRising 0 last state.ports → find_port number state.ports ≡ Some port → port.door ≡ Clients → port.waits ≡ Nothing → port.owed ≡ [] → front longest_body (port.heard ++ a) ≡ Bad announced →
+after_bad : (moment : Moment) (state : State) (number last : ℕ) (a b : List ℕ) (port : Port) (announced : ℕ) → IsRising 0 last state.ports → find_port number state.ports ≡ Some port → port.door ≡ Clients → port.waits ≡ Nothing → port.owed ≡ [] → front longest_body (port.heard ++ a) ≡ Bad announced →
     Agree moment (handle (Heard number (a ++ b)) state) (handle (Heard number a) state)
-    (handle (Heard number b) (at_moment moment (record (handle (Heard number a) state).state { closes = closes })))
-after_bad moment state closes number last a b port announced rising found door waits owed bad =
+    (heard_next moment number b (handle (Heard number a) state).state)
+after_bad moment state number last a b port announced rising found door waits owed bad =
     let is_number : port.number ≡ number = found_number number state.ports port found in
     let left : State = record state { ports = remove_port number state.ports } in
-    let closing : (piece : List ℕ) → front longest_body (port.heard ++ piece) ≡ Bad announced → handle (Heard number piece) state ≡ stay left =
+    let shuts : (piece : List ℕ) → front longest_body (port.heard ++ piece) ≡ Bad announced → handle (Heard number piece) state ≡ record (stay left) { closes = number ∷ [] } =
     λ piece is. handle-heard number piece port state found door
     ∙ looked-found number (heard_more piece port) (changed number (heard_more piece) state) (Bad announced) (found_more number piece state.ports port found)
     (due-idle (heard_more piece port) waits owed ∙ is)
-    ∙ ap (λ (n : ℕ). stay (closed n (changed number (heard_more piece) state))) is_number
-    ∙ ap (λ (ps : List Port). stay (record state { ports = ps })) (remove_port-change_port number (heard_more piece) state.ports (λ p. refl)) in
-    let first : handle (Heard number a) state ≡ stay left = closing a bad in
-    let all : handle (Heard number (a ++ b)) state ≡ stay left = closing (a ++ b) (bad_longer port.heard a b announced bad) in
-    let next : State = at_moment moment (record left { closes = closes }) in
-    let second : handle (Heard number b) next ≡ stay next =
-    ap (λ (o : Option Port). heard_at o b next) (find_port-remove_port number 0 last state.ports rising) in
-    let later : handle (Heard number b) (at_moment moment (record (handle (Heard number a) state).state { closes = closes })) ≡ stay next =
-    ap (λ (o : Outcome). handle (Heard number b) (at_moment moment (record o.state { closes = closes }))) first ∙ second in
-    record {
-      state = ap (λ (o : Outcome). forget_closes (at_moment moment o.state)) all
-          ∙ ap forget_closes (sym (at_moment-twice left moment))
-          ∙ ap (λ (o : Outcome). forget_closes (at_moment moment o.state)) (sym later);
-      actions = ap (λ (o : Outcome). o.actions) all ∙ ap (λ (o : Outcome). o.actions ++ []) (sym first)
-          ∙ ap (λ (o : Outcome). (handle (Heard number a) state).actions ++ o.actions) (sym later);
-      put = ap (λ (o : Outcome). o.put) all ∙ ap (λ (o : Outcome). o.put ++ []) (sym first)
-          ∙ ap (λ (o : Outcome). (handle (Heard number a) state).put ++ o.put) (sym later);
-    }
+    ∙ ap (λ (n : ℕ). shut n (changed number (heard_more piece) state)) is_number
+    ∙ ap (λ (ps : List Port). let o : Outcome = record (stay (record state { ports = ps })) { closes = closing number (change_port number (heard_more piece) state.ports) [] } in o) (remove_port-change_port number (heard_more piece) state.ports (λ p. refl))
+    ∙ ap (λ (found : Option Port). let o : Outcome = record (stay left) { closes = if is_some found then number ∷ [] else [] } in o) (found_more number piece state.ports port found) in
+    agree-over moment number b _ _
+    (shuts (a ++ b) (bad_longer port.heard a b announced bad) ∙ sym (shuts a bad))
+    (ap (λ (o : Outcome). find_port number o.state.ports) (shuts a bad)
+    ∙ find_port-remove_port number 0 last state.ports rising)
 
 -- ---- all of them
 
 -- by what stands at the front of a client's bytes that waits for nothing and is owed nothing
-by_front : (answer : Front) (moment : Moment) (state : State) (closes : List ℕ) (number last : ℕ) (a b : List ℕ) (port : Port) → at_moment moment state ≡ state → IsRising 0 last state.ports → find_port number state.ports ≡ Some port → port.door ≡ Clients → port.waits ≡ Nothing → port.owed ≡ [] → front longest_body (port.heard ++ a) ≡ answer →
+by_front : (answer : Front) (moment : Moment) (state : State) (number last : ℕ) (a b : List ℕ) (port : Port) → at_moment moment state ≡ state → IsRising 0 last state.ports → find_port number state.ports ≡ Some port → port.door ≡ Clients → port.waits ≡ Nothing → port.owed ≡ [] → front longest_body (port.heard ++ a) ≡ answer →
     Agree moment (handle (Heard number (a ++ b)) state) (handle (Heard number a) state)
-    (handle (Heard number b) (at_moment moment (record (handle (Heard number a) state).state { closes = closes })))
-by_front (Whole body_len) moment state closes number last a b port same rising found door waits owed is =
-    after_request moment state closes number a b port body_len found door waits owed is
-by_front (Bad announced) moment state closes number last a b port same rising found door waits owed is =
-    after_bad moment state closes number last a b port announced rising found door waits owed is
-by_front More moment state closes number last a b port same rising found door waits owed is =
-    after_nothing moment state closes number a b port same found door (due-idle (heard_more a port) waits owed ∙ is)
+    (heard_next moment number b (handle (Heard number a) state).state)
+by_front (Whole body_len) moment state number last a b port same rising found door waits owed is =
+    after_request moment state number a b port body_len found door waits owed is
+by_front (Bad announced) moment state number last a b port same rising found door waits owed is =
+    after_bad moment state number last a b port announced rising found door waits owed is
+by_front More moment state number last a b port same rising found door waits owed is =
+    after_nothing moment state number a b port same found door (due-idle (heard_more a port) waits owed ∙ is)
 
 -- by what it waits for and is owed
-by_port : (waits : Waits) (owed : List ℕ) (moment : Moment) (state : State) (closes : List ℕ) (number last : ℕ) (a b : List ℕ) (port : Port) → at_moment moment state ≡ state → IsRising 0 last state.ports → find_port number state.ports ≡ Some port → port.door ≡ Clients → port.waits ≡ waits → port.owed ≡ owed →
+by_port : (waits : Waits) (owed : List ℕ) (moment : Moment) (state : State) (number last : ℕ) (a b : List ℕ) (port : Port) → at_moment moment state ≡ state → IsRising 0 last state.ports → find_port number state.ports ≡ Some port → port.door ≡ Clients → port.waits ≡ waits → port.owed ≡ owed →
     Agree moment (handle (Heard number (a ++ b)) state) (handle (Heard number a) state)
-    (handle (Heard number b) (at_moment moment (record (handle (Heard number a) state).state { closes = closes })))
-by_port Nothing [] moment state closes number last a b port same rising found door waits owed =
-    by_front (front longest_body (port.heard ++ a)) moment state closes number last a b port same rising found door waits owed refl
-by_port Nothing (byte ∷ bytes) moment state closes number last a b port same rising found door waits owed =
-    after_nothing moment state closes number a b port same found door
+    (heard_next moment number b (handle (Heard number a) state).state)
+by_port Nothing [] moment state number last a b port same rising found door waits owed =
+    by_front (front longest_body (port.heard ++ a)) moment state number last a b port same rising found door waits owed refl
+by_port Nothing (byte ∷ bytes) moment state number last a b port same rising found door waits owed =
+    after_nothing moment state number a b port same found door
     (ap (λ (w : Waits). due_at w port.owed (port.heard ++ a)) waits ∙ ap (λ (o : List ℕ). due_at Nothing o (port.heard ++ a)) owed)
-by_port (OnAsk ask) owed moment state closes number last a b port same rising found door waits is =
-    after_nothing moment state closes number a b port same found door (ap (λ (w : Waits). due_at w port.owed (port.heard ++ a)) waits)
-by_port (OnConfirmation job) owed moment state closes number last a b port same rising found door waits is =
-    after_nothing moment state closes number a b port same found door (ap (λ (w : Waits). due_at w port.owed (port.heard ++ a)) waits)
+by_port (OnAsk ask) owed moment state number last a b port same rising found door waits is =
+    after_nothing moment state number a b port same found door (ap (λ (w : Waits). due_at w port.owed (port.heard ++ a)) waits)
+by_port (OnConfirmation job) owed moment state number last a b port same rising found door waits is =
+    after_nothing moment state number a b port same found door (ap (λ (w : Waits). due_at w port.owed (port.heard ++ a)) waits)
 
 -- a port that isn't open hears nothing
-by_found : (is : Option Port) (moment : Moment) (state : State) (closes : List ℕ) (number last : ℕ) (a b : List ℕ) → at_moment moment state ≡ state → IsRising 0 last state.ports → find_port number state.ports ≡ is → IfSome is (λ port. port.door ≡ Clients) →
+by_found : (is : Option Port) (moment : Moment) (state : State) (number last : ℕ) (a b : List ℕ) → at_moment moment state ≡ state → IsRising 0 last state.ports → find_port number state.ports ≡ is → IfSome is (λ port. port.door ≡ Clients) →
     Agree moment (handle (Heard number (a ++ b)) state) (handle (Heard number a) state)
-    (handle (Heard number b) (at_moment moment (record (handle (Heard number a) state).state { closes = closes })))
-by_found None moment state closes number last a b same rising found door =
+    (heard_next moment number b (handle (Heard number a) state).state)
+by_found None moment state number last a b same rising found door =
     let nothing : (piece : List ℕ) → handle (Heard number piece) state ≡ stay state =
     λ piece. ap (λ (o : Option Port). heard_at o piece state) found in
-    let next : State = at_moment moment (record state { closes = closes }) in
-    let later : handle (Heard number b) (at_moment moment (record (handle (Heard number a) state).state { closes = closes })) ≡ stay next =
-    ap (λ (o : Outcome). handle (Heard number b) (at_moment moment (record o.state { closes = closes }))) (nothing a)
-    ∙ ap (λ (o : Option Port). heard_at o b next) found in
-    record {
-      state = ap (λ (o : Outcome). forget_closes (at_moment moment o.state)) (nothing (a ++ b))
-          ∙ ap forget_closes (sym (at_moment-twice state moment))
-          ∙ ap (λ (o : Outcome). forget_closes (at_moment moment o.state)) (sym later);
-      actions = ap (λ (o : Outcome). o.actions) (nothing (a ++ b)) ∙ ap (λ (o : Outcome). o.actions ++ []) (sym (nothing a))
-          ∙ ap (λ (o : Outcome). (handle (Heard number a) state).actions ++ o.actions) (sym later);
-      put = ap (λ (o : Outcome). o.put) (nothing (a ++ b)) ∙ ap (λ (o : Outcome). o.put ++ []) (sym (nothing a))
-          ∙ ap (λ (o : Outcome). (handle (Heard number a) state).put ++ o.put) (sym later);
-    }
-by_found (Some port) moment state closes number last a b same rising found door =
-    by_port port.waits port.owed moment state closes number last a b port same rising found door refl refl
+    agree-over moment number b _ _ (nothing (a ++ b) ∙ sym (nothing a))
+    (ap (λ (o : Outcome). find_port number o.state.ports) (nothing a) ∙ found)
+by_found (Some port) moment state number last a b same rising found door =
+    by_port port.waits port.owed moment state number last a b port same rising found door refl refl
 
 -- two parts of a client's piece are the piece
 pub parts_agree : (state : State) (moment : Moment) (number : ℕ) (a b : List ℕ) → IsSound state → IfSome (find_port number state.ports) (λ port. port.door ≡ Clients) →
@@ -208,5 +184,5 @@ pub parts_agree : (state : State) (moment : Moment) (number : ℕ) (a b : List �
     (step (step state moment (Heard number a)).state moment (Heard number b))
 parts_agree state moment number a b sound door =
     let start : State = at_moment moment state in
-    let parts = by_found (find_port number state.ports) moment start (step state moment (Heard number a)).state.closes number state.last_port a b (at_moment-twice state moment) sound.rising refl door in
+    let parts = by_found (find_port number state.ports) moment start number state.last_port a b (at_moment-twice state moment) sound.rising refl door in
     record { state = parts.state; actions = parts.actions; put = parts.put }

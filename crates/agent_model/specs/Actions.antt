@@ -1,10 +1,10 @@
 -- What the agent did that a later reader of its history needs (ours).
-use Rattle.std.specs.Prelude.{ℕ, List, [], ◌++◌}
+use Rattle.std.specs.Prelude.{ℕ, List, [], ◌∷◌, ◌++◌, is_some, if◌then◌else◌}
 use Rattle.agent_msg.specs.Requests.{Signing}
 use Rattle.child_msg.specs.Messages.{ToChildMessage}
 use Rattle.helper_link.specs.declared.answer.Settled.{Settled}
 use Rattle.dest_rule.specs.declared.binding.Binding.{Binding}
-use Rattle.agent_model.specs.State.{State, UnderWay}
+use Rattle.agent_model.specs.State.{Port, State, UnderWay, find_port}
 use Rattle.agent_model.specs.Verdicts.{Verdict}
 
 -- a request that was taken: who asked, its body, and what came of it
@@ -47,19 +47,21 @@ pub data Action : Type 0 where
   Over : (job : ℕ) → Action
   Lost : Action
 
--- the state that something leaves, the actions, oldest first, and the messages that were put to the helper
+-- the state that something leaves, the actions, oldest first, the messages that were put to the helper, and the ports
+-- that were closed
 pub record Outcome : Type 0 where
   pub state : State
   pub actions : List Action
   pub put : List ToChildMessage
+  pub closes : List ℕ
 
 -- nothing was done
 abbrev pub stay : State → Outcome
-stay state = record { state = state; actions = []; put = [] }
+stay state = record { state = state; actions = []; put = []; closes = [] }
 
--- these actions led to the state, and nothing was put to the helper
+-- these actions led to the state, and nothing was put to the helper or closed
 abbrev pub acted : List Action → State → Outcome
-acted actions state = record { state = state; actions = actions; put = [] }
+acted actions state = record { state = state; actions = actions; put = []; closes = [] }
 
 -- behind what was done before
 abbrev pub behind : Outcome → Outcome → Outcome
@@ -67,11 +69,25 @@ behind first later = record {
   state = later.state;
   actions = first.actions ++ later.actions;
   put = first.put ++ later.put;
+  closes = first.closes ++ later.closes;
 }
 
 -- one thing, and then another in the state that it leaves
 abbrev pub and_then : Outcome → (State → Outcome) → Outcome
 and_then first next = behind first (next first.state)
+
+-- the port of this number is closed, where it is among the open ones, and then these
+abbrev pub closing : ℕ → List Port → List ℕ → List ℕ
+closing number ports later = if is_some (find_port number ports) then number ∷ later else later
+
+-- what the caller of the agent sees of an event: the state that it leaves, and the ports that it closed, rising
+pub record Stepped : Type 0 where
+  pub state : State
+  pub closes : List ℕ
+
+-- of one with this outcome
+abbrev pub stepped : Outcome → Stepped
+stepped outcome = record { state = outcome.state; closes = outcome.closes }
 
 -- what comes of a request, or of a grant, of what is under way
 pub record Work : Type 0 where

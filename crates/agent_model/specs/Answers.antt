@@ -12,7 +12,7 @@ use Rattle.dest_rule.specs.Chains.{bound}
 use Rattle.dest_rule.specs.declared.binding.Binding.{Binding}
 use Rattle.agent_model.specs.State.{Port, State, Verification, change_port, find_port, remove_port}
 use Rattle.agent_model.specs.Verdicts.{HelperLost, HelperRefused, Refuses, Replies, Signature, SignatureWrong, Success, Verdict, tell}
-use Rattle.agent_model.specs.Actions.{Action, Answered, Lost, Outcome, Proved, acted, and_then, stay}
+use Rattle.agent_model.specs.Actions.{Action, Answered, Lost, Outcome, Proved, acted, and_then, closing, stay}
 
 -- ---- verifications
 
@@ -113,17 +113,24 @@ close_helper states.None ports = ports
 close_helper (states.Starting job) ports = ports
 close_helper (states.Linked port) ports = remove_port port ports
 
--- the link that was lost, once all whose asks failed were told
-abbrev pub link_lost : HelperLink → HelperLink
-link_lost old = record (lost old) { failed = [] }
+-- which port that closes
+abbrev pub helper_closes : LinkState → List Port → List ℕ
+helper_closes states.None ports = []
+helper_closes (states.Starting job) ports = []
+helper_closes (states.Linked port) ports = closing port ports []
 
 -- the helper is lost: its port is closed, and each client that waits for an answer of it is told
 abbrev pub lose : State → Outcome
-lose state = acted (Lost ∷ []) (record state {
-  ports = tell_each (Refuses HelperLost) (askers state.under_way.link.asks)
-      (close_helper state.under_way.link.state state.ports);
-  under_way = record state.under_way { link = link_lost state.under_way.link; verifications = [] };
-})
+lose state = record {
+  state = record state {
+    ports = tell_each (Refuses HelperLost) (askers state.under_way.link.asks)
+        (close_helper state.under_way.link.state state.ports);
+    under_way = record state.under_way { link = lost state.under_way.link; verifications = [] };
+  };
+  actions = Lost ∷ [];
+  put = [];
+  closes = helper_closes state.under_way.link.state state.ports;
+}
 
 -- by the fault of the helper's stream
 abbrev pub lose_if : Option LinkFault → State → Outcome

@@ -53,10 +53,14 @@ refused ask = 0 ∷ 0 ∷ 0 ∷ 9 ∷ 102 ∷ number ask
 abbrev pub cut_short : List ℕ
 cut_short = 0 ∷ 0 ∷ 0 ∷ 1 ∷ 101 ∷ []
 
--- the clients of ports 1 and 2 wait for the helper at port 3, and then this happens
+-- the clients of ports 1 and 2 wait for the helper at port 3
+abbrev pub two_wait : State
+two_wait = holding (Joined Clients ∷ Heard 1 (sign 17) ∷ Heard 2 (sign 17) ∷ Started 1 (ticket 9)
+    ∷ Joined Children ∷ Heard 3 (hello 1 9) ∷ [])
+
+-- and then this happens
 abbrev pub lost : Happening → State
-lost event = holding (Joined Clients ∷ Heard 1 (sign 17) ∷ Heard 2 (sign 17) ∷ Started 1 (ticket 9) ∷ Joined Children
-    ∷ Heard 3 (hello 1 9) ∷ event ∷ [])
+lost event = with_event event two_wait
 
 -- ---- what the helper and the client get
 

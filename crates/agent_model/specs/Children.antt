@@ -9,7 +9,7 @@ use Rattle.child_msg.specs.Messages.{Denied, False, FromChildMessage, Granted, H
 use Rattle.child_msg.specs.Reading.{from_child_of}
 use Rattle.child_msg.specs.declared.fault.ChildFault.{ChildFault}
 use Rattle.helper_link.specs.HelperLink.{linked_to}
-use Rattle.agent_model.specs.Actions.{Outcome, stay}
+use Rattle.agent_model.specs.Actions.{Outcome, closing, stay}
 use Rattle.agent_model.specs.Answers.{helper_heard, lose}
 use Rattle.confirm_desk.specs.Confirmations.{Confirmation, find_job, linked}
 use Rattle.agent_model.specs.Consents.{confirmer_heard, find_started, over_if, remove_started}
@@ -85,6 +85,16 @@ changed number f state = record state { ports = change_port number f state.ports
 abbrev pub closed : ℕ → State → State
 closed number state = record state { ports = remove_port number state.ports }
 
+-- one port is closed, and then this happens
+abbrev pub shut_then : ℕ → (State → Outcome) → State → Outcome
+shut_then number next state = record (next (closed number state)) {
+  closes = closing number state.ports (next (closed number state)).closes;
+}
+
+-- one port is closed, and nothing else happens
+abbrev pub shut : ℕ → State → Outcome
+shut number state = shut_then number stay state
+
 -- the helper came to this port
 abbrev pub helper_named : ℕ → ℕ → State → State
 helper_named job number state = record state {
@@ -122,30 +132,30 @@ named_by kinds.Confirm job number rest state = confirmer_hears job rest (confirm
 -- by whether the ticket is the job's own
 abbrev pub ticket_by : Bool → Job → ℕ → List ℕ → State → Outcome
 ticket_by true job number rest state = named_by job.kind job.number number rest state
-ticket_by false job number rest state = stay (closed number state)
+ticket_by false job number rest state = shut number state
 
 -- by the started job that it names
 abbrev pub hello_by : Option StartedJob → List ℕ → ℕ → List ℕ → State → Outcome
-hello_by None ticket number rest state = stay (closed number state)
+hello_by None ticket number rest state = shut number state
 hello_by (Some one) ticket number rest state = ticket_by (bytes_eq one.ticket ticket) one.job number rest state
 
 -- by its first message: all but HELLO is refused
 abbrev pub first_message : Result FromChildMessage ChildFault → ℕ → List ℕ → State → Outcome
 first_message (Ok (Hello job ticket)) number rest state =
     hello_by (find_started job state.under_way.started) ticket number rest state
-first_message (Ok (Signed ask signature)) number rest state = stay (closed number state)
-first_message (Ok (Refused ask)) number rest state = stay (closed number state)
-first_message (Ok (True ask)) number rest state = stay (closed number state)
-first_message (Ok (False ask)) number rest state = stay (closed number state)
-first_message (Ok (Granted job)) number rest state = stay (closed number state)
-first_message (Ok (Denied job)) number rest state = stay (closed number state)
-first_message (Err fault) number rest state = stay (closed number state)
+first_message (Ok (Signed ask signature)) number rest state = shut number state
+first_message (Ok (Refused ask)) number rest state = shut number state
+first_message (Ok (True ask)) number rest state = shut number state
+first_message (Ok (False ask)) number rest state = shut number state
+first_message (Ok (Granted job)) number rest state = shut number state
+first_message (Ok (Denied job)) number rest state = shut number state
+first_message (Err fault) number rest state = shut number state
 
 -- by what stands at the front of its bytes
 abbrev pub first_frame : Front → ℕ → List ℕ → State → Outcome
 first_frame (Whole body_len) number heard state =
     first_message (from_child_of (front_body body_len heard)) number (after_front body_len heard) state
-first_frame (Bad announced) number heard state = stay (closed number state)
+first_frame (Bad announced) number heard state = shut number state
 first_frame More number heard state = stay state
 
 -- a child process that hasn't named itself sent more behind what was heard of it

@@ -10,7 +10,7 @@ use Rattle.dest_rule.specs.Rules.{denial_under}
 use Rattle.dest_rule.specs.declared.denial.Denial.{Denial}
 use Rattle.agent_model.specs.State.{Port, StartedJob, State, UnderWay, change_port, find_port, remove_port}
 use Rattle.agent_model.specs.Verdicts.{NoLongerAllowed, NotConfirmed, Refuses, tell}
-use Rattle.agent_model.specs.Actions.{Granted, Outcome, Over, Work, acted, settles, stay}
+use Rattle.agent_model.specs.Actions.{Granted, Outcome, Over, Work, closing, settles, stay}
 use Rattle.agent_model.specs.Errands.{Signs, put_ask}
 
 -- ---- the end of a confirmation
@@ -37,12 +37,23 @@ abbrev pub close_confirmer : Option ℕ → List Port → List Port
 close_confirmer None ports = ports
 close_confirmer (Some port) ports = remove_port port ports
 
+-- which port that closes
+abbrev pub confirmer_closes : Option ℕ → List Port → List ℕ
+confirmer_closes None ports = []
+confirmer_closes (Some port) ports = closing port ports []
+
 -- a confirmation ends without consent: its child process's port is closed, and the client, where it is open, is told
 abbrev pub over : Confirmation → State → Outcome
-over confirmation state = acted (Over confirmation.job ∷ []) (record state {
-  ports = change_port confirmation.asker (tell (Refuses NotConfirmed)) (close_confirmer confirmation.port state.ports);
-  under_way = without_confirmation confirmation.job state.under_way;
-})
+over confirmation state = record {
+  state = record state {
+    ports = change_port confirmation.asker (tell (Refuses NotConfirmed))
+        (close_confirmer confirmation.port state.ports);
+    under_way = without_confirmation confirmation.job state.under_way;
+  };
+  actions = Over confirmation.job ∷ [];
+  put = [];
+  closes = confirmer_closes confirmation.port state.ports;
+}
 
 -- where there is one
 abbrev pub over_if : Option Confirmation → State → Outcome
@@ -89,6 +100,7 @@ grant_concluded work confirmation state = record {
   };
   actions = Granted confirmation.job ∷ work.actions;
   put = work.put;
+  closes = confirmer_closes confirmation.port state.ports;
 }
 
 -- by the client that waits; it is always open

@@ -12,6 +12,7 @@ pub mod Answers
 pub mod Consents
 pub mod Children
 pub mod Step
+pub mod Closings
 pub mod Runs
 pub mod Looks
 pub mod Budget

@@ -1,12 +1,14 @@
--- Lists of numbers.
-use Rattle.std.specs.Prelude.{ℕ, List, [], ◌∷◌, Bool, false, ◌==◌, ◌||◌, if◌then◌else◌}
+-- Lists of numbers (ours).
+use Rattle.std.specs.Prelude.{ℕ, List, [], ◌∷◌, if◌then◌else◌}
+use Rattle.lists.specs.Rising.{inserted, is_among}
 
--- whether a number stands in a list
-abbrev pub has : ℕ → List ℕ → Bool
-has number [] = false
-has number (other ∷ others) = number == other || has number others
+-- rising numbers, with those of another list in their places
+abbrev pub put_all : List ℕ → List ℕ → List ℕ
+put_all rising [] = rising
+put_all rising (number ∷ others) = put_all (inserted number rising) others
 
 -- the numbers that don't stand in the second list
 abbrev pub without : List ℕ → List ℕ → List ℕ
-without [] gone = []
-without (number ∷ others) kept = if has number kept then without others kept else number ∷ without others kept
+without [] kept = []
+without (number ∷ others) kept =
+    if is_among number kept then without others kept else number ∷ without others kept

@@ -119,6 +119,10 @@ extension = 0 ∷ 0 ∷ 0 ∷ 10 ∷ 27 ∷ 0 ∷ 0 ∷ 0 ∷ 5 ∷ codes "query
 
 -- ---- states
 
+-- the ports that this event at second 0 closes, in this state
+abbrev pub closed_by : Happening → State → List ℕ
+closed_by event state = (step state (moment_at 0) event).closes
+
 -- the state after this event at second 0, in this state
 abbrev pub with_event : Happening → State → State
 with_event event state = (step state (moment_at 0) event).state

@@ -12,10 +12,6 @@ abbrev pub run : State → List Timed → State
 run state [] = state
 run state (timed ∷ later) = run (step state timed.moment timed.event).state later
 
--- the state but for which ports the last event closed
-abbrev pub forget_closes : State → State
-forget_closes state = record state { closes = [] }
-
 -- what came of each event, in order
 abbrev pub outcomes : State → List Timed → List Outcome
 outcomes state [] = []

@@ -57,14 +57,13 @@ pub record UnderWay : Type 0 where
   pub last_job : ℕ
 
 -- the identities and the lock, what is under way, the open ports by rising numbers, the number of the last port that
--- joined, the greatest monotonic second so far and the last wall clock, and the ports that the last event closed
+-- joined, the greatest monotonic second so far, and the last wall clock
 pub record State : Type 0 where
   pub held : KeyState
   pub under_way : UnderWay
   pub ports : List Port
   pub last_port : ℕ
   pub moment : Moment
-  pub closes : List ℕ
 
 -- nothing is under way, and nothing was
 abbrev pub nothing_under_way : UnderWay
@@ -85,7 +84,6 @@ first_state life = record {
   ports = [];
   last_port = 0;
   moment = record { mono = 0; wall = 0 };
-  closes = [];
 }
 
 -- a port that has sent nothing yet

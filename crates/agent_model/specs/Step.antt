@@ -1,6 +1,6 @@
 -- One step of the abstract agent: a function of state, moment and event to a state, a list of actions and the
 -- messages that were put to the helper (ours). The file is read from its end.
-use Rattle.std.specs.Prelude.{ℕ, suc, max, List, [], ◌∷◌, ◌++◌, drop, Option, Some, None, Bool, true, false, nat_lt, ◌||◌, if◌then◌else◌}
+use Rattle.std.specs.Prelude.{ℕ, suc, max, List, [], ◌∷◌, ◌++◌, drop, Option, Some, None, Bool, true, false, nat_lt, ◌||◌}
 use Rattle.world_ports.specs.declared.Moment.{Moment}
 use Rattle.world_ports.specs.declared.Door.{Door}
 use Rattle.world_ports.specs.declared.Door.TheVariants.{Clients, Children}
@@ -10,16 +10,16 @@ use Rattle.agent_model.specs.KeyStates.{expired}
 use Rattle.agent_model.specs.Events.{Happening, Joined, Heard, Ended, Took, Started, StartFailed, Tick}
 use Rattle.wire_text.specs.Bounds.{longest_body}
 use Rattle.agent_model.specs.Limits.{most_clients, most_unnamed}
-use Rattle.agent_model.specs.NumberLists.{without}
+use Rattle.agent_model.specs.NumberLists.{put_all}
 use Rattle.agent_model.specs.Actions.{Outcome, Requested, stay}
 use Rattle.agent_model.specs.Answers.{helper_heard, lose}
 use Rattle.agent_msg.specs.Requests.{names_bind}
 use Rattle.agent_model.specs.Binds.{agent_request_of}
-use Rattle.agent_model.specs.Children.{changed, closed, heard_more, job_failed, job_started, unnamed_heard}
+use Rattle.agent_model.specs.Children.{changed, heard_more, job_failed, job_started, shut, shut_then, unnamed_heard}
 use Rattle.confirm_desk.specs.Confirmations.{find_asker, took}
 use Rattle.agent_model.specs.Consents.{confirmer_heard, over, over_if}
 use Rattle.agent_model.specs.Dispatch.{Asker, Served, serve}
-use Rattle.agent_model.specs.State.{Client, Confirmer, Helper, Nothing, OnAsk, OnConfirmation, Port, Role, State, UnderWay, Unnamed, Waits, change_port, client_count, find_port, new_port, numbers, role_of, unnamed_count}
+use Rattle.agent_model.specs.State.{Client, Confirmer, Helper, Nothing, OnAsk, OnConfirmation, Port, Role, State, UnderWay, Unnamed, Waits, change_port, client_count, find_port, new_port, role_of, unnamed_count}
 use Rattle.agent_model.specs.Verdicts.{tell}
 
 -- ---- a client is looked at
@@ -55,6 +55,7 @@ concluded number body served state = record {
   };
   actions = Requested (record { port = number; body = body; verdict = served.work.verdict }) ∷ served.work.actions;
   put = served.work.put;
+  closes = [];
 }
 
 -- a request's body is taken from the client's bytes, and served
@@ -66,7 +67,7 @@ taken body_len body port state = concluded port.number body
 -- by what stands at the front of the client's bytes
 abbrev pub look_front : Front → Port → State → Outcome
 look_front (Whole body_len) port state = taken body_len (front_body body_len port.heard) port state
-look_front (Bad announced) port state = stay (closed port.number state)
+look_front (Bad announced) port state = shut port.number state
 look_front More port state = stay state
 
 -- a client that is owed a reply isn't served
@@ -148,19 +149,31 @@ abbrev pub admitted : Bool → ℕ → Door → List Port → List Port
 admitted true number door ports = ports ++ new_port number door ∷ []
 admitted false number door ports = ports
 
--- a port joins: it gets the next number, and where too many are open it is closed at once
+-- where there is none, it is closed at once
+abbrev pub turned_away : Bool → ℕ → List ℕ
+turned_away true number = []
+turned_away false number = number ∷ []
+
+-- a port joined: it has the next number
 abbrev pub joined : Door → State → State
 joined door state = record state {
   ports = admitted (has_room door state.ports state.under_way) (suc state.last_port) door state.ports;
   last_port = suc state.last_port;
 }
 
+-- a port joins, and where too many are open it is closed at once
+abbrev pub join : Door → State → Outcome
+join door state = record (stay (joined door state)) {
+  closes = turned_away (has_room door state.ports state.under_way) (suc state.last_port);
+}
+
 -- by who was at the port that ended: a client's confirmation ends with it
 abbrev pub ended_by_role : Role → ℕ → State → Outcome
-ended_by_role Client number state = over_if (find_asker number state.under_way.confirmations) (closed number state)
-ended_by_role Unnamed number state = stay (closed number state)
-ended_by_role Helper number state = lose (closed number state)
-ended_by_role (Confirmer confirmation) number state = over confirmation (closed number state)
+ended_by_role Client number state =
+    shut_then number (over_if (find_asker number state.under_way.confirmations)) state
+ended_by_role Unnamed number state = shut number state
+ended_by_role Helper number state = shut_then number lose state
+ended_by_role (Confirmer confirmation) number state = shut_then number (over confirmation) state
 
 -- where the port is open
 abbrev pub ended_at : Option Port → State → Outcome
@@ -171,7 +184,7 @@ ended_at (Some port) state = ended_by_role (role_of port.door port.number state.
 
 -- what an event brings, after the moment was taken in; it brings nothing where the port that it names isn't open
 abbrev pub handle : Happening → State → Outcome
-handle (Joined door) state = stay (joined door state)
+handle (Joined door) state = join door state
 handle (Heard port piece) state = heard_at (find_port port state.ports) piece state
 handle (Took port count) state = took_at (find_port port state.ports) count state
 handle (Ended port) state = ended_at (find_port port state.ports) state
@@ -187,21 +200,10 @@ at_moment moment state = record state {
   held = expired (max state.moment.mono moment.mono) state.held;
 }
 
--- the ports that were open or joined and aren't open after, by the numbers of the last ones before and after, rising;
--- an event lets at most one join
-abbrev pub gone : ℕ → List Port → ℕ → List Port → List ℕ
-gone old_last old new_last new =
-    without (numbers old ++ (if nat_lt old_last new_last then new_last ∷ [] else [])) (numbers new)
-
--- those that an event closed
-abbrev pub closed_between : State → State → List ℕ
-closed_between old new = gone old.last_port old.ports new.last_port new.ports
-
--- the state tells which ports the event closed
-abbrev pub settle_closes : State → Outcome → Outcome
-settle_closes old outcome =
-    record outcome { state = record outcome.state { closes = closed_between old outcome.state } }
+-- an outcome with the ports that it closed in rising order
+abbrev pub in_order : Outcome → Outcome
+in_order outcome = record outcome { closes = put_all [] outcome.closes }
 
 -- one event at a moment
 abbrev pub step : State → Moment → Happening → Outcome
-step state moment event = settle_closes state (handle event (at_moment moment state))
+step state moment event = in_order (handle event (at_moment moment state))

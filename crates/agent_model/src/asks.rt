@@ -12,7 +12,7 @@ ghost use Rattle.agent_model.specs.Errands.{Signs, put_unless, raise_unless};
 ghost use Rattle.agent_model.specs.Events.{Ended, Happening, Heard, Timed};
 ghost use Rattle.agent_model.specs.Fates.{Fails, IsTold, NoneEnds, Unanswered, actions_of, fate_of, fate_verdict, fault_fate, or_later, settled_fate, times_answered, times_asked};
 ghost use Rattle.agent_model.specs.KeyStates.{KeyState};
-ghost use Rattle.agent_model.specs.Runs.{forget_closes, run};
+ghost use Rattle.agent_model.specs.Runs.{run};
 ghost use Rattle.agent_model.specs.Sound.{IsSound, IsTied};
 ghost use Rattle.agent_model.specs.State.{OnAsk, OnConfirmation, Port, State, UnderWay, find_port, first_state};
 ghost use Rattle.agent_model.specs.Step.{at_moment, step};
@@ -85,15 +85,13 @@ pub fn a_signature_is_asked_for_exactly_where_it_may_be()
 {}
 
 /// Where the helper's bytes are cut does not matter: a piece in two parts leads to the state of the whole piece, as the
-/// next event at the same moment begins and but for the ports that the last event closed, and the same is done and put
-/// to the helper.
+/// next event at the same moment begins, and the same is done and put to the helper.
 pub fn a_piece_of_the_helper_in_two_parts()
     ensures state { (state : State) (moment : Moment) (number : ℕ) (a b : List ℕ) (port : Port) → IsSound state
         → find_port number state.ports ≡ Some port → port.door ≡ Children
         → state.under_way.link.state ≡ states.Linked number
-        → forget_closes (at_moment moment (step state moment (Heard number (a ++ b))).state)
-        ≡ forget_closes (at_moment moment
-        (step (step state moment (Heard number a)).state moment (Heard number b)).state) }
+        → at_moment moment (step state moment (Heard number (a ++ b))).state
+        ≡ at_moment moment (step (step state moment (Heard number a)).state moment (Heard number b)).state }
     ensures actions { (state : State) (moment : Moment) (number : ℕ) (a b : List ℕ) (port : Port) → IsSound state
         → find_port number state.ports ≡ Some port → port.door ≡ Children
         → state.under_way.link.state ≡ states.Linked number

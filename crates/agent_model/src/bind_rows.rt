@@ -7,7 +7,7 @@ ghost use Rattle.agent_model.specs.BindRows.{add_only_to, at_wall, bind, bind_lo
 ghost use Rattle.agent_model.specs.Bindings.{chain_at};
 ghost use Rattle.agent_model.specs.ChildRows.{cut_short, hello, ticket};
 ghost use Rattle.agent_model.specs.Events.{Ended, Heard, Joined, Started, Took};
-ghost use Rattle.agent_model.specs.Rows.{add, done, failed, list, listed, lock, none_listed, remove, remove_all, sign, unlock};
+ghost use Rattle.agent_model.specs.Rows.{add, closed_by, done, failed, list, listed, lock, none_listed, remove, remove_all, sign, unlock};
 ghost use Rattle.agent_model.specs.State.{owed_of};
 
 /// A connection is bound once the helper says that the signature is right, and not before; to the same session under
@@ -62,7 +62,7 @@ pub fn a_binding_is_its_connections_own()
         ∷ [])).ports ≡ binding 161 193 true ∷ [] }
     ensures told { owed_of 1 (binding_to 1 (Joined Clients ∷ Heard 3 (lock (codes "pw")) ∷ Heard 2 (right 1) ∷ []))
         ≡ done }
-    ensures left { (binding_to 1 (Ended 1 ∷ Heard 2 (right 1) ∷ [])).closes ≡ [] }
+    ensures left { closed_by (Heard 2 (right 1)) (binding_to 1 (Ended 1 ∷ [])) ≡ [] }
     ensures other { chain_at 3 (bound_to 1 (Joined Clients ∷ Heard 1 (bind 161 194 1) ∷ Heard 2 (right 2) ∷ [])).ports
         ≡ [] }
     ensures apart { chain_at 3 (bound_to 1 (Joined Clients ∷ Heard 3 (bind 162 193 0) ∷ Heard 2 (right 2) ∷ [])).ports

@@ -3,9 +3,9 @@
 
 ghost use Rattle.std.specs.Prelude.{◌≡◌, [], ◌∷◌, ◌++◌, codes, take, drop};
 ghost use Rattle.world_ports.specs.declared.Door.TheVariants.{Clients, Children};
-ghost use Rattle.agent_model.specs.ChildRows.{children, cut_short, hello, helper_job, holding, lost, refused, sign_frame, signature, signed, then, ticket};
+ghost use Rattle.agent_model.specs.ChildRows.{children, cut_short, hello, helper_job, holding, lost, refused, sign_frame, signature, signed, then, ticket, two_wait};
 ghost use Rattle.agent_model.specs.Events.{Ended, Heard, Joined, StartFailed, Started, Took};
-ghost use Rattle.agent_model.specs.Rows.{failed, sign, with_event};
+ghost use Rattle.agent_model.specs.Rows.{closed_by, failed, sign, with_event};
 ghost use Rattle.agent_model.specs.State.{owed_of, starts};
 
 /// A helper is started for the first signature, and is sent the request once it named itself; its answer goes to the
@@ -28,8 +28,8 @@ pub fn a_signature_goes_through_the_helper()
 pub fn an_answer_goes_to_its_ask()
     ensures refused { owed_of 1 (holding (Heard 1 (sign 17) ∷ Started 1 (ticket 9) ∷ Joined Children
         ∷ Heard 2 (hello 1 9) ∷ Heard 2 (refused 1) ∷ [])) ≡ failed }
-    ensures stays { (holding (Heard 1 (sign 17) ∷ Started 1 (ticket 9) ∷ Joined Children
-        ∷ Heard 2 (hello 1 9) ∷ Heard 2 (refused 1) ∷ [])).closes ≡ [] }
+    ensures stays { closed_by (Heard 2 (refused 1))
+        (holding (Heard 1 (sign 17) ∷ Started 1 (ticket 9) ∷ Joined Children ∷ Heard 2 (hello 1 9) ∷ [])) ≡ [] }
     ensures later { owed_of 2 (holding (Joined Clients ∷ Heard 1 (sign 17) ∷ Heard 2 (sign 17) ∷ Started 1 (ticket 9)
         ∷ Joined Children ∷ Heard 3 (hello 1 9) ∷ Heard 3 (signed 2 (codes "two")) ∷ [])) ≡ signature (codes "two") }
     ensures waits { owed_of 1 (holding (Joined Clients ∷ Heard 1 (sign 17) ∷ Heard 2 (sign 17) ∷ Started 1 (ticket 9)
@@ -45,9 +45,9 @@ pub fn an_answer_goes_to_its_ask()
 /// told SSH_AGENT_FAILURE; what it answered before the faulty frame counts. The next signature starts another helper.
 pub fn a_lost_helper_fails_its_asks()
     ensures ended { owed_of 1 (lost (Ended 3)) ++ owed_of 2 (lost (Ended 3)) ≡ failed ++ failed }
-    ensures closed { (lost (Ended 3)).closes ≡ 3 ∷ [] }
+    ensures closed { closed_by (Ended 3) two_wait ≡ 3 ∷ [] }
     ensures faulty { owed_of 1 (lost (Heard 3 cut_short)) ++ owed_of 2 (lost (Heard 3 cut_short)) ≡ failed ++ failed }
-    ensures shut { (lost (Heard 3 cut_short)).closes ≡ 3 ∷ [] }
+    ensures shut { closed_by (Heard 3 cut_short) two_wait ≡ 3 ∷ [] }
     ensures twice { owed_of 1 (lost (Heard 3 (signed 1 (codes "one") ++ signed 1 (codes "one"))))
         ++ owed_of 2 (lost (Heard 3 (signed 1 (codes "one") ++ signed 1 (codes "one"))))
         ≡ signature (codes "one") ++ failed }
@@ -59,27 +59,28 @@ pub fn a_lost_helper_fails_its_asks()
 /// A child process names itself by number and ticket of a started job that none has named; any other first frame
 /// closes its port, and the job can still be named.
 pub fn a_ticket_names_a_job_once()
-    ensures other_ticket { (holding (Heard 1 (sign 17) ∷ Started 1 (ticket 9) ∷ Joined Children
-        ∷ Heard 2 (hello 1 8) ∷ [])).closes ≡ 2 ∷ [] }
-    ensures other_job { (holding (Heard 1 (sign 17) ∷ Started 1 (ticket 9) ∷ Joined Children
-        ∷ Heard 2 (hello 2 9) ∷ [])).closes ≡ 2 ∷ [] }
-    ensures too_early { (holding (Heard 1 (sign 17) ∷ Joined Children ∷ Heard 2 (hello 1 9) ∷ [])).closes ≡ 2 ∷ [] }
-    ensures no_hello { (holding (Heard 1 (sign 17) ∷ Started 1 (ticket 9) ∷ Joined Children
-        ∷ Heard 2 (refused 1) ∷ [])).closes ≡ 2 ∷ [] }
+    ensures other_ticket { closed_by (Heard 2 (hello 1 8))
+        (holding (Heard 1 (sign 17) ∷ Started 1 (ticket 9) ∷ Joined Children ∷ [])) ≡ 2 ∷ [] }
+    ensures other_job { closed_by (Heard 2 (hello 2 9))
+        (holding (Heard 1 (sign 17) ∷ Started 1 (ticket 9) ∷ Joined Children ∷ [])) ≡ 2 ∷ [] }
+    ensures too_early { closed_by (Heard 2 (hello 1 9))
+        (holding (Heard 1 (sign 17) ∷ Joined Children ∷ [])) ≡ 2 ∷ [] }
+    ensures no_hello { closed_by (Heard 2 (refused 1))
+        (holding (Heard 1 (sign 17) ∷ Started 1 (ticket 9) ∷ Joined Children ∷ [])) ≡ 2 ∷ [] }
     ensures in_parts { owed_of 2 (holding (Heard 1 (sign 17) ∷ Started 1 (ticket 9) ∷ Joined Children
         ∷ Heard 2 (take 20 (hello 1 9)) ∷ Heard 2 (drop 20 (hello 1 9)) ∷ [])) ≡ sign_frame 1 17 }
     ensures after_another { owed_of 3 (holding (Heard 1 (sign 17) ∷ Started 1 (ticket 9) ∷ Joined Children
         ∷ Heard 2 (hello 1 8) ∷ Joined Children ∷ Heard 3 (hello 1 9) ∷ [])) ≡ sign_frame 1 17 }
-    ensures used { (holding (Heard 1 (sign 17) ∷ Started 1 (ticket 9) ∷ Joined Children ∷ Heard 2 (hello 1 9)
-        ∷ Joined Children ∷ Heard 3 (hello 1 9) ∷ [])).closes ≡ 3 ∷ [] }
+    ensures used { closed_by (Heard 3 (hello 1 9))
+        (holding (Heard 1 (sign 17) ∷ Started 1 (ticket 9) ∷ Joined Children ∷ Heard 2 (hello 1 9) ∷ Joined Children ∷ [])) ≡ 3 ∷ [] }
 {}
 
 /// At most 32 child processes that have not named themselves are open; where a job fails to start, who waits for it is
 /// told SSH_AGENT_FAILURE, and the next signature starts another.
 pub fn jobs_and_child_processes_are_bounded()
-    ensures last_unnamed { (children 32).closes ≡ [] }
-    ensures one_more { (children 33).closes ≡ 33 ∷ [] }
-    ensures room_again { (with_event (Joined Children) (with_event (Ended 32) (children 32))).closes ≡ [] }
+    ensures last_unnamed { closed_by (Joined Children) (children 31) ≡ [] }
+    ensures one_more { closed_by (Joined Children) (children 32) ≡ 33 ∷ [] }
+    ensures room_again { closed_by (Joined Children) (with_event (Ended 32) (children 32)) ≡ [] }
     ensures failed { owed_of 1 (holding (Heard 1 (sign 17) ∷ StartFailed 1 ∷ [])) ≡ failed }
     ensures over { starts (holding (Heard 1 (sign 17) ∷ StartFailed 1 ∷ [])) ≡ [] }
     ensures another { starts (holding (Heard 1 (sign 17) ∷ StartFailed 1 ∷ Took 1 5 ∷ Heard 1 (sign 17) ∷ []))

@@ -6,7 +6,7 @@ ghost use Rattle.world_ports.specs.declared.Door.TheVariants.{Clients, Children}
 ghost use Rattle.agent_model.specs.ChildRows.{hello, helper_job, refused, sign_frame, signature, signed, then, ticket};
 ghost use Rattle.agent_model.specs.ConsentRows.{asked, asked_beside, asking, asking_often, at_second, bound_to_host, confirm_job, denied, granted, no_frame, short_lived, unanswered};
 ghost use Rattle.agent_model.specs.Events.{Ended, Heard, Joined, StartFailed, Started, Took};
-ghost use Rattle.agent_model.specs.Rows.{add, add_asking, failed, list, listed, lock, remove, remove_all, sign, unlock, with_event};
+ghost use Rattle.agent_model.specs.Rows.{add, add_asking, closed_by, failed, list, listed, lock, remove, remove_all, sign, unlock, with_event};
 ghost use Rattle.agent_model.specs.State.{owed_of, starts};
 
 /// A key that asks for confirmation is used once the user agreed, and each signature is asked for anew; meanwhile the
@@ -18,7 +18,7 @@ pub fn a_signature_waits_for_the_user()
     ensures no_helper { starts (asked []) ≡ [] }
     ensures still { owed_of 1 (asked []) ≡ [] }
     ensures helper { starts (asked (Heard 2 (granted 1) ∷ [])) ≡ helper_job 2 ∷ [] }
-    ensures closed { (asked (Heard 2 (granted 1) ∷ [])).closes ≡ 2 ∷ [] }
+    ensures closed { closed_by (Heard 2 (granted 1)) (asked []) ≡ 2 ∷ [] }
     ensures unsigned { owed_of 1 (asked (Heard 2 (granted 1) ∷ [])) ≡ [] }
     ensures put { owed_of 3 (asked (Heard 2 (granted 1) ∷ Started 2 (ticket 7) ∷ Joined Children ∷ Heard 3 (hello 2 7)
         ∷ [])) ≡ sign_frame 1 17 }
@@ -30,7 +30,8 @@ pub fn a_signature_waits_for_the_user()
         ≡ helper_job 2 ∷ [] }
     ensures at_once { starts (asking (Started 1 (ticket 9) ∷ Joined Children ∷ Heard 2 (hello 1 9 ++ granted 1) ∷ []))
         ≡ helper_job 2 ∷ [] }
-    ensures shut { (asking (Started 1 (ticket 9) ∷ Joined Children ∷ Heard 2 (hello 1 9 ++ granted 1) ∷ [])).closes
+    ensures shut { closed_by (Heard 2 (hello 1 9 ++ granted 1))
+        (asking (Started 1 (ticket 9) ∷ Joined Children ∷ []))
         ≡ 2 ∷ [] }
 {}
 
@@ -38,7 +39,8 @@ pub fn a_signature_waits_for_the_user()
 /// key removed, replaced or run out, or its destination no longer permitted, the client is told SSH_AGENT_FAILURE.
 pub fn consent_is_tested_again()
     ensures locked { owed_of 1 (asked_beside (Heard 2 (lock (codes "pw")) ∷ Heard 3 (granted 1) ∷ [])) ≡ failed }
-    ensures closed { (asked_beside (Heard 2 (lock (codes "pw")) ∷ Heard 3 (granted 1) ∷ [])).closes ≡ 3 ∷ [] }
+    ensures closed { closed_by (Heard 3 (granted 1))
+        (asked_beside (Heard 2 (lock (codes "pw")) ∷ [])) ≡ 3 ∷ [] }
     ensures unlocked { starts (asked_beside (Heard 2 (lock (codes "pw")) ∷ Took 2 5 ∷ Heard 2 (unlock (codes "pw"))
         ∷ Heard 3 (granted 1) ∷ [])) ≡ helper_job 2 ∷ [] }
     ensures removed { owed_of 1 (asked_beside (Heard 2 (remove 17) ∷ Heard 3 (granted 1) ∷ [])) ≡ failed }
@@ -58,12 +60,12 @@ pub fn consent_is_tested_again()
 /// told SSH_AGENT_FAILURE, and the child process's port is closed.
 pub fn a_confirmation_ends_without_consent()
     ensures refused { owed_of 1 (asked (Heard 2 (denied 1) ∷ [])) ≡ failed }
-    ensures closed { (asked (Heard 2 (denied 1) ∷ [])).closes ≡ 2 ∷ [] }
+    ensures closed { closed_by (Heard 2 (denied 1)) (asked []) ≡ 2 ∷ [] }
     ensures no_helper { starts (asked (Heard 2 (denied 1) ∷ [])) ≡ [] }
     ensures other_job { owed_of 1 (asked (Heard 2 (granted 2) ∷ [])) ≡ failed }
     ensures other_kind { owed_of 1 (asked (Heard 2 (signed 1 (codes "sig")) ∷ [])) ≡ failed }
     ensures bad_length { owed_of 1 (asked (Heard 2 no_frame ∷ [])) ≡ failed }
-    ensures shut { (asked (Heard 2 no_frame ∷ [])).closes ≡ 2 ∷ [] }
+    ensures shut { closed_by (Heard 2 no_frame) (asked []) ≡ 2 ∷ [] }
     ensures lost { owed_of 1 (asked (Ended 2 ∷ [])) ≡ failed }
     ensures not_started { owed_of 1 (asking (StartFailed 1 ∷ [])) ≡ failed }
     ensures nothing_left { starts (asking (StartFailed 1 ∷ [])) ≡ [] }
@@ -77,14 +79,16 @@ pub fn a_confirmation_ends_without_consent()
 /// A client that leaves ends its confirmation: one event closes its port and that of the child process. Whoever comes
 /// with the ticket of a confirmation that ended is nobody.
 pub fn a_client_that_leaves_ends_its_confirmation()
-    ensures both { (asked (Ended 1 ∷ [])).closes ≡ 1 ∷ 2 ∷ [] }
-    ensures unstarted { (asking (Ended 1 ∷ Started 1 (ticket 9) ∷ Joined Children ∷ Heard 2 (hello 1 9) ∷ [])).closes
+    ensures both { closed_by (Ended 1) (asked []) ≡ 1 ∷ 2 ∷ [] }
+    ensures unstarted { closed_by (Heard 2 (hello 1 9))
+        (asking (Ended 1 ∷ Started 1 (ticket 9) ∷ Joined Children ∷ []))
         ≡ 2 ∷ [] }
-    ensures unnamed { (asking (Started 1 (ticket 9) ∷ Ended 1 ∷ Joined Children ∷ Heard 2 (hello 1 9) ∷ [])).closes
+    ensures unnamed { closed_by (Heard 2 (hello 1 9))
+        (asking (Started 1 (ticket 9) ∷ Ended 1 ∷ Joined Children ∷ []))
         ≡ 2 ∷ [] }
-    ensures denied { (asked (Heard 2 (denied 1) ∷ Joined Children ∷ Heard 3 (hello 1 9) ∷ [])).closes ≡ 3 ∷ [] }
-    ensures granted { (asked (Heard 2 (granted 1) ∷ Joined Children ∷ Heard 3 (hello 1 9) ∷ [])).closes ≡ 3 ∷ [] }
-    ensures twice { (asked (Joined Children ∷ Heard 3 (hello 1 9) ∷ [])).closes ≡ 3 ∷ [] }
+    ensures denied { closed_by (Heard 3 (hello 1 9)) (asked (Heard 2 (denied 1) ∷ Joined Children ∷ [])) ≡ 3 ∷ [] }
+    ensures granted { closed_by (Heard 3 (hello 1 9)) (asked (Heard 2 (granted 1) ∷ Joined Children ∷ [])) ≡ 3 ∷ [] }
+    ensures twice { closed_by (Heard 3 (hello 1 9)) (asked (Joined Children ∷ [])) ≡ 3 ∷ [] }
 {}
 
 /// Sixteen confirmations may be waited for, and the seventeenth is refused until one ends; where 256 asks are

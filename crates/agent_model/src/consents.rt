@@ -16,7 +16,7 @@ ghost use Rattle.agent_model.specs.Events.{Ended, Happening, Heard, Timed};
 ghost use Rattle.agent_model.specs.Fates.{IsTold, actions_of};
 ghost use Rattle.agent_model.specs.Grants.{HaveOwnParts, IsAgreed, IsAmong, IsPut, noted, pending, times_ended, times_raised, wanted};
 ghost use Rattle.agent_model.specs.KeyStates.{KeyState};
-ghost use Rattle.agent_model.specs.Runs.{forget_closes, run};
+ghost use Rattle.agent_model.specs.Runs.{run};
 ghost use Rattle.agent_model.specs.Sound.{IsTied};
 ghost use Rattle.agent_model.specs.State.{Confirmer, OnAsk, OnConfirmation, Port, State, UnderWay, find_port, first_state, role_of};
 ghost use Rattle.agent_model.specs.Step.{at_moment, step};
@@ -35,15 +35,13 @@ pub fn who_waits_for_the_user_is_open()
 {}
 
 /// Where the bytes of a child process that asks the user are cut does not matter: a piece in two parts leads to the
-/// state of the whole piece, as the next event at the same moment begins and but for the ports that the last event
-/// closed, and the same is done and put to the helper.
+/// state of the whole piece, as the next event at the same moment begins, and the same is done and put to the helper.
 pub fn a_piece_of_a_confirmer_in_two_parts()
     ensures state { (state : State) (moment : Moment) (number : ℕ) (a b : List ℕ) (port : Port)
         (confirmation : Confirmation) → IsTied state → IsAttended state → find_port number state.ports ≡ Some port
         → role_of port.door port.number state.under_way ≡ Confirmer confirmation
-        → forget_closes (at_moment moment (step state moment (Heard number (a ++ b))).state)
-        ≡ forget_closes (at_moment moment
-        (step (step state moment (Heard number a)).state moment (Heard number b)).state) }
+        → at_moment moment (step state moment (Heard number (a ++ b))).state
+        ≡ at_moment moment (step (step state moment (Heard number a)).state moment (Heard number b)).state }
     ensures actions { (state : State) (moment : Moment) (number : ℕ) (a b : List ℕ) (port : Port)
         (confirmation : Confirmation) → IsTied state → IsAttended state → find_port number state.ports ≡ Some port
         → role_of port.door port.number state.under_way ≡ Confirmer confirmation

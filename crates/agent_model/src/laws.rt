@@ -6,10 +6,11 @@ ghost use Rattle.helper_link.specs.declared.answer.Answer.TheVariants as answers
 ghost use Rattle.helper_link.specs.declared.answer.Settled.{Settled};
 ghost use Rattle.agent_msg.specs.Replies.{sign_response};
 ghost use Rattle.agent_model.specs.Answers.{Answering, answer_all, answer_by, askers_of, lose, tell_each};
-ghost use Rattle.agent_model.specs.NumberLists.{has};
+ghost use Rattle.lists.specs.Rising.{is_among};
+ghost use Rattle.agent_model.specs.Closings.{closed_between};
 ghost use Rattle.agent_model.specs.Errands.{Errand, put_unless};
 ghost use Rattle.agent_model.specs.Events.{Ended, Happening, Heard, Timed};
-ghost use Rattle.agent_model.specs.Runs.{AllFit, forget_closes, run};
+ghost use Rattle.agent_model.specs.Runs.{AllFit, run};
 ghost use Rattle.agent_model.specs.Sound.{IsClient, IsRising, IsSound};
 ghost use Rattle.agent_model.specs.State.{Nothing, OnAsk, Port, State, UnderWay, find_port, first_state};
 ghost use Rattle.agent_model.specs.Step.{at_moment, handle, step};
@@ -24,14 +25,12 @@ pub fn a_moment_is_taken_in_once()
 {}
 
 /// Where a client's bytes are cut does not matter: a piece in two parts leads to the state of the
-/// whole piece, and the same is done and put to the helper. Only the list of ports that the last event
-/// closed may differ, since it tells of one event alone; and an identity that was added with no lifetime
+/// whole piece, and the same is done and put to the helper. An identity that was added with no lifetime
 /// left leaves as the next event begins, so that the states are compared as one begins.
 pub fn a_piece_in_two_parts()
     ensures state { (state : State) (moment : Moment) (port : ℕ) (a b : List ℕ) → IsSound state → IsClient port state
-        → forget_closes (at_moment moment (step state moment (Heard port (a ++ b))).state)
-        ≡ forget_closes (at_moment moment
-        (step (step state moment (Heard port a)).state moment (Heard port b)).state) }
+        → at_moment moment (step state moment (Heard port (a ++ b))).state
+        ≡ at_moment moment (step (step state moment (Heard port a)).state moment (Heard port b)).state }
     ensures actions { (state : State) (moment : Moment) (port : ℕ) (a b : List ℕ) → IsSound state → IsClient port state
         → (step state moment (Heard port (a ++ b))).actions
         ≡ (step state moment (Heard port a)).actions
@@ -40,6 +39,14 @@ pub fn a_piece_in_two_parts()
         → (step state moment (Heard port (a ++ b))).put
         ≡ (step state moment (Heard port a)).put
         ++ (step (step state moment (Heard port a)).state moment (Heard port b)).put }
+{}
+
+/// The ports that an event closed are those that were open or joined and aren't open after, rising.
+pub fn what_was_open_and_is_not_was_closed()
+    ensures { (state : State) (moment : Moment) (event : Happening)
+        → IsRising 0 state.last_port state.ports
+        → (step state moment event).closes
+        ≡ closed_between state (step state moment event).state }
 {}
 
 /// Whatever happens, the numbers of the ports rise, so that they differ, none is above that of the
@@ -106,7 +113,7 @@ pub fn a_closed_port_brings_nothing()
 /// only those that wait for it are told.
 pub fn answers_go_to_who_asked()
     ensures others { (settled : List Settled) (before : Answering) (number : ℕ)
-        → has number (askers_of settled) ≡ false
+        → is_among number (askers_of settled) ≡ false
         → find_port number (answer_all settled before).ports ≡ find_port number before.ports }
     ensures signed { (one : Settled) (signature : List ℕ) (before : Answering) (port : Port)
         → find_port one.asker before.ports ≡ Some port
@@ -116,6 +123,6 @@ pub fn answers_go_to_who_asked()
         → find_port one.asker before.ports ≡ Some port
         → find_port one.asker (answer_by answers.Refused one before).ports
         ≡ Some (record port { owed = port.owed ++ failure; waits = Nothing }) }
-    ensures lost { (askers : List ℕ) (ports : List Port) (number : ℕ) → has number askers ≡ false
+    ensures lost { (askers : List ℕ) (ports : List Port) (number : ℕ) → is_among number askers ≡ false
         → find_port number (tell_each (Refuses HelperLost) askers ports) ≡ find_port number ports }
 {}

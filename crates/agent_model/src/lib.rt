@@ -42,6 +42,7 @@ pub use laws::{
     a_closed_port_brings_nothing, a_failure_has_a_cause, a_lost_helper_answers_nothing,
     a_moment_is_taken_in_once, a_piece_in_two_parts, answers_go_to_who_asked,
     no_number_is_given_twice, no_number_is_used_again, ports_rise_and_are_few,
+    what_was_open_and_is_not_was_closed,
 };
 pub use rows::{
     a_locked_agent_does_nothing, a_request_waits_for_the_reply_before, a_signature_is_waited_for,

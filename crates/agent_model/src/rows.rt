@@ -2,10 +2,11 @@
 #![tactic(auto, unfolding(wire_text::specs::Frames::front, wire_text::specs::Frames::split_up_to, wire_text::specs::Frames::split, wire_text::specs::Wire::uint32, wire_text::specs::Wire::uint64, wire_text::specs::Wire::string, wire_text::specs::Wire::announced_len, wire_core::specs::Fields::uint32_at, wire_core::specs::Fields::uint64_at, wire_core::specs::Fields::string_len, wire_core::specs::Fields::string_at, key_blob::specs::AddedKeys::blob_fields_at, key_blob::specs::AddedKeys::certificate_blob_at, key_blob::specs::AddedKeys::blob_at, key_blob::specs::AddedKeys::added_key_at, key_blob::specs::AddedKeys::private_at, key_blob::specs::KeyTypes::form_named, key_blob::specs::PublicKeys::public_key_of, key_blob::specs::Reading::field_at, key_blob::specs::Reading::fields_at, key_blob::specs::Reading::after_fields, key_blob::specs::Reading::form_at, constraint_rec::specs::Constraints::restrict_destination, constraint_rec::specs::Reading::kind_at, constraint_rec::specs::Reading::contents_at, constraint_rec::specs::Reading::next_at, constraint_rec::specs::Reading::terms_up_to, constraint_rec::specs::Reading::terms_of, agent_msg::specs::Reading::request_of_number, agent_msg::specs::Reading::request_of, agent_msg::specs::Reading::is_addition, agent_msg::specs::Requests::session_bind, agent_msg::specs::Requests::bind_front, agent_msg::specs::Requests::names_bind, identity_table::specs::Identities::find_identity, identity_table::specs::Identities::put_identity, identity_table::specs::Identities::remove_identity, identity_table::specs::Identities::alive_at, identity_table::specs::Identities::entries_len, dest_rule::specs::Rules::visible, dest_rule::specs::Rules::denial, dest_rule::specs::Rules::bad_place, dest_rule::specs::Rules::is_hop, dest_rule::specs::Chains::judge,))]
 
 ghost use Rattle.std.specs.Prelude.{◌≡◌, ℕ, List, [], ◌∷◌, ◌++◌, codes, true, false};
-ghost use Rattle.agent_model.specs.Events.{Tick};
+ghost use Rattle.world_ports.specs.declared.Door.TheVariants.{Clients};
+ghost use Rattle.agent_model.specs.Events.{Heard, Joined, Took, Tick};
 ghost use Rattle.agent_model.specs.State.{client_count, owed_of, starts, wants};
 ghost use Rattle.world_ports.specs.declared.JobKind.TheVariants as kinds;
-ghost use Rattle.agent_model.specs.Rows.{add, add_asking, add_for_ten, add_unknown, at, done, extension, failed, heard, heard_and_took, joined_often, list, listed, lock, lock_empty, none_listed, now, remove, remove_all, replies, sign, state_after, ticked, unlock, with_event};
+ghost use Rattle.agent_model.specs.Rows.{add, add_asking, add_for_ten, add_unknown, at, closed_by, done, extension, failed, heard, heard_and_took, joined_often, list, listed, lock, lock_empty, none_listed, now, one_client, remove, remove_all, replies, sign, state_after, ticked, unlock, with_event};
 
 /// An identity is listed once it was added, until it is removed.
 pub fn additions_are_listed()
@@ -50,12 +51,12 @@ pub fn a_locked_agent_does_nothing()
 
 /// The limits of clients and bodies, as numbers, at both sides.
 pub fn limits_are_these_numbers()
-    ensures last_client { (joined_often 128).closes ≡ [] }
-    ensures one_more { (joined_often 129).closes ≡ 129 ∷ [] }
+    ensures last_client { closed_by (Joined Clients) (joined_often 127) ≡ [] }
+    ensures one_more { closed_by (Joined Clients) (joined_often 128) ≡ 129 ∷ [] }
     ensures clients { client_count (joined_often 129).ports ≡ 128 }
-    ensures longest_body { (heard (0 ∷ 4 ∷ 0 ∷ 0 ∷ [])).closes ≡ [] }
-    ensures too_long { (heard (0 ∷ 4 ∷ 0 ∷ 1 ∷ [])).closes ≡ 1 ∷ [] }
-    ensures empty { (heard (0 ∷ 0 ∷ 0 ∷ 0 ∷ [])).closes ≡ 1 ∷ [] }
+    ensures longest_body { closed_by (Heard 1 (0 ∷ 4 ∷ 0 ∷ 0 ∷ [])) one_client ≡ [] }
+    ensures too_long { closed_by (Heard 1 (0 ∷ 4 ∷ 0 ∷ 1 ∷ [])) one_client ≡ 1 ∷ [] }
+    ensures empty { closed_by (Heard 1 (0 ∷ 0 ∷ 0 ∷ 0 ∷ [])) one_client ≡ 1 ∷ [] }
 {}
 
 /// A signature with a key that is held waits for the helper, which is started for it.
@@ -73,9 +74,9 @@ pub fn a_request_waits_for_the_reply_before()
     ensures first { owed_of 1 (heard (list ++ remove_all)) ≡ none_listed }
     ensures rest { owed_of 1 (heard_and_took (list ++ remove_all) 4) ≡ 12 ∷ 0 ∷ 0 ∷ 0 ∷ 0 ∷ [] }
     ensures second { owed_of 1 (heard_and_took (list ++ remove_all) 9) ≡ done }
-    ensures bad { (heard (list ++ 0 ∷ 0 ∷ 0 ∷ 0 ∷ [])).closes ≡ [] }
-    ensures closed { (heard_and_took (list ++ 0 ∷ 0 ∷ 0 ∷ 0 ∷ []) 9).closes ≡ 1 ∷ [] }
-    ensures forgotten { (with_event Tick (heard (0 ∷ 0 ∷ 0 ∷ 0 ∷ []))).closes ≡ [] }
+    ensures bad { closed_by (Heard 1 (list ++ 0 ∷ 0 ∷ 0 ∷ 0 ∷ [])) one_client ≡ [] }
+    ensures closed { closed_by (Took 1 9) (heard (list ++ 0 ∷ 0 ∷ 0 ∷ 0 ∷ [])) ≡ 1 ∷ [] }
+    ensures forgotten { closed_by Tick (heard (0 ∷ 0 ∷ 0 ∷ 0 ∷ [])) ≡ [] }
 {}
 
 /// The monotonic clock counts as never falling, and the wall clock as it is given.

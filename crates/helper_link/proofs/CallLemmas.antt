@@ -1,6 +1,6 @@
 -- Numbers of asks rise, whatever is called in between.
 use Rattle.std.proofs.Common.{List, [], ◌∷◌, arith}
-use Rattle.helper_link.specs.Calls.{Call, after_call, Begin, Come, Submit, Send, Tell, Lose, HandOut, RiseFrom, numbers_of}
+use Rattle.helper_link.specs.Calls.{Call, after_call, Begin, Come, Submit, Send, Tell, Lose, RiseFrom, numbers_of}
 use Rattle.helper_link.specs.HelperLink.{HelperLink}
 
 -- each number that is given is above the last
@@ -14,4 +14,3 @@ numbers_rise (Submit kind asker request ∷ calls) link =
 numbers_rise (Send count ∷ calls) link = numbers_rise calls (after_call (Send count) link)
 numbers_rise (Tell piece ∷ calls) link = numbers_rise calls (after_call (Tell piece) link)
 numbers_rise (Lose ∷ calls) link = numbers_rise calls (after_call (Lose) link)
-numbers_rise (HandOut ∷ calls) link = numbers_rise calls (after_call (HandOut) link)

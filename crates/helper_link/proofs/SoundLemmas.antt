@@ -1,5 +1,5 @@
 -- Links stay sound.
-use Rattle.std.proofs.Common.{◌≡◌, ◌≢◌, ◌==◌, ℕ, ◌+◌, ◌-◌, ◌^◌, ◌<◌, ◌≤◌, nat_lt, Bool, true, false, List, [], ◌∷◌, ◌++◌, length, None, refl, ap, ◌∙◌, arith, length-append}
+use Rattle.std.proofs.Common.{◌≡◌, ◌≢◌, ◌==◌, ℕ, ◌+◌, ◌-◌, ◌^◌, ◌<◌, nat_lt, Bool, true, false, List, [], ◌∷◌, ◌++◌, length, None, refl, ◌∙◌, arith, length-append}
 use Rattle.wire_text.specs.Frames.{Front, Whole, Bad, More, front, split, StartsWithFrame}
 use Rattle.wire_text.proofs.FrontLemmas.{front-short, front_says}
 use Rattle.wire_text.proofs.SplitLemmas.{rest_has_no_frame}
@@ -37,30 +37,27 @@ quiet_asked (states.Linked port) old new some same quiet = tt
 
 -- one ask more, where there is room, whatever is to be sent
 pub IsSound-push : (kind : AskKind) (asker : ℕ) (owed : List ℕ) (link : HelperLink) →
-    link.state ≢ states.None → link.failed ≡ [] →
+    link.state ≢ states.None →
     length link.asks < most_asks → IsSound link →
     IsSound (record link {
       asks = link.asks ++ (ask_of (link.last + 1) asker kind ∷ []);
       last = link.last + 1;
       owed = owed;
     })
-IsSound-push kind asker owed link some none room sound = record {
+IsSound-push kind asker owed link some room sound = record {
   quiet = quiet_asked link.state link _ some refl sound.quiet;
   few = omega (arith, length-append link.asks (ask_of (link.last + 1) asker kind ∷ []), room);
   order = push_rises 0 link.asks link.last asker kind sound.order;
-  failed = λ (are : 0 < length link.failed).
-      let count : length link.failed ≡ 0 = ap (λ (all : List ℕ). length all) none in
-      absurd (omega (arith, are, count));
   part = sound.part;
 }
 
 -- the same, by the fault
 pub IsSound-submitted : (kind : AskKind) (asker : ℕ) (request : ℕ → ToChildMessage)
     (link : HelperLink) → link.state ≢ states.None →
-    link.failed ≡ [] → ask_fault link ≡ None → IsSound link →
+    ask_fault link ≡ None → IsSound link →
     IsSound (submitted kind asker request link)
-IsSound-submitted kind asker request link some none fault sound =
-    IsSound-push kind asker (submitted kind asker request link).owed link some none
+IsSound-submitted kind asker request link some fault sound =
+    IsSound-push kind asker (submitted kind asker request link).owed link some
     (few_if (nat_lt (most_asks - 1) (length link.asks)) (link.last == 2 ^ 64 - 1)
     (length link.asks) refl fault) sound
 
@@ -99,13 +96,6 @@ settling_part bytes asks =
     (λ left. rest_part (front 262144 parts.rest) parts.rest left refl
     (rest_has_no_frame 262144 bytes)) asks
 
--- a list that is no longer than one without elements has none
-none_left : (left asks : List Ask) → length left ≤ length asks → asks ≡ [] → left ≡ []
-none_left [] asks fewer none = refl
-none_left (ask ∷ left) asks fewer none =
-    let count : length asks ≡ 0 = ap (λ (all : List Ask). length all) none in
-    absurd (omega (arith, fewer, count))
-
 -- where the helper is there, anything may be
 quiet_linked : (state : LinkState) (link : HelperLink) → IsLinked state → IsQuiet state link
 quiet_linked states.None link is = absurd is
@@ -125,7 +115,6 @@ IsSound-settled bytes asks heard link is sound left rest =
       quiet = quiet_linked link.state _ is;
       few = omega (arith, fewer, sound.few);
       order = lead_rise all.settled link.asks all.asks 0 link.last leads sound.order;
-      failed = λ some. none_left all.asks link.asks fewer (sound.failed some);
       part = settling_part bytes link.asks;
     }
 
@@ -136,7 +125,6 @@ IsSound-cleared link is = record {
   quiet = quiet_linked link.state _ is;
   few = omega arith;
   order = omega arith;
-  failed = λ some. refl;
   part = nothing_is_part;
 }
 
@@ -147,7 +135,6 @@ IsSound-gone link = record {
   quiet = (refl, refl, refl);
   few = omega arith;
   order = omega arith;
-  failed = λ some. refl;
   part = nothing_is_part;
 }
 

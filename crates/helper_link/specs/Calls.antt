@@ -1,7 +1,7 @@
 -- What calls do to a link, one after another (ours).
 use Rattle.std.specs.Prelude.{ℕ, ◌+◌, ◌<◌, List, [], ◌∷◌}
 use Rattle.child_msg.specs.Messages.{ToChildMessage}
-use Rattle.helper_link.specs.HelperLink.{HelperLink, begun, handed_out, linked_to, lost, sent, submitted}
+use Rattle.helper_link.specs.HelperLink.{HelperLink, begun, linked_to, lost, sent, submitted}
 use Rattle.helper_link.specs.Telling.{telling}
 use Rattle.helper_link.specs.declared.ask.AskKind.{AskKind}
 
@@ -13,7 +13,6 @@ pub data Call : Type 0 where
   Send : (count : ℕ) → Call
   Tell : (piece : List ℕ) → Call
   Lose : Call
-  HandOut : Call
 
 -- the link after it
 abbrev pub after_call : Call → HelperLink → HelperLink
@@ -23,7 +22,6 @@ after_call (Submit kind asker request) link = submitted kind asker request link
 after_call (Send count) link = sent count link
 after_call (Tell piece) link = (telling piece link).link
 after_call Lose link = lost link
-after_call HandOut link = handed_out link
 
 -- the number of the ask that it puts, if it puts one, before these
 abbrev pub numbered : Call → HelperLink → List ℕ → List ℕ
@@ -33,7 +31,6 @@ numbered (Submit kind asker request) link later = (link.last + 1) ∷ later
 numbered (Send count) link later = later
 numbered (Tell piece) link later = later
 numbered Lose link later = later
-numbered HandOut link later = later
 
 -- the numbers of all asks that these calls put, in their order
 abbrev pub numbers_of : List Call → HelperLink → List ℕ

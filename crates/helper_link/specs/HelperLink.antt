@@ -22,8 +22,6 @@ pub record HelperLink : Type 0 where
   pub owed : List ℕ
   -- the bytes of the helper's stream behind its last whole frame
   pub heard : List ℕ
-  -- the askers of failed asks, not handed out yet, in the order of their asks
-  pub failed : List ℕ
   -- how often the link was lost
   pub faults : ℕ
 
@@ -35,7 +33,6 @@ no_link = record {
   last = 0;
   owed = [];
   heard = [];
-  failed = [];
   faults = 0;
 }
 
@@ -121,21 +118,13 @@ sent count link = record link { owed = drop count link.owed }
 abbrev pub askers : List Ask → List ℕ
 askers asks = map (λ (ask : Ask). ask.asker) asks
 
--- the helper is gone: what was unanswered failed, and the count of losses stays at its last value
+-- the helper is gone: what was unanswered failed, nothing is to be sent or was heard, and the count of losses stays at
+-- its last value
 abbrev pub lost : HelperLink → HelperLink
 lost link = record link {
   state = states.None;
   asks = [];
   owed = [];
   heard = [];
-  failed = link.failed ++ askers link.asks;
   faults = min (link.faults + 1) (2 ^ 64 - 1);
 }
-
--- the asker of the first failed ask was handed out
-abbrev pub handed_out : HelperLink → HelperLink
-handed_out link = record link { failed = drop 1 link.failed }
-
--- all of them were
-abbrev pub handed_out_all : HelperLink → HelperLink
-handed_out_all link = record link { failed = [] }

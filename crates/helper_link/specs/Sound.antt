@@ -1,7 +1,7 @@
 -- What holds of every link (ours).
 use Rattle.std.specs.Prelude.{◌≡◌, ℕ, ◌<◌, ◌≤◌, List, [], ◌∷◌, length}
 use Rattle.wire_text.specs.Frames.{More, front}
-use Rattle.helper_link.specs.HelperLink.{HelperLink, askers, most_asks}
+use Rattle.helper_link.specs.HelperLink.{HelperLink, most_asks}
 use Rattle.helper_link.specs.declared.ask.Ask.{Ask}
 use Rattle.helper_link.specs.declared.state.LinkState.{LinkState}
 use Rattle.helper_link.specs.declared.state.LinkState.TheVariants as states
@@ -26,19 +26,16 @@ pub record IsSound (link : HelperLink) : Type 0 where
   pub few : length link.asks ≤ most_asks
   -- their numbers rise from 1 at least to the last number at most
   pub order : RiseTo 0 link.asks link.last
-  -- none is while askers of failed asks are still to be handed out
-  pub failed : 0 < length link.failed → link.asks ≡ []
   -- what was heard is less than a frame, and the front of one
   pub part : front 262144 link.heard ≡ More
 
--- a link of these parts, the failed asks seen by their askers
-abbrev pub link_of : LinkState → List Ask → ℕ → List ℕ → List ℕ → List Ask → ℕ → HelperLink
-link_of state asks last owed heard failed faults = record {
+-- a link of these parts
+abbrev pub link_of : LinkState → List Ask → ℕ → List ℕ → List ℕ → ℕ → HelperLink
+link_of state asks last owed heard faults = record {
   state = state;
   asks = asks;
   last = last;
   owed = owed;
   heard = heard;
-  failed = askers failed;
   faults = faults;
 }

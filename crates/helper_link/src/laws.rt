@@ -4,7 +4,7 @@ ghost use Rattle.std.specs.Prelude.{◌≡◌, ◌≢◌, ◌+◌, ◌^◌, ◌<
 ghost use Rattle.child_msg.specs.Messages.{ToChildMessage};
 ghost use Rattle.helper_link.specs.Answered.{LeadTo, is_answered};
 ghost use Rattle.helper_link.specs.Calls.{Call, RiseFrom, numbers_of};
-ghost use Rattle.helper_link.specs.HelperLink.{HelperLink, IsLinked, IsStarting, ask_fault, ask_of, begun, handed_out, handed_out_all, linked_to, lost, no_link, sendable, sent, submitted};
+ghost use Rattle.helper_link.specs.HelperLink.{HelperLink, IsLinked, IsStarting, ask_fault, ask_of, begun, linked_to, lost, no_link, sendable, sent, submitted};
 ghost use Rattle.helper_link.specs.Settling.{find_ask};
 ghost use Rattle.helper_link.specs.Sound.{IsSound};
 ghost use Rattle.helper_link.specs.Telling.{joined, told_in_turn, telling};
@@ -27,13 +27,12 @@ pub fn links_stay_sound()
     ensures linked { (port : ℕ) (link : HelperLink)
         → IsStarting link.state → IsSound link → IsSound (linked_to port link) }
     ensures submitted { (kind : AKind) (asker : ℕ) (request : ℕ → ToChildMessage)
-        (link : HelperLink) → link.state ≢ states.None → link.failed ≡ [] → ask_fault link ≡ None
+        (link : HelperLink) → link.state ≢ states.None → ask_fault link ≡ None
         → IsSound link → IsSound (submitted kind asker request link) }
     ensures sent { (count : ℕ) (link : HelperLink) → IsSound link → IsSound (sent count link) }
     ensures told { (piece : List ℕ) (link : HelperLink)
         → IsLinked link.state → IsSound link → IsSound (telling piece link).link }
     ensures lost { (link : HelperLink) → IsSound link → IsSound (lost link) }
-    ensures handed_out { (link : HelperLink) → IsSound link → IsSound (handed_out link) }
 {}
 
 /// No number of an ask is given twice, whatever is called in between, the loss of the helper among
@@ -62,10 +61,4 @@ pub fn answers_go_to_who_asked()
         → find_ask number (telling piece link).link.asks
         ≡ (if is_answered number (telling piece link).settled then None
         else find_ask number link.asks) }
-{}
-
-/// Handing out one asker of a failed ask after another leads to the link without any.
-pub fn all_failed_askers_are_handed_out()
-    ensures step { (link : HelperLink) → handed_out_all (handed_out link) ≡ handed_out_all link }
-    ensures end { (link : HelperLink) → link.failed ≡ [] → handed_out_all link ≡ link }
 {}

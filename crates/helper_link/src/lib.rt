@@ -16,8 +16,8 @@ pub use answer::{Answer, Settled, Told};
 pub use ask::{Ask, AskKind};
 pub use fault::{AskFault, LinkFault};
 pub use laws::{
-    all_failed_askers_are_handed_out, an_ask_has_a_number_of_its_own, answers_go_to_who_asked,
-    ask_numbers_never_begin_again, cuts_of_the_stream_do_not_matter, links_stay_sound,
+    an_ask_has_a_number_of_its_own, answers_go_to_who_asked, ask_numbers_never_begin_again,
+    cuts_of_the_stream_do_not_matter, links_stay_sound,
 };
 pub use link::Link;
 pub use state::LinkState;

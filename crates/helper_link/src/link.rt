@@ -1,7 +1,7 @@
-ghost use Rattle.std.specs.Prelude.{◌≡◌, ◌≢◌, ◌↔◌, ◌+◌, ◌-◌, ◌^◌, ◌<◌, ◌≤◌, [], IsTrue, IfOk, MatchResult, None, Some, OnOk, OnErr, length, slice_get};
+ghost use Rattle.std.specs.Prelude.{◌≡◌, ◌≢◌, ◌↔◌, ◌+◌, ◌-◌, ◌^◌, ◌<◌, ◌≤◌, IsTrue, IfOk, MatchResult, None, Some, OnOk, OnErr, length};
 ghost use Rattle.child_msg.specs.ChildFrames.{to_child_length};
 ghost use Rattle.child_msg.specs.Messages.{to_child_message};
-ghost use Rattle.helper_link.specs.HelperLink.{ask_fault, begun, handed_out, linked_to, lost, no_link, sendable, sent, sign_request, submitted, verify_request, IsLinked, IsRefusedWith, IsStarting};
+ghost use Rattle.helper_link.specs.HelperLink.{ask_fault, begun, linked_to, lost, no_link, sendable, sent, sign_request, submitted, verify_request, IsLinked, IsRefusedWith, IsStarting};
 ghost use Rattle.helper_link.specs.Sound.{IsSound};
 ghost use Rattle.helper_link.specs.Telling.{telling};
 
@@ -30,8 +30,6 @@ pub struct Link {
     last: u64,
     owed: ScrubBuf,
     heard: ScrubBuf,
-    // The asks that failed. No ask is unanswered while there are any.
-    failed: Vec<Ask>,
     faults: u64,
 }
 
@@ -42,10 +40,10 @@ impl Model for Link {
     ghost Value = { HelperLink };
 
     ghost view = { λ link. link_of link.state link.asks.items link.last link.owed.live
-        link.heard.live link.failed.items link.faults };
+        link.heard.live link.faults };
 
     ghost invariant = { λ link. IsSound (link_of link.state link.asks.items link.last
-        link.owed.live link.heard.live link.failed.items link.faults) };
+        link.owed.live link.heard.live link.faults) };
 }
 
 impl Link {
@@ -59,7 +57,6 @@ impl Link {
             last: 0,
             owed: ScrubBuf::new(alloc),
             heard: ScrubBuf::new(alloc),
-            failed: Vec::new(alloc),
             faults: 0,
         }
     }
@@ -103,7 +100,6 @@ impl Link {
         flags: u32,
     ) -> Result<u64, AskFault>
         requires state { self.old.state ≢ LinkState.None }
-        requires failed { self.old.failed ≡ [] }
         requires body { to_child_length (sign_request private.now blob.now message.now flags 0)
             ≤ 1048576 }
         ensures ok { OnOk result (self.new ≡ submitted AskKind.Signing asker
@@ -137,7 +133,6 @@ impl Link {
         session: &[u8],
     ) -> Result<u64, AskFault>
         requires state { self.old.state ≢ LinkState.None }
-        requires failed { self.old.failed ≡ [] }
         requires body { to_child_length (verify_request host_key.now signature.now session.now 0)
             ≤ 1048576 }
         ensures ok { OnOk result (self.new ≡ submitted AskKind.Verifying asker
@@ -202,30 +197,18 @@ impl Link {
 
     /// The helper is gone, or failed to start. Takes no memory.
     ///
-    /// What is to be sent and what was heard is wiped. Each unanswered ask failed: `next_failed`
-    /// gives its asker.
-    pub fn lose(&mut self)
+    /// What is to be sent and what was heard is wiped. Gives the unanswered asks: they failed.
+    pub fn lose(&mut self) -> Vec<Ask>
         requires { self.old.state ≢ LinkState.None }
-        ensures { self.new ≡ lost self.old }
+        ensures failed { result.items ≡ self.old.asks }
+        ensures link { self.new ≡ lost self.old }
     {
         self.state = LinkState::None;
         self.owed.wipe();
         self.heard.wipe();
         self.faults = self.faults.saturating_add(1);
-        if self.failed.is_empty() {
-            mem::swap(&mut self.asks, &mut self.failed);
-        }
-    }
-
-    /// Hands out the asker of the first ask that failed. Takes no memory.
-    pub fn next_failed(&mut self) -> Option<u64>
-        ensures value { result ≡ slice_get self.old.failed 0 }
-        ensures link { self.new ≡ handed_out self.old }
-    {
-        if self.failed.is_empty() {
-            return None;
-        }
-        Some(self.failed.remove(0).asker)
+        let none = Vec::new(*self.asks.allocator());
+        mem::replace(&mut self.asks, none)
     }
 
     /// How often the link was lost: it stays at 2^64 - 1.
@@ -262,7 +245,6 @@ impl Link {
         requires state { self.old.state ≢ LinkState.None }
         requires few { length self.old.asks < 256 }
         requires last { self.old.last < 2 ^ 64 - 1 }
-        requires failed { self.old.failed ≡ [] }
         requires body { to_child_length (to_child_message request.now) ≤ 1048576 }
         ensures ok { OnOk result (self.new
             ≡ submitted kind asker (λ _. to_child_message request.now) self.old) }

@@ -12,7 +12,6 @@ use std::test::Fail;
 // A link to a helper at port 3.
 fn linked(alloc: Global) -> Link
     ensures linked { IsLinked result.state }
-    ensures failed { result.failed ≡ [] }
 {
     let mut link = Link::new(alloc);
     link.begin(1);
@@ -22,19 +21,15 @@ fn linked(alloc: Global) -> Link
 
 fn sign(link: &mut Link, asker: u64, private: &SecretBytes) -> Result<u64, AskFault>
     requires linked { IsLinked link.old.state }
-    requires failed { link.old.failed ≡ [] }
     requires small { length private.now ≤ 1000 }
     ensures linked { IsLinked link.new.state }
-    ensures failed { link.new.failed ≡ [] }
 {
     link.ask_sign(asker, private, &[3], &[4, 5, 6], 2)
 }
 
 fn verify(link: &mut Link, asker: u64) -> Result<u64, AskFault>
     requires linked { IsLinked link.old.state }
-    requires failed { link.old.failed ≡ [] }
     ensures linked { IsLinked link.new.state }
-    ensures failed { link.new.failed ≡ [] }
 {
     link.ask_verify(asker, &[7], &[8, 9], &[10])
 }
@@ -79,10 +74,8 @@ fn tell(link: &mut Link, piece: &[u8], all: &mut Vec<Settled>) -> Result<(), All
 // Asks for signatures until no more may be unanswered, for the asker 9.
 fn fill(link: &mut Link, private: &SecretBytes)
     requires linked { IsLinked link.old.state }
-    requires failed { link.old.failed ≡ [] }
     requires small { length private.now ≤ 1000 }
     ensures linked { IsLinked link.new.state }
-    ensures failed { link.new.failed ≡ [] }
 {
     'asks: for _ in 0..256 {
         let _ = sign(link, 9, private);
@@ -97,10 +90,8 @@ fn fill_and_tell(
     all: &mut Vec<Settled>,
 ) -> Result<(), AllocError>
     requires linked { IsLinked link.old.state }
-    requires failed { link.old.failed ≡ [] }
     requires small { length private.now ≤ 1000 }
     ensures linked { OnOk result (IsLinked link.new.state) }
-    ensures failed { OnOk result (link.new.failed ≡ []) }
 {
     fill(link, private);
     let told = link.told(piece)?;
@@ -158,18 +149,18 @@ fn requests_are_sent_once_the_helper_is_there(rt: HostRuntime) -> Result<(), Fai
 }
 
 #[test]
-fn askers_of_a_lost_link_are_handed_out_in_order(rt: HostRuntime) -> Result<(), Fail> {
+fn a_lost_link_gives_its_unanswered_asks_in_order(rt: HostRuntime) -> Result<(), Fail> {
     let mut link = linked(rt.alloc());
     assert_eq!(rt; verify(&mut link, 70), Ok(1));
     assert_eq!(rt; verify(&mut link, 80), Ok(2));
     assert_eq!(rt; verify(&mut link, 75), Ok(3));
-    link.lose();
+    let mut failed = link.lose();
     assert_eq!(rt; link.faults(), 1);
     assert_eq!(rt; link.state(), LinkState::None);
-    assert_eq!(rt; link.next_failed(), Some(70));
-    assert_eq!(rt; link.next_failed(), Some(80));
-    assert_eq!(rt; link.next_failed(), Some(75));
-    assert_eq!(rt; link.next_failed(), None);
+    assert_eq!(rt; failed.pop().map(|ask| ask.asker), Some(75));
+    assert_eq!(rt; failed.pop().map(|ask| ask.asker), Some(80));
+    assert_eq!(rt; failed.pop().map(|ask| ask.asker), Some(70));
+    assert_eq!(rt; failed.pop(), None);
     link.begin(2);
     link.begin(3);
     assert_eq!(rt; link.state(), LinkState::Starting { job: 2 });

@@ -1,9 +1,8 @@
-use Rattle.std.proofs.Common.{◌≡◌, []}
 use Rattle.helper_link.specs.HelperLink.{IsLinked}
 use Rattle.helper_link.proofs.tests.told_in_pieces.Given as goal
 
 abbrev pub invariant-asks : goal.invariant-asks
-invariant-asks l = IsLinked l.link.state × (l.link.failed ≡ [])
+invariant-asks l = IsLinked l.link.state
 
 abbrev pub invariant-pieces : goal.invariant-pieces
 invariant-pieces l =

@@ -1,4 +1,4 @@
-use Rattle.std.proofs.Common.{◌≡◌, ◌≢◌, ◌<◌, [], length, subst, sym}
+use Rattle.std.proofs.Common.{◌≡◌, ◌≢◌, ◌<◌, length, subst, sym}
 use Rattle.helper_link.specs.HelperLink.{HelperLink, most_asks}
 use Rattle.helper_link.specs.Sound.{link_of}
 use Rattle.helper_link.specs.declared.state.LinkState.TheVariants as states
@@ -9,13 +9,12 @@ pub invariant_of-self-2 : goal.invariant_of-self-2
 invariant_of-self-2 c =
     let inside = c.self.inside in
     let old : HelperLink = link_of inside.state inside.asks.items inside.last inside.owed.live
-    inside.heard.live inside.failed.items inside.faults in
+    inside.heard.live inside.faults in
     let same : old ≡ c.args.self.now = c.self.view_is in
     let some = subst (λ (link : HelperLink). link.state ≢ states.None)
     (sym same) c.requires.state in
-    let none = subst (λ (link : HelperLink). link.failed ≡ []) (sym same) c.requires.failed in
     let room = subst (λ (link : HelperLink). length link.asks < most_asks)
     (sym same) c.requires.few in
     rw (c.in_ok-push.ensures.items, c.in_ok-reserve.ensures.items)
-    (IsSound-push c.args.kind c.args.asker c.write_to_child.new.out.live old some none room
+    (IsSound-push c.args.kind c.args.asker c.write_to_child.new.out.live old some room
     c.self.invariant)

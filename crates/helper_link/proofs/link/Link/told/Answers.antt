@@ -9,7 +9,7 @@ pub invariant_of-self-in_default : goal.invariant_of-self-in_default
 invariant_of-self-in_default c =
     let inside = c.self.inside in
     let old : HelperLink = link_of inside.state inside.asks.items inside.last inside.owed.live
-    inside.heard.live inside.failed.items inside.faults in
+    inside.heard.live inside.faults in
     let is = subst (λ (link : HelperLink). IsLinked link.state) (sym c.self.view_is) c.requires in
     rw (c.clear.ensures.items, c.wipe.ensures) (IsSound-cleared old is)
 
@@ -17,7 +17,7 @@ pub invariant_of-self-2 : goal.invariant_of-self-2
 invariant_of-self-2 c =
     let inside = c.self.inside in
     let old : HelperLink = link_of inside.state inside.asks.items inside.last inside.owed.live
-    inside.heard.live inside.failed.items inside.faults in
+    inside.heard.live inside.faults in
     let is = subst (λ (link : HelperLink). IsLinked link.state) (sym c.self.view_is) c.requires in
     IsSound-settled c.live.result.now c.settle_stream.new.asks.items c.consume.new.self.live old is
     c.self.invariant
