@@ -27,7 +27,7 @@ use Rattle.std.proofs.lemmas.List.{drop_all}
 use Rattle.confirm_desk.specs.Calls.{took_at, took_by}
 use Rattle.confirm_desk.specs.Confirmations.{Confirmation, find_asker, find_linked}
 use Rattle.agent_model.specs.Sound.{IsTied}
-use Rattle.agent_model.proofs.FatedLemmas.{tied-quiet}
+use Rattle.agent_model.proofs.TiedLemmas.{tied-quiet}
 use Rattle.agent_model.proofs.JobLemmas.{asker_own, in-by_asker, in-found}
 use Rattle.agent_model.proofs.MakeLemmas.{alters}
 use Rattle.agent_core.specs.Bound.{AreHeldFor, IsBound, IsCalm}

@@ -1,21 +1,16 @@
 -- What a signature that is put to the helper tells of the actions before.
-use Rattle.std.proofs.Common.{◌≡◌, ◌≢◌, ℕ, ◌+◌, ◌<◌, List, [], ◌∷◌, ◌++◌, length, refl, ap, arith, sym, subst, ◌∙◌, ◌⊎◌, Option, Some, None, IsSomeAnd, Bool, true, false, cond, nat_lt, not, ◌&&◌, ◌==◌, inl, inr, if◌then◌else◌}
+use Rattle.std.proofs.Common.{◌≡◌, ◌≢◌, ℕ, ◌<◌, List, [], ◌∷◌, ◌++◌, length, refl, ap, arith, sym, subst, ◌∙◌, Option, Some, None, IsSomeAnd, Bool, true, false, cond, nat_lt, not, inl, inr}
 use Rattle.std.specs.Str.{bytes_eq}
 use Rattle.std.proofs.lemmas.Bool.Decides.{nat_tests}
 use Rattle.std.proofs.lemmas.Slice.Eq.{bytes_eq-Decides}
-use Rattle.world_ports.specs.declared.Moment.{Moment}
-use Rattle.agent_msg.specs.declared.fault.MsgFault.{MsgFault}
-use Rattle.agent_msg.specs.Requests.{Addition, ClientRequest, Signing, ListIdentities, Sign, Add, Remove, RemoveAll, Lock, Unlock, Bind, OtherExtension, Unsupported}
+use Rattle.agent_msg.specs.Requests.{Addition, Signing}
 use Rattle.dest_rule.specs.Rules.{denial_under}
-use Rattle.dest_rule.specs.declared.binding.Binding.{Binding}
-use Rattle.dest_rule.specs.declared.denial.Denial.{Denial}
-use Rattle.agent_model.specs.Actions.{Action, Answered, Asked, Asking, ForSignature, Granted, Lost, Over, Proved, Purpose, Raised, Raising, Requested}
-use Rattle.agent_model.specs.Binds.{agent_request_of}
+use Rattle.agent_model.specs.Actions.{Action}
 use Rattle.agent_model.specs.Events.{Timed}
-use Rattle.agent_model.specs.Runs.{Stamped, history, run}
+use Rattle.agent_model.specs.Runs.{Stamped, run}
 use Rattle.agent_model.specs.State.{first_state}
-use Rattle.agent_laws.specs.Dues.{Claim, claim_of, claim_of_raising, claim_of_request, due_signing, is_consented, is_met, is_permitted, met_by, open_asks, proved_of, raised_at}
-use Rattle.agent_laws.specs.History.{HasNumbers, IsConsented, IsDue, IsLawful, IsPutBehind, NoneAdds, NoneUnlocks, Removes, StandsAt, onto}
+use Rattle.agent_laws.specs.Dues.{Claim, claim_of, due_signing, is_consented, is_met, is_permitted, met_by, open_asks, proved_of}
+use Rattle.agent_laws.specs.History.{HasNumbers, IsDue, IsLawful, IsPutBehind, NoneAdds, NoneUnlocks, Removes, StandsAt, onto}
 use Rattle.agent_laws.specs.Past.{DidAdd, DidLock, DidNothing, DidRemove, DidRemoveAll, DidUnlock, Done, PastAddition, added_by, done_of, held_by, is_alive, last_addition, locked_by, was_locked}
 use Rattle.agent_laws.proofs.GrantedLemmas.{all_parts, none_if_permitted}
 use Rattle.agent_laws.proofs.HistoryLemmas.{first-lawful}

@@ -1,29 +1,24 @@
 -- What a request puts to the helper is what is due behind it.
-use Rattle.std.proofs.Common.{◌≡◌, ℕ, ◌+◌, ◌-◌, ◌^◌, ◌≤◌, ◌<◌, List, [], ◌∷◌, map, length, refl, ap, arith, sym, subst, ◌∙◌, Option, Some, None, IsSome, IsSomeAnd, Bool, true, false, cond, is_some, nat_lt, not, ◌&&◌, ◌==◌, Result, Ok, Err, inl, inr, if◌then◌else◌}
+use Rattle.std.proofs.Common.{◌≡◌, ℕ, ◌-◌, ◌^◌, ◌<◌, List, map, length, refl, ap, arith, sym, subst, ◌∙◌, Option, Some, None, IsSomeAnd, Bool, true, false, is_some, nat_lt, not, ◌&&◌, Result, Ok, Err, inl, inr, if◌then◌else◌}
 use Rattle.std.specs.Option.{option_map}
-use Rattle.std.specs.Str.{bytes_eq}
 use Rattle.std.proofs.lemmas.Bool.Decides.{nat_tests}
 use Rattle.std.proofs.lemmas.List.{length-map}
 use Rattle.agent_msg.specs.declared.fault.MsgFault.{MsgFault}
-use Rattle.agent_msg.specs.Requests.{Addition, BindRequest, ClientRequest, Signing, ListIdentities, Sign, Add, Remove, RemoveAll, Lock, Unlock, Bind, OtherExtension, Unsupported}
-use Rattle.dest_rule.specs.Chains.{judge}
+use Rattle.agent_msg.specs.Requests.{ClientRequest, Signing, ListIdentities, Sign, Add, Remove, RemoveAll, Lock, Unlock, Bind, OtherExtension, Unsupported}
 use Rattle.dest_rule.specs.Rules.{denial_under}
 use Rattle.dest_rule.specs.declared.binding.Binding.{Binding}
-use Rattle.dest_rule.specs.declared.denial.Denial.{Denial}
-use Rattle.dest_rule.specs.declared.fault.Next.{Next as Judgement}
-use Rattle.dest_rule.specs.declared.fault.Next.TheVariants.{New, Refuse, Same}
 use Rattle.helper_link.specs.declared.ask.Ask.{Ask}
-use Rattle.identity_table.specs.Identities.{HeldKey, find_identity, max_answer}
+use Rattle.identity_table.specs.Identities.{HeldKey, find_identity}
 use Rattle.identity_table.proofs.FindLemmas.{if_alive}
 use Rattle.agent_model.specs.Actions.{Work, settles}
-use Rattle.agent_model.specs.Askable.{HasRoom, IsJudgedAs, IsRefusedFor, IsUsable}
-use Rattle.agent_model.specs.Dispatch.{Asker, add_by, add_fault, add_seen, add_unless, bind_by, length_with, lock_by, remove_by, remove_seen, seen_by, sees, serve, serve_by, serve_locked, serve_unlocked, unlock_by, unread}
-use Rattle.agent_model.specs.Errands.{Errand, Signs, Verifies, ask_fault, purpose_of, put_unless, raise_unless}
+use Rattle.agent_model.specs.Askable.{HasRoom, IsRefusedFor, IsUsable}
+use Rattle.agent_model.specs.Dispatch.{Asker, Served, serve, unread}
+use Rattle.agent_model.specs.Errands.{Errand, Signs, Verifies, purpose_of, put_unless, raise_unless}
 use Rattle.agent_model.specs.KeyStates.{KeyState}
-use Rattle.agent_model.specs.Limits.{last_number}
 use Rattle.agent_model.specs.State.{UnderWay}
-use Rattle.agent_model.specs.Verdicts.{AsksSpent, BindRefused, Cause, DestinationDenied, Identities, JobsSpent, Locked, NoPassphrase, NotHeld, NotLocked, NotVisible, Refuses, Replies, Success, TooManyAsks, TooManyConfirmations, Unserved, Verdict, WrongPassphrase}
+use Rattle.agent_model.specs.Verdicts.{AsksSpent, Cause, DestinationDenied, Identities, JobsSpent, Locked, NotHeld, Refuses, Replies, Success, TooManyAsks, TooManyConfirmations, Verdict}
 use Rattle.agent_model.proofs.SignLemmas.{Comes, comes-of, put, raises, refused}
+use Rattle.agent_model.proofs.ServeLemmas.{Serves, adds, confirms, denies, empties, lists, locks, removes, serves-any, signs, unlocks, verifies}
 use Rattle.agent_laws.specs.Dues.{Claim, claim_of_request, is_consented, is_met, is_permitted}
 use Rattle.agent_laws.specs.History.{IsDue}
 use Rattle.agent_laws.specs.Past.{PastAddition, done_of_request, held_by}
@@ -163,79 +158,40 @@ module _ (life : Option ℕ) (asker : Asker) (facts : Facts) (held : KeyState) (
   abbrev Quiet : Work → Type 0
   Quiet work = Acts None asker held under_way work
 
-  quiet-unless : (fault : Option Cause) (addition : Addition) → Quiet (add_unless fault addition asker.mono held under_way).work
-  quiet-unless (Some cause) addition = silent (Refuses cause) refl
-  quiet-unless None addition = silent (Replies Success) refl
+  quiet-served : (read : Result ClientRequest MsgFault) →
+      ((signing : Signing) → read ≡ Ok (Sign signing) → ⊥) → {served : Served} →
+      Serves read asker held under_way served → Quiet served.work
+  quiet-served read other (denies cause) = silent (Refuses cause) refl
+  quiet-served read other (lists identities is) = silent (Replies (Identities identities)) refl
+  quiet-served read other (adds addition is) = silent (Replies Success) refl
+  quiet-served read other (removes blob is) = silent (Replies Success) refl
+  quiet-served read other (empties is) = silent (Replies Success) refl
+  quiet-served read other (locks passphrase is) = silent (Replies Success) refl
+  quiet-served read other (unlocks passphrase is) = silent (Replies Success) refl
+  quiet-served read other (signs signing key is found confirm free) = absurd (other signing is)
+  quiet-served read other (confirms signing key is found free) = absurd (other signing is)
+  quiet-served read other (verifies bind is_new is stands free) = asks (Verifies bind is_new) refl
 
-  quiet-seen : (seen : Bool) (addition : Addition) → Quiet (add_seen seen addition asker.mono held under_way).work
-  quiet-seen false addition = silent (Refuses NotVisible) refl
-  quiet-seen true addition = quiet-unless (add_fault (nat_lt max_answer (length_with addition asker.mono held.table)) (held.table.last == last_number)) addition
-
-  quiet-add : (found : Option HeldKey) (addition : Addition) → Quiet (add_by found asker addition held under_way).work
-  quiet-add None addition = quiet-seen true addition
-  quiet-add (Some key) addition = quiet-seen (sees asker key) addition
-
-  quiet-remove_seen : (seen : Bool) (blob : List ℕ) → Quiet (remove_seen seen blob held under_way).work
-  quiet-remove_seen false blob = silent (Refuses NotVisible) refl
-  quiet-remove_seen true blob = silent (Replies Success) refl
-
-  quiet-remove : (found : Option HeldKey) (blob : List ℕ) → Quiet (remove_by found asker blob held under_way).work
-  quiet-remove None blob = silent (Refuses NotHeld) refl
-  quiet-remove (Some key) blob = quiet-remove_seen (sees asker key) blob
-
-  quiet-lock : (passphrase : List ℕ) → Quiet (lock_by passphrase held under_way).work
-  quiet-lock [] = silent (Refuses NoPassphrase) refl
-  quiet-lock (byte ∷ bytes) = silent (Replies Success) refl
-
-  quiet-unlock : (equal : Bool) → Quiet (unlock_by equal held under_way).work
-  quiet-unlock true = silent (Replies Success) refl
-  quiet-unlock false = silent (Refuses WrongPassphrase) refl
-
-  acts-put : (fault : Option Cause) (bind : BindRequest) (is_new : Bool) → Quiet (put_unless fault (Verifies bind is_new) asker.port under_way)
-  acts-put (Some cause) bind is_new = silent (Refuses cause) refl
-  acts-put None bind is_new = asks (Verifies bind is_new) refl
-
-  acts-bind : (judgement : Judgement) (bind : BindRequest) → Quiet (bind_by judgement asker bind under_way)
-  acts-bind (Refuse fault) bind = silent (Refuses (BindRefused fault)) refl
-  acts-bind Same bind = acts-put (ask_fault under_way) bind false
-  acts-bind New bind = acts-put (ask_fault under_way) bind true
+  quiet-any : (read : Result ClientRequest MsgFault) →
+      ((signing : Signing) → read ≡ Ok (Sign signing) → ⊥) →
+      Quiet (serve read asker held under_way).work
+  quiet-any read other = quiet-served read other (serves-any read asker held under_way)
 
   -- what is due behind a request
   abbrev pub due_read : Result ClientRequest MsgFault → Verdict → Option Claim
   due_read read verdict = met_with (claim_of_request read asker.port) life asker.mono asker.wall (facts_after (done_of_request read verdict) asker.mono facts) (λ port. asker.chain) opens
 
   module _ (left : under_way.link.last < 2 ^ 64 - 1) (jobs : under_way.last_job < 2 ^ 64 - 1) where
-    acts-unlocked : (request : ClientRequest) → held.lock ≡ None → Acts (due_read (Ok request) (serve_unlocked request asker held under_way).work.verdict) asker held under_way (serve_unlocked request asker held under_way).work
-    acts-unlocked ListIdentities unlocked = silent (Replies (Identities (seen_by asker held))) refl
-    acts-unlocked (Sign signing) unlocked =
-        subst (λ lock. Acts (due signing) asker held under_way (serve_by lock (Sign signing) asker held under_way).work) unlocked (acts-sign signing left jobs (comes-of signing asker held under_way))
-    acts-unlocked (Add addition) unlocked = quiet-add (find_identity addition.key.blob held.table.identities) addition
-    acts-unlocked (Remove blob) unlocked = quiet-remove (find_identity blob held.table.identities) blob
-    acts-unlocked RemoveAll unlocked = silent (Replies Success) refl
-    acts-unlocked (Lock passphrase) unlocked = quiet-lock passphrase
-    acts-unlocked (Unlock passphrase) unlocked = silent (Refuses NotLocked) refl
-    acts-unlocked (Bind bind) unlocked = acts-bind (judge bind.host_key bind.session asker.chain) bind
-    acts-unlocked (OtherExtension name) unlocked = silent (Refuses Unserved) refl
-    acts-unlocked (Unsupported number) unlocked = silent (Refuses Unserved) refl
-
-    acts-locked : (passphrase : List ℕ) (request : ClientRequest) → held.lock ≡ Some passphrase → Acts (due_read (Ok request) (serve_locked passphrase request held under_way).work.verdict) asker held under_way (serve_locked passphrase request held under_way).work
-    acts-locked passphrase ListIdentities is = silent (Replies (Identities [])) refl
-    acts-locked passphrase (Sign signing) is =
-        subst (λ lock. Acts (due signing) asker held under_way (serve_by lock (Sign signing) asker held under_way).work) is (acts-sign signing left jobs (comes-of signing asker held under_way))
-    acts-locked passphrase (Add addition) is = silent (Refuses Locked) refl
-    acts-locked passphrase (Remove blob) is = silent (Refuses Locked) refl
-    acts-locked passphrase RemoveAll is = silent (Refuses Locked) refl
-    acts-locked passphrase (Lock other) is = silent (Refuses Locked) refl
-    acts-locked passphrase (Unlock other) is = quiet-unlock (bytes_eq passphrase other)
-    acts-locked passphrase (Bind bind) is = silent (Refuses Locked) refl
-    acts-locked passphrase (OtherExtension name) is = silent (Refuses Locked) refl
-    acts-locked passphrase (Unsupported number) is = silent (Refuses Locked) refl
-
-    acts-by : (lock : Option (List ℕ)) (request : ClientRequest) → held.lock ≡ lock → Acts (due_read (Ok request) (serve_by lock request asker held under_way).work.verdict) asker held under_way (serve_by lock request asker held under_way).work
-    acts-by None request is = acts-unlocked request is
-    acts-by (Some passphrase) request is = acts-locked passphrase request is
-
     -- whatever is asked, what it puts to the helper is what is due behind it
     pub acts-served : (read : Result ClientRequest MsgFault) → Acts (due_read read (serve read asker held under_way).work.verdict) asker held under_way (serve read asker held under_way).work
-    acts-served (Ok request) = acts-by held.lock request refl
     acts-served (Err fault) = silent (Refuses (unread fault held.lock)) refl
+    acts-served (Ok ListIdentities) = quiet-any (Ok ListIdentities) (λ signing is. absurd (cc))
+    acts-served (Ok (Sign signing)) = acts-sign signing left jobs (comes-of signing asker held under_way)
+    acts-served (Ok (Add addition)) = quiet-any (Ok (Add addition)) (λ signing is. absurd (cc))
+    acts-served (Ok (Remove blob)) = quiet-any (Ok (Remove blob)) (λ signing is. absurd (cc))
+    acts-served (Ok RemoveAll) = quiet-any (Ok RemoveAll) (λ signing is. absurd (cc))
+    acts-served (Ok (Lock passphrase)) = quiet-any (Ok (Lock passphrase)) (λ signing is. absurd (cc))
+    acts-served (Ok (Unlock passphrase)) = quiet-any (Ok (Unlock passphrase)) (λ signing is. absurd (cc))
+    acts-served (Ok (Bind bind)) = quiet-any (Ok (Bind bind)) (λ signing is. absurd (cc))
+    acts-served (Ok (OtherExtension name)) = quiet-any (Ok (OtherExtension name)) (λ signing is. absurd (cc))
+    acts-served (Ok (Unsupported number)) = quiet-any (Ok (Unsupported number)) (λ signing is. absurd (cc))

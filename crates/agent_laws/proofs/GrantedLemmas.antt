@@ -1,10 +1,10 @@
 -- The user's consent puts what is due behind it, and the end of a confirmation agrees with the past.
-use Rattle.std.proofs.Common.{◌≡◌, ◌≢◌, ℕ, ◌+◌, ◌-◌, ◌^◌, ◌<◌, ◌≤◌, List, [], ◌∷◌, ◌++◌, map, length, refl, ap, arith, sym, subst, ◌∙◌, Option, Some, None, IsSomeAnd, Bool, true, false, cond, is_some, nat_lt, not, ◌&&◌, ◌==◌, if◌then◌else◌}
+use Rattle.std.proofs.Common.{◌≡◌, ◌≢◌, ℕ, ◌+◌, ◌-◌, ◌^◌, ◌<◌, List, [], ◌∷◌, ◌++◌, map, length, refl, ap, arith, sym, subst, ◌∙◌, Option, Some, None, IsSomeAnd, Bool, true, false, is_some, nat_lt, not, ◌&&◌, ◌==◌, if◌then◌else◌}
 use Rattle.std.specs.Option.{option_map}
 use Rattle.std.proofs.lemmas.Bool.Decides.{nat_tests}
 use Rattle.std.proofs.lemmas.List.{length-map}
 use Rattle.agent_msg.specs.Requests.{Signing}
-use Rattle.confirm_desk.specs.Confirmations.{Confirmation, find_job, remove_job}
+use Rattle.confirm_desk.specs.Confirmations.{Confirmation, remove_job}
 use Rattle.dest_rule.specs.Rules.{denial_under}
 use Rattle.dest_rule.specs.declared.binding.Binding.{Binding}
 use Rattle.dest_rule.specs.declared.denial.Denial.{Denial}
@@ -13,11 +13,11 @@ use Rattle.identity_table.specs.Identities.{HeldKey, find_identity, find_number}
 use Rattle.identity_table.proofs.FindLemmas.{found_has, if_alive}
 use Rattle.identity_table.proofs.NumberLaws.{blob_of_numbered, number_of_found}
 use Rattle.identity_table.proofs.NumberLemmas.{found_has_number}
-use Rattle.agent_model.specs.Actions.{Asked, Granted, Outcome, Over, Raising, Work, settles}
+use Rattle.agent_model.specs.Actions.{Granted, Over, Raising, Work, settles}
 use Rattle.agent_model.specs.Askable.{IsGrantable}
 use Rattle.agent_model.specs.Asking.{JobsRise}
 use Rattle.agent_model.specs.Consents.{grant_concluded, over, signing_of, without_confirmation}
-use Rattle.agent_model.specs.Errands.{Signs, ask_fault, put_unless}
+use Rattle.agent_model.specs.Errands.{Signs, put_unless}
 use Rattle.agent_model.specs.KeyStates.{KeyState}
 use Rattle.agent_model.specs.Runs.{Stamped}
 use Rattle.agent_model.specs.State.{Port, State, UnderWay, find_port}
@@ -25,14 +25,13 @@ use Rattle.agent_model.specs.Verdicts.{Cause, NoLongerAllowed, Refuses}
 use Rattle.agent_model.proofs.GrantLemmas.{IsGranted, allowed, disallowed, unasked}
 use Rattle.agent_model.proofs.JobLemmas.{IsIn, in-found}
 use Rattle.agent_model.proofs.RoomLemmas.{RoomFor, free, full, no_ask, no_job, room-of}
-use Rattle.agent_laws.specs.Dues.{Claim, claim_of_raising, due_signing, is_consented, is_met, is_permitted, met_by, open_asks, proved_of, raised_at}
-use Rattle.agent_laws.specs.History.{IsLawful, onto}
+use Rattle.agent_laws.specs.Dues.{Claim, claim_of_raising, due_signing, is_met, is_permitted, met_by, open_asks, proved_of, raised_at}
 use Rattle.agent_laws.specs.Past.{PastAddition, held_by}
 use Rattle.agent_laws.proofs.DueLemmas.{all_pass, met_with, third_fails}
 use Rattle.agent_laws.proofs.HoldsLemmas.{Facts, Holds, facts_of, key_of}
-use Rattle.agent_laws.proofs.PastLemmas.{stamp, stamps}
+use Rattle.agent_laws.proofs.PastLemmas.{stamp}
 use Rattle.agent_laws.proofs.RaisedLemmas.{AllRaised, IsRaised, all_raised-more, all_raised-over}
-use Rattle.agent_laws.proofs.StepLemmas.{Agrees, Goes, Opened, due_as, numbers-append, numbers_of}
+use Rattle.agent_laws.proofs.StepLemmas.{Agrees, Goes, Opened, due_as, numbers-append}
 
 -- ---- a confirmation ends
 

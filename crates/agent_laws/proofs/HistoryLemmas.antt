@@ -1,12 +1,11 @@
 -- Over all events, signatures are put to the helper exactly where the past says so.
-use Rattle.std.proofs.Common.{◌≡◌, ℕ, ◌+◌, ◌-◌, ◌^◌, ◌<◌, ◌≤◌, max, nat_lt, Bool, true, false, List, [], ◌∷◌, ◌++◌, refl, ap, arith, sym, subst, ◌∙◌, Option, Some, None}
+use Rattle.std.proofs.Common.{◌≡◌, ℕ, ◌<◌, ◌≤◌, nat_lt, Bool, true, false, List, [], ◌∷◌, refl, ap, arith, sym, subst, ◌∙◌, Option, Some, None}
 use Rattle.std.proofs.lemmas.Bool.Decides.{nat_tests}
 use Rattle.std.proofs.Math.Nat.{le-max_left}
 use Rattle.world_ports.specs.declared.Door.{Door}
 use Rattle.world_ports.specs.declared.Moment.{Moment}
-use Rattle.dest_rule.specs.declared.binding.Binding.{Binding}
 use Rattle.agent_model.specs.Actions.{Action, Outcome}
-use Rattle.agent_model.specs.Bindings.{bound_after, bound_by, chain_at, chain_of}
+use Rattle.agent_model.specs.Bindings.{bound_after, chain_of}
 use Rattle.agent_model.specs.Events.{Happening, Timed}
 use Rattle.agent_model.specs.Runs.{Stamped, history, run, stamped}
 use Rattle.agent_model.specs.Sound.{IsJudged, IsTied}
@@ -17,14 +16,14 @@ use Rattle.agent_model.proofs.JudgedRunLemmas.{Adds, first-judged, step-judged}
 use Rattle.agent_model.proofs.PortsLemmas.{found_within}
 use Rattle.agent_model.specs.Sound.{IsRising}
 use Rattle.agent_model.proofs.MakeLemmas.{by_event}
-use Rattle.agent_model.proofs.NumberLemmas.{run-grows, step-grows}
+use Rattle.agent_model.proofs.NumberLemmas.{run-grows}
 use Rattle.agent_model.proofs.RunLemmas.{step-rises, step-unused}
 use Rattle.agent_laws.specs.Dues.{proved_of}
 use Rattle.agent_laws.specs.History.{HasNumbers, IsLawful, onto}
 use Rattle.agent_laws.proofs.HoldsLemmas.{fresh-expired, holds-expired, holds-first, numbers-expired}
 use Rattle.agent_laws.proofs.RaisedLemmas.{all_raised-kept}
 use Rattle.agent_laws.proofs.MadeLemmas.{goes-makes}
-use Rattle.agent_laws.proofs.PastLemmas.{lawful-append, onto-append, stamp, stamps}
+use Rattle.agent_laws.proofs.PastLemmas.{lawful-append, stamp, stamps}
 use Rattle.agent_laws.proofs.StepLemmas.{Agrees, Goes, Opened}
 
 -- the past tells what a state holds, what its connections are bound to, and nothing of ports that haven't joined

@@ -1,21 +1,21 @@
 -- What the past tells of the keys and the lock is what the agent holds.
-use Rattle.std.proofs.Common.{◌≡◌, ℕ, ◌+◌, ◌≤◌, ◌<◌, List, [], ◌∷◌, refl, ap, arith, sym, subst, ◌∙◌, Option, Some, None, Bool, true, false, cond, is_some, nat_lt, ◌==◌, Result, Ok, Err}
+use Rattle.std.proofs.Common.{◌≡◌, ℕ, ◌+◌, ◌≤◌, List, [], refl, ap, arith, sym, subst, ◌∙◌, Option, Some, None, Bool, true, false, cond, is_some, ◌==◌, Result, Ok, Err}
 use Rattle.std.specs.Option.{option_map}
 use Rattle.std.specs.Str.{bytes_eq}
 use Rattle.std.proofs.lemmas.Bool.Decides.{nat_tests}
 use Rattle.agent_msg.specs.declared.fault.MsgFault.{MsgFault}
 use Rattle.agent_msg.specs.Requests.{Addition, ClientRequest, ListIdentities, Sign, Add, Remove, RemoveAll, Lock, Unlock, Bind, OtherExtension, Unsupported}
 use Rattle.identity_table.specs.Deaths.{death_of, lives_at}
-use Rattle.identity_table.specs.Identities.{HaveOwnBlobs, HaveOwnNumbers, HeldKey, TableState, alive_at, find_identity, find_number, identity_of, max_answer, new_identity, put_identity, remove_identity}
+use Rattle.identity_table.specs.Identities.{HaveOwnBlobs, HaveOwnNumbers, HeldKey, TableState, alive_at, find_identity, find_number, identity_of, new_identity, remove_identity}
 use Rattle.identity_table.proofs.FindLemmas.{find-alive, find-put, find-remove, if_alive, own_blobs-alive, own_blobs-put, own_blobs-remove}
 use Rattle.identity_table.proofs.NumberLaws.{find_number-alive, find_number-put, find_number-remove, unless_blob}
 use Rattle.identity_table.proofs.NumberLemmas.{own_numbers-alive, own_numbers-put, own_numbers-remove}
-use Rattle.agent_model.specs.Dispatch.{Asker, Served, add_by, add_fault, add_seen, add_unless, length_with, lock_by, remove_by, remove_seen, sees, serve, serve_by, serve_locked, serve_unlocked, unlock_by, with_addition, with_identities}
+use Rattle.agent_model.specs.Dispatch.{Asker, Served, serve, with_addition, with_identities}
 use Rattle.agent_model.specs.KeyStates.{KeyState, expired, no_keys}
-use Rattle.agent_model.specs.Limits.{last_number}
 use Rattle.agent_model.specs.Runs.{Stamped}
 use Rattle.agent_model.specs.State.{UnderWay}
-use Rattle.agent_model.specs.Verdicts.{Cause}
+use Rattle.agent_model.specs.Verdicts.{Cause, Refuses, Verdict}
+use Rattle.agent_model.proofs.ServeLemmas.{Serves, adds, confirms, denies, empties, lists, locks, removes, serves-any, signs, unlocks, verifies}
 use Rattle.agent_laws.specs.Past.{DidAdd, DidLock, DidNothing, DidRemove, DidRemoveAll, DidUnlock, Done, PastAddition, added_by, addition_count, counted_by, done_of_request, held_by, is_alive, last_addition, locked_by, was_locked}
 
 -- what the past tells: whether the agent is locked, how many additions succeeded, and the last addition of each blob
@@ -242,74 +242,47 @@ module _ (life : Option ℕ) (asker : Asker) (facts : Facts) (held : KeyState) (
 
   -- ---- the table of requests
 
-  -- what is held behind what was done
-  abbrev IsDoneBy : (Served → Done) → Served → Type 0
-  IsDoneBy done served = After (done served) served.held
+  nothing_by : (read : Result ClientRequest MsgFault) (cause : Cause) → done_of_request read (Refuses cause) ≡ DidNothing
+  nothing_by (Err fault) cause = refl
+  nothing_by (Ok ListIdentities) cause = refl
+  nothing_by (Ok (Sign signing)) cause = refl
+  nothing_by (Ok (Add addition)) cause = refl
+  nothing_by (Ok (Remove blob)) cause = refl
+  nothing_by (Ok RemoveAll) cause = refl
+  nothing_by (Ok (Lock passphrase)) cause = refl
+  nothing_by (Ok (Unlock passphrase)) cause = refl
+  nothing_by (Ok (Bind bind)) cause = refl
+  nothing_by (Ok (OtherExtension name)) cause = refl
+  nothing_by (Ok (Unsupported number)) cause = refl
 
-  done-unless : (fault : Option Cause) (addition : Addition) → IsDoneBy (λ served. done_of_request (Ok (Add addition)) served.work.verdict) (add_unless fault addition asker.mono held under_way)
-  done-unless (Some cause) addition = nothing_done
-  done-unless None addition = added_done addition
-
-  done-seen : (seen : Bool) (addition : Addition) → IsDoneBy (λ served. done_of_request (Ok (Add addition)) served.work.verdict) (add_seen seen addition asker.mono held under_way)
-  done-seen false addition = nothing_done
-  done-seen true addition =
-      done-unless (add_fault (nat_lt max_answer (length_with addition asker.mono held.table)) (held.table.last == last_number)) addition
-
-  done-add : (found : Option HeldKey) (addition : Addition) → IsDoneBy (λ served. done_of_request (Ok (Add addition)) served.work.verdict) (add_by found asker addition held under_way)
-  done-add None addition = done-seen true addition
-  done-add (Some key) addition = done-seen (sees asker key) addition
-
-  done-remove_seen : (seen : Bool) (blob : List ℕ) → IsDoneBy (λ served. done_of_request (Ok (Remove blob)) served.work.verdict) (remove_seen seen blob held under_way)
-  done-remove_seen false blob = nothing_done
-  done-remove_seen true blob = removed_done blob
-
-  done-remove : (found : Option HeldKey) (blob : List ℕ) → IsDoneBy (λ served. done_of_request (Ok (Remove blob)) served.work.verdict) (remove_by found asker blob held under_way)
-  done-remove None blob = nothing_done
-  done-remove (Some key) blob = done-remove_seen (sees asker key) blob
-
-  done-lock : (passphrase : List ℕ) → IsDoneBy (λ served. done_of_request (Ok (Lock passphrase)) served.work.verdict) (lock_by passphrase held under_way)
-  done-lock [] = nothing_done
-  done-lock (byte ∷ bytes) = record {
-    holds = record { locked = refl; count = holds.count; default = holds.default; own = holds.own; numbers = holds.numbers; found = holds.found };
+  lock_changed : (lock : Option (List ℕ)) (done : Done) → locked_by done facts.locked ≡ is_some lock → facts_after done asker.mono facts ≡ record facts { locked = locked_by done facts.locked } → After done (record held { lock = lock })
+  lock_changed lock done locked same = record {
+    holds = subst (λ f. Holds life asker.mono f (record held { lock = lock })) (sym same)
+        record { locked = locked; count = holds.count; default = holds.default; own = holds.own; numbers = holds.numbers; found = holds.found };
     kept = same_numbers held _ refl;
   }
 
-  done-unlock : (same : Bool) (passphrase : List ℕ) → IsDoneBy (λ served. done_of_request (Ok (Unlock passphrase)) served.work.verdict) (unlock_by same held under_way)
-  done-unlock true passphrase = record {
-    holds = record { locked = refl; count = holds.count; default = holds.default; own = holds.own; numbers = holds.numbers; found = holds.found };
-    kept = same_numbers held _ refl;
-  }
-  done-unlock false passphrase = nothing_done
+  module _ (read : Result ClientRequest MsgFault) where
+    as_read : (request : ClientRequest) (verdict : Verdict) (after : KeyState) → read ≡ Ok request →
+        After (done_of_request (Ok request) verdict) after → After (done_of_request read verdict) after
+    as_read request verdict after is =
+        subst (λ r. After (done_of_request r verdict) after) (sym is)
 
-  done-unlocked : (request : ClientRequest) → IsDoneBy (λ served. done_of_request (Ok request) served.work.verdict) (serve_unlocked request asker held under_way)
-  done-unlocked ListIdentities = nothing_done
-  done-unlocked (Sign signing) = nothing_done
-  done-unlocked (Add addition) = done-add (find_identity addition.key.blob held.table.identities) addition
-  done-unlocked (Remove blob) = done-remove (find_identity blob held.table.identities) blob
-  done-unlocked RemoveAll = all_removed
-  done-unlocked (Lock passphrase) = done-lock passphrase
-  done-unlocked (Unlock passphrase) = nothing_done
-  done-unlocked (Bind bind) = nothing_done
-  done-unlocked (OtherExtension name) = nothing_done
-  done-unlocked (Unsupported number) = nothing_done
+    done-served : {served : Served} → Serves read asker held under_way served →
+        After (done_of_request read served.work.verdict) served.held
+    done-served (denies cause) = subst (λ done. After done held) (sym (nothing_by read cause)) nothing_done
+    done-served (lists identities is) = as_read ListIdentities _ held is nothing_done
+    done-served (adds addition is) = as_read (Add addition) _ _ is (added_done addition)
+    done-served (removes blob is) = as_read (Remove blob) _ _ is (removed_done blob)
+    done-served (empties is) = as_read RemoveAll _ _ is all_removed
+    done-served (locks passphrase is) =
+        as_read (Lock passphrase) _ _ is (lock_changed (Some passphrase) DidLock refl refl)
+    done-served (unlocks passphrase is) =
+        as_read (Unlock passphrase) _ _ is (lock_changed None DidUnlock refl refl)
+    done-served (signs signing key is found asks free) = as_read (Sign signing) _ held is nothing_done
+    done-served (confirms signing key is found free) = as_read (Sign signing) _ held is nothing_done
+    done-served (verifies bind is_new is stands free) = as_read (Bind bind) _ held is nothing_done
 
-  done-locked : (passphrase : List ℕ) (request : ClientRequest) → IsDoneBy (λ served. done_of_request (Ok request) served.work.verdict) (serve_locked passphrase request held under_way)
-  done-locked passphrase ListIdentities = nothing_done
-  done-locked passphrase (Sign signing) = nothing_done
-  done-locked passphrase (Add addition) = nothing_done
-  done-locked passphrase (Remove blob) = nothing_done
-  done-locked passphrase RemoveAll = nothing_done
-  done-locked passphrase (Lock other) = nothing_done
-  done-locked passphrase (Unlock other) = done-unlock (bytes_eq passphrase other) other
-  done-locked passphrase (Bind bind) = nothing_done
-  done-locked passphrase (OtherExtension name) = nothing_done
-  done-locked passphrase (Unsupported number) = nothing_done
-
-  done-by : (lock : Option (List ℕ)) (request : ClientRequest) → IsDoneBy (λ served. done_of_request (Ok request) served.work.verdict) (serve_by lock request asker held under_way)
-  done-by None request = done-unlocked request
-  done-by (Some passphrase) request = done-locked passphrase request
-
-  -- whatever is asked, what is held behind it is what the past and it tell
-  pub holds-served : (read : Result ClientRequest MsgFault) → After (done_of_request read (serve read asker held under_way).work.verdict) (serve read asker held under_way).held
-  holds-served (Ok request) = done-by held.lock request
-  holds-served (Err fault) = nothing_done
+    -- whatever is asked, what is held behind it is what the past and it tell
+    pub holds-served : After (done_of_request read (serve read asker held under_way).work.verdict) (serve read asker held under_way).held
+    holds-served = done-served (serves-any read asker held under_way)

@@ -1,13 +1,12 @@
 -- A key whose only constraint leads from the agent's own host to one host signs for that host alone.
-use Rattle.std.proofs.Common.{◌≡◌, ◌≢◌, ℕ, List, [], ◌∷◌, refl, ap, sym, ◌∙◌, Option, Some, None, Bool, true, false, ◌&&◌, ◌||◌, Result, Ok, Err}
+use Rattle.std.proofs.Common.{◌≡◌, ℕ, List, [], ◌∷◌, refl, ap, sym, ◌∙◌, Option, Some, None, Bool, true, false, ◌&&◌, ◌||◌, Result, Ok, Err}
 use Rattle.agent_msg.specs.Requests.{Signing}
 use Rattle.constraint_rec.specs.declared.constraint.Constraint.{Constraint}
 use Rattle.userauth_blob.specs.Reading.{auth_of}
 use Rattle.userauth_blob.specs.UserAuths.{Login}
 use Rattle.userauth_blob.specs.declared.fault.AuthFault.{AuthFault}
-use Rattle.dest_rule.specs.Rules.{Grounds, admits, bad_place, denial, denial_of_login, denial_of_place, denial_under, is_hop, leaves, on_the_way}
+use Rattle.dest_rule.specs.Rules.{Grounds, admits, bad_place, denial, denial_of_login, denial_of_place, denial_under, is_hop, leaves}
 use Rattle.dest_rule.specs.declared.binding.Binding.{Binding}
-use Rattle.dest_rule.specs.declared.denial.Denial.{Denial}
 use Rattle.dest_rule.proofs.LawLemmas.{every_hop, origin_alone, signed_is_newest, unbound_is_denied}
 use Rattle.agent_model.specs.Events.{Timed}
 use Rattle.agent_model.specs.Runs.{Stamped, run}

@@ -1,7 +1,6 @@
 -- What the helper answers agrees with the past, and so does all that an event makes.
 use Rattle.std.proofs.Common.{◌≡◌, ℕ, List, [], ◌∷◌, ◌++◌, refl, ap, sym, subst, ◌∙◌, Option, Some, None, Bool, true, false, cond, ◌==◌}
 use Rattle.world_ports.specs.declared.Moment.{Moment}
-use Rattle.wire_text.specs.Frames.{front_body}
 use Rattle.helper_link.specs.Answered.{LeadTo}
 use Rattle.helper_link.specs.Settling.{remove_ask}
 use Rattle.helper_link.specs.Telling.{Telling, telling}
@@ -10,7 +9,7 @@ use Rattle.helper_link.specs.declared.answer.Settled.{Settled}
 use Rattle.helper_link.specs.declared.ask.Ask.{Ask}
 use Rattle.helper_link.specs.declared.fault.LinkFault.{LinkFault}
 use Rattle.helper_link.proofs.AnswerLemmas.{settling_leads}
-use Rattle.agent_model.specs.Actions.{Action, Answered, Lost, Outcome, acted, and_then, stay}
+use Rattle.agent_model.specs.Actions.{Action, Answered, Lost, Outcome, acted, and_then}
 use Rattle.agent_model.specs.Answers.{Answering, answer_all, answer_by, lose, lose_if, proved_at, with_answers}
 use Rattle.agent_model.specs.Events.{Happening}
 use Rattle.agent_model.specs.KeyStates.{KeyState}
@@ -18,17 +17,17 @@ use Rattle.agent_model.specs.Runs.{Stamped}
 use Rattle.agent_model.specs.Sound.{IsTied}
 use Rattle.agent_model.specs.State.{Port, State, Verification, find_port}
 use Rattle.agent_model.proofs.BindLemmas.{AnswerIs, answer_is, proves, tells as told_so}
-use Rattle.agent_model.proofs.FatedLemmas.{tied-quiet}
-use Rattle.agent_model.proofs.MakeLemmas.{Makes, Quiet, first, grants, loses, overs, serves, stays, tells}
+use Rattle.agent_model.proofs.TiedLemmas.{tied-quiet}
+use Rattle.agent_model.proofs.MakeLemmas.{Makes, first, grants, loses, overs, serves, stays, tells}
 use Rattle.confirm_desk.specs.Confirmations.{Confirmation}
 use Rattle.agent_model.proofs.GrantLemmas.{grant-ends}
 use Rattle.agent_laws.proofs.GrantedLemmas.{goes-granted, over-agrees}
 use Rattle.agent_laws.proofs.RaisedLemmas.{all_raised-more}
-use Rattle.agent_laws.specs.Dues.{due_signing, open_asks, without_number}
+use Rattle.agent_laws.specs.Dues.{without_number}
 use Rattle.agent_laws.specs.History.{IsLawful, onto}
 use Rattle.agent_laws.proofs.HoldsLemmas.{Holds, facts_of}
 use Rattle.agent_laws.proofs.PastLemmas.{lawful-append, onto-append, stamp, stamps, stamps-append}
-use Rattle.agent_laws.proofs.StepLemmas.{Agrees, Calm, Goes, Opened, calm-quiet, keeps-calm, numbers_of, opened-quiet, served-agrees, served-lawful}
+use Rattle.agent_laws.proofs.StepLemmas.{Agrees, Goes, Opened, calm-quiet, keeps-calm, numbers_of, opened-quiet, served-agrees, served-lawful}
 
 -- the numbers of the asks that are left
 numbers-removed : (number : ℕ) (pending : List Ask) → without_number number (numbers_of pending) ≡ numbers_of (remove_ask number pending)

@@ -1,10 +1,10 @@
 -- Actions behind others.
-use Rattle.std.proofs.Common.{◌≡◌, ℕ, List, [], ◌∷◌, ◌++◌, map, refl, ap, ◌∙◌, Option, None}
+use Rattle.std.proofs.Common.{◌≡◌, ℕ, List, [], ◌∷◌, ◌++◌, map, refl, ap, Option, None}
 use Rattle.world_ports.specs.declared.Moment.{Moment}
 use Rattle.agent_model.specs.Actions.{Action}
 use Rattle.agent_model.specs.Runs.{Stamped}
 use Rattle.agent_laws.specs.Dues.{due_signing}
-use Rattle.agent_laws.specs.History.{IsLawful, StandsAt, onto}
+use Rattle.agent_laws.specs.History.{IsLawful, onto}
 
 -- actions at a moment
 abbrev pub stamp : Moment → Action → Stamped

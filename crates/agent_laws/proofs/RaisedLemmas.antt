@@ -1,5 +1,5 @@
 -- What waits for the user's consent was raised in the past.
-use Rattle.std.proofs.Common.{◌≡◌, ◌≢◌, ℕ, ◌+◌, ◌≤◌, List, [], ◌∷◌, ◌++◌, refl, ap, arith, sym, subst, ◌∙◌, ◌==◌, ◌⊎◌, Option, Some, None, Bool, true, false, cond, inl, inr, if◌then◌else◌}
+use Rattle.std.proofs.Common.{◌≡◌, ◌≢◌, ℕ, ◌+◌, ◌≤◌, List, [], ◌∷◌, ◌++◌, refl, ap, arith, sym, subst, ◌∙◌, ◌==◌, Some, None, Bool, true, false, cond, inl, inr, if◌then◌else◌}
 use Rattle.std.proofs.lemmas.Bool.Decides.{nat_tests}
 use Rattle.world_ports.specs.declared.Moment.{Moment}
 use Rattle.agent_msg.specs.Requests.{Signing}
@@ -15,7 +15,7 @@ use Rattle.agent_model.specs.Runs.{Stamped}
 use Rattle.agent_model.proofs.JobLemmas.{changed_back, find_job-push, find_job-remove, job_within}
 use Rattle.agent_model.proofs.MakeLemmas.{Kept, altered, unchanged}
 use Rattle.agent_laws.specs.Dues.{raised_at}
-use Rattle.agent_laws.proofs.HoldsLemmas.{Facts, Holds, NumbersKept}
+use Rattle.agent_laws.proofs.HoldsLemmas.{NumbersKept}
 
 -- this confirmation was raised so, and is not over; the key that its addition's number finds has the blob that was asked for
 pub record IsRaised (past : List Stamped) (held : KeyState) (one : Confirmation) : Type 0 where

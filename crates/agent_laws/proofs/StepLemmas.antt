@@ -1,5 +1,5 @@
 -- Each event does what the past says, and the past goes on telling what the agent holds.
-use Rattle.std.proofs.Common.{◌≡◌, ℕ, ◌+◌, ◌-◌, ◌^◌, ◌<◌, ◌≤◌, List, [], ◌∷◌, ◌++◌, map, refl, ap, sym, subst, ◌∙◌, Option, Some, None, Bool, true, false, cond, ◌==◌, Result, Ok, Err}
+use Rattle.std.proofs.Common.{◌≡◌, ℕ, ◌+◌, ◌-◌, ◌^◌, ◌<◌, List, [], ◌∷◌, ◌++◌, map, refl, ap, sym, subst, ◌∙◌, Option, Some, None, Result, Ok, Err}
 use Rattle.world_ports.specs.declared.Moment.{Moment}
 use Rattle.wire_text.specs.Frames.{front_body}
 use Rattle.agent_msg.specs.declared.fault.MsgFault.{MsgFault}
@@ -18,21 +18,20 @@ use Rattle.agent_model.specs.Dispatch.{Asker, Served, serve}
 use Rattle.agent_model.specs.Events.{Happening}
 use Rattle.agent_model.specs.KeyStates.{KeyState}
 use Rattle.agent_model.specs.Runs.{Stamped}
-use Rattle.agent_model.specs.State.{Port, State, UnderWay, Verification, find_port}
+use Rattle.agent_model.specs.State.{Port, State, UnderWay, find_port}
 use Rattle.agent_model.specs.Step.{asker_at}
-use Rattle.agent_model.specs.Verdicts.{Verdict}
 use Rattle.agent_model.specs.Children.{unheard}
 use Rattle.agent_model.specs.Sound.{IsRising}
 use Rattle.agent_model.proofs.JudgeLemmas.{keeps-changed, keeps-removed, keeps-same}
 use Rattle.agent_model.proofs.JudgedLemmas.{Keeps}
 use Rattle.agent_model.proofs.MakeLemmas.{Quiet, alters, closes, goes_on, links, names}
-use Rattle.agent_laws.specs.Dues.{Claim, claim_of_request, due_signing, met_by, open_asks, proved_of, without_number}
+use Rattle.agent_laws.specs.Dues.{Claim, claim_of_request, due_signing, met_by, open_asks, proved_of}
 use Rattle.agent_laws.specs.History.{IsDue, IsLawful, onto}
 use Rattle.agent_laws.specs.Past.{done_of_request}
 use Rattle.agent_laws.proofs.DueLemmas.{Acts, acts-served, asks, due_read, met_with, raises_it, silent}
 use Rattle.agent_laws.proofs.HoldsLemmas.{Facts, Holds, HoldsAfter, NumbersKept, facts_after, facts_of, holds-served}
 use Rattle.agent_laws.proofs.RaisedLemmas.{AllRaised, Stays, as_it_is, lightly, stays-kept, all_raised-kept, all_raised-more, all_raised-push, all_raised-same}
-use Rattle.agent_laws.proofs.PastLemmas.{lawful-append, nothing_due, onto-append, stamp, stamps, stamps-append}
+use Rattle.agent_laws.proofs.PastLemmas.{nothing_due, stamp, stamps}
 
 abbrev pub numbers_of : List Ask → List ℕ
 numbers_of all = map (λ (one : Ask). one.number) all

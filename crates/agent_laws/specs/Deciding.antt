@@ -1,13 +1,13 @@
 -- The law of history as a test, and runs on which it is computed (ours).
-use Rattle.std.specs.Prelude.{ℕ, Bool, true, false, List, [], ◌∷◌, ◌++◌, map, codes, Option, Some, None, ◌==◌, ◌&&◌, if◌then◌else◌}
+use Rattle.std.specs.Prelude.{ℕ, Bool, true, false, List, [], ◌∷◌, ◌++◌, map, Option, Some, None, ◌==◌, ◌&&◌}
 use Rattle.std.specs.Str.{bytes_eq}
 use Rattle.world_ports.specs.declared.Door.TheVariants.{Clients, Children}
 use Rattle.agent_msg.specs.Requests.{Signing}
 use Rattle.agent_model.specs.Actions.{Action, Answered, Asked, ForBinding, ForSignature, Granted, Lost, Over, Proved, Purpose, Raised, Requested}
-use Rattle.agent_model.specs.BindRows.{bind, bind_certified, add_certified, add_only_to, right, sign_certified, sign_login, wrong}
-use Rattle.agent_model.specs.ChildRows.{hello, number, signed, ticket}
+use Rattle.agent_model.specs.BindRows.{bind, bind_certified, add_certified, add_only_to, right}
+use Rattle.agent_model.specs.ChildRows.{hello, number, ticket}
 use Rattle.agent_model.specs.Events.{Happening, Heard, Joined, Started, Timed, Took}
-use Rattle.agent_model.specs.Rows.{add, add_asking, add_for_ten, lock, moment_at, remove, sign}
+use Rattle.agent_model.specs.Rows.{add_asking, moment_at, sign}
 use Rattle.agent_model.specs.Runs.{Stamped, history}
 use Rattle.agent_model.specs.State.{first_state}
 use Rattle.agent_laws.specs.Dues.{Claim, due_signing}

@@ -1,12 +1,12 @@
 -- Literal rows of the searches: actions of a short past, the newest first (ours).
-use Rattle.std.specs.Prelude.{ℕ, List, [], ◌∷◌, codes, drop, Option, Some, None, true, map}
+use Rattle.std.specs.Prelude.{ℕ, List, [], ◌∷◌, drop, Option, None, true, map}
 use Rattle.std.specs.Option.{option_map}
 use Rattle.agent_msg.specs.Requests.{Signing}
 use Rattle.dest_rule.specs.declared.binding.Binding.{Binding}
 use Rattle.helper_link.specs.declared.answer.Answer.TheVariants as answers
-use Rattle.agent_model.specs.Actions.{Action, Answered, Asked, ForSignature, Granted, Lost, Over, Proved, Raised, Requested}
+use Rattle.agent_model.specs.Actions.{Action, Answered, Asked, ForSignature, Proved, Raised, Requested}
 use Rattle.agent_model.specs.Events.{Happening, Timed}
-use Rattle.agent_model.specs.Rows.{add, add_asking, add_for_ten, blob, lock, moment_at, remove, remove_all, sign, unlock}
+use Rattle.agent_model.specs.Rows.{blob, moment_at}
 use Rattle.agent_model.specs.Runs.{Stamped, history}
 use Rattle.agent_model.specs.State.{OnAsk, first_state}
 use Rattle.agent_model.specs.Verdicts.{Awaits, Locked, Refuses, Replies, Success, Verdict}

@@ -3,7 +3,6 @@ use Rattle.std.proofs.Common.{◌≡◌, ◌≢◌, ℕ, suc, ◌+◌, List, [],
 use Rattle.std.proofs.lemmas.Bool.{cases_eq}
 use Rattle.std.proofs.lemmas.Bool.Decides.{nat_tests}
 use Rattle.world_ports.specs.declared.Door.{Door}
-use Rattle.world_ports.specs.declared.Door.TheVariants.{Clients, Children}
 use Rattle.world_ports.specs.declared.Moment.{Moment}
 use Rattle.wire_text.specs.Frames.{front_body}
 use Rattle.confirm_desk.specs.Confirmations.{Confirmation, find_job}
@@ -16,73 +15,41 @@ use Rattle.helper_link.specs.Telling.{telling}
 use Rattle.helper_link.specs.declared.answer.Settled.{Settled}
 use Rattle.helper_link.specs.declared.ask.Ask.{Ask}
 use Rattle.helper_link.specs.declared.fault.LinkFault.{LinkFault}
-use Rattle.helper_link.specs.declared.state.LinkState.{LinkState}
-use Rattle.helper_link.specs.declared.state.LinkState.TheVariants as states
 use Rattle.helper_link.proofs.AnswerLemmas.{settling_leads}
 use Rattle.helper_link.proofs.OrderLemmas.{remove_rises}
 use Rattle.agent_model.specs.Actions.{Action, Asked, ForSignature, Granted, Outcome, Over, Work}
-use Rattle.agent_model.specs.Answers.{Answering, answer_all, answer_by, answers_in, close_helper, lose, lose_if, tell_each, with_answers}
-use Rattle.agent_model.specs.Children.{changed, unheard}
+use Rattle.agent_model.specs.Answers.{Answering, answer_all, answer_by, answers_in, lose, lose_if, tell_each, with_answers}
+use Rattle.agent_model.specs.Children.{changed}
 use Rattle.agent_model.specs.Consents.{close_confirmer, grant_concluded, over, signing_of, without_confirmation}
 use Rattle.agent_model.specs.Dispatch.{Served}
 use Rattle.agent_model.specs.Events.{Ended, Happening}
 use Rattle.agent_model.specs.Fates.{IsTold}
 use Rattle.agent_model.specs.Grants.{IsAgreed, IsAmong, agreed, disagreed, unagreed, ungranted}
 use Rattle.agent_model.specs.Sound.{AreTied, IsTied}
-use Rattle.agent_model.specs.State.{Nothing, OnAsk, OnConfirmation, Port, State, change_port, find_port, remove_port}
+use Rattle.agent_model.specs.State.{Nothing, OnAsk, OnConfirmation, Port, State, change_port, find_port}
 use Rattle.agent_model.specs.Step.{admitted, asker_at, at_moment, attempts, concluded, has_room, step, take_frame}
 use Rattle.agent_model.specs.Verdicts.{Awaits, HelperLost, NoLongerAllowed, NotConfirmed, Refuses, Replies, Verdict, tell, verdict_text, verdict_waits}
 use Rattle.agent_model.proofs.FateLemmas.{answers_as, one_answer, one_lost, told-apart, told-here}
-use Rattle.agent_model.proofs.FatedLemmas.{found_still, tied-close, tied-opened, tied-quiet, tied_mid}
+use Rattle.agent_model.proofs.FatedLemmas.{found_still, tied-close, tied-opened, tied_mid}
+use Rattle.agent_model.proofs.TiedLemmas.{tied-quiet}
 use Rattle.agent_model.proofs.GrantLemmas.{IsGranted, allowed, disallowed, grant-ends, unasked}
 use Rattle.agent_model.proofs.JobLemmas.{IsIn, in-found}
-use Rattle.agent_model.proofs.MakeLemmas.{IsMild, Makes, MayClose, Quiet, alters, by_event, child, closes, ended, first, goes_on, grants, idle, links, loses, mild-unheard, names, overs, serves, stays, tells}
-use Rattle.agent_model.proofs.PortsLemmas.{find_port-removed_apart}
+use Rattle.agent_model.proofs.MakeLemmas.{Makes, by_event, first, grants, loses, overs, serves, stays, tells}
 use Rattle.agent_model.proofs.ServeLemmas.{IsServed, answered, asked, raised, refused, serve-ends}
 use Rattle.agent_model.proofs.TieLemmas.{not_asker}
-use Rattle.agent_model.proofs.TraceLemmas.{ArePlain, among-plain, plain-answers, plain-lost}
+use Rattle.agent_model.proofs.ActionLemmas.{ArePlain, IsPlain, among-each, plain-tells}
+use Rattle.agent_model.proofs.WaitLemmas.{told-close_confirmer, told-close_helper, waits-quiet, waits-served}
 
 -- who waits for the user
 abbrev Waits : ℕ → ℕ → List Port → Type 0
 Waits number job ports = IsTold number (Awaits (OnConfirmation job)) ports
 
--- doesn't wait for the helper
+-- doesn't wait for the helper, nor for nothing
 not_ask : (job ask : ℕ) → verdict_waits (Awaits (OnConfirmation job)) ≢ OnAsk ask
 not_ask job ask is = absurd (cc)
 
--- ---- changes that don't tell it
-
-waits-mild : (number job at : ℕ) (f : Port → Port) (ports : List Port) → IsMild f → Waits number job ports → Waits number job (change_port at f ports)
-waits-mild number job at f ports mild told = elim (cases_eq number at) [
-  | inl same_number ↦ subst (λ n. Waits number job (change_port n f ports)) same_number
-      (told-here number (Awaits (OnConfirmation job)) (Awaits (OnConfirmation job)) f ports mild.number mild.door mild.owed (λ p waits. mild.waits p ∙ waits) told)
-  | inr other ↦ told-apart number at (Awaits (OnConfirmation job)) f ports mild.number other told
-]
-
--- its port stays
-waits-removed : (number job at : ℕ) (ports : List Port) → number ≢ at → Waits number job ports → Waits number job (remove_port at ports)
-waits-removed number job at ports other told =
-    record { port = told.port; found = find_port-removed_apart number at ports other ∙ told.found; door = told.door; owed = told.owed; waits = told.waits }
-
--- unless it ended
-waits-quiet : {event : Happening} {old new : State} (number job : ℕ) → Quiet event old new → event ≢ Ended number → Waits number job old.ports → Waits number job new.ports
-waits-quiet {old = old} number job (alters at f mild) open_yet told = waits-mild number job at f old.ports mild told
-waits-quiet {event = event} {old = old} number job (closes at may) open_yet told = waits-removed number job at old.ports (other may) told
-  where
-    is_port : (port : Port) → number ≡ at → find_port at old.ports ≡ Some port → told.port ≡ port
-    is_port port equal found = let is : Some told.port ≡ Some port = sym told.found ∙ ap (λ n. find_port n old.ports) equal ∙ found in cc
-
-    other : MayClose event at old.ports old.under_way.confirmations → number ≢ at
-    other (idle port found nothing client) equal =
-        let waits : OnConfirmation job ≡ Nothing = sym told.waits ∙ ap (λ (p : Port). p.waits) (is_port port equal found) ∙ nothing in
-        absurd (cc)
-    other (child port found door free) equal =
-        let doors : Clients ≡ Children = sym told.door ∙ ap (λ (p : Port). p.door) (is_port port equal found) ∙ door in
-        absurd (cc)
-    other (ended is) equal = open_yet (is ∙ ap Ended (sym equal))
-waits-quiet number job (goes_on new asks) open_yet told = told
-waits-quiet {old = old} number job (names at number_of port found door free) open_yet told = waits-mild number job number_of unheard old.ports mild-unheard told
-waits-quiet {old = old} number job (links at number_of port found door free other) open_yet told = waits-mild number job number_of unheard old.ports mild-unheard told
+for_it : (job : ℕ) → OnConfirmation job ≢ Nothing
+for_it job is = absurd (cc)
 
 -- ---- the helper
 
@@ -104,18 +71,8 @@ waits-tell_each number job low last (one ∷ asks) ports rise tied told =
 
 waits-lost : (number job : ℕ) (state : State) → IsTied state → Waits number job state.ports → Waits number job (lose state).state.ports
 waits-lost number job state tied told =
-    waits-tell_each number job 0 state.under_way.link.last state.under_way.link.asks _ tied.order (tied-close state tied state.under_way.link.state) (by_link state.under_way.link.state refl)
-  where
-    by_link : (link : LinkState) → state.under_way.link.state ≡ link → Waits number job (close_helper link state.ports)
-    by_link states.None is = told
-    by_link (states.Starting at) is = told
-    by_link (states.Linked at) is = waits-removed number job at state.ports other told
-      where
-        other : number ≢ at
-        other equal =
-            let child_there : told.port.door ≡ Children = tied.helper at told.port is (ap (λ n. find_port n state.ports) (sym equal) ∙ told.found) in
-            let doors : Clients ≡ Children = sym told.door ∙ child_there in
-            absurd (cc)
+    waits-tell_each number job 0 state.under_way.link.last state.under_way.link.asks _ tied.order (tied-close state tied state.under_way.link.state)
+    (told-close_helper number _ state.under_way.link.state state.ports (λ at port is there. tied.helper at port is there) told)
 
 waits-fault : (number job : ℕ) (fault : Option LinkFault) (state : State) → IsTied state → Waits number job state.ports → Waits number job (lose_if fault state).state.ports
 waits-fault number job None state tied told = told
@@ -129,11 +86,11 @@ only_grant job other actions plain differs = (by_grant, by_over)
   where
     by_grant : IsAmong (Granted job) (Granted other ∷ actions) → ⊥
     by_grant (inl is) = let equal : other ≡ job = cc in differs (sym equal)
-    by_grant (inr later) = among-plain (Granted job) actions (λ is. is) plain later
+    by_grant (inr later) = among-each IsPlain (Granted job) actions (λ is. is) plain later
 
     by_over : IsAmong (Over job) (Granted other ∷ actions) → ⊥
     by_over (inl is) = absurd (cc)
-    by_over (inr later) = among-plain (Over job) actions (λ is. is) plain later
+    by_over (inr later) = among-each IsPlain (Over job) actions (λ is. is) plain later
 
 -- none of two actions
 by_two : (action : Action) {one two : Action} → (one ≡ action → ⊥) → (two ≡ action → ⊥) → IsAmong action (one ∷ two ∷ []) → ⊥
@@ -147,17 +104,8 @@ module _ (number job : ℕ) (confirmation : Confirmation) (state : State) (there
 
   -- its port stays
   left_open : Waits number job (close_confirmer confirmation.port state.ports)
-  left_open = by_port confirmation.port refl
-    where
-      by_port : (at : Option ℕ) → confirmation.port ≡ at → Waits number job (close_confirmer at state.ports)
-      by_port None is = told
-      by_port (Some at) is = waits-removed number job at state.ports other told
-        where
-          other : number ≢ at
-          other same =
-              let child_there : told.port.door ≡ Children = tied.raised.confirmers confirmation.job at confirmation told.port found_there is (ap (λ n. find_port n state.ports) (sym same) ∙ told.found) in
-              let doors : Clients ≡ Children = sym told.door ∙ child_there in
-              absurd (cc)
+  left_open =
+      told-close_confirmer number _ confirmation.port state.ports (λ n port is. tied.raised.confirmers confirmation.job n confirmation port found_there is) told
 
   -- the confirmation is its own, or another's
   own : (number ≡ confirmation.asker) ⊎ (number ≢ confirmation.asker) → ((job ≡ confirmation.job) × (number ≡ confirmation.asker)) ⊎ ((job ≢ confirmation.job) × (number ≢ confirmation.asker))
@@ -223,20 +171,11 @@ module _ (number job : ℕ) (confirmation : Confirmation) (state : State) (there
 
 agreed-plain : (number job : ℕ) (actions : List Action) (ports : List Port) → ArePlain actions → Waits number job ports → IsAgreed number job actions ports
 agreed-plain number job actions ports plain told =
-    unagreed (among-plain (Granted job) actions (λ is. is) plain) (among-plain (Over job) actions (λ is. is) plain) told
+    unagreed (among-each IsPlain (Granted job) actions (λ is. is) plain) (among-each IsPlain (Over job) actions (λ is. is) plain) told
 
 module _ (number job : ℕ) (body : List ℕ) (take : Port → Port) (keeps : (p : Port) → (take p).number ≡ p.number) (port : Port) (state : State) (found : find_port port.number state.ports ≡ Some port) (nothing : port.waits ≡ Nothing) (told : Waits number job state.ports) where
-  other_client : number ≢ port.number
-  other_client equal =
-      let is : Some told.port ≡ Some port = sym told.found ∙ ap (λ n. find_port n state.ports) equal ∙ found in
-      let is_port : told.port ≡ port = cc in
-      let waits : OnConfirmation job ≡ Nothing = sym told.waits ∙ ap (λ (p : Port). p.waits) is_port ∙ nothing in
-      absurd (cc)
-
   beside : (verdict : Verdict) → Waits number job (change_port port.number (tell verdict) (change_port port.number take state.ports))
-  beside verdict =
-      told-apart number port.number _ (tell verdict) (change_port port.number take state.ports) (λ p. refl) other_client
-      (told-apart number port.number _ take state.ports keeps other_client told)
+  beside verdict = waits-served number (OnConfirmation job) (for_it job) take verdict port state.ports keeps found nothing told
 
   agreed-served : {served : Served} → IsServed (asker_at state.moment port) state.held state.under_way served → IsAgreed number job (concluded port.number body served (changed port.number take state)).actions (concluded port.number body served (changed port.number take state)).state.ports
   agreed-served (answered reply kept same) = agreed-plain number job _ _ (tt, tt) (beside (Replies reply))
@@ -248,7 +187,7 @@ module _ (number job : ℕ) (body : List ℕ) (take : Port → Port) (keeps : (p
 
 agreed-makes : {event : Happening} {old : State} {outcome : Outcome} (number job : ℕ) → Makes event old outcome → event ≢ Ended number → IsTied old → Waits number job old.ports → IsAgreed number job outcome.actions outcome.state.ports
 agreed-makes number job (stays state) open_yet tied told = agreed-plain number job [] state.ports tt told
-agreed-makes number job (first quiet rest) open_yet tied told = agreed-makes number job rest open_yet (tied-quiet quiet tied) (waits-quiet number job quiet open_yet told)
+agreed-makes number job (first quiet rest) open_yet tied told = agreed-makes number job rest open_yet (tied-quiet quiet tied) (waits-quiet number (OnConfirmation job) (for_it job) quiet open_yet told)
 agreed-makes number job (serves body_len port state found door nothing owed) open_yet tied told =
     let body : List ℕ = front_body body_len port.heard in
     agreed-served number job body (take_frame body_len (attempts state.held.lock body)) (λ p. refl) port state found nothing told (serve-ends (asker_at state.moment port) state.held state.under_way body)
@@ -256,7 +195,7 @@ agreed-makes number job (tells piece state) open_yet tied told =
     let said = telling piece state.under_way.link in
     let before : Answering = record { ports = state.ports; verifications = state.under_way.verifications; actions = [] } in
     let mid : State = with_answers said.link (answers_in said.settled state) state in
-    agreed-plain number job _ _ (plain-lost (answer_all said.settled before).actions said.fault mid (plain-answers said.settled before tt))
+    agreed-plain number job _ _ (plain-tells said state)
     (waits-fault number job said.fault mid (tied_mid piece state tied)
     (waits-answers number job 0 state.under_way.link.last said.settled before state.under_way.link.asks said.link.asks (settling_leads (state.under_way.link.heard ++ piece) state.under_way.link.asks) tied.order tied.tied told))
 agreed-makes number job (loses state) open_yet tied told = agreed-plain number job _ _ (tt, tt) (waits-lost number job state tied told)

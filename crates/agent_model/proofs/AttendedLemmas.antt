@@ -31,7 +31,8 @@ use Rattle.agent_model.specs.State.{Client, Confirmer, Helper, Nothing, OnAsk, O
 use Rattle.agent_model.specs.Step.{admitted, asker_at, at_moment, attempts, concluded, ended_at, ended_by_role, handle, has_room, step, take_frame}
 use Rattle.agent_model.specs.Verdicts.{Awaits, HelperLost, NoLongerAllowed, NotConfirmed, Refuses, Replies, Verdict, tell}
 use Rattle.agent_model.proofs.FateLemmas.{answers_as}
-use Rattle.agent_model.proofs.FatedLemmas.{found_still, linked-begun, step-fated, tied-opened, tied-quiet, tied_mid}
+use Rattle.agent_model.proofs.FatedLemmas.{found_still, linked-begun, step-fated, tied-opened, tied_mid}
+use Rattle.agent_model.proofs.TiedLemmas.{tied-quiet}
 use Rattle.agent_model.proofs.GrantLemmas.{IsGranted, allowed, disallowed, grant-ends, unasked}
 use Rattle.agent_model.proofs.JobLemmas.{IsIn, asker_own, change-apart, changed_back, find_job-push, find_job-remove, here, in-by_asker, in-by_job, in-by_port, in-found, behind, linked_port}
 use Rattle.agent_model.proofs.MakeLemmas.{Kept, Makes, MayClose, Quiet, altered, alters, child, closes, ended, first, goes_on, grants, idle, links, loses, makes-handle, names, overs, role-client, role-confirmer, role-door, role-free, role-helper, serves, stays, tells, unchanged}

@@ -1,15 +1,13 @@
 -- Who waits for the helper stays tied to the asks at each event, and is told what becomes of its ask.
 use Rattle.std.proofs.Common.{◌≡◌, ◌≢◌, ℕ, suc, ◌+◌, ◌≤◌, List, [], ◌∷◌, ◌++◌, refl, ap, arith, sym, subst, ◌∙◌, ◌==◌, ◌⊎◌, Option, Some, None, Bool, true, false, cond, inl, inr}
 use Rattle.std.proofs.lemmas.List.{append-nil}
-use Rattle.std.proofs.lemmas.Bool.{cases_eq}
 use Rattle.world_ports.specs.declared.Door.{Door}
 use Rattle.world_ports.specs.declared.Door.TheVariants.{Clients, Children}
 use Rattle.world_ports.specs.declared.Moment.{Moment}
 use Rattle.wire_text.specs.Frames.{front_body}
 use Rattle.helper_link.specs.Answered.{LeadTo, is_answered}
-use Rattle.helper_link.specs.HelperLink.{HelperLink, ask_of, askers}
+use Rattle.helper_link.specs.HelperLink.{HelperLink, ask_of}
 use Rattle.helper_link.specs.Settling.{find_ask}
-use Rattle.helper_link.specs.Sound.{RiseTo}
 use Rattle.helper_link.specs.Telling.{Telling, telling}
 use Rattle.helper_link.specs.declared.ask.Ask.{Ask}
 use Rattle.helper_link.specs.declared.fault.LinkFault.{LinkFault}
@@ -24,7 +22,7 @@ use Rattle.confirm_desk.specs.Confirmations.{Confirmation, confirmation_of, find
 use Rattle.confirm_desk.specs.Prompt.{prompt_for}
 use Rattle.agent_model.specs.Actions.{Action, Asked, Lost, Outcome, Requested, Work, acted, and_then, stay}
 use Rattle.agent_model.specs.Answers.{Answering, answer_all, close_helper, helper_tells, lose, lose_if, with_answers}
-use Rattle.agent_model.specs.Children.{changed, unheard}
+use Rattle.agent_model.specs.Children.{changed}
 use Rattle.agent_model.specs.Dispatch.{Served}
 use Rattle.agent_model.specs.Errands.{Errand, Signs, begun_by, held_for, kind_of, message_of, purpose_of, with_ask, with_confirmation}
 use Rattle.agent_model.specs.Events.{Happening, Timed, Ended, Tick}
@@ -35,114 +33,23 @@ use Rattle.agent_model.specs.Sound.{AreTied, IsTied, IsWaiting}
 use Rattle.agent_model.specs.State.{Nothing, OnAsk, OnConfirmation, Port, State, UnderWay, change_port, find_port, first_state, new_port, Waits}
 use Rattle.agent_model.specs.Step.{admitted, asker_at, at_moment, attempts, concluded, has_room, step, take_frame, turned_away}
 use Rattle.agent_model.specs.Verdicts.{Awaits, NoLongerAllowed, NotConfirmed, Refuses, Replies, Verdict, tell, verdict_waits}
-use Rattle.agent_model.proofs.FateLemmas.{answer-waits, fate-answers, fate-append, tied-answers, tied-lost, told-apart, told-here, told-lost, waits-lost}
+use Rattle.agent_model.proofs.FateLemmas.{answer-waits, fate-answers, fate-append, tied-answers, tied-lost, told-apart, told-lost, waits-lost}
 use Rattle.agent_model.proofs.GrantLemmas.{IsGranted, allowed, disallowed, grant-ends, unasked}
 use Rattle.agent_model.proofs.GrowLemmas.{jobs-for}
 use Rattle.agent_model.proofs.JobLemmas.{IsIn, in-found}
-use Rattle.agent_model.proofs.LeadLemmas.{Follows, changes, follows-makes, follows-quiet, leads-answers, leads-close_confirmer, same}
-use Rattle.agent_model.proofs.MakeLemmas.{IsMild, Makes, MayClose, Quiet, alters, by_event, child, closes, ended, first, goes_on, grants, idle, links, loses, mild-unheard, names, overs, serves, stays, tells}
+use Rattle.agent_model.proofs.LeadLemmas.{Follows, changes, follows-makes, leads-answers, leads-close_confirmer, same}
+use Rattle.agent_model.proofs.MakeLemmas.{IsMild, Makes, by_event, first, grants, loses, overs, serves, stays, tells}
 use Rattle.agent_model.proofs.PortsLemmas.{change_port-twice, find_port-removed_apart, found_number, found_within, rising-append, rising_higher}
-use Rattle.agent_model.proofs.RaisedLemmas.{Fewer, fewer-changed, fewer-closed, fewer-removed, raised-answers, raised-fewer, raised-joined, raised-kept, raised-later, raised-linked, raised-lost, raised-over, raised-raised, raised-silent}
-use Rattle.agent_model.proofs.RunLemmas.{leads-found, leads-rising}
+use Rattle.agent_model.proofs.RaisedLemmas.{Fewer, fewer-closed, fewer-removed, raised-answers, raised-fewer, raised-joined, raised-later, raised-lost, raised-over, raised-raised, raised-silent}
 use Rattle.agent_model.proofs.ServeLemmas.{IsServed, answered, asked, raised, refused, serve-ends}
+use Rattle.agent_model.proofs.TiedLemmas.{assemble, tied-fewer, tied-quiet}
+use Rattle.agent_model.proofs.WaitLemmas.{told-close_confirmer, told-close_helper, waits-quiet, waits-served}
 use Rattle.agent_model.proofs.TieLemmas.{found_joined, tied-asked, tied-silent}
 
 -- the state is tied, and who waited before is told what the actions make of its ask, unless its port ended
 pub record Fated (event : Happening) (old : State) (outcome : Outcome) : Type 0 where
   pub tied : IsTied outcome.state
   pub told : (number ask : ℕ) → event ≢ Ended number → IsTold number (Awaits (OnAsk ask)) old.ports → IsTold number (fate_verdict (fate_of ask outcome.actions) ask) outcome.state.ports
-
--- what follows a tied state is tied, by its asks
-assemble : (old new : State) → Follows old new → IsTied old → RiseTo 0 new.under_way.link.asks new.under_way.link.last → AreTied new.ports new.under_way.link.asks → ((ask : ℕ) (one : Ask) → find_ask ask new.under_way.link.asks ≡ Some one → one.asker ≤ old.last_port) → ((number : ℕ) → new.under_way.link.state ≡ states.Linked number → old.under_way.link.state ≡ states.Linked number) → AreRaised new.under_way.confirmations new.under_way.last_job new.ports old.last_port → IsTied new
-assemble old new follows tied order ties askers linked consents = record {
-  rising = rw follows.last (leads-rising 0 old.last_port old.ports follows.ports tied.rising);
-  order = order;
-  tied = ties;
-  askers = λ ask one found. rw follows.last (askers ask one found);
-  helper = λ number port is found.
-      let before = leads-found number 0 old.last_port old.ports port follows.ports tied.rising found in
-      before.2 ∙ tied.helper number before.0 (linked number is) before.1;
-  known = λ number is. rw follows.last (tied.known number (linked number is));
-  raised = rw follows.last consents;
-}
-
--- ---- quiet changes
-
-tied-fewer : (old new : List Port) (asks : List Ask) → Fewer old new → AreTied old asks → AreTied new asks
-tied-fewer old new asks fewer tied = record {
-  waits = λ number ask port found is.
-      let was = fewer number port found in
-      let waiting = tied.waits number ask was.0 was.1 (sym was.2 ∙ is) in
-      record { kind = waiting.kind; unanswered = waiting.unanswered; owed = was.3 waiting.owed; door = was.4 ∙ waiting.door };
-  asks = λ ask one port there found.
-      let was = fewer one.asker port found in
-      was.2 ∙ tied.asks ask one was.0 there was.1;
-}
-
-linked_number : (a b : ℕ) → states.Linked a ≡ states.Linked b → a ≡ b
-linked_number a b is = cc
-
-pub tied-quiet : {event : Happening} {old new : State} → Quiet event old new → IsTied old → IsTied new
-tied-quiet {event = event} {old = old} (alters number f mild) tied =
-    assemble old _ (follows-quiet event old (alters number f mild) record { last = refl; ports = same }) tied tied.order (tied-fewer old.ports _ _ (fewer-changed number f old.ports mild) tied.tied) tied.askers (λ n is. is) (raised-fewer old.ports _ (fewer-changed number f old.ports mild) tied.raised)
-tied-quiet {event = event} {old = old} (closes number may) tied =
-    assemble old _ (follows-quiet event old (closes number may) record { last = refl; ports = same }) tied tied.order (tied-fewer old.ports _ _ (fewer-removed number 0 old.last_port old.ports tied.rising) tied.tied) tied.askers (λ n is. is) (raised-fewer old.ports _ (fewer-removed number 0 old.last_port old.ports tied.rising) tied.raised)
-tied-quiet {event = event} {old = old} (goes_on new asks) tied =
-    assemble old _ (follows-quiet event old (goes_on new asks) record { last = refl; ports = same }) tied (rw (asks.asks, asks.last) tied.order) (rw asks.asks tied.tied) (λ ask one found. tied.askers ask one (ap (find_ask ask) (sym asks.asks) ∙ found)) (λ n is. sym asks.state ∙ is) (rw asks.jobs (raised-kept old.ports asks.kept tied.raised))
-tied-quiet {event = event} {old = old} (names job number port found door free) tied =
-    let follows = follows-quiet event old {old = old} (names job number port found door free) record { last = refl; ports = same } in
-    record {
-      rising = leads-rising 0 old.last_port old.ports follows.ports tied.rising;
-      order = tied.order;
-      tied = tied-fewer old.ports _ _ (fewer-changed number unheard old.ports record { number = λ p. refl; door = λ p. refl; waits = λ p. refl; owed = λ p none. none; chain = λ p. refl }) tied.tied;
-      askers = tied.askers;
-      helper = λ n q linked there.
-          let before = leads-found n 0 old.last_port old.ports q follows.ports tied.rising there in
-          let same_port : number ≡ n = linked_number number n linked in
-          let is : Some before.0 ≡ Some port = sym before.1 ∙ ap (λ m. find_port m old.ports) (sym same_port) ∙ found in
-          let equal : before.0 ≡ port = cc in
-          before.2 ∙ ap (λ (p : Port). p.door) equal ∙ door;
-      known = λ n linked. rw (← linked_number number n linked) (found_within number 0 old.last_port old.ports port tied.rising found);
-      raised = raised-fewer old.ports _ (fewer-changed number unheard old.ports mild-unheard) tied.raised;
-    }
-tied-quiet {event = event} {old = old} (links job number port found door free other) tied =
-    let fewer = fewer-changed number unheard old.ports mild-unheard in
-    let child : (q : Port) → find_port number (change_port number unheard old.ports) ≡ Some q → q.door ≡ Children = λ q there.
-    let was = fewer number q there in
-    let is : Some was.0 ≡ Some port = sym was.1 ∙ found in
-    let equal : was.0 ≡ port = cc in
-    was.4 ∙ ap (λ (p : Port). p.door) equal ∙ door in
-    assemble old _ (follows-quiet event old {old = old} (links job number port found door free other) record { last = refl; ports = same }) tied tied.order (tied-fewer old.ports _ _ fewer tied.tied) tied.askers (λ n is. is)
-    (raised-linked _ job number child (found_within number 0 old.last_port old.ports port tied.rising found) (raised-fewer old.ports _ fewer tied.raised))
-
--- who waits goes on waiting where a port is changed a little
-told-mild : (number ask at : ℕ) (f : Port → Port) (ports : List Port) → IsMild f → IsTold number (Awaits (OnAsk ask)) ports → IsTold number (Awaits (OnAsk ask)) (change_port at f ports)
-told-mild number ask at f ports mild told = elim (cases_eq number at) [
-  | inl same_number ↦ subst (λ n. IsTold number (Awaits (OnAsk ask)) (change_port n f ports)) same_number
-      (told-here number (Awaits (OnAsk ask)) (Awaits (OnAsk ask)) f ports mild.number mild.door mild.owed (λ p waits. mild.waits p ∙ waits) told)
-  | inr other ↦ told-apart number at (Awaits (OnAsk ask)) f ports mild.number other told
-]
-
--- unless its port ended
-waits-quiet : {event : Happening} {old new : State} (number ask : ℕ) → Quiet event old new → event ≢ Ended number → IsTold number (Awaits (OnAsk ask)) old.ports → IsTold number (Awaits (OnAsk ask)) new.ports
-waits-quiet {old = old} number ask (alters at f mild) open_yet told = told-mild number ask at f old.ports mild told
-waits-quiet {event = event} {old = old} number ask (closes at may) open_yet told =
-    record { port = told.port; found = find_port-removed_apart number at old.ports (other may) ∙ told.found; door = told.door; owed = told.owed; waits = told.waits }
-  where
-    is_port : (port : Port) → number ≡ at → find_port at old.ports ≡ Some port → told.port ≡ port
-    is_port port equal found = let is : Some told.port ≡ Some port = sym told.found ∙ ap (λ n. find_port n old.ports) equal ∙ found in cc
-
-    other : MayClose event at old.ports old.under_way.confirmations → number ≢ at
-    other (idle port found nothing client) equal =
-        let waits : OnAsk ask ≡ Nothing = sym told.waits ∙ ap (λ (p : Port). p.waits) (is_port port equal found) ∙ nothing in
-        absurd (cc)
-    other (child port found door free) equal =
-        let doors : Clients ≡ Children = sym told.door ∙ ap (λ (p : Port). p.door) (is_port port equal found) ∙ door in
-        absurd (cc)
-    other (ended is) equal = open_yet (is ∙ ap Ended (sym equal))
-waits-quiet number ask (goes_on new asks) open_yet told = told
-waits-quiet {old = old} number ask (names job at port found door free) open_yet told = told-mild number ask at unheard old.ports mild-unheard told
-waits-quiet {old = old} number ask (links job at port found door free unhelped) open_yet told = told-mild number ask at unheard old.ports mild-unheard told
 
 -- ---- a client that is served
 
@@ -178,15 +85,7 @@ module _ (event : Happening) (body : List ℕ) (take : Port → Port) (mild : Is
   -- another client goes on waiting
   others : (held : KeyState) (under_way : UnderWay) (verdict : Verdict) (number ask : ℕ) → IsTold number (Awaits (OnAsk ask)) state.ports → IsTold number (Awaits (OnAsk ask)) (left held under_way verdict).ports
   others held under_way verdict number ask told =
-      told-apart number port.number _ (tell verdict) (change_port port.number take state.ports) (λ p. refl) other
-      (told-apart number port.number _ take state.ports mild.number other told)
-    where
-      other : number ≢ port.number
-      other equal =
-          let is : Some told.port ≡ Some port = sym told.found ∙ ap (λ n. find_port n state.ports) equal ∙ found in
-          let is_port : told.port ≡ port = cc in
-          let waits : OnAsk ask ≡ Nothing = sym told.waits ∙ ap (λ (p : Port). p.waits) is_port ∙ nothing in
-          absurd (cc)
+      waits-served number (OnAsk ask) (λ is. absurd (cc)) take verdict port state.ports mild.number found nothing told
 
   -- the client waits for nothing
   waits_not : (on : ℕ → Waits) → ((n : ℕ) → Nothing ≢ on n) → (p : Port) → find_port port.number state.ports ≡ Some p → (n : ℕ) → p.waits ≢ on n
@@ -253,17 +152,9 @@ module _ (state : State) (tied : IsTied state) where
   raised-close (states.Starting job) = tied.raised
   raised-close (states.Linked at) = raised-fewer state.ports _ (fewer-removed at 0 state.last_port state.ports tied.rising) tied.raised
 
-  told-close : (link : LinkState) (number : ℕ) (verdict : Verdict) → state.under_way.link.state ≡ link → IsTold number verdict state.ports → IsTold number verdict (close_helper link state.ports)
-  told-close states.None number verdict is told = told
-  told-close (states.Starting job) number verdict is told = told
-  told-close (states.Linked at) number verdict is told =
-      record { port = told.port; found = find_port-removed_apart number at state.ports other ∙ told.found; door = told.door; owed = told.owed; waits = told.waits }
-    where
-      other : number ≢ at
-      other equal =
-          let child_there : told.port.door ≡ Children = tied.helper at told.port is (ap (λ n. find_port n state.ports) (sym equal) ∙ told.found) in
-          let doors : Clients ≡ Children = sym told.door ∙ child_there in
-          absurd (cc)
+  told-close : (number : ℕ) (verdict : Verdict) → IsTold number verdict state.ports → IsTold number verdict (close_helper state.under_way.link.state state.ports)
+  told-close number verdict told =
+      told-close_helper number verdict state.under_way.link.state state.ports (λ at port is there. tied.helper at port is there) told
 
   lose-tied : IsTied (lose state).state
   lose-tied =
@@ -275,11 +166,11 @@ module _ (state : State) (tied : IsTied state) where
   -- who was told something already is told nothing more
   told-loss : (number ask : ℕ) (fate : Fate) → IsTold number (fate_verdict fate ask) state.ports → IsTold number (fate_verdict (or_later fate Fails) ask) (lose state).state.ports
   told-loss number ask Unanswered told =
-      waits-lost number ask 0 state.under_way.link.last state.under_way.link.asks _ tied.order (tied-close state.under_way.link.state) (told-close state.under_way.link.state number _ refl told)
+      waits-lost number ask 0 state.under_way.link.last state.under_way.link.asks _ tied.order (tied-close state.under_way.link.state) (told-close number _ told)
   told-loss number ask (Gets answer) told =
-      told-lost number 0 state.under_way.link.last _ state.under_way.link.asks _ (answer-waits answer) tied.order (tied-close state.under_way.link.state) (told-close state.under_way.link.state number _ refl told)
+      told-lost number 0 state.under_way.link.last _ state.under_way.link.asks _ (answer-waits answer) tied.order (tied-close state.under_way.link.state) (told-close number _ told)
   told-loss number ask Fails told =
-      told-lost number 0 state.under_way.link.last _ state.under_way.link.asks _ refl tied.order (tied-close state.under_way.link.state) (told-close state.under_way.link.state number _ refl told)
+      told-lost number 0 state.under_way.link.last _ state.under_way.link.asks _ refl tied.order (tied-close state.under_way.link.state) (told-close number _ told)
 
 module _ (piece : List ℕ) (state : State) (tied : IsTied state) where
   abbrev told : Telling
@@ -374,10 +265,9 @@ module _ (event : Happening) (confirmation : Confirmation) (state : State) (ther
   -- who waits for an ask is told nothing
   told_still : (number ask : ℕ) (verdict : Verdict) → IsTold number (Awaits (OnAsk ask)) state.ports → IsTold number (Awaits (OnAsk ask)) (change_port confirmation.asker (tell verdict) rest)
   told_still number ask verdict told =
-      let at : find_port number rest ≡ Some told.port = stays_open number told.port told.door told.found in
+      let at = told-close_confirmer number (Awaits (OnAsk ask)) confirmation.port state.ports (λ n port is. tied.raised.confirmers confirmation.job n confirmation port found_there is) told in
       told-apart number confirmation.asker (Awaits (OnAsk ask)) (tell verdict) rest (λ p. refl)
-      (λ same_number. waits_on told.port (ap (λ n. find_port n rest) (sym same_number) ∙ at) ask told.waits)
-      record { port = told.port; found = at; door = told.door; owed = told.owed; waits = told.waits }
+      (λ same_number. waits_on at.port (ap (λ n. find_port n rest) (sym same_number) ∙ at.found) ask at.waits) at
 
   -- what is left then
   abbrev over_left : UnderWay → Verdict → State
@@ -439,7 +329,7 @@ fated-makes : {event : Happening} {old : State} {outcome : Outcome} → Makes ev
 fated-makes (stays state) tied = record { tied = tied; told = λ number ask open_yet told. told }
 fated-makes (first quiet rest) tied =
     let later = fated-makes rest (tied-quiet quiet tied) in
-    record { tied = later.tied; told = λ number ask open_yet told. later.told number ask open_yet (waits-quiet number ask quiet open_yet told) }
+    record { tied = later.tied; told = λ number ask open_yet told. later.told number ask open_yet (waits-quiet number (OnAsk ask) (λ is. absurd (cc)) quiet open_yet told) }
 fated-makes {event = event} (serves body_len port state found door nothing owed) tied =
     let body : List ℕ = front_body body_len port.heard in
     fated-served event body (take_frame body_len (attempts state.held.lock body)) record { number = λ p. refl; door = λ p. refl; waits = λ p. refl; owed = λ p none. none; chain = λ p. refl } port state found door nothing owed tied

@@ -26,7 +26,8 @@ use Rattle.agent_model.specs.Step.{asker_at, attempts, concluded, take_frame}
 use Rattle.agent_model.specs.Verdicts.{Awaits, Cause, HelperLost, NoLongerAllowed, NotConfirmed, Refuses, Replies, Verdict, tell}
 use Rattle.agent_model.proofs.AskedLemmas.{given-asked, judged-asked, noted-asked}
 use Rattle.agent_model.proofs.BindLemmas.{HoldsAt, bound_after-append, bound_answers, chain_in, holds_answers}
-use Rattle.agent_model.proofs.FatedLemmas.{tied-quiet, tied_mid}
+use Rattle.agent_model.proofs.FatedLemmas.{tied_mid}
+use Rattle.agent_model.proofs.TiedLemmas.{tied-quiet}
 use Rattle.agent_model.proofs.GrantLemmas.{IsGranted, allowed, disallowed, grant-ends, unasked}
 use Rattle.agent_model.proofs.JudgeLemmas.{KeepsChains, chains-keep, judged-keeps, keeps-absent, keeps-changed, keeps-in_turn, keeps-removed, keeps-same}
 use Rattle.agent_model.proofs.LeadLemmas.{leads-answers, same}

@@ -1,12 +1,12 @@
 -- Identities have blobs and numbers of their own, and no number is given to another one later.
-use Rattle.std.proofs.Common.{◌≡◌, ℕ, ◌+◌, ◌≤◌, List, [], ◌∷◌, refl, arith, sym, ◌∙◌, ◌==◌, nat_lt, eqb, cond, max, Option, Some, None, Bool, true, false, Result, Ok, Err}
+use Rattle.std.proofs.Common.{◌≡◌, ℕ, ◌+◌, ◌≤◌, List, [], ◌∷◌, refl, arith, sym, ◌∙◌, eqb, cond, max, Option, Some, None, Bool, true, false, Result}
 use Rattle.std.specs.Str.{bytes_eq}
 use Rattle.std.proofs.lemmas.Bool.{eqb-true}
 use Rattle.world_ports.specs.declared.Moment.{Moment}
 use Rattle.agent_msg.specs.declared.fault.MsgFault.{MsgFault}
-use Rattle.agent_msg.specs.Requests.{Addition, ClientRequest, ListIdentities, Sign, Add, Remove, RemoveAll, Lock, Unlock, Bind, OtherExtension, Unsupported}
+use Rattle.agent_msg.specs.Requests.{Addition, ClientRequest}
 use Rattle.identity_table.specs.Deaths.{lives_at}
-use Rattle.identity_table.specs.Identities.{HaveOwnBlobs, HaveOwnNumbers, HeldKey, TableState, alive_at, find_identity, find_number, max_answer, new_identity, remove_identity}
+use Rattle.identity_table.specs.Identities.{HaveOwnBlobs, HaveOwnNumbers, HeldKey, TableState, alive_at, find_number, new_identity, remove_identity}
 use Rattle.identity_table.proofs.FindLemmas.{if_alive, own_blobs-alive, own_blobs-put, own_blobs-remove}
 use Rattle.identity_table.proofs.NumberLaws.{find_number-alive, find_number-put, find_number-remove, unless_blob}
 use Rattle.identity_table.proofs.NumberLemmas.{own_numbers-alive, own_numbers-put, own_numbers-remove}
@@ -16,16 +16,15 @@ use Rattle.helper_link.specs.declared.fault.LinkFault.{LinkFault}
 use Rattle.agent_model.specs.Actions.{Outcome}
 use Rattle.agent_model.specs.Answers.{lose_if}
 use Rattle.agent_model.specs.Binds.{agent_request_of}
-use Rattle.agent_model.specs.Dispatch.{Asker, add_by, add_fault, add_seen, add_unless, length_with, lock_by, remove_by, remove_seen, sees, serve, serve_by, serve_locked, serve_unlocked, unlock_by, with_addition}
+use Rattle.agent_model.specs.Dispatch.{Served, Asker, with_addition}
 use Rattle.agent_model.specs.Events.{Happening, Timed}
 use Rattle.agent_model.specs.Grants.{HaveOwnParts}
 use Rattle.agent_model.specs.KeyStates.{KeyState}
-use Rattle.agent_model.specs.Limits.{last_number}
 use Rattle.agent_model.specs.Runs.{run}
 use Rattle.agent_model.specs.State.{State, UnderWay, first_state}
 use Rattle.agent_model.specs.Step.{asker_at, at_moment, handle, step}
-use Rattle.agent_model.specs.Verdicts.{Cause}
 use Rattle.agent_model.proofs.MakeLemmas.{Makes, alters, by_event, closes, first, goes_on, grants, links, loses, names, overs, serves, stays, tells}
+use Rattle.agent_model.proofs.ServeLemmas.{Serves, adds, confirms, denies, empties, lists, locks, removes, serves-any, signs, unlocks, verifies}
 
 -- the numbers that were given find what they found, or nothing; and identities have parts of their own yet
 pub record KeysKept (old new : TableState) : Type 0 where
@@ -110,70 +109,17 @@ kept-added addition now table own =
 
 -- ---- requests
 
-module _ (asker : Asker) (held : KeyState) (under_way : UnderWay) (own : HaveOwnParts held.table) where
-  abbrev Keeps : KeyState → Type 0
-  Keeps after = KeysKept held.table after.table
-
-  kept-unless : (fault : Option Cause) (addition : Addition) → Keeps (add_unless fault addition asker.mono held under_way).held
-  kept-unless (Some cause) addition = kept-same held.table own
-  kept-unless None addition = kept-added addition asker.mono held.table own
-
-  kept-seen : (seen : Bool) (addition : Addition) → Keeps (add_seen seen addition asker.mono held under_way).held
-  kept-seen false addition = kept-same held.table own
-  kept-seen true addition =
-      kept-unless (add_fault (nat_lt max_answer (length_with addition asker.mono held.table)) (held.table.last == last_number)) addition
-
-  kept-add : (found : Option HeldKey) (addition : Addition) → Keeps (add_by found asker addition held under_way).held
-  kept-add None addition = kept-seen true addition
-  kept-add (Some key) addition = kept-seen (sees asker key) addition
-
-  kept-remove_seen : (seen : Bool) (blob : List ℕ) → Keeps (remove_seen seen blob held under_way).held
-  kept-remove_seen false blob = kept-same held.table own
-  kept-remove_seen true blob = kept-removed blob held.table own
-
-  kept-remove : (found : Option HeldKey) (blob : List ℕ) → Keeps (remove_by found asker blob held under_way).held
-  kept-remove None blob = kept-same held.table own
-  kept-remove (Some key) blob = kept-remove_seen (sees asker key) blob
-
-  kept-lock : (passphrase : List ℕ) → Keeps (lock_by passphrase held under_way).held
-  kept-lock [] = kept-same held.table own
-  kept-lock (byte ∷ bytes) = kept-same held.table own
-
-  kept-unlock : (same : Bool) → Keeps (unlock_by same held under_way).held
-  kept-unlock true = kept-same held.table own
-  kept-unlock false = kept-same held.table own
-
-  kept-unlocked : (request : ClientRequest) → Keeps (serve_unlocked request asker held under_way).held
-  kept-unlocked ListIdentities = kept-same held.table own
-  kept-unlocked (Sign signing) = kept-same held.table own
-  kept-unlocked (Add addition) = kept-add (find_identity addition.key.blob held.table.identities) addition
-  kept-unlocked (Remove blob) = kept-remove (find_identity blob held.table.identities) blob
-  kept-unlocked RemoveAll = kept-emptied held.table
-  kept-unlocked (Lock passphrase) = kept-lock passphrase
-  kept-unlocked (Unlock passphrase) = kept-same held.table own
-  kept-unlocked (Bind bind) = kept-same held.table own
-  kept-unlocked (OtherExtension name) = kept-same held.table own
-  kept-unlocked (Unsupported number) = kept-same held.table own
-
-  kept-locked : (passphrase : List ℕ) (request : ClientRequest) → Keeps (serve_locked passphrase request held under_way).held
-  kept-locked passphrase ListIdentities = kept-same held.table own
-  kept-locked passphrase (Sign signing) = kept-same held.table own
-  kept-locked passphrase (Add addition) = kept-same held.table own
-  kept-locked passphrase (Remove blob) = kept-same held.table own
-  kept-locked passphrase RemoveAll = kept-same held.table own
-  kept-locked passphrase (Lock other) = kept-same held.table own
-  kept-locked passphrase (Unlock other) = kept-unlock (bytes_eq passphrase other)
-  kept-locked passphrase (Bind bind) = kept-same held.table own
-  kept-locked passphrase (OtherExtension name) = kept-same held.table own
-  kept-locked passphrase (Unsupported number) = kept-same held.table own
-
-  kept-by : (lock : Option (List ℕ)) (request : ClientRequest) → Keeps (serve_by lock request asker held under_way).held
-  kept-by None request = kept-unlocked request
-  kept-by (Some passphrase) request = kept-locked passphrase request
-
-  pub kept-serve : (read : Result ClientRequest MsgFault) → KeysKept held.table (serve read asker held under_way).held.table
-  kept-serve (Ok request) = kept-by held.lock request
-  kept-serve (Err fault) = kept-same held.table own
+kept-served : {read : Result ClientRequest MsgFault} {asker : Asker} {held : KeyState} {under_way : UnderWay} {served : Served} → HaveOwnParts held.table → Serves read asker held under_way served → KeysKept held.table served.held.table
+kept-served {held = held} own (denies cause) = kept-same held.table own
+kept-served {held = held} own (lists identities is) = kept-same held.table own
+kept-served {asker = asker} {held = held} own (adds addition is) = kept-added addition asker.mono held.table own
+kept-served {held = held} own (removes blob is) = kept-removed blob held.table own
+kept-served {held = held} own (empties is) = kept-emptied held.table
+kept-served {held = held} own (locks passphrase is) = kept-same held.table own
+kept-served {held = held} own (unlocks passphrase is) = kept-same held.table own
+kept-served {held = held} own (signs signing key is found asks free) = kept-same held.table own
+kept-served {held = held} own (confirms signing key is found free) = kept-same held.table own
+kept-served {held = held} own (verifies bind is_new is stands free) = kept-same held.table own
 
 -- ---- events
 
@@ -185,7 +131,7 @@ kept-makes (first (goes_on new asks) rest) own = kept-makes rest own
 kept-makes (first (names job number port found door free) rest) own = kept-makes rest own
 kept-makes (first (links job number port found door free other) rest) own = kept-makes rest own
 kept-makes (serves body_len port state found door waits owed) own =
-    kept-serve (asker_at state.moment port) state.held state.under_way own (agent_request_of (front_body body_len port.heard))
+    kept-served own (serves-any (agent_request_of (front_body body_len port.heard)) (asker_at state.moment port) state.held state.under_way)
 kept-makes (tells piece state) own = kept-fault (telling piece state.under_way.link).fault _ own
   where
     kept-fault : (fault : Option LinkFault) (mid : State) → HaveOwnParts mid.held.table → KeysKept mid.held.table (lose_if fault mid).state.held.table

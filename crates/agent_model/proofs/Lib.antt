@@ -21,11 +21,14 @@ pub mod CutLemmas
 pub mod TieLemmas
 pub mod FateLemmas
 pub mod RaisedLemmas
+pub mod WaitLemmas
+pub mod TiedLemmas
 pub mod FatedLemmas
 pub mod AttendedLemmas
 pub mod ConsentCutLemmas
 pub mod KeyLemmas
 pub mod OnceLemmas
+pub mod ActionLemmas
 pub mod TraceLemmas
 pub mod PutLemmas
 pub mod AgreedLemmas

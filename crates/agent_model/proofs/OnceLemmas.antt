@@ -31,7 +31,8 @@ use Rattle.agent_model.specs.Sound.{IsTied}
 use Rattle.agent_model.specs.State.{State, UnderWay}
 use Rattle.agent_model.specs.Step.{asker_at, at_moment, step}
 use Rattle.agent_model.proofs.FateLemmas.{answer-fate, answers_as}
-use Rattle.agent_model.proofs.FatedLemmas.{step-fated, tied-opened, tied-quiet}
+use Rattle.agent_model.proofs.FatedLemmas.{step-fated, tied-opened}
+use Rattle.agent_model.proofs.TiedLemmas.{tied-quiet}
 use Rattle.agent_model.proofs.MakeLemmas.{Makes, Quiet, alters, by_event, closes, first, goes_on, grants, links, loses, names, overs, serves, stays, tells}
 use Rattle.agent_model.proofs.ServeLemmas.{IsServed, answered, asked, raised, refused, serve-ends}
 use Rattle.agent_model.proofs.TieLemmas.{ask_within}

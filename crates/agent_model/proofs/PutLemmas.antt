@@ -1,148 +1,98 @@
 -- Why a signature is put to the helper: the client asked for it at once, or the user agreed to what it asked for.
-use Rattle.std.proofs.Common.{◌≡◌, ℕ, ◌+◌, ◌≤◌, List, [], ◌∷◌, ◌++◌, refl, ap, arith, sym, subst, ◌∙◌, ◌==◌, ◌⊎◌, nat_lt, Option, Some, None, IsSome, Bool, true, false, cond, inl, inr, Result, Ok, Err}
+use Rattle.std.proofs.Common.{◌≡◌, ℕ, ◌+◌, ◌≤◌, List, [], ◌∷◌, refl, ap, arith, sym, subst, ◌∙◌, ◌==◌, ◌⊎◌, Option, Some, None, IsSome, Bool, true, false, cond, inl, inr, Result, Ok}
 use Rattle.std.specs.Option.{option_map}
-use Rattle.std.specs.Str.{bytes_eq}
 use Rattle.world_ports.specs.declared.Moment.{Moment}
 use Rattle.wire_text.specs.Frames.{front_body}
 use Rattle.agent_msg.specs.declared.fault.MsgFault.{MsgFault}
-use Rattle.agent_msg.specs.Requests.{Addition, BindRequest, ClientRequest, Signing, ListIdentities, Sign, Add, Remove, RemoveAll, Lock, Unlock, Bind, OtherExtension, Unsupported}
+use Rattle.agent_msg.specs.Requests.{ClientRequest, Signing, Sign}
 use Rattle.confirm_desk.specs.Confirmations.{Confirmation, find_job}
 use Rattle.dest_rule.specs.declared.binding.Binding.{Binding}
-use Rattle.dest_rule.specs.Chains.{judge}
-use Rattle.dest_rule.specs.declared.fault.Next.{Next as Judgement}
-use Rattle.dest_rule.specs.declared.fault.Next.TheVariants.{New, Refuse, Same}
-use Rattle.helper_link.specs.Telling.{telling}
-use Rattle.helper_link.specs.declared.answer.Answer.{Answer}
-use Rattle.helper_link.specs.declared.answer.Answer.TheVariants as answer
-use Rattle.helper_link.specs.declared.answer.Settled.{Settled}
-use Rattle.helper_link.specs.declared.fault.LinkFault.{LinkFault}
-use Rattle.identity_table.specs.Identities.{HeldKey, find_identity, find_number, max_answer}
+use Rattle.helper_link.specs.Telling.{Telling, telling}
+use Rattle.identity_table.specs.Identities.{HeldKey, find_identity, find_number}
 use Rattle.identity_table.proofs.FindLemmas.{found_has}
 use Rattle.identity_table.proofs.NumberLaws.{number_of_found}
 use Rattle.agent_model.specs.Actions.{Action, Answered, Asked, Asking, ForBinding, ForSignature, Granted, Lost, Outcome, Over, Proved, Raised, Raising, Requested, Work}
-use Rattle.agent_model.specs.Answers.{Answering, answer_all, answer_by, answer_true, answers_in, find_verification, lose_if, proved_at, with_answers}
+use Rattle.agent_model.specs.Answers.{helper_tells}
 use Rattle.agent_model.specs.Askable.{IsGrantable}
 use Rattle.agent_model.specs.Binds.{agent_request_of}
-use Rattle.agent_model.specs.Dispatch.{Asker, add_by, add_fault, add_seen, add_unless, bind_by, length_with, lock_by, remove_by, remove_seen, sees, serve, serve_by, serve_locked, serve_unlocked, unlock_by}
+use Rattle.agent_model.specs.Dispatch.{Served, Asker, serve}
 use Rattle.agent_model.specs.Consents.{signing_of, without_confirmation}
-use Rattle.agent_model.specs.Errands.{Verifies, ask_fault, binding_of, put_unless}
+use Rattle.agent_model.specs.Errands.{binding_of}
 use Rattle.agent_model.specs.Events.{Happening, Timed}
 use Rattle.agent_model.specs.Fates.{actions_of}
 use Rattle.agent_model.specs.Grants.{HaveOwnParts, IsAmong, IsPut, Wanted, at_once, by_consent, noted, pending, pending_after, pending_by, wanted, wanted_of}
 use Rattle.agent_model.specs.KeyStates.{KeyState}
-use Rattle.agent_model.specs.Limits.{last_number}
 use Rattle.agent_model.specs.Runs.{run}
 use Rattle.agent_model.specs.Sound.{IsTied}
-use Rattle.agent_model.specs.State.{Port, State, UnderWay, Verification, find_port, first_state}
+use Rattle.agent_model.specs.State.{Port, State, UnderWay, find_port, first_state}
 use Rattle.agent_model.specs.Step.{asker_at, at_moment, handle, step}
-use Rattle.agent_model.specs.Verdicts.{Cause}
-use Rattle.agent_model.proofs.FatedLemmas.{first-tied, run-tied, tied-opened, tied-quiet}
+use Rattle.agent_model.proofs.ActionLemmas.{Each, among-each, each-tells}
+use Rattle.agent_model.proofs.FatedLemmas.{first-tied, run-tied, tied-opened}
+use Rattle.agent_model.proofs.TiedLemmas.{tied-quiet}
 use Rattle.agent_model.proofs.GrantLemmas.{IsGranted, allowed, disallowed, grant-ends, unasked}
 use Rattle.agent_model.proofs.JobLemmas.{in-found}
 use Rattle.agent_model.proofs.JudgedLemmas.{keeps-quiet}
 use Rattle.agent_model.proofs.JudgeLemmas.{KeepsChains}
 use Rattle.agent_model.proofs.KeyLemmas.{KeysKept, first-own, kept-event, kept-opened, run-kept}
 use Rattle.agent_model.proofs.MakeLemmas.{Makes, Quiet, alters, by_event, closes, first, goes_on, grants, links, loses, names, overs, serves, stays, tells}
-use Rattle.agent_model.proofs.SignLemmas.{Comes, comes-of, put, raises}
-use Rattle.agent_model.proofs.SignLemmas as sign
+use Rattle.agent_model.proofs.ServeLemmas.{Serves, adds, confirms, denies, empties, lists, locks, removes, serves-any, signs, unlocks, verifies}
 use Rattle.agent_model.proofs.TraceLemmas.{pending-append, quiet-noted, run-pending}
 
 -- ---- what a request does
 
--- an action that comes of a request, and why
-pub data Done (body : List ℕ) (asker : Asker) (held : KeyState) (under_way : UnderWay) : Action → Type 0 where
-  signs : (ask : ℕ) (signing : Signing) (key : HeldKey) → agent_request_of body ≡ Ok (Sign signing) → find_identity signing.blob held.table.identities ≡ Some key → key.confirm ≡ false → Done body asker held under_way (Asked (record { ask = ask; port = asker.port; purpose = ForSignature signing }))
-  confirms : (job : ℕ) (signing : Signing) (key : HeldKey) → find_identity signing.blob held.table.identities ≡ Some key → Done body asker held under_way (Raised (record { job = job; port = asker.port; addition = key.number; signing = signing }))
-  verifies : (ask : ℕ) (binding : Binding) → Done body asker held under_way (Asked (record { ask = ask; port = asker.port; purpose = ForBinding binding }))
+module _ (read : Result ClientRequest MsgFault) (asker : Asker) (held : KeyState) (under_way : UnderWay) where
+  -- an ask for a signature is for the one that was asked for, with a key that asks for no confirmation
+  asks-served : (asking : Asking) (signing : Signing) → asking.purpose ≡ ForSignature signing →
+      {served : Served} → Serves read asker held under_way served →
+      IsAmong (Asked asking) served.work.actions →
+      (asker.port ≡ asking.port) × ((key : HeldKey) × (read ≡ Ok (Sign signing))
+      × (find_identity signing.blob held.table.identities ≡ Some key) × (key.confirm ≡ false))
+  asks-served asking signing purpose (denies cause) none = absurd none
+  asks-served asking signing purpose (lists identities is) none = absurd none
+  asks-served asking signing purpose (adds addition is) none = absurd none
+  asks-served asking signing purpose (removes blob is) none = absurd none
+  asks-served asking signing purpose (empties is) none = absurd none
+  asks-served asking signing purpose (locks passphrase is) none = absurd none
+  asks-served asking signing purpose (unlocks passphrase is) none = absurd none
+  asks-served asking signing purpose (signs other key is found asks free) (inr none) = absurd none
+  asks-served asking signing purpose (signs other key is found asks free) (inl among) =
+      let same : record { ask = under_way.link.last + 1; port = asker.port; purpose = ForSignature other } ≡ asking = cc in
+      let what : ForSignature other ≡ ForSignature signing = ap (λ (a : Asking). a.purpose) same ∙ purpose in
+      let equal : other ≡ signing = cc in (
+        ap (λ (a : Asking). a.port) same,
+        (key, is ∙ ap (λ w. Ok (Sign w)) equal, ap (λ (w : Signing). find_identity w.blob held.table.identities) (sym equal) ∙ found, asks),
+      )
+  asks-served asking signing purpose (confirms other key is found free) (inl among) = absurd (cc)
+  asks-served asking signing purpose (confirms other key is found free) (inr none) = absurd none
+  asks-served asking signing purpose (verifies bind is_new is stands free) (inr none) = absurd none
+  asks-served asking signing purpose (verifies bind is_new is stands free) (inl among) =
+      let same : record { ask = under_way.link.last + 1; port = asker.port; purpose = ForBinding (binding_of bind) } ≡ asking = cc in
+      let what : ForBinding (binding_of bind) ≡ ForSignature signing = ap (λ (a : Asking). a.purpose) same ∙ purpose in
+      absurd (cc)
 
-module _ (body : List ℕ) (asker : Asker) (held : KeyState) (under_way : UnderWay) (action : Action) where
-  abbrev Why : Work → Type 0
-  Why work = IsAmong action work.actions → Done body asker held under_way action
-
-  why-signed : (signing : Signing) → agent_request_of body ≡ Ok (Sign signing) → {work : Work} → Comes signing asker held under_way work → Why work
-  why-signed signing is (sign.refused cause why) among = absurd among
-  why-signed signing is (raises usable room) (inl same) =
-      subst (Done body asker held under_way) same (confirms (under_way.last_job + 1) signing usable.permitted.key usable.permitted.found)
-  why-signed signing is (raises usable room) (inr none) = absurd none
-  why-signed signing is (put usable room) (inl same) =
-      subst (Done body asker held under_way) same (signs (under_way.link.last + 1) signing usable.permitted.key is usable.permitted.found usable.confirm)
-  why-signed signing is (put usable room) (inr none) = absurd none
-
-  why-put : (fault : Option Cause) (bind : BindRequest) (is_new : Bool) → Why (put_unless fault (Verifies bind is_new) asker.port under_way)
-  why-put (Some cause) bind is_new among = absurd among
-  why-put None bind is_new (inl same) = subst (Done body asker held under_way) same (verifies (under_way.link.last + 1) (binding_of bind))
-  why-put None bind is_new (inr none) = absurd none
-
-  why-bound : (judgement : Judgement) (bind : BindRequest) → Why (bind_by judgement asker bind under_way)
-  why-bound (Refuse fault) bind among = absurd among
-  why-bound Same bind among = why-put (ask_fault under_way) bind false among
-  why-bound New bind among = why-put (ask_fault under_way) bind true among
-
-  why-unless : (fault : Option Cause) (addition : Addition) → Why (add_unless fault addition asker.mono held under_way).work
-  why-unless (Some cause) addition among = absurd among
-  why-unless None addition among = absurd among
-
-  why-seen : (seen : Bool) (addition : Addition) → Why (add_seen seen addition asker.mono held under_way).work
-  why-seen false addition among = absurd among
-  why-seen true addition among =
-      why-unless (add_fault (nat_lt max_answer (length_with addition asker.mono held.table)) (held.table.last == last_number)) addition among
-
-  why-added : (found : Option HeldKey) (addition : Addition) → Why (add_by found asker addition held under_way).work
-  why-added None addition among = why-seen true addition among
-  why-added (Some key) addition among = why-seen (sees asker key) addition among
-
-  why-remove_seen : (seen : Bool) (blob : List ℕ) → Why (remove_seen seen blob held under_way).work
-  why-remove_seen false blob among = absurd among
-  why-remove_seen true blob among = absurd among
-
-  why-removed : (found : Option HeldKey) (blob : List ℕ) → Why (remove_by found asker blob held under_way).work
-  why-removed None blob among = absurd among
-  why-removed (Some key) blob among = why-remove_seen (sees asker key) blob among
-
-  why-locked_by : (passphrase : List ℕ) → Why (lock_by passphrase held under_way).work
-  why-locked_by [] among = absurd among
-  why-locked_by (byte ∷ bytes) among = absurd among
-
-  why-unlocked_by : (same : Bool) → Why (unlock_by same held under_way).work
-  why-unlocked_by true among = absurd among
-  why-unlocked_by false among = absurd among
-
-  why-open : (request : ClientRequest) → agent_request_of body ≡ Ok request → held.lock ≡ None → Why (serve_unlocked request asker held under_way).work
-  why-open ListIdentities is lock among = absurd among
-  why-open (Sign signing) is lock among =
-      why-signed signing is (comes-of signing asker held under_way) (subst (λ l. IsAmong action (serve_by l (Sign signing) asker held under_way).work.actions) (sym lock) among)
-  why-open (Add addition) is lock among = why-added (find_identity addition.key.blob held.table.identities) addition among
-  why-open (Remove blob) is lock among = why-removed (find_identity blob held.table.identities) blob among
-  why-open RemoveAll is lock among = absurd among
-  why-open (Lock passphrase) is lock among = why-locked_by passphrase among
-  why-open (Unlock passphrase) is lock among = absurd among
-  why-open (Bind bind) is lock among = why-bound (judge bind.host_key bind.session asker.chain) bind among
-  why-open (OtherExtension name) is lock among = absurd among
-  why-open (Unsupported number) is lock among = absurd among
-
-  why-locked : (passphrase : List ℕ) (request : ClientRequest) → Why (serve_locked passphrase request held under_way).work
-  why-locked passphrase ListIdentities among = absurd among
-  why-locked passphrase (Sign signing) among = absurd among
-  why-locked passphrase (Add addition) among = absurd among
-  why-locked passphrase (Remove blob) among = absurd among
-  why-locked passphrase RemoveAll among = absurd among
-  why-locked passphrase (Lock other) among = absurd among
-  why-locked passphrase (Unlock other) among = why-unlocked_by (bytes_eq passphrase other) among
-  why-locked passphrase (Bind bind) among = absurd among
-  why-locked passphrase (OtherExtension name) among = absurd among
-  why-locked passphrase (Unsupported number) among = absurd among
-
-  why-by : (lock : Option (List ℕ)) (request : ClientRequest) → agent_request_of body ≡ Ok request → held.lock ≡ lock → Why (serve_by lock request asker held under_way).work
-  why-by None request is lock among = why-open request is lock among
-  why-by (Some passphrase) request is lock among = why-locked passphrase request among
-
-  why-read : (read : Result ClientRequest MsgFault) → agent_request_of body ≡ read → Why (serve read asker held under_way).work
-  why-read (Ok request) is among = why-by held.lock request is refl among
-  why-read (Err fault) is among = absurd among
-
-  -- whatever it asks for
-  pub why-served : IsAmong action (serve (agent_request_of body) asker held under_way).work.actions → Done body asker held under_way action
-  why-served among = why-read (agent_request_of body) refl among
+  -- a confirmation is of the key that is held
+  raises-served : (raising : Raising) → {served : Served} → Serves read asker held under_way served →
+      IsAmong (Raised raising) served.work.actions →
+      (key : HeldKey) × (find_identity raising.signing.blob held.table.identities ≡ Some key)
+      × (raising.addition ≡ key.number)
+  raises-served raising (denies cause) none = absurd none
+  raises-served raising (lists identities is) none = absurd none
+  raises-served raising (adds addition is) none = absurd none
+  raises-served raising (removes blob is) none = absurd none
+  raises-served raising (empties is) none = absurd none
+  raises-served raising (locks passphrase is) none = absurd none
+  raises-served raising (unlocks passphrase is) none = absurd none
+  raises-served raising (signs signing key is found asks free) (inl among) = absurd (cc)
+  raises-served raising (signs signing key is found asks free) (inr none) = absurd none
+  raises-served raising (confirms signing key is found free) (inr none) = absurd none
+  raises-served raising (confirms signing key is found free) (inl among) =
+      let same : record { job = under_way.last_job + 1; port = asker.port; addition = key.number; signing = signing } ≡ raising = cc in (
+        key,
+        ap (λ (r : Raising). find_identity r.signing.blob held.table.identities) (sym same) ∙ found,
+        sym (ap (λ (r : Raising). r.addition) same),
+      )
+  raises-served raising (verifies bind is_new is stands free) (inl among) = absurd (cc)
+  raises-served raising (verifies bind is_new is stands free) (inr none) = absurd none
 
 -- ---- actions of other events
 
@@ -157,41 +107,8 @@ IsIdle (Granted job) = Unit {0}
 IsIdle (Over job) = Unit {0}
 IsIdle Lost = Unit {0}
 
-abbrev AreIdle : List Action → Type 0
-AreIdle [] = Unit {0}
-AreIdle (action ∷ later) = IsIdle action × AreIdle later
-
-idle-append : (some more : List Action) → AreIdle some → AreIdle more → AreIdle (some ++ more)
-idle-append [] more some_idle more_idle = more_idle
-idle-append (action ∷ some) more some_idle more_idle = (some_idle.0, idle-append some more some_idle.1 more_idle)
-
-idle-proved : (found : Option Port) (verification : Verification) → AreIdle (proved_at found verification)
-idle-proved None verification = tt
-idle-proved (Some port) verification = (tt, tt)
-
-idle-true : (found : Option Verification) (one : Settled) (before : Answering) → AreIdle before.actions → AreIdle (answer_true found one before).actions
-idle-true None one before idle = idle-append before.actions (Answered one ∷ []) idle (tt, tt)
-idle-true (Some verification) one before idle =
-    idle-append before.actions (Answered one ∷ proved_at (find_port one.asker before.ports) verification) idle (tt, idle-proved (find_port one.asker before.ports) verification)
-
-idle-answer : (what : Answer) (one : Settled) (before : Answering) → AreIdle before.actions → AreIdle (answer_by what one before).actions
-idle-answer (answer.Signed signature) one before idle = idle-append before.actions (Answered one ∷ []) idle (tt, tt)
-idle-answer answer.Refused one before idle = idle-append before.actions (Answered one ∷ []) idle (tt, tt)
-idle-answer answer.True one before idle = idle-true (find_verification one.ask before.verifications) one before idle
-idle-answer answer.False one before idle = idle-append before.actions (Answered one ∷ []) idle (tt, tt)
-
-idle-answers : (settled : List Settled) (before : Answering) → AreIdle before.actions → AreIdle (answer_all settled before).actions
-idle-answers [] before idle = idle
-idle-answers (one ∷ later) before idle = idle-answers later (answer_by one.answer one before) (idle-answer one.answer one before idle)
-
-idle-lost : (actions : List Action) (fault : Option LinkFault) (state : State) → AreIdle actions → AreIdle (actions ++ (lose_if fault state).actions)
-idle-lost actions None state idle = idle-append actions [] idle tt
-idle-lost actions (Some fault) state idle = idle-append actions (Lost ∷ []) idle (tt, tt)
-
-among-idle : (action : Action) (actions : List Action) → (IsIdle action → ⊥) → AreIdle actions → IsAmong action actions → ⊥
-among-idle action [] other idle among = among
-among-idle action (one ∷ later) other idle (inl same) = other (subst IsIdle same idle.0)
-among-idle action (one ∷ later) other idle (inr there) = among-idle action later other idle.1 there
+idle-tells : (told : Telling) (state : State) → Each IsIdle (helper_tells told state).actions
+idle-tells told state = each-tells IsIdle (λ one. tt) (λ proving. tt) tt told state
 
 -- ---- what is waited for has a key
 
@@ -237,13 +154,6 @@ pending-cases job (action ∷ later) before raising is = by_later (pending-cases
     by_later (inr there) = inr (inr there)
 
 -- what an event raises is of a key that was held
-done-raised : {body : List ℕ} {asker : Asker} {held : KeyState} {under_way : UnderWay} {action : Action} (raising : Raising) → action ≡ Raised raising → Done body asker held under_way action → (key : HeldKey) × (find_identity raising.signing.blob held.table.identities ≡ Some key) × (raising.addition ≡ key.number)
-done-raised raising is (signs ask signing key read found confirm) = absurd (cc)
-done-raised raising is (verifies ask binding) = absurd (cc)
-done-raised {asker = asker} {held = held} raising is (confirms job signing key found) =
-    let same : record { job = job; port = asker.port; addition = key.number; signing = signing } ≡ raising = cc in
-    (key, ap (λ (r : Raising). find_identity r.signing.blob held.table.identities) (sym same) ∙ found, ap (λ (r : Raising). r.addition) (sym same))
-
 raised-makes : {event : Happening} {old : State} {outcome : Outcome} (raising : Raising) → Makes event old outcome → IsAmong (Raised raising) outcome.actions → (key : HeldKey) × (find_identity raising.signing.blob old.held.table.identities ≡ Some key) × (raising.addition ≡ key.number)
 raised-makes raising (stays state) among = absurd among
 raised-makes raising (first (alters number f mild) rest) among = raised-makes raising rest among
@@ -253,11 +163,10 @@ raised-makes raising (first (names job number port found door free) rest) among 
 raised-makes raising (first (links job number port found door free other) rest) among = raised-makes raising rest among
 raised-makes raising (serves body_len port state found door waits owed) (inl same) = absurd (cc)
 raised-makes raising (serves body_len port state found door waits owed) (inr there) =
-    done-raised raising refl (why-served (front_body body_len port.heard) (asker_at state.moment port) state.held state.under_way (Raised raising) there)
+    raises-served (agent_request_of (front_body body_len port.heard)) (asker_at state.moment port) state.held state.under_way raising
+    (serves-any (agent_request_of (front_body body_len port.heard)) (asker_at state.moment port) state.held state.under_way) there
 raised-makes raising (tells piece state) among =
-    let told = telling piece state.under_way.link in
-    let before : Answering = record { ports = state.ports; verifications = state.under_way.verifications; actions = [] } in
-    absurd (among-idle (Raised raising) _ (λ is. is) (idle-lost _ told.fault (with_answers told.link (answers_in told.settled state) state) (idle-answers told.settled before tt)) among)
+    absurd (among-each IsIdle (Raised raising) _ (λ is. is) (idle-tells (telling piece state.under_way.link) state) among)
 raised-makes raising (loses state) (inl same) = absurd (cc)
 raised-makes raising (loses state) (inr none) = absurd none
 raised-makes raising (overs confirmation state there) (inl same) = absurd (cc)
@@ -328,19 +237,6 @@ module _ (asking : Asking) (signing : Signing) (waiting : ℕ → Option Raising
   put-quiet actions (names job number port found door free) keeps why = put-back _ _ actions refl refl keeps why
   put-quiet actions (links job number port found door free other) keeps why = put-back _ _ actions refl refl keeps why
 
-  -- as it comes of a request
-  put-done : {body : List ℕ} {asker : Asker} {held : KeyState} {under_way : UnderWay} {action : Action} → action ≡ Asked asking → asking.purpose ≡ ForSignature signing → Done body asker held under_way action → (asker.port ≡ asking.port) × ((key : HeldKey) × (agent_request_of body ≡ Ok (Sign signing)) × (find_identity signing.blob held.table.identities ≡ Some key) × (key.confirm ≡ false))
-  put-done {body} {asker} {held} is purpose (signs ask other key read found confirm) =
-      let same : record { ask = ask; port = asker.port; purpose = ForSignature other } ≡ asking = cc in
-      let what : ForSignature other ≡ ForSignature signing = ap (λ (a : Asking). a.purpose) same ∙ purpose in
-      let equal : other ≡ signing = cc in
-      (ap (λ (a : Asking). a.port) same, (key, read ∙ ap (λ w. Ok (Sign w)) equal, ap (λ (w : Signing). find_identity w.blob held.table.identities) (sym equal) ∙ found, confirm))
-  put-done is purpose (confirms job other key found) = absurd (cc)
-  put-done {body} {asker} is purpose (verifies ask binding) =
-      let same : record { ask = ask; port = asker.port; purpose = ForBinding binding } ≡ asking = cc in
-      let what : ForBinding binding ≡ ForSignature signing = ap (λ (a : Asking). a.purpose) same ∙ purpose in
-      absurd (cc)
-
   -- as it comes of consent
   module _ (confirmation : Confirmation) (port : Port) (state : State) (found : find_port confirmation.asker state.ports ≡ Some port) (named : IsNamed waiting state) (tie : noted confirmation.job state.under_way.confirmations ≡ option_map wanted (waiting confirmation.job)) (there : find_job confirmation.job state.under_way.confirmations ≡ Some confirmation) where
     waits : (was : Option Raising) → waiting confirmation.job ≡ was → (raising : Raising) × (waiting confirmation.job ≡ Some raising) × (wanted_of confirmation ≡ wanted raising)
@@ -388,12 +284,13 @@ module _ (asking : Asking) (signing : Signing) (waiting : ℕ → Option Raising
   put-makes (serves body_len port state found door nothing owed) tied named tie purpose (inl same) = absurd (cc)
   put-makes (serves body_len port state found door nothing owed) tied named tie purpose (inr there) =
       let body : List ℕ = front_body body_len port.heard in
-      let why = put-done refl purpose (why-served body (asker_at state.moment port) state.held state.under_way (Asked asking) there) in
-      at_once (record { port = port.number; body = body; verdict = (serve (agent_request_of body) (asker_at state.moment port) state.held state.under_way).work.verdict }) why.1.0 (inl refl) why.0 why.1.1 why.1.2 why.1.3
+      let read = agent_request_of body in
+      let asker : Asker = asker_at state.moment port in
+      let ends = serves-any read asker state.held state.under_way in
+      let why = asks-served read asker state.held state.under_way asking signing purpose ends there in
+      at_once (record { port = port.number; body = body; verdict = (serve read asker state.held state.under_way).work.verdict }) why.1.0 (inl refl) why.0 why.1.1 why.1.2 why.1.3
   put-makes (tells piece state) tied named tie purpose among =
-      let told = telling piece state.under_way.link in
-      let before : Answering = record { ports = state.ports; verifications = state.under_way.verifications; actions = [] } in
-      absurd (among-idle (Asked asking) _ (λ is. is) (idle-lost _ told.fault (with_answers told.link (answers_in told.settled state) state) (idle-answers told.settled before tt)) among)
+      absurd (among-each IsIdle (Asked asking) _ (λ is. is) (idle-tells (telling piece state.under_way.link) state) among)
   put-makes (loses state) tied named tie purpose (inl same) = absurd (cc)
   put-makes (loses state) tied named tie purpose (inr none) = absurd none
   put-makes (overs confirmation state there) tied named tie purpose (inl same) = absurd (cc)

@@ -1,10 +1,10 @@
 -- What comes of a request: it is answered, or refused, or waits for the helper, or for the user.
 use Rattle.std.proofs.Common.{◌≡◌, ℕ, List, [], ◌∷◌, refl, subst, sym, IsOk, Bool, true, false, Option, Some, None, Result, Ok, Err, nat_lt, ◌==◌}
 use Rattle.std.specs.Str.{bytes_eq}
-use Rattle.identity_table.specs.Identities.{HeldKey, find_identity, max_answer}
+use Rattle.identity_table.specs.Identities.{HeldKey, find_identity, max_answer, remove_identity}
 use Rattle.agent_msg.specs.declared.fault.MsgFault.{MsgFault}
 use Rattle.agent_msg.specs.Requests.{Addition, BindRequest, ClientRequest, Signing, ListIdentities, Sign, Add, Remove, RemoveAll, Lock, Unlock, Bind, OtherExtension, Unsupported}
-use Rattle.agent_model.specs.Dispatch.{Asker, Served, add_by, add_fault, add_seen, add_unless, answers, bind_by, keeps, length_with, lock_by, refuses, remove_by, remove_seen, seen_by, sees, serve, serve_by, serve_locked, serve_unlocked, sign_by, sign_unless, sign_with, unlock_by, unread}
+use Rattle.agent_model.specs.Dispatch.{with_addition, with_identities, Asker, Served, add_by, add_fault, add_seen, add_unless, answers, bind_by, keeps, length_with, lock_by, refuses, remove_by, remove_seen, seen_by, sees, serve, serve_by, serve_locked, serve_unlocked, sign_by, sign_unless, sign_with, unlock_by, unread}
 use Rattle.agent_model.specs.Errands.{Errand, Signs, Verifies, ask_fault, put_unless, raise_fault, raise_unless}
 use Rattle.agent_msg.specs.Reading.{request_of}
 use Rattle.key_blob.specs.PublicKeys.{KeyParts, public_key_of}
@@ -32,6 +32,19 @@ pub data IsServed (asker : Asker) (held : KeyState) (under_way : UnderWay) : Ser
   refused : (cause : Cause) → IsServed asker held under_way (refuses cause held under_way)
   asked : (errand : Errand) → ask_fault under_way ≡ None → MayPut asker errand → IsServed asker held under_way (keeps held (put_unless None errand asker.port under_way))
   raised : (key : HeldKey) (signing : Signing) → raise_fault under_way ≡ None → IsServed asker held under_way (keeps held (raise_unless None key signing asker.port under_way))
+
+-- the ends of a request, one for each effect
+pub data Serves (read : Result ClientRequest MsgFault) (asker : Asker) (held : KeyState) (under_way : UnderWay) : Served → Type 0 where
+  denies : (cause : Cause) → Serves read asker held under_way (refuses cause held under_way)
+  lists : (identities : List (List ℕ × List ℕ)) → read ≡ Ok ListIdentities → Serves read asker held under_way (answers (Identities identities) held under_way)
+  adds : (addition : Addition) → read ≡ Ok (Add addition) → Serves read asker held under_way (answers Success (record held { table = with_addition addition asker.mono held.table }) under_way)
+  removes : (blob : List ℕ) → read ≡ Ok (Remove blob) → Serves read asker held under_way (answers Success (with_identities (remove_identity blob held.table.identities) held) under_way)
+  empties : read ≡ Ok RemoveAll → Serves read asker held under_way (answers Success (with_identities [] held) under_way)
+  locks : (passphrase : List ℕ) → read ≡ Ok (Lock passphrase) → Serves read asker held under_way (answers Success (record held { lock = Some passphrase }) under_way)
+  unlocks : (passphrase : List ℕ) → read ≡ Ok (Unlock passphrase) → Serves read asker held under_way (answers Success (record held { lock = None }) under_way)
+  signs : (signing : Signing) (key : HeldKey) → read ≡ Ok (Sign signing) → find_identity signing.blob held.table.identities ≡ Some key → key.confirm ≡ false → ask_fault under_way ≡ None → Serves read asker held under_way (keeps held (put_unless None (Signs key signing) asker.port under_way))
+  confirms : (signing : Signing) (key : HeldKey) → read ≡ Ok (Sign signing) → find_identity signing.blob held.table.identities ≡ Some key → raise_fault under_way ≡ None → Serves read asker held under_way (keeps held (raise_unless None key signing asker.port under_way))
+  verifies : (bind : BindRequest) (is_new : Bool) → read ≡ Ok (Bind bind) → judge bind.host_key bind.session asker.chain ≡ judged is_new → ask_fault under_way ≡ None → Serves read asker held under_way (keeps held (put_unless None (Verifies bind is_new) asker.port under_way))
 
 -- where it is a request to bind, its host key is one that is read
 abbrev IsReadable : ClientRequest → Type 0
@@ -73,97 +86,147 @@ readable-and (Err fault) = tt
 readable-agent : (body : List ℕ) → AreReadable (agent_request_of body)
 readable-agent body = readable-and (request_of body)
 
-module _ (asker : Asker) (held : KeyState) (under_way : UnderWay) where
+module _ (read : Result ClientRequest MsgFault) (asker : Asker) (held : KeyState) (under_way : UnderWay) where
   abbrev Is : Served → Type 0
-  Is served = IsServed asker held under_way served
+  Is served = Serves read asker held under_way served
 
-  served-put : (fault : Option Cause) (errand : Errand) → ask_fault under_way ≡ fault → MayPut asker errand → Is (keeps held (put_unless fault errand asker.port under_way))
-  served-put (Some cause) errand is right = refused cause
-  served-put None errand is right = asked errand is right
+  -- ---- a signature
 
-  served-raise : (fault : Option Cause) (key : HeldKey) (signing : Signing) → raise_fault under_way ≡ fault → Is (keeps held (raise_unless fault key signing asker.port under_way))
-  served-raise (Some cause) key signing is = refused cause
-  served-raise None key signing is = raised key signing is
+  module _ (signing : Signing) (is : read ≡ Ok (Sign signing)) where
+    module _ (key : HeldKey) (found : find_identity signing.blob held.table.identities ≡ Some key) where
+      serves-put : (fault : Option Cause) → ask_fault under_way ≡ fault → key.confirm ≡ false →
+          Is (keeps held (put_unless fault (Signs key signing) asker.port under_way))
+      serves-put (Some cause) fault asks = denies cause
+      serves-put None fault asks = signs signing key is found asks fault
 
-  served-with : (confirm : Bool) (key : HeldKey) (signing : Signing) → Is (keeps held (sign_with confirm asker key signing under_way))
-  served-with true key signing = served-raise (raise_fault under_way) key signing refl
-  served-with false key signing = served-put (ask_fault under_way) (Signs key signing) refl tt
+      serves-raise : (fault : Option Cause) → raise_fault under_way ≡ fault →
+          Is (keeps held (raise_unless fault key signing asker.port under_way))
+      serves-raise (Some cause) fault = denies cause
+      serves-raise None fault = confirms signing key is found fault
 
-  served-permitted : (denial : Option Denial) (key : HeldKey) (signing : Signing) → Is (keeps held (sign_unless denial asker key signing under_way))
-  served-permitted (Some denial) key signing = refused (DestinationDenied denial)
-  served-permitted None key signing = served-with key.confirm key signing
+      serves-with : (confirm : Bool) → key.confirm ≡ confirm →
+          Is (keeps held (sign_with confirm asker key signing under_way))
+      serves-with true asks = serves-raise (raise_fault under_way) refl
+      serves-with false asks = serves-put (ask_fault under_way) refl asks
 
-  served-sign : (found : Option HeldKey) (signing : Signing) → Is (keeps held (sign_by found asker signing under_way))
-  served-sign None signing = refused NotHeld
-  served-sign (Some key) signing =
-      served-permitted (denial_under key.rules signing.blob asker.chain signing.message asker.wall) key signing
+      serves-permitted : (denial : Option Denial) →
+          Is (keeps held (sign_unless denial asker key signing under_way))
+      serves-permitted (Some denial) = denies (DestinationDenied denial)
+      serves-permitted None = serves-with key.confirm refl
 
-  served-unless : (fault : Option Cause) (addition : Addition) → Is (add_unless fault addition asker.mono held under_way)
-  served-unless (Some cause) addition = refused cause
-  served-unless None addition = answered Success _ (λ same. same)
+    serves-sign : (found : Option HeldKey) → find_identity signing.blob held.table.identities ≡ found →
+        Is (keeps held (sign_by found asker signing under_way))
+    serves-sign None found = denies NotHeld
+    serves-sign (Some key) found =
+        serves-permitted key found
+        (denial_under key.rules signing.blob asker.chain signing.message asker.wall)
 
-  served-seen : (seen : Bool) (addition : Addition) → Is (add_seen seen addition asker.mono held under_way)
-  served-seen false addition = refused NotVisible
-  served-seen true addition =
-      served-unless (add_fault (nat_lt max_answer (length_with addition asker.mono held.table)) (held.table.last == last_number)) addition
+  -- ---- additions and removals
 
-  served-add : (found : Option HeldKey) (addition : Addition) → Is (add_by found asker addition held under_way)
-  served-add None addition = served-seen true addition
-  served-add (Some key) addition = served-seen (sees asker key) addition
+  module _ (addition : Addition) (is : read ≡ Ok (Add addition)) where
+    serves-unless : (fault : Option Cause) → Is (add_unless fault addition asker.mono held under_way)
+    serves-unless (Some cause) = denies cause
+    serves-unless None = adds addition is
 
-  served-remove_seen : (seen : Bool) (blob : List ℕ) → Is (remove_seen seen blob held under_way)
-  served-remove_seen false blob = refused NotVisible
-  served-remove_seen true blob = answered Success _ (λ same. refl)
+    serves-seen : (seen : Bool) → Is (add_seen seen addition asker.mono held under_way)
+    serves-seen false = denies NotVisible
+    serves-seen true =
+        serves-unless
+        (add_fault (nat_lt max_answer (length_with addition asker.mono held.table)) (held.table.last == last_number))
 
-  served-remove : (found : Option HeldKey) (blob : List ℕ) → Is (remove_by found asker blob held under_way)
-  served-remove None blob = refused NotHeld
-  served-remove (Some key) blob = served-remove_seen (sees asker key) blob
+    serves-add : (found : Option HeldKey) → Is (add_by found asker addition held under_way)
+    serves-add None = serves-seen true
+    serves-add (Some key) = serves-seen (sees asker key)
 
-  served-lock : (passphrase : List ℕ) → Is (lock_by passphrase held under_way)
-  served-lock [] = refused NoPassphrase
-  served-lock (byte ∷ bytes) = answered Success _ (λ same. refl)
+  serves-remove_seen : (blob : List ℕ) (seen : Bool) → read ≡ Ok (Remove blob) →
+      Is (remove_seen seen blob held under_way)
+  serves-remove_seen blob false is = denies NotVisible
+  serves-remove_seen blob true is = removes blob is
 
-  served-unlock : (same : Bool) → Is (unlock_by same held under_way)
-  served-unlock true = answered Success _ (λ same. refl)
-  served-unlock false = refused WrongPassphrase
+  serves-remove : (blob : List ℕ) (found : Option HeldKey) → read ≡ Ok (Remove blob) →
+      Is (remove_by found asker blob held under_way)
+  serves-remove blob None is = denies NotHeld
+  serves-remove blob (Some key) is = serves-remove_seen blob (sees asker key) is
 
-  served-bind : (judgement : Judgement) (bind : BindRequest) → judge bind.host_key bind.session asker.chain ≡ judgement → IsOk (public_key_of bind.host_key) → Is (keeps held (bind_by judgement asker bind under_way))
-  served-bind (Refuse fault) bind is read = refused (BindRefused fault)
-  served-bind Same bind is read = served-put (ask_fault under_way) (Verifies bind false) refl (read, is)
-  served-bind New bind is read = served-put (ask_fault under_way) (Verifies bind true) refl (read, is)
+  -- ---- the lock, and bindings
 
-  served-unlocked : (request : ClientRequest) → IsReadable request → Is (serve_unlocked request asker held under_way)
-  served-unlocked ListIdentities read = answered (Identities (seen_by asker held)) held (λ same. refl)
-  served-unlocked (Sign signing) read = served-sign (find_identity signing.blob held.table.identities) signing
-  served-unlocked (Add addition) read = served-add (find_identity addition.key.blob held.table.identities) addition
-  served-unlocked (Remove blob) read = served-remove (find_identity blob held.table.identities) blob
-  served-unlocked RemoveAll read = answered Success _ (λ same. refl)
-  served-unlocked (Lock passphrase) read = served-lock passphrase
-  served-unlocked (Unlock passphrase) read = refused NotLocked
-  served-unlocked (OtherExtension name) read = refused Unserved
-  served-unlocked (Unsupported number) read = refused Unserved
-  served-unlocked (Bind bind) read = served-bind (judge bind.host_key bind.session asker.chain) bind refl read
+  serves-lock : (passphrase : List ℕ) → read ≡ Ok (Lock passphrase) → Is (lock_by passphrase held under_way)
+  serves-lock [] is = denies NoPassphrase
+  serves-lock (byte ∷ bytes) is = locks (byte ∷ bytes) is
 
-  served-locked : (passphrase : List ℕ) (request : ClientRequest) → Is (serve_locked passphrase request held under_way)
-  served-locked passphrase ListIdentities = answered (Identities []) held (λ same. refl)
-  served-locked passphrase (Sign signing) = refused Locked
-  served-locked passphrase (Add addition) = refused Locked
-  served-locked passphrase (Remove blob) = refused Locked
-  served-locked passphrase RemoveAll = refused Locked
-  served-locked passphrase (Lock other) = refused Locked
-  served-locked passphrase (Unlock other) = served-unlock (bytes_eq passphrase other)
-  served-locked passphrase (OtherExtension name) = refused Locked
-  served-locked passphrase (Unsupported number) = refused Locked
-  served-locked passphrase (Bind bind) = refused Locked
+  serves-unlock : (passphrase : List ℕ) (same : Bool) → read ≡ Ok (Unlock passphrase) →
+      Is (unlock_by same held under_way)
+  serves-unlock passphrase true is = unlocks passphrase is
+  serves-unlock passphrase false is = denies WrongPassphrase
 
-  served-by : (lock : Option (List ℕ)) (request : ClientRequest) → IsReadable request → Is (serve_by lock request asker held under_way)
-  served-by None request read = served-unlocked request read
-  served-by (Some passphrase) request read = served-locked passphrase request
+  module _ (bind : BindRequest) (is : read ≡ Ok (Bind bind)) where
+    serves-bind_put : (is_new : Bool) (fault : Option Cause) → ask_fault under_way ≡ fault →
+        judge bind.host_key bind.session asker.chain ≡ judged is_new →
+        Is (keeps held (put_unless fault (Verifies bind is_new) asker.port under_way))
+    serves-bind_put is_new (Some cause) fault stands = denies cause
+    serves-bind_put is_new None fault stands = verifies bind is_new is stands fault
 
-  served-read : (read : Result ClientRequest MsgFault) → AreReadable read → Is (serve read asker held under_way)
-  served-read (Ok request) readable = served-by held.lock request readable
-  served-read (Err fault) readable = refused (unread fault held.lock)
+    serves-bind : (judgement : Judgement) → judge bind.host_key bind.session asker.chain ≡ judgement →
+        Is (keeps held (bind_by judgement asker bind under_way))
+    serves-bind (Refuse fault) stands = denies (BindRefused fault)
+    serves-bind Same stands = serves-bind_put false (ask_fault under_way) refl stands
+    serves-bind New stands = serves-bind_put true (ask_fault under_way) refl stands
+
+  -- ---- the table of requests
+
+  serves-unlocked : (request : ClientRequest) → read ≡ Ok request → Is (serve_unlocked request asker held under_way)
+  serves-unlocked ListIdentities is = lists (seen_by asker held) is
+  serves-unlocked (Sign signing) is =
+      serves-sign signing is (find_identity signing.blob held.table.identities) refl
+  serves-unlocked (Add addition) is =
+      serves-add addition is (find_identity addition.key.blob held.table.identities)
+  serves-unlocked (Remove blob) is = serves-remove blob (find_identity blob held.table.identities) is
+  serves-unlocked RemoveAll is = empties is
+  serves-unlocked (Lock passphrase) is = serves-lock passphrase is
+  serves-unlocked (Unlock passphrase) is = denies NotLocked
+  serves-unlocked (Bind bind) is = serves-bind bind is (judge bind.host_key bind.session asker.chain) refl
+  serves-unlocked (OtherExtension name) is = denies Unserved
+  serves-unlocked (Unsupported number) is = denies Unserved
+
+  serves-locked : (passphrase : List ℕ) (request : ClientRequest) → read ≡ Ok request →
+      Is (serve_locked passphrase request held under_way)
+  serves-locked passphrase ListIdentities is = lists [] is
+  serves-locked passphrase (Sign signing) is = denies Locked
+  serves-locked passphrase (Add addition) is = denies Locked
+  serves-locked passphrase (Remove blob) is = denies Locked
+  serves-locked passphrase RemoveAll is = denies Locked
+  serves-locked passphrase (Lock other) is = denies Locked
+  serves-locked passphrase (Unlock other) is = serves-unlock other (bytes_eq passphrase other) is
+  serves-locked passphrase (Bind bind) is = denies Locked
+  serves-locked passphrase (OtherExtension name) is = denies Locked
+  serves-locked passphrase (Unsupported number) is = denies Locked
+
+  serves-by : (lock : Option (List ℕ)) (request : ClientRequest) → read ≡ Ok request →
+      Is (serve_by lock request asker held under_way)
+  serves-by None request is = serves-unlocked request is
+  serves-by (Some passphrase) request is = serves-locked passphrase request is
+
+  serves-read : (result : Result ClientRequest MsgFault) → read ≡ result →
+      Is (serve result asker held under_way)
+  serves-read (Ok request) is = serves-by held.lock request is
+  serves-read (Err fault) is = denies (unread fault held.lock)
 
   -- whatever is asked
-  pub serve-ends : (body : List ℕ) → IsServed asker held under_way (serve (agent_request_of body) asker held under_way)
-  serve-ends body = served-read (agent_request_of body) (readable-agent body)
+  pub serves-any : Serves read asker held under_way (serve read asker held under_way)
+  serves-any = serves-read read refl
+
+-- the four ends of it
+served-ends : {read : Result ClientRequest MsgFault} {asker : Asker} {held : KeyState} {under_way : UnderWay} {served : Served} → AreReadable read → Serves read asker held under_way served → IsServed asker held under_way served
+served-ends readable (denies cause) = refused cause
+served-ends {held = held} readable (lists identities is) = answered (Identities identities) held (λ same. refl)
+served-ends readable (adds addition is) = answered Success _ (λ same. same)
+served-ends readable (removes blob is) = answered Success _ (λ same. refl)
+served-ends readable (empties is) = answered Success _ (λ same. refl)
+served-ends readable (locks passphrase is) = answered Success _ (λ same. refl)
+served-ends readable (unlocks passphrase is) = answered Success _ (λ same. refl)
+served-ends readable (signs signing key is found asks free) = asked (Signs key signing) free tt
+served-ends readable (confirms signing key is found free) = raised key signing free
+served-ends readable (verifies bind is_new is stands free) = asked (Verifies bind is_new) free (subst AreReadable is readable, stands)
+
+pub serve-ends : (asker : Asker) (held : KeyState) (under_way : UnderWay) (body : List ℕ) → IsServed asker held under_way (serve (agent_request_of body) asker held under_way)
+serve-ends asker held under_way body = served-ends (readable-agent body) (serves-any (agent_request_of body) asker held under_way)

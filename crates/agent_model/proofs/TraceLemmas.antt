@@ -9,12 +9,9 @@ use Rattle.confirm_desk.specs.Confirmations.{Confirmation, change_job, confirmat
 use Rattle.confirm_desk.specs.Prompt.{prompt_for}
 use Rattle.dest_rule.specs.declared.binding.Binding.{Binding}
 use Rattle.helper_link.specs.Telling.{telling}
-use Rattle.helper_link.specs.declared.answer.Answer.{Answer}
-use Rattle.helper_link.specs.declared.answer.Answer.TheVariants as answer
-use Rattle.helper_link.specs.declared.answer.Settled.{Settled}
 use Rattle.helper_link.specs.declared.fault.LinkFault.{LinkFault}
 use Rattle.agent_model.specs.Actions.{Action, Answered, Asked, Granted, Lost, Outcome, Over, Proved, Raised, Raising, Requested, Requesting, Work}
-use Rattle.agent_model.specs.Answers.{Answering, answer_all, answer_by, answer_true, answers_in, find_verification, lose_if, proved_at, with_answers}
+use Rattle.agent_model.specs.Answers.{answers_in, lose_if, with_answers}
 use Rattle.agent_model.specs.Asking.{JobsRise}
 use Rattle.agent_model.specs.Consents.{without_confirmation}
 use Rattle.agent_model.specs.Dispatch.{Asker, Served}
@@ -25,9 +22,11 @@ use Rattle.agent_model.specs.Grants.{IsAmong, Wanted, ends_by, noted, pending_af
 use Rattle.agent_model.specs.KeyStates.{KeyState}
 use Rattle.agent_model.specs.Runs.{run}
 use Rattle.agent_model.specs.Sound.{IsTied}
-use Rattle.agent_model.specs.State.{Port, State, UnderWay, Verification, find_port}
+use Rattle.agent_model.specs.State.{State, UnderWay}
 use Rattle.agent_model.specs.Step.{asker_at, at_moment, step}
-use Rattle.agent_model.proofs.FatedLemmas.{step-fated, tied-opened, tied-quiet}
+use Rattle.agent_model.proofs.ActionLemmas.{ArePlain, IsPlain, among-each, plain-tells}
+use Rattle.agent_model.proofs.FatedLemmas.{step-fated, tied-opened}
+use Rattle.agent_model.proofs.TiedLemmas.{tied-quiet}
 use Rattle.agent_model.proofs.GrantLemmas.{IsGranted, allowed, disallowed, grant-ends, unasked}
 use Rattle.agent_model.proofs.GrowLemmas.{jobs-for}
 use Rattle.agent_model.proofs.JobLemmas.{find_job-push, find_job-remove, in-found, job_within}
@@ -35,48 +34,7 @@ use Rattle.agent_model.proofs.MakeLemmas.{IsFaint, Kept, Makes, Quiet, altered, 
 use Rattle.agent_model.proofs.OnceLemmas.{unused}
 use Rattle.agent_model.proofs.ServeLemmas.{IsServed, answered, asked, raised, refused, serve-ends}
 
--- ---- actions that have nothing to do with confirmations
-
-abbrev pub IsPlain : Action → Type 0
-IsPlain (Requested requesting) = Unit {0}
-IsPlain (Asked asking) = Unit {0}
-IsPlain (Answered one) = Unit {0}
-IsPlain (Proved proving) = Unit {0}
-IsPlain (Raised raising) = ⊥
-IsPlain (Granted job) = ⊥
-IsPlain (Over job) = ⊥
-IsPlain Lost = Unit {0}
-
-abbrev pub ArePlain : List Action → Type 0
-ArePlain [] = Unit {0}
-ArePlain (action ∷ later) = IsPlain action × ArePlain later
-
-plain-append : (some more : List Action) → ArePlain some → ArePlain more → ArePlain (some ++ more)
-plain-append [] more one_is two_is = two_is
-plain-append (action ∷ some) more one_is two_is = (one_is.0, plain-append some more one_is.1 two_is)
-
-plain-proved : (found : Option Port) (verification : Verification) → ArePlain (proved_at found verification)
-plain-proved None verification = tt
-plain-proved (Some port) verification = (tt, tt)
-
-plain-true : (found : Option Verification) (one : Settled) (before : Answering) → ArePlain before.actions → ArePlain (answer_true found one before).actions
-plain-true None one before plain = plain-append before.actions (Answered one ∷ []) plain (tt, tt)
-plain-true (Some verification) one before plain =
-    plain-append before.actions (Answered one ∷ proved_at (find_port one.asker before.ports) verification) plain (tt, plain-proved (find_port one.asker before.ports) verification)
-
-plain-answer : (what : Answer) (one : Settled) (before : Answering) → ArePlain before.actions → ArePlain (answer_by what one before).actions
-plain-answer (answer.Signed signature) one before plain = plain-append before.actions (Answered one ∷ []) plain (tt, tt)
-plain-answer answer.Refused one before plain = plain-append before.actions (Answered one ∷ []) plain (tt, tt)
-plain-answer answer.True one before plain = plain-true (find_verification one.ask before.verifications) one before plain
-plain-answer answer.False one before plain = plain-append before.actions (Answered one ∷ []) plain (tt, tt)
-
-pub plain-answers : (settled : List Settled) (before : Answering) → ArePlain before.actions → ArePlain (answer_all settled before).actions
-plain-answers [] before plain = plain
-plain-answers (one ∷ later) before plain = plain-answers later (answer_by one.answer one before) (plain-answer one.answer one before plain)
-
-pub plain-lost : (actions : List Action) (fault : Option LinkFault) (state : State) → ArePlain actions → ArePlain (actions ++ (lose_if fault state).actions)
-plain-lost actions None state plain = plain-append actions [] plain tt
-plain-lost actions (Some fault) state plain = plain-append actions (Lost ∷ []) plain (tt, tt)
+-- ---- plain actions
 
 -- they leave what is waited for
 pending-plain : (job : ℕ) (actions : List Action) (before : Option Raising) → ArePlain actions → pending_after job actions before ≡ before
@@ -100,12 +58,6 @@ ended-plain job (Raised raising ∷ later) plain = absurd plain.0
 ended-plain job (Granted other ∷ later) plain = absurd plain.0
 ended-plain job (Over other ∷ later) plain = absurd plain.0
 ended-plain job (Lost ∷ later) plain = ended-plain job later plain.1
-
--- nothing is granted and nothing ends by them
-pub among-plain : (action : Action) (actions : List Action) → (IsPlain action → ⊥) → ArePlain actions → IsAmong action actions → ⊥
-among-plain action [] other plain among = among
-among-plain action (one_is ∷ later) other plain (inl same) = other (subst IsPlain same plain.0)
-among-plain action (one_is ∷ later) other plain (inr there) = among-plain action later other plain.1 there
 
 -- actions one after another
 pub pending-append : (job : ℕ) (some more : List Action) (before : Option Raising) → pending_after job (some ++ more) before ≡ pending_after job more (pending_after job some before)
@@ -174,8 +126,8 @@ traces-plain job old new actions plain rises same = record {
   pending = λ before is. same ∙ is ∙ ap (option_map wanted) (sym (pending-plain job actions before plain));
   ended = omega (arith, (ended-plain job actions plain).0, by_tests (nat_lt old.last_job job) (nat_lt new.last_job job) refl refl);
   raised = omega (arith, (ended-plain job actions plain).1, by_numbers (nat_lt old.last_job job) (nat_lt new.last_job job) refl refl);
-  granted = λ among. absurd (among-plain (Granted job) actions (λ is. is) plain among);
-  over = λ among. absurd (among-plain (Over job) actions (λ is. is) plain among);
+  granted = λ among. absurd (among-each IsPlain (Granted job) actions (λ is. is) plain among);
+  over = λ among. absurd (among-each IsPlain (Over job) actions (λ is. is) plain among);
 }
   where
     fewer : ℕ
@@ -257,7 +209,7 @@ traces-ended job old new end actions one leaves ends raises whose rise there ris
 
     by_among : (action : Action) → IsAmong action (end ∷ actions) → (end ≡ action → job ≡ one.job) → (IsPlain action → ⊥) → IsSome (noted job old.confirmations)
     by_among action (inl is) own other = subst IsSome (sym (is_noted (own is))) refl
-    by_among action (inr later) own other = absurd (among-plain action actions other plain later)
+    by_among action (inr later) own other = absurd (among-each IsPlain action actions other plain later)
 
     by_numbers : (above later : Bool) → nat_lt old.last_job job ≡ above → nat_lt new.last_job job ≡ later → (if later then 1 else 0) ≤ (if above then 1 else 0)
     by_numbers true true a l = omega arith
@@ -341,9 +293,9 @@ module _ (job : ℕ) where
     traces-granted (allowed key may free) =
         traces-ended job under_way _ (Granted confirmation.job) _ confirmation (λ n before. refl) (λ n. refl) (λ n. refl) by_grant rise there (jobs-for under_way.link.state under_way.last_job) refl (tt, tt)
 
-  traces-fault : (actions : List Action) (fault : Option LinkFault) (old : UnderWay) (mid : State) → ArePlain actions → old.last_job ≤ mid.under_way.last_job → noted job mid.under_way.confirmations ≡ noted job old.confirmations → Traces job old (actions ++ (lose_if fault mid).actions) (lose_if fault mid).state.under_way
-  traces-fault actions None old mid plain rises same = traces-plain job old mid.under_way _ (plain-lost actions None mid plain) rises same
-  traces-fault actions (Some fault) old mid plain rises same = traces-plain job old _ _ (plain-lost actions (Some fault) mid plain) rises same
+  traces-loss : (fault : Option LinkFault) (old : UnderWay) (mid : State) (actions : List Action) → ArePlain actions → old.last_job ≤ mid.under_way.last_job → noted job mid.under_way.confirmations ≡ noted job old.confirmations → Traces job old actions (lose_if fault mid).state.under_way
+  traces-loss None old mid actions plain rises same = traces-plain job old mid.under_way actions plain rises same
+  traces-loss (Some fault) old mid actions plain rises same = traces-plain job old _ actions plain rises same
 
   traces-makes : {event : Happening} {old : State} {outcome : Outcome} → Makes event old outcome → IsTied old → Traces job old.under_way outcome.actions outcome.state.under_way
   traces-makes (stays state) tied = traces-plain job state.under_way state.under_way [] tt (omega arith) refl
@@ -354,8 +306,7 @@ module _ (job : ℕ) where
       traces-served _ tied.raised.order (serve-ends (asker_at state.moment port) state.held state.under_way (front_body body_len port.heard))
   traces-makes (tells piece state) tied =
       let told = telling piece state.under_way.link in
-      let before : Answering = record { ports = state.ports; verifications = state.under_way.verifications; actions = [] } in
-      traces-fault (answer_all told.settled before).actions told.fault state.under_way (with_answers told.link (answers_in told.settled state) state) (plain-answers told.settled before tt) (omega arith) refl
+      traces-loss told.fault state.under_way (with_answers told.link (answers_in told.settled state) state) _ (plain-tells told state) (omega arith) refl
   traces-makes (loses state) tied = traces-plain job state.under_way _ _ (tt, tt) (omega arith) refl
   traces-makes (overs confirmation state there) tied =
       traces-over confirmation state.under_way tied.raised.order (in-found confirmation 0 state.under_way.last_job tied.raised.order there)
