@@ -3,6 +3,5 @@ pub mod DeathLemmas
 pub mod FindLemmas
 pub mod NumberLemmas
 pub mod NumberLaws
-pub mod MapLemmas
 pub mod TableLemmas
 pub mod Theorems

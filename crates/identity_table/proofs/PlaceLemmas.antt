@@ -1,13 +1,14 @@
--- What stands at the place of an identity, and what a change there makes of the list.
-use Rattle.std.proofs.Common.{◌≡◌, ◌≢◌, ℕ, zero, suc, ◌+◌, ◌<◌, ◌≤◌, Bool, true, false, cond, eqb, List, [], ◌∷◌, ◌++◌, length, get_or, set, drop, Option, Some, None, refl, sym, ap, subst, ◌∙◌, arith}
+-- What stands at the place of an identity, and what an addition there makes of the list and of the answer.
+use Rattle.std.proofs.Common.{◌≡◌, ◌≢◌, ℕ, zero, suc, ◌+◌, ◌<◌, ◌≤◌, Bool, true, false, cond, List, [], ◌∷◌, ◌++◌, length, get_or, set, drop, Some, None, sym, ap, subst, ◌∙◌, refl, arith}
 use Rattle.std.specs.Prelude.{remove}
 use Rattle.std.specs.Bool.{MatchBool}
 use Rattle.std.specs.Str.{bytes_eq}
-use Rattle.std.proofs.lemmas.Bool.{false_from_ne_true, eqb-true, eq-eqb}
+use Rattle.std.proofs.lemmas.Bool.{false_from_ne_true}
 use Rattle.std.proofs.lemmas.List.{drop_more, drop_all}
 use Rattle.std.proofs.lemmas.Slice.Eq.{bytes_eq-Decides}
-use Rattle.identity_table.specs.Identities.{HeldKey, find_identity, find_number, put_identity, remove_identity, entry_len, entries_len, answer_len, max_answer}
-use Rattle.identity_table.specs.Places.{IsPlaceOf, IsPlaceOfNumber, taken_by}
+use Rattle.lists.specs.Firsts.{IsFirst}
+use Rattle.lists.proofs.FirstLemmas.{found_there, later, some_or_later}
+use Rattle.identity_table.specs.Identities.{HeldKey, find_identity, has_blob, put_identity, entry_len, entries_len, answer_len, max_answer, taken_by}
 
 -- ---- the tests
 
@@ -17,112 +18,34 @@ same_bytes a b same = (bytes_eq-Decides a b).1 same
 
 -- different texts do not
 pub other_bytes : (a b : List ℕ) → a ≢ b → bytes_eq a b ≡ false
-other_bytes a b differ = false_from_ne_true (bytes_eq a b) (λ e. differ ((bytes_eq-Decides a b).0 e))
-
--- different numbers do not
-other_numbers : (a b : ℕ) → a ≢ b → eqb a b ≡ false
-other_numbers a b differ = false_from_ne_true (eqb a b) (λ e. differ (eqb-true a b e))
+other_bytes a b differ =
+    false_from_ne_true (bytes_eq a b) (λ e. differ ((bytes_eq-Decides a b).0 e))
 
 -- texts that pass the test are equal
 pub equal : (a b : List ℕ) → bytes_eq a b ≡ true → a ≡ b
 equal a b same = (bytes_eq-Decides a b).0 same
 
--- ---- one place on
+-- ---- an addition
 
--- behind the first identity the place is one less
-later : (blob : List ℕ) (key : HeldKey) (keys : List HeldKey) (place : ℕ) → IsPlaceOf blob (key ∷ keys) (suc place) → IsPlaceOf blob keys place
-later blob key keys place at = record {
-  within = omega (arith, at.within);
-  there = at.there;
-  before = λ k default earlier. at.before (suc k) default (omega (arith, earlier));
-}
-
--- the same for numbers
-later_number : (number : ℕ) (key : HeldKey) (keys : List HeldKey) (place : ℕ) → IsPlaceOfNumber number (key ∷ keys) (suc place) → IsPlaceOfNumber number keys place
-later_number number key keys place at = record {
-  within = omega (arith, at.within);
-  there = at.there;
-  before = λ k default earlier. at.before (suc k) default (omega (arith, earlier));
-}
-
--- ---- at a place
-
--- the blob finds what stands there
-pub find_identity-at : (blob : List ℕ) (keys : List HeldKey) (place : ℕ) (default : HeldKey) → IsPlaceOf blob keys place →
-    find_identity blob keys ≡ Some (get_or keys place default)
-unfolding find_identity
-find_identity-at blob [] place default at = absurd (omega (arith, at.within))
-find_identity-at blob (key ∷ keys) zero default at = rw (same_bytes key.blob blob (at.there default)) refl
-find_identity-at blob (key ∷ keys) (suc place) default at =
-    rw (other_bytes key.blob blob (at.before 0 default (omega arith))) (find_identity-at blob keys place default (later blob key keys place at))
-
--- the number finds what stands there
-pub find_number-at : (number : ℕ) (keys : List HeldKey) (place : ℕ) (default : HeldKey) → IsPlaceOfNumber number keys place →
-    find_number number keys ≡ Some (get_or keys place default)
-unfolding find_number
-find_number-at number [] place default at = absurd (omega (arith, at.within))
-find_number-at number (key ∷ keys) zero default at = rw (eq-eqb key.number number (at.there default)) refl
-find_number-at number (key ∷ keys) (suc place) default at =
-    rw (other_numbers key.number number (at.before 0 default (omega arith))) (find_number-at number keys place default (later_number number key keys place at))
-
--- the identity is put there
-pub put_identity-at : (new : HeldKey) (keys : List HeldKey) (place : ℕ) → IsPlaceOf new.blob keys place →
+-- the identity is put into the place of the one with its blob
+pub put_identity-at : (new : HeldKey) (keys : List HeldKey) (place : ℕ) →
+    IsFirst (has_blob new.blob) keys place →
     put_identity new keys ≡ set keys place new
 unfolding put_identity
 put_identity-at new [] place at = absurd (omega (arith, at.within))
-put_identity-at new (key ∷ keys) zero at = rw (same_bytes key.blob new.blob (at.there key)) refl
+put_identity-at new (key ∷ keys) zero at = rw (at.there key) refl
 put_identity-at new (key ∷ keys) (suc place) at =
-    rw (other_bytes key.blob new.blob (at.before 0 key (omega arith)))
-    (ap (λ (rest : List HeldKey). key ∷ rest) (put_identity-at new keys place (later new.blob key keys place at)))
+    rw (at.before 0 key (omega arith))
+    (ap (λ (rest : List HeldKey). key ∷ rest) (put_identity-at new keys place (later (has_blob new.blob) key keys place at)))
 
--- what stands there is removed
-pub remove_identity-at : (blob : List ℕ) (keys : List HeldKey) (place : ℕ) → IsPlaceOf blob keys place →
-    remove_identity blob keys ≡ remove keys place
-unfolding remove_identity
-remove_identity-at blob [] place at = absurd (omega (arith, at.within))
-remove_identity-at blob (key ∷ keys) zero at = rw (same_bytes key.blob blob (at.there key)) refl
-remove_identity-at blob (key ∷ keys) (suc place) at =
-    rw (other_bytes key.blob blob (at.before 0 key (omega arith)))
-    (ap (λ (rest : List HeldKey). key ∷ rest) (remove_identity-at blob keys place (later blob key keys place at)))
-
--- ---- at none
-
--- where no identity has the blob, it finds none
-pub find_identity-none : (blob : List ℕ) (keys : List HeldKey) → ((k : ℕ) (default : HeldKey) → k < length keys → (get_or keys k default).blob ≢ blob) →
-    find_identity blob keys ≡ None
-unfolding find_identity
-find_identity-none blob [] all = refl
-find_identity-none blob (key ∷ keys) all =
-    rw (other_bytes key.blob blob (all 0 key (omega arith))) (find_identity-none blob keys (λ k default inside. all (suc k) default (omega (arith, inside))))
-
--- where no identity has the number, it finds none
-pub find_number-none : (number : ℕ) (keys : List HeldKey) → ((k : ℕ) (default : HeldKey) → k < length keys → (get_or keys k default).number ≢ number) →
-    find_number number keys ≡ None
-unfolding find_number
-find_number-none number [] all = refl
-find_number-none number (key ∷ keys) all =
-    rw (other_numbers key.number number (all 0 key (omega arith))) (find_number-none number keys (λ k default inside. all (suc k) default (omega (arith, inside))))
-
--- what is none is neither the first nor a later one
-pub some_or_later : (is : Bool) (key : HeldKey) (found : Option HeldKey) → cond is (Some key) found ≡ None → (is ≡ false) × (found ≡ None)
-some_or_later true key found none = absurd cc
-some_or_later false key found none = (refl, none)
-
--- where the blob isn't there, it is put at the end
-pub put_identity-none : (new : HeldKey) (keys : List HeldKey) → find_identity new.blob keys ≡ None → put_identity new keys ≡ keys ++ new ∷ []
+-- where there is none, at the end
+pub put_identity-none : (new : HeldKey) (keys : List HeldKey) → find_identity new.blob keys ≡ None →
+    put_identity new keys ≡ keys ++ new ∷ []
 unfolding find_identity put_identity
 put_identity-none new [] none = refl
 put_identity-none new (key ∷ keys) none =
-    let both = some_or_later (bytes_eq key.blob new.blob) key (find_identity new.blob keys) none in
+    let both = some_or_later (has_blob new.blob key) key (find_identity new.blob keys) none in
     rw both.0 (ap (λ (rest : List HeldKey). key ∷ rest) (put_identity-none new keys both.1))
-
--- where the blob isn't there, nothing is removed
-pub remove_identity-none : (blob : List ℕ) (keys : List HeldKey) → find_identity blob keys ≡ None → remove_identity blob keys ≡ keys
-unfolding find_identity remove_identity
-remove_identity-none blob [] none = refl
-remove_identity-none blob (key ∷ keys) none =
-    let both = some_or_later (bytes_eq key.blob blob) key (find_identity blob keys) none in
-    rw both.0 (ap (λ (rest : List HeldKey). key ∷ rest) (remove_identity-none blob keys both.1))
 
 -- ---- the length of the answer
 
@@ -132,7 +55,8 @@ pub entries_len-at : (keys : List HeldKey) (place : ℕ) (default : HeldKey) →
 unfolding entries_len
 entries_len-at [] place default within = absurd (omega (arith, within))
 entries_len-at (key ∷ keys) zero default within = refl
-entries_len-at (key ∷ keys) (suc place) default within = omega (arith, entries_len-at keys place default (omega (arith, within)))
+entries_len-at (key ∷ keys) (suc place) default within =
+    omega (arith, entries_len-at keys place default (omega (arith, within)))
 
 -- an addition takes its entry in place of the one that it replaces
 pub entries_len-put : (new : HeldKey) (keys : List HeldKey) →
@@ -141,33 +65,40 @@ unfolding entries_len put_identity find_identity
 entries_len-put new [] = omega arith
 entries_len-put new (key ∷ keys) = by_test (bytes_eq key.blob new.blob) (entries_len-put new keys)
   where
-    by_test : (same : Bool) → entries_len (put_identity new keys) + taken_by (find_identity new.blob keys) ≡ entry_len new + entries_len keys →
+    by_test : (same : Bool) →
+        entries_len (put_identity new keys) + taken_by (find_identity new.blob keys)
+        ≡ entry_len new + entries_len keys →
         entries_len (cond same (new ∷ keys) (key ∷ put_identity new keys)) + taken_by (cond same (Some key) (find_identity new.blob keys))
         ≡ entry_len new + (entry_len key + entries_len keys)
     by_test true rest = omega arith
     by_test false rest = omega (arith, rest)
 
 -- the entries from place i on are the one there and those behind it
-pub entries_len-more : (keys : List HeldKey) (i : ℕ) (key : HeldKey) → i < length keys → key ≡ get_or keys i key →
+pub entries_len-more : (keys : List HeldKey) (i : ℕ) (key : HeldKey) → i < length keys →
+    key ≡ get_or keys i key →
     entries_len (drop i keys) ≡ entry_len key + entries_len (drop (i + 1) keys)
 unfolding entries_len
 entries_len-more keys i key inside is =
     ap entries_len (drop_more keys i key inside) ∙ ap (λ (k : HeldKey). entry_len k + entries_len (drop (i + 1) keys)) (sym is)
 
 -- behind the last are none
-pub entries_len-end : (keys : List HeldKey) (i : ℕ) → length keys ≤ i → entries_len (drop i keys) ≡ 0
+pub entries_len-end : (keys : List HeldKey) (i : ℕ) → length keys ≤ i →
+    entries_len (drop i keys) ≡ 0
 unfolding entries_len
 entries_len-end keys i past = ap entries_len (drop_all i keys past)
 
 -- what is found at a place takes its entry of the answer
-pub taken_by-at : (blob : List ℕ) (keys : List HeldKey) (place : ℕ) (key : HeldKey) → IsPlaceOf blob keys place → key ≡ get_or keys place key →
+pub taken_by-at : (blob : List ℕ) (keys : List HeldKey) (place : ℕ) (key : HeldKey) →
+    IsFirst (has_blob blob) keys place → key ≡ get_or keys place key →
     (taken_by (find_identity blob keys) ≡ entry_len key) × (entry_len key ≤ entries_len keys)
+unfolding find_identity
 taken_by-at blob keys place key at is =
-    let found : find_identity blob keys ≡ Some key = find_identity-at blob keys place key at ∙ ap (λ (k : HeldKey). Some k) (sym is) in
+    let found : find_identity blob keys ≡ Some key = found_there (has_blob blob) keys place key at ∙ ap (λ (k : HeldKey). Some k) (sym is) in
     (ap taken_by found, omega (arith, entries_len-at keys place key at.within, ap entry_len is))
 
 -- the answer after an addition has its entry in place of the one that it replaces
-pub answer_len-put : (new : HeldKey) (keys : List HeldKey) (others : ℕ) → others + taken_by (find_identity new.blob keys) ≡ answer_len keys →
+pub answer_len-put : (new : HeldKey) (keys : List HeldKey) (others : ℕ) →
+    others + taken_by (find_identity new.blob keys) ≡ answer_len keys →
     answer_len (put_identity new keys) ≡ others + entry_len new
 answer_len-put new keys others all = omega (arith, entries_len-put new keys, all)
 

@@ -1,7 +1,11 @@
 -- The identities that an agent holds (draft-miller-ssh-agent, "Adding keys to the agent"). That they
 -- are a list in order of first addition is as in OpenSSH's ssh-agent.
-use Rattle.std.specs.Prelude.{◌≡◌, ℕ, ◌+◌, ◌≤◌, Bool, List, [], ◌∷◌, length, filter, Option, Some, None, ◌==◌, if◌then◌else◌}
+use Rattle.std.specs.Prelude.{◌≡◌, ℕ, ◌+◌, ◌≤◌, Bool, List, [], ◌∷◌, length, filter, Option, Some, None, if◌then◌else◌}
+use Rattle.std.specs.List.{find}
 use Rattle.std.specs.Str.{bytes_eq}
+use Rattle.wire_text.specs.Bounds.{longest_body}
+use Rattle.lists.specs.Firsts.{remove_first}
+use Rattle.lists.specs.Keyed.{find_by}
 use Rattle.constraint_rec.specs.declared.constraint.Constraint.{Constraint}
 use Rattle.constraint_rec.specs.declared.terms.Terms.{Terms}
 use Rattle.key_blob.specs.declared.added.AddedKey.{AddedKey}
@@ -27,16 +31,21 @@ pub record TableState : Type 0 where
 
 -- ---- lists of identities
 
+-- it has this blob
+abbrev pub has_blob : List ℕ → HeldKey → Bool
+has_blob blob key = bytes_eq key.blob blob
+
+-- the number of its addition
+abbrev pub number_of : HeldKey → ℕ
+number_of key = key.number
+
 -- the identity with this blob
 unfoldable pub find_identity : List ℕ → List HeldKey → Option HeldKey
-find_identity blob [] = None
-find_identity blob (key ∷ keys) =
-    if bytes_eq key.blob blob then Some key else find_identity blob keys
+find_identity blob keys = find (has_blob blob) keys
 
 -- the identity of this addition
 unfoldable pub find_number : ℕ → List HeldKey → Option HeldKey
-find_number number [] = None
-find_number number (key ∷ keys) = if key.number == number then Some key else find_number number keys
+find_number number keys = find_by number_of number keys
 
 -- the identity in place of the one with the same blob, or at the end
 unfoldable pub put_identity : HeldKey → List HeldKey → List HeldKey
@@ -46,9 +55,7 @@ put_identity new (key ∷ keys) =
 
 -- without the identity with this blob
 unfoldable pub remove_identity : List ℕ → List HeldKey → List HeldKey
-remove_identity blob [] = []
-remove_identity blob (key ∷ keys) =
-    if bytes_eq key.blob blob then keys else key ∷ remove_identity blob keys
+remove_identity blob keys = remove_first (has_blob blob) keys
 
 -- those whose lifetime has not run out at this second
 unfoldable pub alive_at : ℕ → List HeldKey → List HeldKey
@@ -65,6 +72,11 @@ next_death (key ∷ keys) = earlier (on_clock key.death) (next_death keys)
 abbrev pub entry_len : HeldKey → ℕ
 entry_len key = 8 + (length key.blob + length key.comment)
 
+-- how much of an answer it takes, where it is there
+abbrev pub taken_by : Option HeldKey → ℕ
+taken_by None = 0
+taken_by (Some key) = entry_len key
+
 -- all of them
 unfoldable pub entries_len : List HeldKey → ℕ
 entries_len [] = 0
@@ -76,7 +88,7 @@ answer_len keys = 5 + entries_len keys
 
 -- the longest reply that OpenSSH's clients take: 256 KiB (authfd.c, MAX_AGENT_REPLY_LEN)
 abbrev pub max_answer : ℕ
-max_answer = 262144
+max_answer = longest_body
 
 -- ---- what holds of every table
 
@@ -93,7 +105,7 @@ HaveOwnNumbers last (key ∷ keys) =
 
 -- the longest private string: as long as the longest message (ours)
 abbrev pub longest_private : ℕ
-longest_private = 262144
+longest_private = longest_body
 
 -- none has a longer private string
 unfoldable pub AreShort : List HeldKey → Type 0

@@ -1,5 +1,4 @@
 pub mod Deaths
 pub mod Identities
 pub mod Lock
-pub mod Places
 pub mod Tables

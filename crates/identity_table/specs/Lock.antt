@@ -2,6 +2,7 @@
 -- opens it, or none where it is open.
 use Rattle.std.specs.Prelude.{ℕ, ◌≤◌, Bool, true, false, List, [], ◌∷◌, Option, Some, None, length}
 use Rattle.std.specs.Str.{bytes_eq}
+use Rattle.wire_text.specs.Bounds.{longest_body}
 
 -- it is open, and the passphrase isn't empty (ours)
 abbrev pub can_lock : Option (List ℕ) → List ℕ → Bool
@@ -16,7 +17,7 @@ can_unlock (Some held) passphrase = bytes_eq held passphrase
 
 -- the longest passphrase: as long as the longest message (ours)
 abbrev pub longest_passphrase : ℕ
-longest_passphrase = 262144
+longest_passphrase = longest_body
 
 -- the passphrase that locks it is no longer
 abbrev pub HasShort : Option (List ℕ) → Type 0

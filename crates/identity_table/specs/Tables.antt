@@ -1,8 +1,9 @@
 -- What calls do to a table (draft-miller-ssh-agent, "Adding keys to the agent", "Removing keys from
 -- the agent"). Why a key isn't added is ours.
-use Rattle.std.specs.Prelude.{◌≡◌, ℕ, ◌+◌, ◌-◌, ◌^◌, ◌<◌, ◌==◌, nat_lt, Bool, true, false, List, [], ◌∷◌, Option, Some, None}
+use Rattle.std.specs.Prelude.{◌≡◌, ℕ, ◌+◌, ◌-◌, ◌^◌, ◌==◌, nat_lt, Bool, true, false, List, [], ◌∷◌, Option, Some, None}
 use Rattle.constraint_rec.specs.declared.terms.Terms.{Terms}
 use Rattle.key_blob.specs.declared.added.AddedKey.{AddedKey}
+use Rattle.lists.specs.Rising.{IsRisingNumbers}
 use Rattle.identity_table.specs.Identities.{TableState, added, alive_at, answer_len, identities_with, max_answer, remove_identity}
 use Rattle.identity_table.specs.declared.fault.AddFault.{AddFault}
 use Rattle.identity_table.specs.declared.fault.AddFault.TheVariants.{ListFull, NumbersSpent, Memory}
@@ -74,5 +75,4 @@ numbers_of (call ∷ calls) table = numbered call table (numbers_of calls (after
 
 -- each number is above the one before it, and the first is above `below`
 abbrev pub RiseFrom : ℕ → List ℕ → Type 0
-RiseFrom below [] = Unit {0}
-RiseFrom below (number ∷ numbers) = (below < number) × RiseFrom number numbers
+RiseFrom = IsRisingNumbers

@@ -1,7 +1,9 @@
 ghost use Rattle.std.specs.Prelude.{◌≡◌, ◌+◌, ◌<◌, ◌≤◌, ◌↔◌, IsTrue, MatchBool, IsSome, length, Some, None, MatchOption, OnOk, OnErr};
+ghost use Rattle.std.specs.List.{position};
+ghost use Rattle.lists.specs.Firsts.{IsFirst};
+ghost use Rattle.lists.specs.Keyed.{has_key};
 ghost use Rattle.identity_table.specs.Deaths.{earlier};
-ghost use Rattle.identity_table.specs.Identities.{HeldKey, find_identity, find_number, put_identity, remove_identity, alive_at, next_death, entry_len, answer_len, max_answer};
-ghost use Rattle.identity_table.specs.Places.{IsPlaceOf, IsPlaceOfNumber, taken_by};
+ghost use Rattle.identity_table.specs.Identities.{HeldKey, find_identity, find_number, has_blob, number_of, put_identity, remove_identity, alive_at, next_death, entry_len, answer_len, max_answer, taken_by};
 
 use crate::identity::Identity;
 use std::alloc::AllocError;
@@ -12,27 +14,33 @@ const MAX_ANSWER: usize = 262144;
 /// The place of the identity with this blob.
 pub fn place_of(identities: &[Identity], blob: &[u8]) -> Option<usize>
     ensures { MatchOption result (find_identity blob.now identities.now ≡ None)
-        (IsPlaceOf blob.now identities.now) }
+        (IsFirst (has_blob blob.now) identities.now) }
 {
-    for (place, identity) in identities.iter().enumerate() {
-        if identity.blob() == blob {
-            return Some(place);
-        }
-    }
-    None
+    first_of(identities, blob)
+}
+
+fn first_of(identities: &[Identity], blob: &[u8]) -> Option<usize>
+    ensures { result ≡ position (has_blob blob.now) identities.now }
+{
+    identities
+        .iter()
+        .position(|identity| identity.blob() == blob)
 }
 
 /// The place of the identity of this addition.
 pub fn place_of_number(identities: &[Identity], number: u64) -> Option<usize>
     ensures { MatchOption result (find_number number identities.now ≡ None)
-        (IsPlaceOfNumber number identities.now) }
+        (IsFirst (has_key number_of number) identities.now) }
 {
-    for (place, identity) in identities.iter().enumerate() {
-        if identity.addition() == number {
-            return Some(place);
-        }
-    }
-    None
+    first_numbered(identities, number)
+}
+
+fn first_numbered(identities: &[Identity], number: u64) -> Option<usize>
+    ensures { result ≡ position (has_key number_of number) identities.now }
+{
+    identities
+        .iter()
+        .position(|identity| identity.addition() == number)
 }
 
 /// Puts `identity` into the place of the one with its blob, or at the end.

@@ -1,5 +1,5 @@
 -- Lemmas on the first element that passes a test.
-use Rattle.std.proofs.Common.{◌≡◌, ℕ, zero, suc, ◌+◌, ◌<◌, ◌≤◌, Bool, true, false, cond, List, [], ◌∷◌, ◌++◌, length, get_or, set, map, filter, Option, Some, None, MatchOption, refl, sym, ap, ◌∙◌, arith}
+use Rattle.std.proofs.Common.{◌≡◌, ℕ, zero, suc, ◌+◌, ◌<◌, ◌≤◌, Bool, true, false, cond, not, List, [], ◌∷◌, ◌++◌, length, get_or, set, map, filter, Option, Some, None, MatchOption, refl, sym, ap, ◌∙◌, arith}
 use Rattle.std.specs.List.{find, position, position_from, remove}
 use Rattle.std.specs.Option.{option_map}
 use Rattle.std.proofs.lemmas.Bool.Decides.{nat_tests}
@@ -51,12 +51,12 @@ find-remove_apart test other (one ∷ all) apart =
     by_test true is rest = rw (apart one is) refl
     by_test false is rest = ap (cond (test one) (Some one)) rest
 
-pub remove-none : {A : Type 0} (test : A → Bool) (all : List A) → find test all ≡ None →
+pub removed_nowhere : {A : Type 0} (test : A → Bool) (all : List A) → find test all ≡ None →
     remove_first test all ≡ all
-remove-none test [] none = refl
-remove-none test (one ∷ all) none =
+removed_nowhere test [] none = refl
+removed_nowhere test (one ∷ all) none =
     let both = some_or_later (test one) one (find test all) none in
-    rw both.0 (ap (λ rest. one ∷ rest) (remove-none test all both.1))
+    rw both.0 (ap (λ rest. one ∷ rest) (removed_nowhere test all both.1))
 
 pub length-remove : {A : Type 0} (test : A → Bool) (all : List A) →
     length (remove_first test all) ≤ length all
@@ -121,12 +121,12 @@ find-change_apart test other f (one ∷ all) apart keeps =
     by_test true is rest = rw (apart one is, keeps one is) refl
     by_test false is rest = ap (cond (test one) (Some one)) rest
 
-pub change-none : {A : Type 0} (test : A → Bool) (f : A → A) (all : List A) → find test all ≡ None →
+pub changed_nowhere : {A : Type 0} (test : A → Bool) (f : A → A) (all : List A) → find test all ≡ None →
     change_first test f all ≡ all
-change-none test f [] none = refl
-change-none test f (one ∷ all) none =
+changed_nowhere test f [] none = refl
+changed_nowhere test f (one ∷ all) none =
     let both = some_or_later (test one) one (find test all) none in
-    rw both.0 (ap (λ rest. one ∷ rest) (change-none test f all both.1))
+    rw both.0 (ap (λ rest. one ∷ rest) (changed_nowhere test f all both.1))
 
 -- a change to what is there is none
 pub change-same : {A : Type 0} (test : A → Bool) (f : A → A) (all : List A) (one : A) →
@@ -158,6 +158,19 @@ change-agree test f g (first ∷ all) one found same =
         let is : first ≡ one = cc in let changed : f first
         ≡ g first = ap f is ∙ same ∙ ap g (sym is) in ap (λ here. here ∷ all) changed
     by_test false there later = ap (λ rest. first ∷ rest) (later there)
+
+-- so are two that agree on all
+pub change-pointwise : {A : Type 0} (test : A → Bool) (f g : A → A) (all : List A) →
+    ((one : A) → f one ≡ g one) → change_first test f all ≡ change_first test g all
+change-pointwise test f g [] same = refl
+change-pointwise test f g (one ∷ all) same =
+    by_test (test one) (change-pointwise test f g all same)
+  where
+    by_test : (is : Bool) → change_first test f all ≡ change_first test g all →
+        cond is (f one ∷ all) (one ∷ change_first test f all)
+        ≡ cond is (g one ∷ all) (one ∷ change_first test g all)
+    by_test true rest = ap (λ here. here ∷ all) (same one)
+    by_test false rest = ap (λ rest. one ∷ rest) rest
 
 pub change-twice : {A : Type 0} (test : A → Bool) (f g : A → A) (all : List A) →
     ((one : A) → test (f one) ≡ test one) →
@@ -254,6 +267,78 @@ find-filter test keep (one ∷ all) only =
     by_tests false true k is behind rest = rw k (rest ∙ ap (if_kept keep) (behind is))
     by_tests false false k is behind rest = rest
 
+-- without the only one that passes, those are left that fail
+pub remove-filter : {A : Type 0} (test : A → Bool) (all : List A) → IsOnly test all →
+    remove_first test all ≡ filter (λ one. not (test one)) all
+remove-filter test [] only = refl
+remove-filter test (one ∷ all) only =
+    by_test (test one) refl only.0 (remove-filter test all only.1)
+  where
+    kept : (others : List _) → find test others ≡ None → others ≡ filter (λ one. not (test one)) others
+    kept [] none = refl
+    kept (other ∷ others) none =
+        let both = some_or_later (test other) other (find test others) none in
+        rw both.0 (ap (λ rest. other ∷ rest) (kept others both.1))
+
+    by_test : (is : Bool) → test one ≡ is → (test one ≡ true → find test all ≡ None) →
+        remove_first test all ≡ filter (λ one. not (test one)) all →
+        cond is all (one ∷ remove_first test all)
+        ≡ cond (not is) (one ∷ filter (λ one. not (test one)) all) (filter (λ one. not (test one)) all)
+    by_test true is behind rest = kept all (behind is)
+    by_test false is behind rest = ap (λ rest. one ∷ rest) rest
+
+-- what is found is found by any test that it alone passes
+pub found_too : {A : Type 0} (test other : A → Bool) (all : List A) (one : A) → IsOnly other all →
+    find test all ≡ Some one → other one ≡ true → find other all ≡ Some one
+found_too test other [] one only found passes = absurd cc
+found_too test other (first ∷ all) one only found passes =
+    by_tests (test first) (other first) refl only.0 found
+    (λ there. found_too test other all one only.1 there passes)
+  where
+    by_tests : (is too : Bool) → other first ≡ too → (other first ≡ true → find other all ≡ None) →
+        cond is (Some first) (find test all) ≡ Some one →
+        (find test all ≡ Some one → find other all ≡ Some one) →
+        cond too (Some first) (find other all) ≡ Some one
+    by_tests true true passed behind there later = there
+    by_tests true false passed behind there later =
+        let same : first ≡ one = cc in
+        let is : other first ≡ true = ap other same ∙ passes in
+        absurd cc
+    by_tests false true passed behind there later =
+        let found : find other all ≡ Some one = later there in
+        let none : find other all ≡ None = behind passed in
+        absurd cc
+    by_tests false false passed behind there later = later there
+
+-- what is found by one test and changed by another that it alone passes is found changed
+pub find-change_found : {A : Type 0} (test other : A → Bool) (f : A → A) (all : List A) (one : A) →
+    ((any : A) → test (f any) ≡ test any) → IsOnly other all → find test all ≡ Some one →
+    other one ≡ true → find test (change_first other f all) ≡ Some (f one)
+find-change_found test other f [] one keeps only found passes = absurd cc
+find-change_found test other f (first ∷ all) one keeps only found passes =
+    by_tests (test first) (other first) refl refl only.0 found
+    (λ there. found_too test other all one only.1 there passes)
+    (λ there. find-change_found test other f all one keeps only.1 there passes)
+  where
+    by_tests : (is too : Bool) → test first ≡ is → other first ≡ too →
+        (other first ≡ true → find other all ≡ None) →
+        cond is (Some first) (find test all) ≡ Some one →
+        (find test all ≡ Some one → find other all ≡ Some one) →
+        (find test all ≡ Some one → find test (change_first other f all) ≡ Some (f one)) →
+        find test (cond too (f first ∷ all) (first ∷ change_first other f all)) ≡ Some (f one)
+    by_tests true true is passed behind there there_too later =
+        let same : first ≡ one = cc in
+        rw (keeps first, is) (ap (λ any. Some (f any)) same)
+    by_tests true false is passed behind there there_too later =
+        let same : first ≡ one = cc in
+        let also : other first ≡ true = ap other same ∙ passes in
+        absurd cc
+    by_tests false true is passed behind there there_too later =
+        let found : find other all ≡ Some one = there_too there in
+        let none : find other all ≡ None = behind passed in
+        absurd cc
+    by_tests false false is passed behind there there_too later = rw is (later there)
+
 -- ---- of other elements that are seen as these
 
 module _ {A B : Type 0} (see : A → B) (test : B → Bool) (same : A → Bool) where
@@ -282,7 +367,7 @@ module _ {A B : Type 0} (see : A → B) (test : B → Bool) (same : A → Bool) 
 -- ---- at a place
 
 -- behind the first the place is one less
-later : {A : Type 0} (test : A → Bool) (one : A) (others : List A) (place : ℕ) →
+pub later : {A : Type 0} (test : A → Bool) (one : A) (others : List A) (place : ℕ) →
     IsFirst test (one ∷ others) (suc place) → IsFirst test others place
 later test one others place at = record {
   within = omega (arith, at.within);

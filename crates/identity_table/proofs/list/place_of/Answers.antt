@@ -1,8 +1,8 @@
-use Rattle.std.proofs.Common.{arith}
-use Rattle.identity_table.proofs.PlaceLemmas.{find_identity-none}
+use Rattle.lists.proofs.FirstLemmas.{is_place}
+use Rattle.identity_table.specs.Identities.{find_identity, has_blob}
 use Rattle.identity_table.proofs.list.place_of.Goals as goal
 
 pub returns : goal.returns
+unfolding find_identity
 returns c =
-    find_identity-none c.args.blob.now c.args.identities.now
-    (λ k default inside. c.loop-place.invariant k default (omega (arith, inside, c.loop-place-test.false)))
+    is_place (has_blob c.args.blob.now) c.args.identities.now c.first_of.result c.first_of.ensures

@@ -1,8 +1,9 @@
-use Rattle.std.proofs.Common.{arith}
-use Rattle.identity_table.proofs.PlaceLemmas.{find_number-none}
+use Rattle.lists.proofs.FirstLemmas.{is_place}
+use Rattle.lists.specs.Keyed.{has_key}
+use Rattle.identity_table.specs.Identities.{find_number, number_of}
 use Rattle.identity_table.proofs.list.place_of_number.Goals as goal
 
 pub returns : goal.returns
+unfolding find_number
 returns c =
-    find_number-none c.args.number c.args.identities.now
-    (λ k default inside. c.loop-place.invariant k default (omega (arith, inside, c.loop-place-test.false)))
+    is_place (has_key number_of c.args.number) c.args.identities.now c.first_numbered.result c.first_numbered.ensures

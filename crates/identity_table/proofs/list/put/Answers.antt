@@ -1,12 +1,12 @@
 use Rattle.std.proofs.Common.{◌≡◌, None, sym, ◌∙◌}
-use Rattle.identity_table.specs.Identities.{find_identity}
-use Rattle.identity_table.specs.Places.{IsPlaceOf}
+use Rattle.lists.specs.Firsts.{IsFirst}
+use Rattle.identity_table.specs.Identities.{find_identity, has_blob}
 use Rattle.identity_table.proofs.PlaceLemmas.{put_identity-at, put_identity-none}
 use Rattle.identity_table.proofs.list.put.Goals as goal
 
 pub returns-in-Some-clause-ok : goal.returns-in-Some-clause-ok
 returns-in-Some-clause-ok c =
-    let at : IsPlaceOf c.args.identity.blob c.args.identities.now.items c.in-Some.place =
+    let at : IsFirst (has_blob c.args.identity.blob) c.args.identities.now.items c.in-Some.place =
     rw (c.blob.ensures, c.deref.ensures.value) at c.in-Some.ensures in
     sym (put_identity-at c.args.identity c.args.identities.now.items c.in-Some.place at)
 
