@@ -11,7 +11,8 @@ use Rattle.helper_link.specs.declared.answer.Answer.TheVariants as answer
 use Rattle.helper_link.specs.declared.answer.Settled.{Settled}
 use Rattle.helper_link.specs.declared.ask.Ask.{Ask}
 use Rattle.helper_link.specs.declared.ask.AskKind.{AskKind}
-use Rattle.helper_link.proofs.OrderLemmas.{differ, find-remove, remove_rises}
+use Rattle.lists.proofs.KeyedLemmas.{differ}
+use Rattle.helper_link.proofs.OrderLemmas.{find-remove, remove_rises}
 use Rattle.agent_model.specs.Answers.{find_verification, remove_verification}
 use Rattle.agent_model.specs.Sound.{AreJudged, AreTied, IsRight}
 use Rattle.agent_model.specs.State.{OnAsk, Port, Verification, change_port, find_port}

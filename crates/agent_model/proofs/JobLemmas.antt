@@ -3,7 +3,7 @@ use Rattle.std.proofs.Common.{◌≡◌, ◌≢◌, ℕ, ◌+◌, ◌<◌, ◌�
 use Rattle.std.specs.Option.{option_map}
 use Rattle.std.proofs.lemmas.Bool.{eqb-false, eqb-true}
 use Rattle.std.proofs.lemmas.Bool.Decides.{nat_tests}
-use Rattle.helper_link.proofs.OrderLemmas.{differ}
+use Rattle.lists.proofs.KeyedLemmas.{differ}
 use Rattle.confirm_desk.specs.Confirmations.{Confirmation, change_job, find_asker, find_job, find_linked, is_at, remove_job}
 use Rattle.agent_model.specs.Asking.{JobsRise}
 

@@ -16,7 +16,8 @@ use Rattle.helper_link.specs.Settling.{find_ask, remove_ask}
 use Rattle.helper_link.specs.Sound.{RiseTo}
 use Rattle.helper_link.specs.declared.ask.Ask.{Ask}
 use Rattle.helper_link.specs.declared.ask.AskKind.{AskKind}
-use Rattle.helper_link.proofs.OrderLemmas.{differ, find-remove}
+use Rattle.lists.proofs.KeyedLemmas.{differ}
+use Rattle.helper_link.proofs.OrderLemmas.{find-remove}
 use Rattle.agent_model.specs.Answers.{chain_with, find_verification, remove_verification}
 use Rattle.agent_model.specs.Bindings.{bound_once}
 use Rattle.agent_model.specs.Sound.{AreApart, AreChains, AreJudged, AreNoted, AreTied, IsRight, IsRising, judged}

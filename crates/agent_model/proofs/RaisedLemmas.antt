@@ -10,7 +10,8 @@ use Rattle.helper_link.specs.Settling.{find_ask, remove_ask}
 use Rattle.helper_link.specs.Sound.{RiseTo}
 use Rattle.helper_link.specs.declared.answer.Settled.{Settled}
 use Rattle.helper_link.specs.declared.ask.Ask.{Ask}
-use Rattle.helper_link.proofs.OrderLemmas.{differ, remove_rises}
+use Rattle.lists.proofs.KeyedLemmas.{differ}
+use Rattle.helper_link.proofs.OrderLemmas.{remove_rises}
 use Rattle.agent_model.specs.Answers.{Answering, answer_all, answer_by, tell_each}
 use Rattle.agent_model.specs.Asking.{AreRaised, IsAsking}
 use Rattle.agent_model.specs.Consents.{close_confirmer}

@@ -10,7 +10,8 @@ use Rattle.helper_link.specs.Settling.{find_ask, remove_ask}
 use Rattle.helper_link.specs.Sound.{RiseTo}
 use Rattle.helper_link.specs.declared.ask.Ask.{Ask}
 use Rattle.helper_link.specs.declared.ask.AskKind.{AskKind}
-use Rattle.helper_link.proofs.OrderLemmas.{differ, find-push, find-remove}
+use Rattle.lists.proofs.KeyedLemmas.{differ}
+use Rattle.helper_link.proofs.OrderLemmas.{find-push, find-remove}
 use Rattle.agent_model.specs.Fates.{IsTold}
 use Rattle.agent_model.specs.Sound.{AreTied, IsWaiting}
 use Rattle.agent_model.specs.State.{OnAsk, Port, change_port, find_port, new_port}

@@ -1,5 +1,5 @@
 //! The messages between the agent and its child processes: the helper, which uses keys, and the
-//! relay, which asks the user. Each is a body in a frame (ours; docs/PROTOCOL.md, "Child frames").
+//! relay, which asks the user. Each is a body in a frame (ours; docs/PROTOCOL.md, "Messages of child processes").
 //! Stands on `wire_core`, for fields, and on `secret_buf`, since SIGN has a private key in it.
 #![tactic(auto)]
 

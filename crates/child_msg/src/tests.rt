@@ -1,4 +1,4 @@
-//! Bodies written out byte by byte from the tables of docs/PROTOCOL.md, "Child frames".
+//! Bodies written out byte by byte from the tables of docs/PROTOCOL.md, "Messages of child processes".
 
 use super::*;
 use secret_buf::ScrubBuf;

@@ -1,13 +1,14 @@
 -- Answers go to who asked, and leave the other asks.
-use Rattle.std.proofs.Common.{◌≡◌, ◌==◌, ◌||◌, ℕ, ◌≤◌, Bool, true, false, cond, eqb, List, [], ◌∷◌, length, Option, Some, None, Result, Ok, Err, refl, sym, ap, subst, ◌∙◌, arith}
-use Rattle.std.proofs.lemmas.Bool.{eqb-true}
+use Rattle.std.proofs.Common.{◌≡◌, ◌==◌, ◌||◌, ℕ, ◌≤◌, Bool, true, false, cond, List, [], ◌∷◌, length, Option, Some, None, Result, Ok, Err, refl, sym, ap, subst, ◌∙◌, arith}
+use Rattle.wire_text.specs.Bounds.{longest_body}
+use Rattle.lists.proofs.KeyedLemmas.{found_key}
 use Rattle.wire_text.specs.Frames.{Front, Whole, Bad, More, front, split}
 use Rattle.child_msg.specs.Messages.{FromChildMessage, Hello, Signed, Refused, True, False, Granted, Denied}
 use Rattle.child_msg.specs.Reading.{from_child_of}
 use Rattle.child_msg.specs.declared.fault.ChildFault.{ChildFault}
 use Rattle.helper_link.specs.Answered.{LeadTo, is_answered, kind_answered}
 use Rattle.helper_link.specs.HelperLink.{ask_of}
-use Rattle.helper_link.specs.Settling.{Verdict, Settles, Stops, Settling, find_ask, remove_ask, same_kind, settled_ask, answer_found, message_verdict, reading_verdict, verdict, settling, settle, after_verdict, at_rest}
+use Rattle.helper_link.specs.Settling.{Verdict, Settles, Stops, Settling, find_ask, number_of, remove_ask, same_kind, settled_ask, answer_found, message_verdict, reading_verdict, verdict, settling, settle, after_verdict, at_rest}
 use Rattle.helper_link.specs.Sound.{RiseTo}
 use Rattle.helper_link.specs.declared.answer.Answer.{Answer}
 use Rattle.helper_link.specs.declared.answer.Answer.TheVariants as answer
@@ -24,21 +25,6 @@ use Rattle.helper_link.proofs.OrderLemmas.{find-remove, remove_fewer, remove_ris
 abbrev Leads : Verdict → List Ask → Type 0
 Leads (Settles one left) asks = LeadTo (one ∷ []) asks left
 Leads (Stops fault) asks = Unit {0}
-
--- an ask has the number that finds it
-found_number : (number : ℕ) (asks : List Ask) (ask : Ask) → find_ask number asks ≡ Some ask →
-    ask.number ≡ number
-found_number number [] ask found = absurd cc
-found_number number (first ∷ asks) ask found =
-    by_test (eqb first.number number) refl (found_number number asks ask) found
-  where
-    by_test : (is : Bool) → eqb first.number number ≡ is →
-        (find_ask number asks ≡ Some ask → ask.number ≡ number) →
-        cond is (Some first) (find_ask number asks) ≡ Some ask → ask.number ≡ number
-    by_test true e later there =
-        let same : first ≡ ask = cc in sym (ap (λ (one : Ask). one.number) same)
-        ∙ eqb-true first.number number e
-    by_test false e later there = later there
 
 -- the kinds that pass the test are the same
 kinds_are : (a b : AskKind) → same_kind a b ≡ true → b ≡ a
@@ -58,7 +44,7 @@ found_leads kind number answer (Some ask) asks is at = by_test (same_kind kind a
         Leads (cond test (Settles (settled_ask number ask.asker answer) (remove_ask number asks))
         (Stops (WrongKind number))) asks
     by_test true same = (
-      at ∙ ap (λ (n : ℕ). Some (ask_of n ask.asker ask.kind)) (found_number number asks ask at)
+      at ∙ ap (λ (n : ℕ). Some (ask_of n ask.asker ask.kind)) (found_key number_of number asks ask at)
           ∙ ap (λ (k : AskKind). Some (ask_of number ask.asker k))
           (kinds_are kind ask.kind same ∙ is),
       refl,
@@ -128,9 +114,9 @@ rest_leads More rest asks = refl
 pub settling_leads : (bytes : List ℕ) (asks : List Ask) → SettlingLeads (settling bytes asks) asks
 unfolding settling
 settling_leads bytes asks =
-    let parts = split 262144 bytes in
-    settle_leads parts.bodies (at_rest (front 262144 parts.rest) parts.rest)
-    (rest_leads (front 262144 parts.rest) parts.rest) asks
+    let parts = split longest_body bytes in
+    settle_leads parts.bodies (at_rest (front longest_body parts.rest) parts.rest)
+    (rest_leads (front longest_body parts.rest) parts.rest) asks
 
 -- ---- the asks that are left
 

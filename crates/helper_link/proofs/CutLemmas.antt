@@ -1,5 +1,6 @@
 -- It does not matter how the helper's stream is cut.
 use Rattle.std.proofs.Common.{◌≡◌, ℕ, List, [], ◌∷◌, ◌++◌, Option, Some, None, refl, sym, ap, ◌∙◌, append_assoc}
+use Rattle.wire_text.specs.Bounds.{longest_body}
 use Rattle.wire_text.specs.Frames.{Front, Whole, Bad, More, front, Split, split, StartsWithFrame}
 use Rattle.wire_text.proofs.FrontLemmas.{FrontIs, front-is, front-append_bad}
 use Rattle.wire_text.proofs.SplitLemmas.{split-append, rest_has_no_frame}
@@ -64,11 +65,11 @@ same_settle (body ∷ bodies) f g same asks =
     same_after (verdict body asks) (settle bodies f) (settle bodies g) asks (same_settle bodies f g same)
 
 -- bytes behind a rest: they go on where it waits, and change nothing where it is bad
-rest_goes_on : (rest more : List ℕ) (answer : Front) (asks : List Ask) → front 262144 rest ≡ answer → FrontIs 262144 rest answer →
-    (StartsWithFrame 262144 rest → ⊥) →
+rest_goes_on : (rest more : List ℕ) (answer : Front) (asks : List Ask) → front longest_body rest ≡ answer → FrontIs longest_body rest answer →
+    (StartsWithFrame longest_body rest → ⊥) →
     settling (rest ++ more) asks ≡ and_then (at_rest answer rest asks) (λ left heard. settling (heard ++ more) left)
 rest_goes_on rest more (Whole body_len) asks found is none = absurd (none is.0)
-rest_goes_on rest more (Bad announced) asks found is none = settling-bad (rest ++ more) announced asks (front-append_bad 262144 rest more announced found)
+rest_goes_on rest more (Bad announced) asks found is none = settling-bad (rest ++ more) announced asks (front-append_bad longest_body rest more announced found)
 rest_goes_on rest more More asks found is none = refl
 
 -- a stream and more of it
@@ -76,14 +77,14 @@ pub settling-append : (bytes more : List ℕ) (asks : List Ask) →
     settling (bytes ++ more) asks ≡ and_then (settling bytes asks) (λ left heard. settling (heard ++ more) left)
 unfolding settling
 settling-append bytes more asks =
-    let first = split 262144 bytes in
-    let second = split 262144 (first.rest ++ more) in
-    ap (λ (parts : Split). settle_split parts asks) (split-append 262144 bytes more)
-    ∙ settle-append first.bodies second.bodies (at_rest (front 262144 second.rest) second.rest) asks
-    ∙ same_settle first.bodies (settle second.bodies (at_rest (front 262144 second.rest) second.rest))
-    (λ left. and_then (at_rest (front 262144 first.rest) first.rest left) (λ after heard. settling (heard ++ more) after))
-    (λ left. rest_goes_on first.rest more (front 262144 first.rest) left refl (front-is 262144 first.rest) (rest_has_no_frame 262144 bytes)) asks
-    ∙ settle-and_then first.bodies (at_rest (front 262144 first.rest) first.rest) (λ left heard. settling (heard ++ more) left) asks
+    let first = split longest_body bytes in
+    let second = split longest_body (first.rest ++ more) in
+    ap (λ (parts : Split). settle_split parts asks) (split-append longest_body bytes more)
+    ∙ settle-append first.bodies second.bodies (at_rest (front longest_body second.rest) second.rest) asks
+    ∙ same_settle first.bodies (settle second.bodies (at_rest (front longest_body second.rest) second.rest))
+    (λ left. and_then (at_rest (front longest_body first.rest) first.rest left) (λ after heard. settling (heard ++ more) after))
+    (λ left. rest_goes_on first.rest more (front longest_body first.rest) left refl (front-is longest_body first.rest) (rest_has_no_frame longest_body bytes)) asks
+    ∙ settle-and_then first.bodies (at_rest (front longest_body first.rest) first.rest) (λ left heard. settling (heard ++ more) left) asks
 
 -- a piece and then another, told of what was settled
 told-goes_on : (fault : Option LinkFault) (first : Settling) (more : List ℕ) (link : HelperLink) → first.fault ≡ fault →

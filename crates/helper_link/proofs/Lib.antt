@@ -2,7 +2,6 @@ pub mod AnswerLemmas
 pub mod CallLemmas
 pub mod CutLemmas
 pub mod OrderLemmas
-pub mod PlaceLemmas
 pub mod SettlingLemmas
 pub mod SoundLemmas
 pub mod StreamLemmas

@@ -1,5 +1,6 @@
 -- Links stay sound.
 use Rattle.std.proofs.Common.{◌≡◌, ◌≢◌, ◌==◌, ℕ, ◌+◌, ◌-◌, ◌^◌, ◌<◌, nat_lt, Bool, true, false, List, [], ◌∷◌, ◌++◌, length, None, refl, ◌∙◌, arith, length-append}
+use Rattle.wire_text.specs.Bounds.{longest_body}
 use Rattle.wire_text.specs.Frames.{Front, Whole, Bad, More, front, split, StartsWithFrame}
 use Rattle.wire_text.proofs.FrontLemmas.{front-short, front_says}
 use Rattle.wire_text.proofs.SplitLemmas.{rest_has_no_frame}
@@ -16,8 +17,8 @@ use Rattle.helper_link.proofs.AnswerLemmas.{lead_fewer, lead_rise, settling_lead
 use Rattle.helper_link.proofs.OrderLemmas.{push_rises}
 
 -- nothing is the front of a frame
-pub nothing_is_part : front 262144 [] ≡ More
-nothing_is_part = front-short 262144 [] (omega arith)
+pub nothing_is_part : front longest_body [] ≡ More
+nothing_is_part = front-short longest_body [] (omega arith)
 
 -- ---- asks
 
@@ -64,37 +65,37 @@ IsSound-submitted kind asker request link some fault sound =
 -- ---- the helper's stream
 
 -- behind the whole frames there is less than a frame
-rest_part : (answer : Front) (rest : List ℕ) (asks : List Ask) → front 262144 rest ≡ answer →
-    (StartsWithFrame 262144 rest → ⊥) →
-    front 262144 (at_rest answer rest asks).heard ≡ More
+rest_part : (answer : Front) (rest : List ℕ) (asks : List Ask) → front longest_body rest ≡ answer →
+    (StartsWithFrame longest_body rest → ⊥) →
+    front longest_body (at_rest answer rest asks).heard ≡ More
 rest_part (Whole body_len) rest asks is none =
-    let whole = front_says 262144 rest (Whole body_len) is in absurd (none whole.0)
+    let whole = front_says longest_body rest (Whole body_len) is in absurd (none whole.0)
 rest_part (Bad announced) rest asks is none = nothing_is_part
 rest_part More rest asks is none = is
 
 -- behind a frame there is what follows it, or nothing
 after_part : (v : Verdict) (later : List Ask → Settling) (asks : List Ask) →
-    ((left : List Ask) → front 262144 (later left).heard ≡ More) →
-    front 262144 (after_verdict v later asks).heard ≡ More
+    ((left : List Ask) → front longest_body (later left).heard ≡ More) →
+    front longest_body (after_verdict v later asks).heard ≡ More
 after_part (Settles one left) later asks keeps = keeps left
 after_part (Stops fault) later asks keeps = nothing_is_part
 
 -- and so behind all frames
 settle_part : (bodies : List (List ℕ)) (later : List Ask → Settling) →
-    ((left : List Ask) → front 262144 (later left).heard ≡ More) →
-    (asks : List Ask) → front 262144 (settle bodies later asks).heard ≡ More
+    ((left : List Ask) → front longest_body (later left).heard ≡ More) →
+    (asks : List Ask) → front longest_body (settle bodies later asks).heard ≡ More
 settle_part [] later keeps asks = keeps asks
 settle_part (body ∷ bodies) later keeps asks =
     after_part (verdict body asks) (settle bodies later) asks (settle_part bodies later keeps)
 
 -- what a stream leaves is less than a frame
-settling_part : (bytes : List ℕ) (asks : List Ask) → front 262144 (settling bytes asks).heard ≡ More
+settling_part : (bytes : List ℕ) (asks : List Ask) → front longest_body (settling bytes asks).heard ≡ More
 unfolding settling
 settling_part bytes asks =
-    let parts = split 262144 bytes in
-    settle_part parts.bodies (at_rest (front 262144 parts.rest) parts.rest)
-    (λ left. rest_part (front 262144 parts.rest) parts.rest left refl
-    (rest_has_no_frame 262144 bytes)) asks
+    let parts = split longest_body bytes in
+    settle_part parts.bodies (at_rest (front longest_body parts.rest) parts.rest)
+    (λ left. rest_part (front longest_body parts.rest) parts.rest left refl
+    (rest_has_no_frame longest_body bytes)) asks
 
 -- where the helper is there, anything may be
 quiet_linked : (state : LinkState) (link : HelperLink) → IsLinked state → IsQuiet state link

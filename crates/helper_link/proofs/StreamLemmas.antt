@@ -4,6 +4,7 @@ use Rattle.std.proofs.lemmas.List.{drop-drop, append-nil, length-drop}
 use Rattle.std.proofs.Math.Seq.{drop-length}
 use Rattle.wire_text.specs.Wire.{announced_len}
 use Rattle.wire_text.proofs.FrontLemmas.{front_says}
+use Rattle.wire_text.specs.Bounds.{longest_body}
 use Rattle.wire_text.specs.Frames.{Whole, Bad, More, front, front_body, after_front}
 use Rattle.helper_link.specs.Settling.{Settles, Stops, Settling, verdict, settling, onto}
 use Rattle.helper_link.specs.Stream.{settled_to}
@@ -15,16 +16,16 @@ use Rattle.helper_link.specs.declared.fault.LinkFault.TheVariants.{BadFrame}
 use Rattle.helper_link.proofs.SettlingLemmas.{settles_one, stops_there, settling-bad, settling-more}
 
 -- a frame that a look finds is there
-pub whole_is_there : (bytes : List ℕ) (body_len : ℕ) → Whole body_len ≡ front 262144 bytes → 4 + body_len ≤ length bytes
+pub whole_is_there : (bytes : List ℕ) (body_len : ℕ) → Whole body_len ≡ front longest_body bytes → 4 + body_len ≤ length bytes
 whole_is_there bytes body_len found =
-    let is = front_says 262144 bytes (Whole body_len) (sym found) in
+    let is = front_says longest_body bytes (Whole body_len) (sym found) in
     let follows : 4 + announced_len bytes ≤ length bytes = is.0.follows in
     let same : body_len ≡ announced_len bytes = is.1 in
     omega arith
 
 -- one frame more
 pub next_frame : (stream rest : List ℕ) (at next body_len : ℕ) (asks left : List Ask) (done pushed : List Settled) (one : Settled) (whole : Settling) →
-    rest ≡ drop at stream → next ≡ at + (4 + body_len) → Whole body_len ≡ front 262144 rest →
+    rest ≡ drop at stream → next ≡ at + (4 + body_len) → Whole body_len ≡ front longest_body rest →
     verdict (front_body body_len rest) asks ≡ Settles one left → pushed ≡ done ++ (one ∷ []) →
     onto done (settling (drop at stream) asks) ≡ whole →
     onto pushed (settling (drop next stream) left) ≡ whole
@@ -54,7 +55,7 @@ heard_is asks fault a b is = ap (λ (heard : List ℕ). ended [] asks heard faul
 
 -- the end at a faulty frame
 pub faulty_frame : (stream rest : List ℕ) (at body_len : ℕ) (asks : List Ask) (done : List Settled) (fault : LinkFault) (whole : Settling) →
-    rest ≡ drop at stream → Whole body_len ≡ front 262144 rest → verdict (front_body body_len rest) asks ≡ Stops fault →
+    rest ≡ drop at stream → Whole body_len ≡ front longest_body rest → verdict (front_body body_len rest) asks ≡ Stops fault →
     onto done (settling (drop at stream) asks) ≡ whole →
     whole ≡ ended done asks (drop (length stream) stream) (Some fault)
 faulty_frame stream rest at body_len asks done fault whole there found is before =
@@ -64,7 +65,7 @@ faulty_frame stream rest at body_len asks done fault whole there found is before
 
 -- the end at a bad length
 pub faulty_length : (stream rest : List ℕ) (at announced : ℕ) (asks : List Ask) (done : List Settled) (whole : Settling) →
-    rest ≡ drop at stream → Bad announced ≡ front 262144 rest →
+    rest ≡ drop at stream → Bad announced ≡ front longest_body rest →
     onto done (settling (drop at stream) asks) ≡ whole →
     whole ≡ ended done asks (drop (length stream) stream) (Some BadFrame)
 faulty_length stream rest at announced asks done whole there found before =
@@ -74,7 +75,7 @@ faulty_length stream rest at announced asks done whole there found before =
 
 -- the end where no more is there
 pub no_frame : (stream rest : List ℕ) (at : ℕ) (asks : List Ask) (done : List Settled) (whole : Settling) →
-    rest ≡ drop at stream → More ≡ front 262144 rest →
+    rest ≡ drop at stream → More ≡ front longest_body rest →
     onto done (settling (drop at stream) asks) ≡ whole →
     whole ≡ ended done asks (drop at stream) None
 no_frame stream rest at asks done whole there found before =
@@ -84,7 +85,7 @@ no_frame stream rest at asks done whole there found before =
 
 -- it ends within the stream
 pub whole_within : (stream rest : List ℕ) (at body_len : ℕ) → rest ≡ drop at stream → at ≤ length stream →
-    Whole body_len ≡ front 262144 rest → at + (4 + body_len) ≤ length stream
+    Whole body_len ≡ front longest_body rest → at + (4 + body_len) ≤ length stream
 whole_within stream rest at body_len there within found =
     let fits : 4 + body_len ≤ length rest = whole_is_there rest body_len found in
     let long : length rest ≡ length (drop at stream) = ap (λ (bytes : List ℕ). length bytes) there in

@@ -1,5 +1,6 @@
 -- What calls do to a link, one after another (ours).
-use Rattle.std.specs.Prelude.{ℕ, ◌+◌, ◌<◌, List, [], ◌∷◌}
+use Rattle.std.specs.Prelude.{ℕ, ◌+◌, List, [], ◌∷◌}
+use Rattle.lists.specs.Rising.{IsRisingNumbers}
 use Rattle.child_msg.specs.Messages.{ToChildMessage}
 use Rattle.helper_link.specs.HelperLink.{HelperLink, begun, linked_to, lost, sent, submitted}
 use Rattle.helper_link.specs.Telling.{telling}
@@ -39,5 +40,4 @@ numbers_of (call ∷ calls) link = numbered call link (numbers_of calls (after_c
 
 -- each number is above the one before it, and the first is above `below`
 abbrev pub RiseFrom : ℕ → List ℕ → Type 0
-RiseFrom below [] = Unit {0}
-RiseFrom below (number ∷ numbers) = (below < number) × RiseFrom number numbers
+RiseFrom = IsRisingNumbers

@@ -1,5 +1,7 @@
 -- What a stream of answers settles: whole frames in order, up to the first faulty one (ours).
-use Rattle.std.specs.Prelude.{ℕ, ◌==◌, List, [], ◌∷◌, ◌++◌, Bool, true, false, Option, Some, None, Result, Ok, Err, if◌then◌else◌}
+use Rattle.std.specs.Prelude.{ℕ, List, [], ◌∷◌, ◌++◌, Bool, true, false, Option, Some, None, Result, Ok, Err, if◌then◌else◌}
+use Rattle.lists.specs.Keyed.{find_by, remove_by}
+use Rattle.wire_text.specs.Bounds.{longest_body}
 use Rattle.wire_text.specs.Frames.{Front, Whole, Bad, More, front, Split, split}
 use Rattle.child_msg.specs.Messages.{FromChildMessage, Hello, Signed, Refused, True, False, Granted, Denied}
 use Rattle.child_msg.specs.Reading.{from_child_of}
@@ -15,15 +17,17 @@ use Rattle.helper_link.specs.declared.fault.LinkFault.TheVariants.{BadFrame, Not
 
 -- ---- one frame
 
+-- the number of an ask
+abbrev pub number_of : Ask → ℕ
+number_of ask = ask.number
+
 -- the first ask of this number
 abbrev pub find_ask : ℕ → List Ask → Option Ask
-find_ask number [] = None
-find_ask number (ask ∷ asks) = if ask.number == number then Some ask else find_ask number asks
+find_ask number asks = find_by number_of number asks
 
 -- all but the first ask of this number
 abbrev pub remove_ask : ℕ → List Ask → List Ask
-remove_ask number [] = []
-remove_ask number (ask ∷ asks) = if ask.number == number then asks else ask ∷ remove_ask number asks
+remove_ask number asks = remove_by number_of number asks
 
 -- what a frame does: it settles an ask and leaves the others, or it is faulty
 pub data Verdict : Type 0 where
@@ -111,8 +115,8 @@ settle (body ∷ bodies) later asks = after_verdict (verdict body asks) (settle 
 
 -- the frames of a stream that was split, and then its rest
 abbrev pub settle_split : Split → List Ask → Settling
-settle_split parts asks = settle parts.bodies (at_rest (front 262144 parts.rest) parts.rest) asks
+settle_split parts asks = settle parts.bodies (at_rest (front longest_body parts.rest) parts.rest) asks
 
 -- what the bytes of a stream settle, where these asks are unanswered
 unfoldable pub settling : List ℕ → List Ask → Settling
-settling bytes asks = settle_split (split 262144 bytes) asks
+settling bytes asks = settle_split (split longest_body bytes) asks

@@ -1,15 +1,17 @@
 -- What holds of every link (ours).
-use Rattle.std.specs.Prelude.{◌≡◌, ℕ, ◌<◌, ◌≤◌, List, [], ◌∷◌, length}
+use Rattle.std.specs.Prelude.{◌≡◌, ℕ, ◌≤◌, List, [], length}
+use Rattle.lists.specs.Keyed.{RiseBy}
+use Rattle.wire_text.specs.Bounds.{longest_body}
 use Rattle.wire_text.specs.Frames.{More, front}
 use Rattle.helper_link.specs.HelperLink.{HelperLink, most_asks}
+use Rattle.helper_link.specs.Settling.{number_of}
 use Rattle.helper_link.specs.declared.ask.Ask.{Ask}
 use Rattle.helper_link.specs.declared.state.LinkState.{LinkState}
 use Rattle.helper_link.specs.declared.state.LinkState.TheVariants as states
 
 -- each number is above the one before it; the first is above `below`, and none is above `last`
 abbrev pub RiseTo : ℕ → List Ask → ℕ → Type 0
-RiseTo below [] last = below ≤ last
-RiseTo below (ask ∷ asks) last = (below < ask.number) × RiseTo ask.number asks last
+RiseTo below asks last = RiseBy number_of below asks last
 
 -- where no helper is there or being started, nothing is unanswered, to be sent or heard; before one
 -- is there, nothing is heard
@@ -27,7 +29,7 @@ pub record IsSound (link : HelperLink) : Type 0 where
   -- their numbers rise from 1 at least to the last number at most
   pub order : RiseTo 0 link.asks link.last
   -- what was heard is less than a frame, and the front of one
-  pub part : front 262144 link.heard ≡ More
+  pub part : front longest_body link.heard ≡ More
 
 -- a link of these parts
 abbrev pub link_of : LinkState → List Ask → ℕ → List ℕ → List ℕ → ℕ → HelperLink

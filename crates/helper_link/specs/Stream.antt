@@ -1,17 +1,10 @@
 -- The parts of a settling that functions of the code answer for (ours).
-use Rattle.std.specs.Prelude.{◌≡◌, ℕ, ◌<◌, List, Some, drop, length, slice_index_or}
-use Rattle.std.specs.List.{remove}
-use Rattle.helper_link.specs.Settling.{Settling, Verdict, Stops, find_ask, remove_ask}
+use Rattle.std.specs.Prelude.{◌≡◌, ℕ, List, drop}
+use Rattle.helper_link.specs.Settling.{Settling, Verdict, Stops}
 use Rattle.helper_link.specs.declared.ask.Ask.{Ask}
 use Rattle.helper_link.specs.declared.settle.Settlement.{Settlement}
 use Rattle.helper_link.specs.declared.stop.Stop.{Stop}
 use Rattle.helper_link.specs.declared.stop.Stop.TheVariants as stops
-
--- the first ask of this number stands there
-pub record IsAskAt (number : ℕ) (asks : List Ask) (place : ℕ) : Type 0 where
-  pub within : place < length asks
-  pub found : (other : Ask) → find_ask number asks ≡ Some (slice_index_or asks place other)
-  pub removed : remove_ask number asks ≡ remove asks place
 
 -- the frame is faulty in this way, and the asks are unchanged; want of memory says nothing of it
 abbrev pub StopsAt : Stop → Verdict → Type 0 → Type 0

@@ -1,5 +1,5 @@
 //! The agent's link to its helper process, which uses the keys: what was asked, what is to be sent,
-//! and what the helper's stream settles (ours; docs/PROTOCOL.md, "Child frames").
+//! and what the helper's stream settles (ours; docs/PROTOCOL.md, "Messages of child processes").
 //! Stands on `child_msg` (messages), `frame_core`, `secret_buf` (buffers) and `plain_lists`.
 #![tactic(auto)]
 

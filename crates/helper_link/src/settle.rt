@@ -1,11 +1,12 @@
 //! The frames of the helper's stream, one after another.
 
-ghost use Rattle.std.specs.Prelude.{◌≡◌, ◌+◌, ◌≤◌, ◌==◌, IfOk, IfErr, MatchOption, MatchResult, OnErr, drop, length, vec_len};
+ghost use Rattle.std.specs.Prelude.{◌≡◌, ◌+◌, ◌≤◌, IfOk, IfErr, MatchOption, MatchResult, OnErr, drop, length, vec_len};
 ghost use Rattle.wire_text.specs.Frames.{front_body};
-ghost use Rattle.helper_link.specs.Settling.{Settles, Stops, answer_to, find_ask, settled_ask, settling, verdict};
+ghost use Rattle.helper_link.specs.Settling.{Settles, Stops, answer_to, find_ask, number_of, settled_ask, settling, verdict};
 ghost use Rattle.std.specs.List.{position};
-ghost use Rattle.helper_link.specs.Stream.{IsAskAt, StopsAt, settled_to};
-ghost use Rattle.helper_link.specs.declared.ask.Ask.{Ask as AnAsk};
+ghost use Rattle.lists.specs.Firsts.{IsFirst};
+ghost use Rattle.lists.specs.Keyed.{has_key};
+ghost use Rattle.helper_link.specs.Stream.{StopsAt, settled_to};
 ghost use Rattle.helper_link.specs.declared.answer.Answer.{Answer as AnAnswer};
 
 use crate::answer::{Answer, Settled};
@@ -134,6 +135,7 @@ fn settle_frame(alloc: Global, body: &[u8], asks: &mut Vec<Ask>) -> Result<Settl
 }
 
 // Takes the ask of this number from those that are unanswered, and gives its asker.
+#[tactic(auto, using(lists::proofs::FirstLemmas::found_there, lists::proofs::FirstLemmas::removed_there))]
 fn settle_ask(asks: &mut Vec<Ask>, number: u64, kind: AskKind) -> Result<u64, LinkFault>
     ensures settled { IfOk result (λ asker. (answer : AnAnswer)
         → answer_to kind number answer asks.old.items
@@ -155,16 +157,16 @@ fn settle_ask(asks: &mut Vec<Ask>, number: u64, kind: AskKind) -> Result<u64, Li
 }
 
 // Where the first ask of this number stands.
-#[tactic(auto, using(crate::proofs::PlaceLemmas::is_place))]
+#[tactic(auto, using(lists::proofs::FirstLemmas::is_place))]
 fn place_of(asks: &[Ask], number: u64) -> Option<usize>
     ensures place { MatchOption result (find_ask number asks.now ≡ None)
-        (λ place. IsAskAt number asks.now place) }
+        (IsFirst (has_key number_of number) asks.now) }
 {
     first_of(asks, number)
 }
 
 fn first_of(asks: &[Ask], number: u64) -> Option<usize>
-    ensures { result ≡ position (λ (ask : AnAsk). ask.number == number) asks.now }
+    ensures { result ≡ position (has_key number_of number) asks.now }
 {
     asks.iter().position(|ask| ask.number == number)
 }
