@@ -2,8 +2,8 @@
 
 ghost use Rattle.std.specs.Prelude.{◌≡◌, ◌≤◌, ℕ, List, [], IsSome, IsSomeAnd, OnOk, Some, length};
 ghost use Rattle.std.specs.Option.{option_map};
-ghost use Rattle.confirm_desk.specs.Calls.{given_back, job_of};
-ghost use Rattle.confirm_desk.specs.Confirmations.{Confirmation, find_asker, find_job, find_linked};
+ghost use Rattle.confirm_desk.specs.Calls.{given_back};
+ghost use Rattle.confirm_desk.specs.Confirmations.{Confirmation, find_asker, find_job, find_linked, job_of};
 ghost use Rattle.agent_model.specs.Asking.{JobsRise};
 ghost use Rattle.agent_model.specs.Children.{closed};
 ghost use Rattle.agent_model.specs.Consents.{confirmer_heard, grant_concluded, over, over_if};

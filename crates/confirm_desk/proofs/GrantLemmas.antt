@@ -3,6 +3,7 @@ use Rattle.std.proofs.Common.{◌≡◌, ◌==◌, ℕ, ◌^◌, ◌<◌, Bool, 
 use Rattle.std.proofs.lemmas.Bool.{eq-eqb, eqb-true}
 use Rattle.std.proofs.lemmas.List.{take_at}
 use Rattle.std.proofs.lemmas.List.Elements.{All-drop, All-take}
+use Rattle.wire_text.specs.Bounds.{longest_body}
 use Rattle.wire_text.specs.Frames.{Front, Whole, Bad, More, after_front, front, front_body}
 use Rattle.wire_text.specs.Wire.{IsBytes, string}
 use Rattle.wire_text.proofs.FrontLemmas.{front-string, front_is_string}
@@ -32,14 +33,14 @@ yes_in job (Ok (True ask)) is = absurd cc
 yes_in job (Ok (False ask)) is = absurd cc
 yes_in job (Err fault) is = absurd cc
 
-yes_at : (job : ℕ) (answer : Front) (heard : List ℕ) → IsBytes heard → front 262144 heard ≡ answer → consent_at job answer heard ≡ Yes → StartsWithGrant job heard
+yes_at : (job : ℕ) (answer : Front) (heard : List ℕ) → IsBytes heard → front longest_body heard ≡ answer → consent_at job answer heard ≡ Yes → StartsWithGrant job heard
 yes_at job (Whole body_len) heard small found is =
     let body : List ℕ = front_body body_len heard in
     let read = yes_in job (from_child_of body) is in
     let bytes : IsBytes body = All-take (λ byte. byte < 256) body_len (drop 4 heard) (All-drop (λ byte. byte < 256) 4 heard small) in
     record {
       rest = after_front body_len heard;
-      whole = front_is_string 262144 heard body_len small found
+      whole = front_is_string longest_body heard body_len small found
           ∙ ap (λ (b : List ℕ). string b ++ after_front body_len heard) (IsFromChild_from_child_of body (Granted job) bytes read).printed;
     }
 yes_at job (Bad announced) heard small found is = absurd cc
@@ -47,19 +48,19 @@ yes_at job More heard small found is = absurd cc
 
 pub yes_is_grant : (job : ℕ) (heard : List ℕ) → IsBytes heard → consent job heard ≡ Yes → StartsWithGrant job heard
 unfolding consent
-yes_is_grant job heard small is = yes_at job (front 262144 heard) heard small refl is
+yes_is_grant job heard small is = yes_at job (front longest_body heard) heard small refl is
 
 -- ---- a grant is a yes
 
 grant_at : (job : ℕ) (rest : List ℕ) → job < 2 ^ 64 →
-    consent_at job (front 262144 (string (from_child_body (Granted job)) ++ rest)) (string (from_child_body (Granted job)) ++ rest) ≡ Yes
+    consent_at job (front longest_body (string (from_child_body (Granted job)) ++ rest)) (string (from_child_body (Granted job)) ++ rest) ≡ Yes
 grant_at job rest small =
     let body : List ℕ = from_child_body (Granted job) in
     let heard : List ℕ = string body ++ rest in
     let long = length-uint64 job in
     let there : front_body (length body) heard ≡ body = ap (take (length body)) (drop-string body rest) ∙ take_at body rest (length body) refl in
     ap (λ (answer : Front). consent_at job answer heard)
-    (front-string 262144 body rest (omega arith) (record { some = omega arith; within = omega (arith, long) }))
+    (front-string longest_body body rest (omega arith) (record { some = omega arith; within = omega (arith, long) }))
     ∙ ap (λ (b : List ℕ). consent_in job (from_child_of b)) there
     ∙ ap (consent_in job) (from_child_of_from_IsFromChild body (Granted job) (record { printed = refl; fits = small }))
     ∙ ap (λ (here : Bool). cond here Yes No) (eq-eqb job job refl)
@@ -67,4 +68,4 @@ grant_at job rest small =
 pub grant_is_yes : (job : ℕ) (heard : List ℕ) → job < 2 ^ 64 → StartsWithGrant job heard → consent job heard ≡ Yes
 unfolding consent
 grant_is_yes job heard small grant =
-    ap (λ (bytes : List ℕ). consent_at job (front 262144 bytes) bytes) grant.whole ∙ grant_at job grant.rest small
+    ap (λ (bytes : List ℕ). consent_at job (front longest_body bytes) bytes) grant.whole ∙ grant_at job grant.rest small

@@ -2,8 +2,6 @@ pub mod CutLemmas
 pub mod EndLemmas
 pub mod GrantLemmas
 pub mod OwedLemmas
-pub mod PlaceLemmas
 pub mod PromptLemmas
-pub mod SearchLemmas
 pub mod SoundLemmas
 pub mod TellLemmas

@@ -20,10 +20,6 @@ given_back confirmation = record {
   flags = confirmation.flags;
 }
 
--- the job of a confirmation
-abbrev pub job_of : Confirmation → ℕ
-job_of confirmation = confirmation.job
-
 -- ---- one more
 
 -- by whether there are as many as may be

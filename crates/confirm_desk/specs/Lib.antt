@@ -3,7 +3,6 @@ pub mod Calls
 pub mod Confirmations
 pub mod Cuts
 pub mod Grants
-pub mod Places
 pub mod Prompt
 pub mod Samples
 pub mod Sound

@@ -1,7 +1,9 @@
 -- What holds of every desk (ours).
-use Rattle.std.specs.Prelude.{◌≡◌, ℕ, ◌<◌, ◌≤◌, List, [], ◌∷◌, Option, Some, None, length}
+use Rattle.std.specs.Prelude.{◌≡◌, ℕ, ◌≤◌, List, [], ◌∷◌, Option, Some, None, length}
+use Rattle.lists.specs.Keyed.{RiseBy}
+use Rattle.wire_text.specs.Bounds.{longest_body}
 use Rattle.wire_text.specs.Frames.{More, front}
-use Rattle.confirm_desk.specs.Confirmations.{Confirmation, find_asker, find_job, find_linked, most_confirmations}
+use Rattle.confirm_desk.specs.Confirmations.{Confirmation, find_asker, find_job, find_linked, job_of, most_confirmations}
 
 -- no child process of these came to the port, where there is one
 abbrev pub IsFree : Option ℕ → List Confirmation → Type 0
@@ -13,7 +15,7 @@ pub record IsApart (confirmation : Confirmation) (others : List Confirmation) : 
   pub job : find_job confirmation.job others ≡ None
   pub asker : find_asker confirmation.asker others ≡ None
   pub port : IsFree confirmation.port others
-  pub part : front 262144 confirmation.heard ≡ More
+  pub part : front longest_body confirmation.heard ≡ More
 
 -- so is it of each and those behind it
 abbrev pub AreApart : List Confirmation → Type 0
@@ -29,5 +31,4 @@ pub record IsSound (confirmations : List Confirmation) : Type 0 where
 
 -- each job is above the one before it, the first is above `below`, and none is above `last`
 abbrev pub RiseTo : ℕ → List Confirmation → ℕ → Type 0
-RiseTo below [] last = below ≤ last
-RiseTo below (one ∷ others) last = (below < one.job) × RiseTo one.job others last
+RiseTo below confirmations last = RiseBy job_of below confirmations last

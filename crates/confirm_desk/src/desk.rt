@@ -1,14 +1,12 @@
 ghost use Rattle.std.specs.Prelude.{◌≡◌, ◌+◌, ◌≤◌, [], IsSome, IsSomeAnd, IfOk, MatchResult, None, OnErr, OnOk, length};
 ghost use Rattle.std.specs.Option.{option_copied, option_map};
-ghost use Rattle.confirm_desk.specs.Calls.{IsRefusedWith, given_back, held_of, job_of, next_owed, raise_fault, telling, took_at};
-ghost use Rattle.confirm_desk.specs.Confirmations.{find_asker, find_job, find_linked, leave, linked, lose, owed_to, raise};
+ghost use Rattle.confirm_desk.specs.Calls.{IsRefusedWith, given_back, held_of, next_owed, raise_fault, telling, took_at};
+ghost use Rattle.confirm_desk.specs.Confirmations.{find_asker, find_job, find_linked, linked, lose, owed_to, raise};
 ghost use Rattle.confirm_desk.specs.Sound.{IsSound};
 
 use crate::fault::DeskFault;
 use crate::held::{Held, Verdict};
-use crate::list::{
-    end, end_of, link, next_owed, place_linked, place_of, place_of_asker, take_at, tell,
-};
+use crate::list::{end, link, next_owed, place_linked, place_of, place_of_asker, take_at, tell};
 use crate::pending::Pending;
 use std::alloc::{AllocError, Global};
 use std::marker::Model;
@@ -53,7 +51,7 @@ impl Desk {
     }
 
     /// The confirmation of this job.
-    #[tactic(auto, using(crate::proofs::PlaceLemmas::found_there))]
+    #[tactic(auto, using(lists::proofs::FirstLemmas::found_there))]
     pub fn find_job(&self, job: u64) -> Option<&Pending>
         ensures value { option_copied result ≡ find_job job self.now }
         ensures sound { IsSound self.now }
@@ -63,7 +61,7 @@ impl Desk {
     }
 
     /// The confirmation that this client waits for.
-    #[tactic(auto, using(crate::proofs::PlaceLemmas::asker_there))]
+    #[tactic(auto, using(lists::proofs::FirstLemmas::found_there))]
     pub fn find_asker(&self, asker: u64) -> Option<&Pending>
         ensures value { option_copied result ≡ find_asker asker self.now }
         ensures sound { IsSound self.now }
@@ -73,7 +71,7 @@ impl Desk {
     }
 
     /// The confirmation whose child process came to this port.
-    #[tactic(auto, using(crate::proofs::PlaceLemmas::linked_there))]
+    #[tactic(auto, using(lists::proofs::FirstLemmas::found_there))]
     pub fn find_linked(&self, port: u64) -> Option<&Pending>
         ensures value { option_copied result ≡ find_linked port self.now }
         ensures sound { IsSound self.now }
@@ -111,17 +109,6 @@ impl Desk {
         link(&mut self.confirmations, job, port);
     }
 
-    /// The bytes that the child process at this port is owed.
-    pub fn owed(&self, port: u64) -> &[u8]
-        requires { IsSome (find_linked port self.now) }
-        ensures { result.now ≡ owed_to (find_linked port self.now) }
-    {
-        match self.find_linked(port) {
-            Some(one) => one.owed(),
-            None => &[],
-        }
-    }
-
     /// The least port above `after` where bytes are owed.
     pub fn next_owed(&self, after: u64) -> Option<u64>
         ensures { result ≡ next_owed after self.now }
@@ -156,13 +143,5 @@ impl Desk {
         ensures held { result ≡ option_map given_back (find_job job self.old) }
     {
         end(&mut self.confirmations, job)
-    }
-
-    /// The confirmation of this client is over, which has left. Takes no memory.
-    pub fn leave(&mut self, asker: u64) -> Option<u64>
-        ensures desk { self.new ≡ leave asker self.old }
-        ensures job { result ≡ option_map job_of (find_asker asker self.old) }
-    {
-        end_of(&mut self.confirmations, asker)
     }
 }

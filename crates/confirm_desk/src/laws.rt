@@ -3,7 +3,7 @@
 ghost use Rattle.std.specs.Prelude.{◌≡◌, ◌≢◌, ◌^◌, ◌<◌, ℕ, List, [], None, Some, length};
 ghost use Rattle.wire_text.specs.Wire.{IsBytes};
 ghost use Rattle.confirm_desk.specs.Calls.{telling, took_at};
-ghost use Rattle.confirm_desk.specs.Confirmations.{Confirmation, Held, Yes, consent, find_asker, find_job, find_linked, leave, linked, lose, most_confirmations, raise, told, took};
+ghost use Rattle.confirm_desk.specs.Confirmations.{Confirmation, Held, Yes, consent, find_asker, find_job, find_linked, linked, lose, most_confirmations, raise, told, took};
 ghost use Rattle.confirm_desk.specs.Cuts.{joined, told_in_turn};
 ghost use Rattle.confirm_desk.specs.Grants.{StartsWithGrant};
 ghost use Rattle.confirm_desk.specs.Sound.{IsSound, RiseTo};
@@ -29,7 +29,6 @@ pub fn desks_stay_sound()
     ensures told { (port : ℕ) (piece : List ℕ) (desk : List Confirmation)
         → IsSound desk → IsSound (telling port piece desk).desk }
     ensures lost { (job : ℕ) (desk : List Confirmation) → IsSound desk → IsSound (lose job desk) }
-    ensures left { (asker : ℕ) (desk : List Confirmation) → IsSound desk → IsSound (leave asker desk) }
 {}
 
 /// Where each job that is raised is above the last, the confirmations stand in the order of their jobs.

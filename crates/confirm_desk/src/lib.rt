@@ -1,5 +1,5 @@
 //! Signatures that wait for the user's consent, each with the child process that asks, and what the user is asked
-//! (ours; docs/PROTOCOL.md, "Child frames").
+//! (ours; docs/PROTOCOL.md, "Messages of child processes").
 //! Stands on `child_msg` (messages), `frame_core`, `secret_buf` (buffers), `key_blob` (fingerprints) and `plain_lists`.
 #![tactic(auto)]
 

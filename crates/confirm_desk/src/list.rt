@@ -1,12 +1,13 @@
 //! Confirmations by their jobs and clients.
 
-ghost use Rattle.std.specs.Prelude.{◌≡◌, ◌==◌, ◌≤◌, ◌++◌, IsSome, IfOk, MatchOption, None, OnErr, OnOk, Some, length};
+ghost use Rattle.std.specs.Prelude.{◌≡◌, ◌≤◌, ◌++◌, IsSome, IfOk, MatchOption, None, OnErr, OnOk, Some, length};
 ghost use Rattle.std.specs.List.{position};
 ghost use Rattle.std.specs.Option.{option_map};
+ghost use Rattle.lists.specs.Firsts.{IsFirst};
+ghost use Rattle.lists.specs.Keyed.{has_key};
 ghost use Rattle.confirm_desk.specs.Answers.{consent_told};
-ghost use Rattle.confirm_desk.specs.Calls.{given_back, job_of, lesser, next_owed, owed_port, telling, took_at};
-ghost use Rattle.confirm_desk.specs.Confirmations.{Confirmation, consent, find_asker, find_job, find_linked, is_at, leave, linked, lose, owed_to, told, took};
-ghost use Rattle.confirm_desk.specs.Places.{IsFirst};
+ghost use Rattle.confirm_desk.specs.Calls.{given_back, lesser, next_owed, owed_port, telling, took_at};
+ghost use Rattle.confirm_desk.specs.Confirmations.{Confirmation, asker_of, came_to, consent, find_asker, find_job, find_linked, job_of, linked, lose, owed_to, told, took};
 ghost use Rattle.confirm_desk.specs.Sound.{AreApart};
 
 use crate::consent::Answer;
@@ -15,49 +16,51 @@ use crate::pending::Pending;
 use std::alloc::AllocError;
 
 /// Where the confirmation of this job stands.
+#[tactic(auto, using(lists::proofs::FirstLemmas::is_place))]
 pub fn place_of(pending: &[Pending], job: u64) -> Option<usize>
     ensures { MatchOption result (find_job job pending.now ≡ None)
-        (IsFirst (λ (one : Confirmation). one.job == job) pending.now) }
+        (IsFirst (has_key job_of job) pending.now) }
 {
     first_of(pending, job)
 }
 
 fn first_of(pending: &[Pending], job: u64) -> Option<usize>
-    ensures { result ≡ position (λ (one : Confirmation). one.job == job) pending.now }
+    ensures { result ≡ position (has_key job_of job) pending.now }
 {
     pending.iter().position(|one| one.job() == job)
 }
 
 /// Where that of this client stands.
+#[tactic(auto, using(lists::proofs::FirstLemmas::is_place))]
 pub fn place_of_asker(pending: &[Pending], asker: u64) -> Option<usize>
     ensures { MatchOption result (find_asker asker pending.now ≡ None)
-        (IsFirst (λ (one : Confirmation). one.asker == asker) pending.now) }
+        (IsFirst (has_key asker_of asker) pending.now) }
 {
     first_of_asker(pending, asker)
 }
 
 fn first_of_asker(pending: &[Pending], asker: u64) -> Option<usize>
-    ensures { result ≡ position (λ (one : Confirmation). one.asker == asker) pending.now }
+    ensures { result ≡ position (has_key asker_of asker) pending.now }
 {
     pending.iter().position(|one| one.asker() == asker)
 }
 
 /// Where that stands whose child process came to this port.
+#[tactic(auto, using(lists::proofs::FirstLemmas::is_place))]
 pub fn place_linked(pending: &[Pending], port: u64) -> Option<usize>
     ensures { MatchOption result (find_linked port pending.now ≡ None)
-        (IsFirst (λ (one : Confirmation). is_at port one.port) pending.now) }
+        (IsFirst (came_to port) pending.now) }
 {
     first_linked(pending, port)
 }
 
 fn first_linked(pending: &[Pending], port: u64) -> Option<usize>
-    ensures { result ≡ position (λ (one : Confirmation). is_at port one.port) pending.now }
+    ensures { result ≡ position (came_to port) pending.now }
 {
     pending.iter().position(|one| one.port() == Some(port))
 }
 
 /// The child process of this job came to this port.
-
 pub fn link(pending: &mut Vec<Pending>, job: u64, port: u64)
     requires { IsSome (find_job job pending.old.items) }
     ensures { pending.new.items ≡ linked job port pending.old.items }
@@ -70,7 +73,7 @@ pub fn link(pending: &mut Vec<Pending>, job: u64, port: u64)
 }
 
 /// The first bytes that the child process of this job was owed are sent.
-#[tactic(auto, using(crate::proofs::PlaceLemmas::found_there))]
+#[tactic(auto, using(lists::proofs::FirstLemmas::found_there))]
 pub fn take(pending: &mut Vec<Pending>, job: u64, count: usize)
     requires there { IsSome (find_job job pending.old.items) }
     requires owed { count ≤ length (owed_to (find_job job pending.old.items)) }
@@ -84,7 +87,7 @@ pub fn take(pending: &mut Vec<Pending>, job: u64, count: usize)
 }
 
 /// The child process of this job sent more. What the user says by now.
-#[tactic(auto, using(crate::proofs::PlaceLemmas::found_there))]
+#[tactic(auto, using(lists::proofs::FirstLemmas::found_there))]
 pub fn hear(pending: &mut Vec<Pending>, job: u64, piece: &[u8]) -> Result<Answer, AllocError>
     requires { IsSome (find_job job pending.old.items) }
     ensures told { OnOk result (pending.new.items ≡ told job piece.now pending.old.items) }
@@ -101,23 +104,13 @@ pub fn hear(pending: &mut Vec<Pending>, job: u64, piece: &[u8]) -> Result<Answer
 }
 
 /// Ends the confirmation of this job, and gives what it held.
-#[tactic(auto, using(crate::proofs::PlaceLemmas::removed_there, crate::proofs::PlaceLemmas::found_there, crate::proofs::PlaceLemmas::removed_nowhere))]
+#[tactic(auto, using(lists::proofs::FirstLemmas::removed_there, lists::proofs::FirstLemmas::found_there, lists::proofs::FirstLemmas::removed_nowhere))]
 pub fn end(pending: &mut Vec<Pending>, job: u64) -> Option<Held>
     ensures left { pending.new.items ≡ lose job pending.old.items }
     ensures held { result ≡ option_map given_back (find_job job pending.old.items) }
 {
     let place = place_of(pending, job)?;
     Some(pending.remove(place).into_held())
-}
-
-/// Ends the confirmation of this client, and gives its job.
-#[tactic(auto, using(crate::proofs::PlaceLemmas::left_there, crate::proofs::PlaceLemmas::asker_there, crate::proofs::PlaceLemmas::left_nowhere))]
-pub fn end_of(pending: &mut Vec<Pending>, asker: u64) -> Option<u64>
-    ensures left { pending.new.items ≡ leave asker pending.old.items }
-    ensures job { result ≡ option_map job_of (find_asker asker pending.old.items) }
-{
-    let place = place_of_asker(pending, asker)?;
-    Some(pending.remove(place).job())
 }
 
 /// The first bytes that the child process at this port was owed are sent.

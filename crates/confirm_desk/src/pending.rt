@@ -79,34 +79,6 @@ impl Pending {
         self.held.asker
     }
 
-    /// The addition of the key.
-    pub fn addition(&self) -> u64
-        ensures { result ≡ self.now.addition }
-    {
-        self.held.addition
-    }
-
-    /// What is to be signed.
-    pub fn message(&self) -> &[u8]
-        ensures { result.now ≡ self.now.message }
-    {
-        self.held.message.as_slice()
-    }
-
-    /// How it is to be signed.
-    pub fn flags(&self) -> u32
-        ensures { result ≡ self.now.flags }
-    {
-        self.held.flags
-    }
-
-    /// What the user is asked.
-    pub fn prompt(&self) -> &[u8]
-        ensures { result.now ≡ self.now.prompt }
-    {
-        self.prompt.as_slice()
-    }
-
     /// The port where its child process came.
     pub fn port(&self) -> Option<u64>
         ensures { result ≡ self.now.port }

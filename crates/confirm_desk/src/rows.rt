@@ -3,7 +3,7 @@
 
 ghost use Rattle.std.specs.Prelude.{◌≡◌, [], ◌∷◌, ◌++◌, codes, drop, length, replicate, Some, None};
 ghost use Rattle.confirm_desk.specs.Calls.{next_owed, raise_fault, telling, took_at};
-ghost use Rattle.confirm_desk.specs.Confirmations.{NotYet, Yes, No, consent, find_asker, find_job, find_linked, leave, linked, lose, owed_to, told};
+ghost use Rattle.confirm_desk.specs.Confirmations.{NotYet, Yes, No, consent, find_asker, find_job, find_linked, linked, lose, owed_to, told};
 ghost use Rattle.confirm_desk.specs.Prompt.{prompt_of, shown_comment};
 ghost use Rattle.confirm_desk.specs.Samples.{answer, first_back, first_frame, first_with, second_back, second_frame, second_with, two, two_linked};
 ghost use Rattle.confirm_desk.specs.declared.fault.DeskFault.TheVariants as faults;
@@ -26,8 +26,7 @@ pub fn confirmations_are_kept_in_order()
     ensures took_some { took_at 5 4 two_linked
         ≡ first_with (Some 5) [] (drop 4 first_frame) ∷ second_with (Some 6) [] second_frame ∷ [] }
     ensures lost { lose 1 two_linked ≡ second_with (Some 6) [] second_frame ∷ [] }
-    ensures left { leave 80 two_linked ≡ first_with (Some 5) [] first_frame ∷ [] }
-    ensures neither { lose 2 (leave 75 two_linked) ≡ two_linked }
+    ensures neither { lose 2 two_linked ≡ two_linked }
 {}
 
 /// Bytes are owed at ports in order, and where any are left.

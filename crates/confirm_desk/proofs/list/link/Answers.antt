@@ -1,11 +1,12 @@
-use Rattle.confirm_desk.specs.Confirmations.{linked_at}
-use Rattle.confirm_desk.specs.Places.{IsFirst}
-use Rattle.confirm_desk.proofs.PlaceLemmas.{changed_to, is_of}
+use Rattle.lists.specs.Firsts.{IsFirst}
+use Rattle.lists.specs.Keyed.{has_key}
+use Rattle.lists.proofs.FirstLemmas.{changed_to}
+use Rattle.confirm_desk.specs.Confirmations.{linked_at, job_of}
 use Rattle.confirm_desk.proofs.list.link.Goals as goal
 
 pub returns : goal.returns
 returns c =
     let all = c.args.pending.now.items in
-    let at : IsFirst (is_of c.args.job) all c.in-Some.place = rw c.deref.ensures.value at c.in-Some.ensures in
-    changed_to c.args.job (linked_at c.args.port) all c.in-Some.place c.index_mut-one.result.now c.link.new.self
+    let at : IsFirst (has_key job_of c.args.job) all c.in-Some.place = rw c.deref.ensures.value at c.in-Some.ensures in
+    changed_to (has_key job_of c.args.job) (linked_at c.args.port) all c.in-Some.place c.index_mut-one.result.now c.link.new.self
     at c.index_mut-one.ensures.value c.link.ensures

@@ -1,8 +1,7 @@
 use Rattle.std.proofs.Common.{◌≡◌, ◌∙◌, ℕ, Option, Some, refl, sym, ap}
+use Rattle.lists.specs.Firsts.{IsFirst}
 use Rattle.confirm_desk.specs.Calls.{took_by}
-use Rattle.confirm_desk.specs.Confirmations.{Confirmation, find_linked, took}
-use Rattle.confirm_desk.specs.Places.{IsFirst}
-use Rattle.confirm_desk.proofs.PlaceLemmas.{came_to}
+use Rattle.confirm_desk.specs.Confirmations.{Confirmation, find_linked, took, came_to}
 use Rattle.confirm_desk.proofs.TellLemmas.{at_port, of_job}
 use Rattle.confirm_desk.proofs.list.take_at.Goals as goal
 

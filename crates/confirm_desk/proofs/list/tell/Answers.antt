@@ -1,11 +1,10 @@
 use Rattle.std.proofs.Common.{◌≡◌, ◌∙◌, ◌++◌, ℕ, Some, refl, sym, ap}
+use Rattle.lists.specs.Firsts.{IsFirst}
 use Rattle.confirm_desk.specs.Answers.{consent_told}
 use Rattle.confirm_desk.specs.Calls.{Telling, given_back, telling, telling_by}
-use Rattle.confirm_desk.specs.Confirmations.{NotYet, Yes, No, consent, find_linked, told}
-use Rattle.confirm_desk.specs.Places.{IsFirst}
+use Rattle.confirm_desk.specs.Confirmations.{NotYet, Yes, No, consent, find_linked, told, came_to}
 use Rattle.confirm_desk.specs.declared.held.Held.{Held as CodeHeld}
 use Rattle.confirm_desk.specs.declared.held.Verdict.TheVariants as verdicts
-use Rattle.confirm_desk.proofs.PlaceLemmas.{came_to}
 use Rattle.confirm_desk.proofs.TellLemmas.{at_port, held_by, left_over, of_job, still_of_job, tells}
 use Rattle.confirm_desk.proofs.list.tell.Goals as goal
 

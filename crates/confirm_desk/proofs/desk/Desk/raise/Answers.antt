@@ -1,4 +1,5 @@
 use Rattle.std.proofs.Common.{[], refl, arith}
+use Rattle.wire_text.specs.Bounds.{longest_body}
 use Rattle.wire_text.proofs.FrontLemmas.{front-short}
 use Rattle.confirm_desk.specs.Calls.{held_of}
 use Rattle.confirm_desk.specs.Confirmations.{confirmation_of}
@@ -10,4 +11,4 @@ invariant_of-self-2 c =
     rw (c.in_ok-push.ensures.items, c.in_ok-one.ensures)
     (IsSound-append c.self.inside.confirmations.items (confirmation_of c.args.job (held_of c.args.held) c.args.prompt.now)
     (omega (arith, c.if-len-ge-MAX_CONFIRMATIONS.false, c.len.ensures)) (rw c.self.view_is c.requires.job) (rw c.self.view_is c.requires.asker)
-    refl (front-short 262144 [] (omega arith)) c.self.invariant)
+    refl (front-short longest_body [] (omega arith)) c.self.invariant)
