@@ -1,13 +1,15 @@
 -- Who asks the user and who waits for it are open.
-use Rattle.std.proofs.Common.{◌≡◌, ◌≢◌, ℕ, suc, ◌+◌, ◌<◌, ◌≤◌, List, [], ◌∷◌, ◌++◌, length, not, nat_lt, refl, ap, arith, sym, subst, ◌∙◌, ◌==◌, ◌⊎◌, Option, Some, None, IsSome, Bool, true, false, cond, inl, inr}
+use Rattle.std.proofs.Common.{◌≡◌, ◌≢◌, ℕ, suc, ◌+◌, ◌<◌, List, [], ◌∷◌, ◌++◌, length, not, nat_lt, refl, ap, arith, sym, subst, ◌∙◌, ◌==◌, ◌⊎◌, Option, Some, None, IsSome, Bool, true, false, cond, inl, inr}
 use Rattle.std.specs.Option.{option_map}
 use Rattle.std.proofs.lemmas.Bool.{cases_eq}
 use Rattle.std.proofs.lemmas.Bool.Decides.{nat_tests}
+use Rattle.lists.specs.Keyed.{has_key}
+use Rattle.lists.proofs.FirstLemmas.{length-change, length-remove}
 use Rattle.world_ports.specs.declared.Door.{Door}
 use Rattle.world_ports.specs.declared.Door.TheVariants.{Clients, Children}
 use Rattle.world_ports.specs.declared.Moment.{Moment}
 use Rattle.wire_text.specs.Frames.{front_body}
-use Rattle.confirm_desk.specs.Confirmations.{Confirmation, change_job, confirmation_of, find_asker, find_job, find_linked, is_at, linked_at, remove_job}
+use Rattle.confirm_desk.specs.Confirmations.{Confirmation, change_job, confirmation_of, find_asker, find_job, find_linked, is_at, linked_at, remove_job, job_of}
 use Rattle.confirm_desk.specs.Prompt.{prompt_for}
 use Rattle.dest_rule.specs.declared.binding.Binding.{Binding}
 use Rattle.helper_link.specs.HelperLink.{askers}
@@ -144,22 +146,6 @@ attended-removed at ports nobody attended = record {
   helper = attended.helper;
 }
 
-length-change : (job : ℕ) (f : Confirmation → Confirmation) (confirmations : List Confirmation) → length (change_job job f confirmations) ≡ length confirmations
-length-change job f [] = refl
-length-change job f (one ∷ others) = by_test (one.job == job) (length-change job f others)
-  where
-    by_test : (test : Bool) → length (change_job job f others) ≡ length others → length (cond test (f one ∷ others) (one ∷ change_job job f others)) ≡ suc (length others)
-    by_test true rest = refl
-    by_test false rest = ap suc rest
-
-length-remove : (job : ℕ) (confirmations : List Confirmation) → length (remove_job job confirmations) ≤ length confirmations
-length-remove job [] = omega arith
-length-remove job (one ∷ others) = by_test (one.job == job) (length-remove job others)
-  where
-    by_test : (test : Bool) → length (remove_job job others) ≤ length others → length (cond test others (one ∷ remove_job job others)) ≤ suc (length others)
-    by_test true rest = omega arith
-    by_test false rest = omega (arith, rest)
-
 length-push : (new : Confirmation) (confirmations : List Confirmation) → length (confirmations ++ new ∷ []) ≡ suc (length confirmations)
 length-push new [] = refl
 length-push new (one ∷ others) = ap suc (length-push new others)
@@ -167,7 +153,7 @@ length-push new (one ∷ others) = ap suc (length-push new others)
 -- what is heard and owed makes no difference
 attended-altered : {confirmations : List Confirmation} {link : LinkState} {ports : List Port} (at : ℕ) (f : Confirmation → Confirmation) → ((c : Confirmation) → (f c).job ≡ c.job) → ((c : Confirmation) → (f c).asker ≡ c.asker) → ((c : Confirmation) → (f c).port ≡ c.port) → AreAttended confirmations link ports → AreAttended (change_job at f confirmations) link ports
 attended-altered {confirmations = confirmations} {ports = ports} at f jobs whose places attended = record {
-  few = omega (arith, length-change at f confirmations, attended.few);
+  few = omega (arith, length-change (has_key job_of at) f confirmations, attended.few);
   askers = λ job one found.
       let back = changed_back job at f confirmations one jobs found in
       subst (λ n. IsSome (find_port n ports)) (sym (same_asker one back.0 back.2)) (attended.askers job back.0 back.1);
@@ -198,7 +184,7 @@ attended-kept (altered job f faint) attended = attended-altered job f faint.job 
 -- a child process comes to a port that is nobody's
 attended-linked : {confirmations : List Confirmation} {link : LinkState} {ports : List Port} (at place : ℕ) → IsSome (find_port place ports) → ((job : ℕ) (one : Confirmation) → find_job job confirmations ≡ Some one → one.port ≢ Some place) → link ≢ states.Linked place → AreAttended confirmations link ports → AreAttended (change_job at (linked_at place) confirmations) link ports
 attended-linked {confirmations = confirmations} {link = link} {ports = ports} at place some free unhelped attended = record {
-  few = omega (arith, length-change at (linked_at place) confirmations, attended.few);
+  few = omega (arith, length-change (has_key job_of at) (linked_at place) confirmations, attended.few);
   askers = λ job one found.
       let back = back_of job one found in
       subst (λ n. IsSome (find_port n ports)) (sym (same_asker one back.0 back.2)) (attended.askers job back.0 back.1);
@@ -283,7 +269,7 @@ attended-raised {confirmations = confirmations} {link = link} {ports = ports} la
 -- one less, where the others are open after
 attended-over : {confirmations : List Confirmation} {link : LinkState} {old new : List Port} (job last : ℕ) → JobsRise 0 confirmations last → AreAttended confirmations link old → ((other : ℕ) (one : Confirmation) → find_job other confirmations ≡ Some one → job ≢ other → IsSome (find_port one.asker new) × ((number : ℕ) → one.port ≡ Some number → IsSome (find_port number new))) → AreAttended (remove_job job confirmations) link new
 attended-over {confirmations = confirmations} job last rise attended others = record {
-  few = omega (arith, length-remove job confirmations, attended.few);
+  few = omega (arith, length-remove (has_key job_of job) confirmations, attended.few);
   askers = λ other one found. let left = left_of other one found in (others other one left.1 left.0).0;
   confirmers = λ other number one found at. let left = left_of other one found in (others other one left.1 left.0).1 number at;
   apart = λ a b number one other this that first second.

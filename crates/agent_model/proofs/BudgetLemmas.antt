@@ -14,7 +14,7 @@ use Rattle.agent_model.specs.Dispatch.{Served}
 use Rattle.agent_model.specs.Events.{Happening, Took}
 use Rattle.wire_text.specs.Bounds.{longest_body}
 use Rattle.agent_model.specs.Looks.{due, due_at, due_by}
-use Rattle.agent_model.specs.State.{Nothing, OnAsk, OnConfirmation, Port, State, UnderWay, Waits, change_port, find_port, is_some_bytes, owed_as, owed_by, owed_by_port, owed_of, remove_port, role_of}
+use Rattle.agent_model.specs.State.{Nothing, OnAsk, OnConfirmation, Port, State, UnderWay, Waits, change_port, find_port, is_some_bytes, owed_as, owed_by, owed_by_port, owed_of, remove_port, role_of, number_of}
 use Rattle.agent_model.specs.Step.{asker_at, at_moment, attempts, looked, step, take_frame, took_at, took_by_role, took_some}
 use Rattle.agent_model.specs.Verdicts.{tell}
 use Rattle.agent_model.proofs.ClientLemmas.{handle-took, looked-bad, looked-stays, looked-whole, served_at}
@@ -34,13 +34,14 @@ use Rattle.helper_link.specs.declared.state.LinkState.TheVariants as states
 use Rattle.std.proofs.lemmas.Bool.{cases_eq}
 use Rattle.std.proofs.lemmas.List.{drop_all}
 use Rattle.std.specs.Option.{option_map}
+use Rattle.lists.proofs.KeyedLemmas.{find_by-change}
 
 -- a change of the port of this number changes its part of the budget alone
 budget-change : (under_way : UnderWay) (number : ℕ) (f : Port → Port) (ports : List Port) (port : Port) → find_port number ports ≡ Some port → ports_budget under_way (change_port number f ports) + port_budget under_way port ≡ ports_budget under_way ports + port_budget under_way (f port)
 budget-change under_way number f [] port found = absurd (cc)
-budget-change under_way number f (first ∷ ports) port found = by_test (number == first.number) refl (budget-change under_way number f ports port)
+budget-change under_way number f (first ∷ ports) port found = by_test (first.number == number) refl (budget-change under_way number f ports port)
   where
-    by_test : (same : Bool) → (number == first.number) ≡ same → (find_port number ports ≡ Some port → ports_budget under_way (change_port number f ports) + port_budget under_way port ≡ ports_budget under_way ports + port_budget under_way (f port)) → ports_budget under_way (change_port number f (first ∷ ports)) + port_budget under_way port ≡ ports_budget under_way (first ∷ ports) + port_budget under_way (f port)
+    by_test : (same : Bool) → (first.number == number) ≡ same → (find_port number ports ≡ Some port → ports_budget under_way (change_port number f ports) + port_budget under_way port ≡ ports_budget under_way ports + port_budget under_way (f port)) → ports_budget under_way (change_port number f (first ∷ ports)) + port_budget under_way port ≡ ports_budget under_way (first ∷ ports) + port_budget under_way (f port)
     by_test true is later =
         let here : first ≡ port = grind (arith, nat_tests) in
         let front : change_port number f (first ∷ ports) ≡ f first ∷ ports = grind (arith, nat_tests) in
@@ -57,9 +58,9 @@ budget-change under_way number f (first ∷ ports) port found = by_test (number 
 -- the port of this number takes its part of the budget with it
 budget-remove : (under_way : UnderWay) (number : ℕ) (ports : List Port) → ports_budget under_way (remove_port number ports) ≤ ports_budget under_way ports
 budget-remove under_way number [] = omega arith
-budget-remove under_way number (first ∷ ports) = by_test (number == first.number) refl (budget-remove under_way number ports)
+budget-remove under_way number (first ∷ ports) = by_test (first.number == number) refl (budget-remove under_way number ports)
   where
-    by_test : (same : Bool) → (number == first.number) ≡ same → ports_budget under_way (remove_port number ports) ≤ ports_budget under_way ports → ports_budget under_way (remove_port number (first ∷ ports)) ≤ ports_budget under_way (first ∷ ports)
+    by_test : (same : Bool) → (first.number == number) ≡ same → ports_budget under_way (remove_port number ports) ≤ ports_budget under_way ports → ports_budget under_way (remove_port number (first ∷ ports)) ≤ ports_budget under_way (first ∷ ports)
     by_test true is later =
         let front : remove_port number (first ∷ ports) ≡ ports = grind (arith, nat_tests) in
         omega (arith, ap (ports_budget under_way) front)
@@ -70,8 +71,7 @@ budget-remove under_way number (first ∷ ports) = by_test (number == first.numb
 
 -- the port that was changed is found so, where its number stays
 found_changed : (number : ℕ) (f : Port → Port) (ports : List Port) (port : Port) → ((p : Port) → (f p).number ≡ p.number) → find_port number ports ≡ Some port → find_port number (change_port number f ports) ≡ Some (f port)
-found_changed number f [] port keeps found = absurd (cc)
-found_changed number f (first ∷ ports) port keeps found = grind (arith, nat_tests, found_changed number f ports port keeps, keeps first)
+found_changed number f ports port keeps found = find_by-change number_of number f ports keeps ∙ ap (option_map f) found
 
 -- what a client has of the budget
 client_budget : (under_way : UnderWay) (port : Port) → port.door ≡ Clients → port_budget under_way port ≡ length port.heard + (if is_some_bytes port.owed then 1 else 0)

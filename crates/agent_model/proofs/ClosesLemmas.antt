@@ -3,6 +3,7 @@ use Rattle.std.proofs.Common.{◌≡◌, ◌≢◌, ◌==◌, ◌&&◌, ◌<◌,
 use Rattle.std.proofs.lemmas.Bool.{cases_eq}
 use Rattle.std.proofs.lemmas.Bool.Decides.{nat_tests}
 use Rattle.std.proofs.lemmas.List.{append-nil}
+use Rattle.lists.proofs.SearchLemmas.{rise-numbers}
 use Rattle.helper_link.specs.HelperLink.{askers}
 use Rattle.helper_link.specs.Telling.{telling}
 use Rattle.helper_link.specs.declared.answer.Settled.{Settled}
@@ -21,7 +22,7 @@ use Rattle.agent_model.specs.Consents.{close_confirmer, confirmer_closes, grant_
 use Rattle.agent_model.specs.Events.{Happening}
 use Rattle.agent_model.specs.NumberLists.{put_all, without}
 use Rattle.agent_model.specs.Sound.{IsRising}
-use Rattle.agent_model.specs.State.{Port, State, change_port, find_port, new_port, numbers, remove_port}
+use Rattle.agent_model.specs.State.{Port, State, change_port, find_port, new_port, numbers, remove_port, number_of}
 use Rattle.agent_model.specs.Step.{admitted, at_moment, has_room, step, turned_away}
 use Rattle.agent_model.specs.Verdicts.{HelperLost, NotConfirmed, Refuses, Verdict, tell}
 use Rattle.agent_model.proofs.FateLemmas.{answers_as}
@@ -120,8 +121,7 @@ put-taken low all (number ∷ out) kept left rising order within taken =
 -- the numbers of rising ports rise
 rising-numbers : (low high : ℕ) (ports : List Port) → IsRising low high ports →
     IsRisingNumbers low (numbers ports)
-rising-numbers low high [] rising = tt
-rising-numbers low high (port ∷ ports) rising = (rising.0, rising-numbers port.number high ports rising.1)
+rising-numbers low high ports rising = rise-numbers number_of low high ports rising
 
 numbers-remove_port : (number : ℕ) (ports : List Port) →
     numbers (remove_port number ports) ≡ removed number (numbers ports)

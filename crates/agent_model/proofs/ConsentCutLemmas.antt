@@ -1,13 +1,12 @@
 -- Where a confirmer's bytes are cut does not matter.
-use Rattle.std.proofs.Common.{◌≡◌, ◌≢◌, ℕ, List, [], ◌∷◌, ◌++◌, refl, ap, sym, ◌∙◌, ◌==◌, Option, Some, None, Bool, true, false, cond}
+use Rattle.std.proofs.Common.{◌≡◌, ◌≢◌, ℕ, List, ◌++◌, refl, ap, sym, ◌∙◌, Option, Some, None, Bool, true, false}
 use Rattle.std.proofs.lemmas.List.{append_assoc}
+use Rattle.lists.specs.Keyed.{has_key}
+use Rattle.lists.proofs.FirstLemmas.{remove-change}
 use Rattle.world_ports.specs.declared.Door.{Door}
 use Rattle.world_ports.specs.declared.Door.TheVariants.{Clients, Children}
 use Rattle.world_ports.specs.declared.Moment.{Moment}
-use Rattle.wire_text.specs.Frames.{Front, front, Whole, Bad, More}
-use Rattle.wire_text.proofs.FrontLemmas.{front-append_bad, front-append_whole}
-use Rattle.child_msg.specs.Reading.{from_child_of}
-use Rattle.confirm_desk.specs.Confirmations.{Confirmation, Consent, No, NotYet, Yes, consent, consent_at, consent_in, find_linked, heard_more, remove_job, told}
+use Rattle.confirm_desk.specs.Confirmations.{Confirmation, Consent, No, NotYet, Yes, consent, find_linked, heard_more, remove_job, told, job_of}
 use Rattle.dest_rule.specs.Rules.{denial_under}
 use Rattle.dest_rule.specs.declared.binding.Binding.{Binding}
 use Rattle.dest_rule.specs.declared.denial.Denial.{Denial}
@@ -25,48 +24,28 @@ use Rattle.agent_model.proofs.AttendedLemmas.{some_port}
 use Rattle.agent_model.proofs.BudgetLemmas.{confirmer_role}
 use Rattle.agent_model.proofs.FatedLemmas.{tied-opened}
 use Rattle.agent_model.proofs.JobLemmas.{in-by_port, in-found, linked-changed, linked_port}
+use Rattle.confirm_desk.proofs.CutLemmas.{consent-append, told-told}
 use Rattle.agent_model.proofs.LeadLemmas.{changes, same}
 use Rattle.agent_model.proofs.MakeLemmas.{role-confirmer, role-door}
-use Rattle.agent_model.proofs.PartsLemmas.{same_body}
 use Rattle.agent_model.proofs.PiecesLemmas.{Agree, agree-over, agree-waits, heard_next}
 use Rattle.agent_model.proofs.PortsLemmas.{find_port-remove_port, found_number}
 use Rattle.agent_model.proofs.RunLemmas.{at_moment-twice, leads-absent}
 
 -- ---- what the user says
 
-said_at : (job : ℕ) (a b : List ℕ) (answer : Front) → front 262144 a ≡ answer → consent_at job answer a ≢ NotYet → consent_at job (front 262144 (a ++ b)) (a ++ b) ≡ consent_at job answer a
-said_at job a b (Whole body_len) is decided =
-    ap (λ f. consent_at job f (a ++ b)) (front-append_whole 262144 a b body_len is) ∙ ap (λ body. consent_in job (from_child_of body)) (same_body a b body_len is)
-said_at job a b (Bad announced) is decided = ap (λ f. consent_at job f (a ++ b)) (front-append_bad 262144 a b announced is)
-said_at job a b More is decided = absurd (decided refl)
-
 -- once it is said, more bytes change nothing
 pub said : (job : ℕ) (a b : List ℕ) → consent job a ≢ NotYet → consent job (a ++ b) ≡ consent job a
-unfolding consent
-said job a b decided = said_at job a b (front 262144 a) refl decided
+said job a b decided = consent-append job a b decided
 
 -- ---- confirmations
 
 -- two parts are heard as one
 told-twice : (job : ℕ) (a b : List ℕ) (confirmations : List Confirmation) → told job b (told job a confirmations) ≡ told job (a ++ b) confirmations
-told-twice job a b [] = refl
-told-twice job a b (one ∷ others) = by_test (one.job == job) refl (told-twice job a b others)
-  where
-    by_test : (test : Bool) → (one.job == job) ≡ test → told job b (told job a others) ≡ told job (a ++ b) others → told job b (cond test (heard_more a one ∷ others) (one ∷ told job a others)) ≡ cond test (heard_more (a ++ b) one ∷ others) (one ∷ told job (a ++ b) others)
-    by_test true is rest =
-        ap (λ t. cond t (heard_more b (heard_more a one) ∷ others) (heard_more a one ∷ told job b others)) is
-        ∙ ap (λ bytes. let c : Confirmation = record one { heard = bytes } in c ∷ others) (append_assoc one.heard a b)
-    by_test false is rest =
-        ap (λ t. cond t (heard_more b one ∷ told job a others) (one ∷ told job b (told job a others))) is ∙ ap (λ more. one ∷ more) rest
+told-twice = told-told
 
 -- it doesn't matter what was heard of one that ends
 remove-told : (job : ℕ) (piece : List ℕ) (confirmations : List Confirmation) → remove_job job (told job piece confirmations) ≡ remove_job job confirmations
-remove-told job piece [] = refl
-remove-told job piece (one ∷ others) = by_test (one.job == job) refl (remove-told job piece others)
-  where
-    by_test : (test : Bool) → (one.job == job) ≡ test → remove_job job (told job piece others) ≡ remove_job job others → remove_job job (cond test (heard_more piece one ∷ others) (one ∷ told job piece others)) ≡ cond test others (one ∷ remove_job job others)
-    by_test true is rest = ap (λ t. cond t others (heard_more piece one ∷ remove_job job others)) is
-    by_test false is rest = ap (λ t. cond t (told job piece others) (one ∷ remove_job job (told job piece others))) is ∙ ap (λ more. one ∷ more) rest
+remove-told job piece confirmations = remove-change (has_key job_of job) (heard_more piece) confirmations (λ c. refl)
 
 module _ (piece : List ℕ) (confirmation : Confirmation) (chain : List Binding) (wall : ℕ) (held : KeyState) (under_way : UnderWay) where
   unless-alike : (denial : Option Denial) (key : HeldKey) → grant_unless denial key (heard_more piece confirmation) under_way ≡ grant_unless denial key confirmation under_way

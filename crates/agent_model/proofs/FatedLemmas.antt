@@ -1,6 +1,8 @@
 -- Who waits for the helper stays tied to the asks at each event, and is told what becomes of its ask.
 use Rattle.std.proofs.Common.{◌≡◌, ◌≢◌, ℕ, suc, ◌+◌, ◌≤◌, List, [], ◌∷◌, ◌++◌, refl, ap, arith, sym, subst, ◌∙◌, ◌==◌, ◌⊎◌, Option, Some, None, Bool, true, false, cond, inl, inr}
 use Rattle.std.proofs.lemmas.List.{append-nil}
+use Rattle.lists.specs.Keyed.{has_key}
+use Rattle.lists.proofs.FirstLemmas.{find-before}
 use Rattle.world_ports.specs.declared.Door.{Door}
 use Rattle.world_ports.specs.declared.Door.TheVariants.{Clients, Children}
 use Rattle.world_ports.specs.declared.Moment.{Moment}
@@ -30,7 +32,7 @@ use Rattle.agent_model.specs.Fates.{Fate, Fails, Gets, IsTold, NoneEnds, Unanswe
 use Rattle.agent_model.specs.KeyStates.{KeyState}
 use Rattle.agent_model.specs.Runs.{run}
 use Rattle.agent_model.specs.Sound.{AreTied, IsTied, IsWaiting}
-use Rattle.agent_model.specs.State.{Nothing, OnAsk, OnConfirmation, Port, State, UnderWay, change_port, find_port, first_state, new_port, Waits}
+use Rattle.agent_model.specs.State.{Nothing, OnAsk, OnConfirmation, Port, State, UnderWay, change_port, find_port, first_state, new_port, Waits, number_of}
 use Rattle.agent_model.specs.Step.{admitted, asker_at, at_moment, attempts, concluded, has_room, step, take_frame, turned_away}
 use Rattle.agent_model.specs.Verdicts.{Awaits, NoLongerAllowed, NotConfirmed, Refuses, Replies, Verdict, tell, verdict_waits}
 use Rattle.agent_model.proofs.FateLemmas.{answer-waits, fate-answers, fate-append, tied-answers, tied-lost, told-apart, told-lost, waits-lost}
@@ -342,12 +344,7 @@ fated-makes {event = event} (grants confirmation port state there opened) tied =
 
 -- one more port that is there makes no difference to those that are found
 pub found_still : (number : ℕ) (port : Port) (ports more : List Port) → find_port number ports ≡ Some port → find_port number (ports ++ more) ≡ Some port
-found_still number port [] more found = absurd (cc)
-found_still number port (other ∷ ports) more found = by_test (number == other.number) (found_still number port ports more) found
-  where
-    by_test : (equal : Bool) → (find_port number ports ≡ Some port → find_port number (ports ++ more) ≡ Some port) → cond equal (Some other) (find_port number ports) ≡ Some port → cond equal (Some other) (find_port number (ports ++ more)) ≡ Some port
-    by_test true later there = there
-    by_test false later there = later there
+found_still number port ports more found = find-before (has_key number_of number) ports more port found
 
 fated-admitted : (event : Happening) (door : Door) (state : State) (room : Bool) → IsTied state → Fated event state (record (stay (record state { ports = admitted room (suc state.last_port) door state.ports; last_port = suc state.last_port })) { closes = turned_away room (suc state.last_port) })
 fated-admitted event door state false tied = record {

@@ -1,6 +1,7 @@
 -- What a request may begin: at most one more ask, for the helper that is there or coming.
-use Rattle.std.proofs.Common.{◌≡◌, ℕ, ◌+◌, ◌≤◌, arith, List, [], ◌∷◌, ◌++◌, refl, ap, Option, Some, None, if◌then◌else◌}
-use Rattle.confirm_desk.specs.Confirmations.{Confirmation, confirmation_of, find_linked, is_at}
+use Rattle.std.proofs.Common.{◌≡◌, ℕ, ◌+◌, ◌≤◌, arith, List, [], ◌∷◌, ◌++◌, refl, ap, Option, Some, None}
+use Rattle.lists.proofs.FirstLemmas.{find-push_other}
+use Rattle.confirm_desk.specs.Confirmations.{Confirmation, confirmation_of, find_linked, is_at, came_to}
 use Rattle.confirm_desk.specs.Prompt.{prompt_for}
 use Rattle.helper_link.specs.declared.state.LinkState.{LinkState}
 use Rattle.helper_link.specs.declared.state.LinkState.TheVariants as states
@@ -50,9 +51,7 @@ more-put None errand asker under_way = record {
 
 -- a confirmation whose child process hasn't come is nobody's
 linked-behind : (number : ℕ) (one : Confirmation) (confirmations : List Confirmation) → one.port ≡ None → find_linked number (confirmations ++ one ∷ []) ≡ find_linked number confirmations
-linked-behind number one [] nowhere = ap (λ (port : Option ℕ). if is_at number port then Some one else None) nowhere
-linked-behind number one (first ∷ others) nowhere =
-    ap (λ (rest : Option Confirmation). if is_at number first.port then Some first else rest) (linked-behind number one others nowhere)
+linked-behind number one confirmations nowhere = find-push_other (came_to number) confirmations one (ap (is_at number) nowhere)
 
 -- whatever is asked
 pub asks_more : {asker : Asker} {held : KeyState} {under_way : UnderWay} {served : Served} → IsServed asker held under_way served → AsksMore under_way served.work.under_way

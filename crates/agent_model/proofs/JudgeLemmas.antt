@@ -5,6 +5,9 @@ use Rattle.std.proofs.lemmas.Bool.{cases_eq}
 use Rattle.std.proofs.lemmas.Bool.Decides.{nat_tests}
 use Rattle.std.proofs.lemmas.List.Elements.{All-nil}
 use Rattle.std.proofs.lemmas.Slice.Eq.{bytes_eq-Decides}
+use Rattle.std.proofs.lemmas.List.Folds.{find-append}
+use Rattle.std.specs.Option.{option_or}
+use Rattle.lists.specs.Keyed.{has_key}
 use Rattle.key_blob.specs.PublicKeys.{public_key_of}
 use Rattle.dest_rule.specs.Chains.{IsChain, bound, find_session, is_open, judge, judge_known, judge_open, newest}
 use Rattle.dest_rule.specs.declared.binding.Binding.{Binding}
@@ -16,9 +19,9 @@ use Rattle.helper_link.specs.Settling.{find_ask, remove_ask}
 use Rattle.helper_link.specs.Sound.{RiseTo}
 use Rattle.helper_link.specs.declared.ask.Ask.{Ask}
 use Rattle.helper_link.specs.declared.ask.AskKind.{AskKind}
-use Rattle.lists.proofs.KeyedLemmas.{differ}
+use Rattle.lists.proofs.KeyedLemmas.{differ, find_by-remove_apart}
 use Rattle.helper_link.proofs.OrderLemmas.{find-remove}
-use Rattle.agent_model.specs.Answers.{chain_with, find_verification, remove_verification}
+use Rattle.agent_model.specs.Answers.{chain_with, find_verification, remove_verification, ask_number}
 use Rattle.agent_model.specs.Bindings.{bound_once}
 use Rattle.agent_model.specs.Sound.{AreApart, AreChains, AreJudged, AreNoted, AreTied, IsRight, IsRising, judged}
 use Rattle.agent_model.specs.State.{Port, Verification, change_port, find_port, remove_port}
@@ -32,21 +35,18 @@ abbrev pub either : Option Verification → Option Verification → Option Verif
 either None later = later
 either (Some one) later = Some one
 
+either-or : (some more : Option Verification) → option_or some more ≡ either some more
+either-or None more = refl
+either-or (Some one) more = refl
+
 -- what comes first is found
 pub find_verification-append : (ask : ℕ) (some more : List Verification) → find_verification ask (some ++ more) ≡ either (find_verification ask some) (find_verification ask more)
-find_verification-append ask [] more = refl
-find_verification-append ask (one ∷ some) more = by_test (one.ask == ask) (find_verification-append ask some more)
-  where
-    by_test : (same : Bool) → find_verification ask (some ++ more) ≡ either (find_verification ask some) (find_verification ask more) → cond same (Some one) (find_verification ask (some ++ more)) ≡ either (cond same (Some one) (find_verification ask some)) (find_verification ask more)
-    by_test true rest = refl
-    by_test false rest = rest
+find_verification-append ask some more =
+    find-append (has_key ask_number ask) some more ∙ either-or (find_verification ask some) (find_verification ask more)
 
 -- the removal of another leaves one
 pub find_verification-apart : (ask other : ℕ) (all : List Verification) → other ≢ ask → find_verification ask (remove_verification other all) ≡ find_verification ask all
-find_verification-apart ask other [] differs = refl
-find_verification-apart ask other (one ∷ all) differs =
-    let rest : find_verification ask (remove_verification other all) ≡ find_verification ask all = find_verification-apart ask other all differs in
-    grind (arith, nat_tests)
+find_verification-apart ask other all differs = find_by-remove_apart ask_number ask other all (λ is. differs (sym is))
 
 -- one that is found after a removal was there
 pub found_before : (ask other : ℕ) (all : List Verification) (one : Verification) → find_verification ask (remove_verification other all) ≡ Some one → IsSome (find_verification ask all)

@@ -1,6 +1,7 @@
 -- Over events, what was judged of bindings stands, and connections are bound to what was proved on them.
 use Rattle.std.proofs.Common.{◌≡◌, ℕ, suc, ◌<◌, ◌≤◌, List, [], ◌∷◌, ◌++◌, refl, ap, arith, sym, subst, ◌∙◌, nat_lt, Option, Some, None, Bool, true, false, inl, inr}
 use Rattle.std.proofs.lemmas.Bool.Decides.{nat_tests}
+use Rattle.lists.proofs.KeyedLemmas.{find_by-above}
 use Rattle.world_ports.specs.declared.Door.{Door}
 use Rattle.world_ports.specs.declared.Door.TheVariants.{Clients}
 use Rattle.world_ports.specs.declared.Moment.{Moment}
@@ -15,7 +16,7 @@ use Rattle.agent_model.specs.Fates.{actions_of}
 use Rattle.agent_model.specs.Looks.{due}
 use Rattle.agent_model.specs.Runs.{run}
 use Rattle.agent_model.specs.Sound.{AreApart, IsJudged, IsRising, IsTied}
-use Rattle.agent_model.specs.State.{Port, State, find_port, first_state, new_port}
+use Rattle.agent_model.specs.State.{Port, State, find_port, first_state, new_port, number_of}
 use Rattle.agent_model.specs.Step.{admitted, asker_at, at_moment, has_room, look_front, look_port, looked, step, turned_away}
 use Rattle.agent_model.proofs.BindLemmas.{bound_after-append}
 use Rattle.agent_model.proofs.ClientLemmas.{handle-heard, looked-found}
@@ -23,7 +24,7 @@ use Rattle.agent_model.proofs.FatedLemmas.{step-fated, tied-opened}
 use Rattle.agent_model.proofs.JudgeLemmas.{no_bindings}
 use Rattle.agent_model.proofs.JudgedLemmas.{Judges, judges-makes, silent_served}
 use Rattle.agent_model.proofs.MakeLemmas.{by_event}
-use Rattle.agent_model.proofs.PortsLemmas.{found_number, found_within}
+use Rattle.agent_model.proofs.PortsLemmas.{found_number}
 use Rattle.agent_model.proofs.RunLemmas.{run-unused, step-rises}
 use Rattle.agent_model.proofs.ServeLemmas.{serve-ends}
 use Rattle.agent_model.proofs.TieLemmas.{found_joined}
@@ -53,11 +54,7 @@ goes-made old outcome judges = record {
 
 -- no port has a number above the last
 absent_above : (number low high : ℕ) (ports : List Port) → IsRising low high ports → high < number → find_port number ports ≡ None
-absent_above number low high ports rising above = by_found (find_port number ports) refl
-  where
-    by_found : (found : Option Port) → find_port number ports ≡ found → find_port number ports ≡ None
-    by_found None is = is
-    by_found (Some port) is = absurd (omega (arith, above, found_within number low high ports port rising is))
+absent_above number low high ports rising above = find_by-above number_of number low high ports above rising
 
 module _ (door : Door) (state : State) (tied : IsTied state) (judged : IsJudged state) where
   -- one more port

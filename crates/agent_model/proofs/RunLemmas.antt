@@ -2,6 +2,9 @@
 use Rattle.std.proofs.Common.{◌≡◌, ℕ, suc, ◌^◌, ◌<◌, ◌≤◌, List, [], ◌∷◌, ◌++◌, refl, ap, arith, ◌∙◌, max, Option, Some, None, Bool, true, false}
 use Rattle.std.proofs.Math.Nat.{max-eq_left, le-max_right}
 use Rattle.std.proofs.lemmas.Bool.Decides.{nat_tests}
+use Rattle.lists.specs.Keyed.{has_key}
+use Rattle.lists.proofs.FirstLemmas.{find-change_none, find-push_other, find-remove_none}
+use Rattle.lists.proofs.KeyedLemmas.{differ, keeps_key}
 use Rattle.world_ports.specs.declared.Moment.{Moment}
 use Rattle.world_ports.specs.declared.Door.{Door}
 use Rattle.world_ports.specs.declared.Door.TheVariants.{Clients, Children}
@@ -9,7 +12,7 @@ use Rattle.agent_model.specs.Events.{Happening, Timed, Joined, Heard, Ended, Too
 use Rattle.agent_model.specs.KeyStates.{expired}
 use Rattle.agent_model.specs.Runs.{AllFit, run}
 use Rattle.agent_model.specs.Sound.{IsRising, IsSound}
-use Rattle.agent_model.specs.State.{Fits, Port, State, UnderWay, change_port, client_count, find_port, first_state, is_client, new_port, remove_port}
+use Rattle.agent_model.specs.State.{Fits, Port, State, UnderWay, change_port, client_count, find_port, first_state, is_client, new_port, remove_port, number_of}
 use Rattle.agent_model.specs.Step.{admitted, at_moment, handle, has_room, joined, step}
 use Rattle.agent_model.specs.Answers.{close_helper, lose}
 use Rattle.agent_model.specs.Verdicts.{HelperLost, Refuses}
@@ -59,19 +62,12 @@ leads-few old (changes number f ports keeps door leads) = omega (arith, count-ch
 leads-few old (removes number ports leads) = omega (arith, count-remove_port number ports, leads-few old leads)
 
 find_port-removed : (number other : ℕ) (ports : List Port) → find_port number ports ≡ None → find_port number (remove_port other ports) ≡ None
-find_port-removed number other [] absent = refl
-find_port-removed number other (port ∷ ports) absent =
-    let later : find_port number ports ≡ None = grind (arith, nat_tests) in
-    let rest : find_port number (remove_port other ports) ≡ None = find_port-removed number other ports later in
-    grind (arith, nat_tests)
+find_port-removed number other ports absent = find-remove_none (has_key number_of number) (has_key number_of other) ports absent
 
 find_port-changed : (number other : ℕ) (f : Port → Port) (ports : List Port) → ((port : Port) → (f port).number ≡ port.number) → find_port number ports ≡ None → find_port number (change_port other f ports) ≡ None
-find_port-changed number other f [] keeps absent = refl
-find_port-changed number other f (port ∷ ports) keeps absent =
-    let later : find_port number ports ≡ None = grind (arith, nat_tests) in
-    let keep : (f port).number ≡ port.number = keeps port in
-    let rest : find_port number (change_port other f ports) ≡ None = find_port-changed number other f ports keeps later in
-    grind (arith, nat_tests)
+find_port-changed number other f ports keeps absent =
+    find-change_none (has_key number_of number) (has_key number_of other) f ports
+    (λ port fails. keeps_key number_of number f keeps port ∙ fails) absent
 
 -- a port that isn't there stays away
 pub leads-absent : (number : ℕ) (old : List Port) {new : List Port} → Leads old new → find_port number old ≡ None → find_port number new ≡ None
@@ -198,11 +194,8 @@ step_keeps-sound state moment event sound = record {
 }
 
 find_port-joined : (number other : ℕ) (door : Door) (ports : List Port) → number < other → find_port number ports ≡ None → find_port number (ports ++ new_port other door ∷ []) ≡ None
-find_port-joined number other door [] below absent = grind (arith, nat_tests)
-find_port-joined number other door (port ∷ ports) below absent =
-    let later : find_port number ports ≡ None = grind (arith, nat_tests) in
-    let rest : find_port number (ports ++ new_port other door ∷ []) ≡ None = find_port-joined number other door ports below later in
-    grind (arith, nat_tests)
+find_port-joined number other door ports below absent =
+    find-push_other (has_key number_of number) ports (new_port other door) (differ other number (λ is. omega arith)) ∙ absent
 
 find_port-admitted : (room : Bool) (number other : ℕ) (door : Door) (ports : List Port) → number < other → find_port number ports ≡ None → find_port number (admitted room other door ports) ≡ None
 find_port-admitted true number other door ports below absent = find_port-joined number other door ports below absent

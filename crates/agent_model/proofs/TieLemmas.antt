@@ -3,6 +3,7 @@ use Rattle.std.proofs.Common.{◌≡◌, ◌≢◌, ℕ, ◌+◌, ◌<◌, ◌�
 use Rattle.std.specs.Option.{option_map}
 use Rattle.std.proofs.lemmas.Bool.{cases_eq}
 use Rattle.std.proofs.lemmas.Bool.Decides.{nat_tests}
+use Rattle.helper_link.specs.Settling as helper
 use Rattle.world_ports.specs.declared.Door.{Door}
 use Rattle.world_ports.specs.declared.Door.TheVariants.{Clients}
 use Rattle.helper_link.specs.HelperLink.{ask_of}
@@ -10,7 +11,7 @@ use Rattle.helper_link.specs.Settling.{find_ask, remove_ask}
 use Rattle.helper_link.specs.Sound.{RiseTo}
 use Rattle.helper_link.specs.declared.ask.Ask.{Ask}
 use Rattle.helper_link.specs.declared.ask.AskKind.{AskKind}
-use Rattle.lists.proofs.KeyedLemmas.{differ}
+use Rattle.lists.proofs.KeyedLemmas.{differ, found_above, found_within}
 use Rattle.helper_link.proofs.OrderLemmas.{find-push, find-remove}
 use Rattle.agent_model.specs.Fates.{IsTold}
 use Rattle.agent_model.specs.Sound.{AreTied, IsWaiting}
@@ -38,12 +39,12 @@ found_after number at f ports port keeps found = elim (cases_eq number at) [
 
 -- one that is found where one more joined was there, or is that one
 pub found_joined : (number last : ℕ) (door : Door) (ports : List Port) (port : Port) → find_port number (ports ++ new_port last door ∷ []) ≡ Some port → (find_port number ports ≡ Some port) ⊎ (port ≡ new_port last door)
-found_joined number last door [] port found = by_test (number == last) found
+found_joined number last door [] port found = by_test (last == number) found
   where
     by_test : (same : Bool) → (if same then Some (new_port last door) else None) ≡ Some port → (None ≡ Some port) ⊎ (port ≡ new_port last door)
     by_test true some = let is : new_port last door ≡ port = cc in inr (sym is)
     by_test false some = absurd (cc)
-found_joined number last door (first ∷ ports) port found = by_test (number == first.number) (found_joined number last door ports port) found
+found_joined number last door (first ∷ ports) port found = by_test (first.number == number) (found_joined number last door ports port) found
   where
     by_test : (same : Bool) → (find_port number (ports ++ new_port last door ∷ []) ≡ Some port → (find_port number ports ≡ Some port) ⊎ (port ≡ new_port last door)) → (if same then Some first else find_port number (ports ++ new_port last door ∷ [])) ≡ Some port → ((if same then Some first else find_port number ports) ≡ Some port) ⊎ (port ≡ new_port last door)
     by_test true later some = inl some
@@ -53,20 +54,8 @@ found_joined number last door (first ∷ ports) port found = by_test (number == 
 
 -- an unanswered ask has a number up to the last
 pub ask_within : (ask low last : ℕ) (asks : List Ask) (one : Ask) → RiseTo low asks last → find_ask ask asks ≡ Some one → (low < ask) × (ask ≤ last)
-ask_within ask low last [] one rise found = absurd (cc)
-ask_within ask low last (first ∷ asks) one rise found = by_test (first.number == ask) refl (ask_within ask first.number last asks one rise.1)
-  where
-    most : (at : ℕ) (asks : List Ask) → RiseTo at asks last → at ≤ last
-    most at [] rise = rise
-    most at (other ∷ asks) rise = omega (arith, rise.0, most other.number asks rise.1)
-
-    by_test : (same : Bool) → (first.number == ask) ≡ same → (find_ask ask asks ≡ Some one → (first.number < ask) × (ask ≤ last)) → (low < ask) × (ask ≤ last)
-    by_test true is later =
-        let here : first.number ≡ ask = grind (arith, nat_tests) in
-        (omega (arith, here, rise.0), omega (arith, here, most first.number asks rise.1))
-    by_test false is later =
-        let rest = later (grind (arith, nat_tests)) in
-        (omega (arith, rise.0, rest.0), rest.1)
+ask_within ask low last asks one rise found =
+    (found_above helper.number_of ask low last asks one rise found, found_within helper.number_of ask low last asks one rise found)
 
 -- ---- who waits
 

@@ -1,8 +1,10 @@
 -- A key that the asker doesn't see makes no difference to what comes of what it sends.
-use Rattle.std.proofs.Common.{◌≡◌, ◌≢◌, ℕ, ◌==◌, List, [], ◌∷◌, ◌++◌, refl, ap, sym, subst, ◌∙◌, Option, Some, None, Bool, true, false, cond, Result, Ok, Err}
+use Rattle.std.proofs.Common.{◌≡◌, ◌≢◌, ℕ, List, [], ◌∷◌, ◌++◌, refl, ap, sym, subst, ◌∙◌, Option, Some, None, Bool, true, false, cond, Result, Ok, Err}
 use Rattle.std.specs.Str.{bytes_eq}
 use Rattle.std.proofs.lemmas.List.Elements.{filter-append}
 use Rattle.std.specs.Option.{option_map}
+use Rattle.lists.specs.Keyed.{has_key}
+use Rattle.lists.proofs.FirstLemmas.{changed_nowhere}
 use Rattle.world_ports.specs.declared.Door.TheVariants.{Clients}
 use Rattle.world_ports.specs.declared.Moment.{Moment}
 use Rattle.wire_text.specs.Frames.{Front, Whole, Bad, More, front_body}
@@ -18,7 +20,7 @@ use Rattle.agent_model.specs.Dispatch.{Asker, sees, serve, with_identities}
 use Rattle.agent_model.specs.Events.{Heard, Took}
 use Rattle.agent_model.specs.KeyStates.{KeyState}
 use Rattle.agent_model.specs.Looks.{due}
-use Rattle.agent_model.specs.State.{Port, State, UnderWay, change_port, find_port}
+use Rattle.agent_model.specs.State.{Port, State, UnderWay, change_port, find_port, number_of}
 use Rattle.agent_model.specs.Step.{asker_at, at_moment, attempts, handle, look_front, looked, step, take_frame, took_some}
 use Rattle.agent_model.specs.Unseen.{IsSameFor, IsSameReply, holding}
 use Rattle.agent_model.specs.Verdicts.{Verdict, tell, verdict_text, verdict_waits}
@@ -36,16 +38,8 @@ told_alike one two p text waits = ap (λ t. let q : Port = record p { owed = p.o
 told_ports : (one two : Verdict) (number : ℕ) (ports : List Port) → verdict_text one ≡ verdict_text two → verdict_waits one ≡ verdict_waits two → change_port number (tell one) ports ≡ change_port number (tell two) ports
 told_ports one two number ports text waits = by_found (find_port number ports) refl
   where
-    absent : (number : ℕ) (f g : Port → Port) (ports : List Port) → find_port number ports ≡ None → change_port number f ports ≡ change_port number g ports
-    absent number f g [] none = refl
-    absent number f g (port ∷ ports) none = by_test (number == port.number) none (absent number f g ports)
-      where
-        by_test : (same : Bool) → cond same (Some port) (find_port number ports) ≡ None → (find_port number ports ≡ None → change_port number f ports ≡ change_port number g ports) → cond same (f port ∷ ports) (port ∷ change_port number f ports) ≡ cond same (g port ∷ ports) (port ∷ change_port number g ports)
-        by_test true nowhere later = absurd (cc)
-        by_test false nowhere later = ap (λ rest. port ∷ rest) (later nowhere)
-
     by_found : (found : Option Port) → find_port number ports ≡ found → change_port number (tell one) ports ≡ change_port number (tell two) ports
-    by_found None is = absent number (tell one) (tell two) ports is
+    by_found None is = changed_nowhere (has_key number_of number) (tell one) ports is ∙ sym (changed_nowhere (has_key number_of number) (tell two) ports is)
     by_found (Some port) is = change_port-by number (tell one) (tell two) ports port is (told_alike one two port text waits)
 
 -- what comes of its body is the same

@@ -1,5 +1,6 @@
 -- What the helper's answers bring, and what its loss brings (ours).
-use Rattle.std.specs.Prelude.{ℕ, List, [], ◌∷◌, ◌++◌, Option, Some, None, Bool, true, false, ◌==◌, if◌then◌else◌}
+use Rattle.std.specs.Prelude.{ℕ, List, [], ◌∷◌, ◌++◌, Option, Some, None, Bool, true, false}
+use Rattle.lists.specs.Keyed.{find_by, remove_by}
 use Rattle.helper_link.specs.HelperLink.{HelperLink, askers, lost}
 use Rattle.helper_link.specs.Telling.{Telling, telling}
 use Rattle.helper_link.specs.declared.answer.Answer.{Answer}
@@ -16,15 +17,17 @@ use Rattle.agent_model.specs.Actions.{Action, Answered, Lost, Outcome, Proved, a
 
 -- ---- verifications
 
+-- the ask of a verification
+abbrev pub ask_number : Verification → ℕ
+ask_number one = one.ask
+
 -- the verification that this ask is for
 abbrev pub find_verification : ℕ → List Verification → Option Verification
-find_verification ask [] = None
-find_verification ask (one ∷ others) = if one.ask == ask then Some one else find_verification ask others
+find_verification ask all = find_by ask_number ask all
 
 -- all but that of this ask
 abbrev pub remove_verification : ℕ → List Verification → List Verification
-remove_verification ask [] = []
-remove_verification ask (one ∷ others) = if one.ask == ask then others else one ∷ remove_verification ask others
+remove_verification ask all = remove_by ask_number ask all
 
 -- a chain with a binding that is new to it
 abbrev pub chain_with : Bool → Binding → List Binding → List Binding

@@ -1,16 +1,16 @@
 -- Who waits for the user's consent, and where the child processes that ask are, in every state that events lead to
 -- (ours).
-use Rattle.std.specs.Prelude.{◌≡◌, ◌≢◌, ℕ, ◌<◌, ◌≤◌, List, [], ◌∷◌, length, Some, IsSome}
+use Rattle.std.specs.Prelude.{◌≡◌, ◌≢◌, ℕ, ◌≤◌, List, [], length, Some, IsSome}
+use Rattle.lists.specs.Keyed.{RiseBy}
 use Rattle.world_ports.specs.declared.Door.TheVariants.{Clients, Children}
 use Rattle.helper_link.specs.declared.state.LinkState.{LinkState}
 use Rattle.helper_link.specs.declared.state.LinkState.TheVariants as states
-use Rattle.confirm_desk.specs.Confirmations.{Confirmation, find_job}
+use Rattle.confirm_desk.specs.Confirmations.{Confirmation, find_job, job_of}
 use Rattle.agent_model.specs.State.{OnConfirmation, Port, State, find_port}
 
 -- the jobs rise, each above `below` and none above `last`; so they are distinct
 abbrev pub JobsRise : ℕ → List Confirmation → ℕ → Type 0
-JobsRise below [] last = below ≤ last
-JobsRise below (one ∷ others) last = (below < one.job) × JobsRise one.job others last
+JobsRise below confirmations last = RiseBy job_of below confirmations last
 
 -- the client of this port waits for the confirmation of this job, which is its own, and is owed nothing
 pub record IsAsking (number job : ℕ) (port : Port) (confirmations : List Confirmation) : Type 0 where

@@ -1,6 +1,7 @@
 -- Child processes, from the start of their job until they named themselves by its ticket (ours).
-use Rattle.std.specs.Prelude.{ℕ, List, [], ◌∷◌, ◌++◌, Option, Some, None, Bool, true, false, Result, Ok, Err, ◌==◌, if◌then◌else◌}
+use Rattle.std.specs.Prelude.{ℕ, List, [], ◌∷◌, ◌++◌, Option, Some, None, Bool, true, false, Result, Ok, Err}
 use Rattle.std.specs.Str.{bytes_eq}
+use Rattle.lists.specs.Keyed.{remove_by}
 use Rattle.world_ports.specs.declared.Job.{Job}
 use Rattle.world_ports.specs.declared.JobKind.{JobKind}
 use Rattle.world_ports.specs.declared.JobKind.TheVariants as kinds
@@ -13,14 +14,13 @@ use Rattle.agent_model.specs.Actions.{Outcome, closing, stay}
 use Rattle.agent_model.specs.Answers.{helper_heard, lose}
 use Rattle.confirm_desk.specs.Confirmations.{Confirmation, find_job, linked}
 use Rattle.agent_model.specs.Consents.{confirmer_heard, find_started, over_if, remove_started}
-use Rattle.agent_model.specs.State.{Port, StartedJob, State, change_port, find_to_start, remove_port}
+use Rattle.agent_model.specs.State.{Port, StartedJob, State, change_port, find_to_start, job_number, remove_port}
 
 -- ---- the start of a job
 
 -- the jobs but for that of this number
 abbrev pub remove_to_start : ℕ → List Job → List Job
-remove_to_start number [] = []
-remove_to_start number (job ∷ jobs) = if job.number == number then jobs else job ∷ remove_to_start number jobs
+remove_to_start number jobs = remove_by job_number number jobs
 
 -- the job isn't to be started any more
 abbrev pub job_left : ℕ → State → State

@@ -1,5 +1,6 @@
 -- What the user's consent brings, and what it brings that a confirmation ends without it (ours).
-use Rattle.std.specs.Prelude.{ℕ, List, [], ◌∷◌, ◌++◌, Option, Some, None, ◌==◌, if◌then◌else◌}
+use Rattle.std.specs.Prelude.{ℕ, List, [], ◌∷◌, ◌++◌, Option, Some, None}
+use Rattle.lists.specs.Keyed.{find_by, remove_by}
 use Rattle.agent_msg.specs.Requests.{Signing}
 use Rattle.identity_table.specs.Identities.{HeldKey, find_number}
 use Rattle.agent_model.specs.KeyStates.{KeyState}
@@ -15,15 +16,17 @@ use Rattle.agent_model.specs.Errands.{Signs, put_ask}
 
 -- ---- the end of a confirmation
 
+-- the number of a started job
+abbrev pub started_number : StartedJob → ℕ
+started_number one = one.job.number
+
 -- the started job of this number
 abbrev pub find_started : ℕ → List StartedJob → Option StartedJob
-find_started number [] = None
-find_started number (one ∷ others) = if one.job.number == number then Some one else find_started number others
+find_started number all = find_by started_number number all
 
 -- all but that of this number
 abbrev pub remove_started : ℕ → List StartedJob → List StartedJob
-remove_started number [] = []
-remove_started number (one ∷ others) = if one.job.number == number then others else one ∷ remove_started number others
+remove_started number all = remove_by started_number number all
 
 -- what is under way without the confirmation of this job: no child process can name the job from then on
 abbrev pub without_confirmation : ℕ → UnderWay → UnderWay

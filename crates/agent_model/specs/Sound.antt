@@ -1,7 +1,8 @@
 -- What holds of every state that events lead to: the ports' numbers rise and not too many are open, who waits is tied to
 -- the asks, and bindings that are verified are judged yet as they were.
-use Rattle.std.specs.Prelude.{◌≡◌, ℕ, ◌<◌, ◌≤◌, Bool, true, false, List, [], ◌∷◌, Some, None, IsSome, IsOk}
+use Rattle.std.specs.Prelude.{◌≡◌, ℕ, ◌≤◌, Bool, true, false, List, [], ◌∷◌, Some, None, IsSome, IsOk}
 use Rattle.std.specs.Option.{IfSome}
+use Rattle.lists.specs.Keyed.{RiseBy}
 use Rattle.world_ports.specs.declared.Door.TheVariants.{Clients, Children}
 use Rattle.helper_link.specs.HelperLink.{ask_of}
 use Rattle.helper_link.specs.Settling.{find_ask}
@@ -17,12 +18,11 @@ use Rattle.dest_rule.specs.Chains.{IsChain, find_session, judge}
 use Rattle.key_blob.specs.PublicKeys.{public_key_of}
 use Rattle.agent_model.specs.Answers.{find_verification}
 use Rattle.agent_model.specs.Asking.{AreRaised, JobsRise}
-use Rattle.agent_model.specs.State.{OnAsk, Port, State, Verification, client_count, find_port}
+use Rattle.agent_model.specs.State.{OnAsk, Port, State, Verification, client_count, find_port, number_of}
 
 -- the numbers rise, each above `low` and none above `high`; so they are distinct, and the last one bounds them
 abbrev pub IsRising : ℕ → ℕ → List Port → Type 0
-IsRising low high [] = low ≤ high
-IsRising low high (port ∷ ports) = (low < port.number) × IsRising port.number high ports
+IsRising low high ports = RiseBy number_of low ports high
 
 -- a port of this number, where one is open, is a client's
 abbrev pub IsClient : ℕ → State → Type 0

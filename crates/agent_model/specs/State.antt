@@ -1,5 +1,6 @@
 -- The state of the abstract agent (ours), in plain lists: no buffers, slots or indexes.
-use Rattle.std.specs.Prelude.{ℕ, suc, ◌-◌, ◌^◌, ◌<◌, ◌≤◌, List, [], ◌∷◌, length, Option, Some, None, is_some, Bool, true, false, nat_lt, ◌==◌, ◌&&◌, if◌then◌else◌, IsSome}
+use Rattle.std.specs.Prelude.{map, ℕ, suc, ◌-◌, ◌^◌, ◌<◌, ◌≤◌, List, [], ◌∷◌, length, Option, Some, None, is_some, Bool, true, false, nat_lt, ◌==◌, ◌&&◌, if◌then◌else◌, IsSome}
+use Rattle.lists.specs.Keyed.{change_by, find_by, remove_by}
 use Rattle.world_ports.specs.declared.Moment.{Moment}
 use Rattle.world_ports.specs.declared.Door.{Door}
 use Rattle.world_ports.specs.declared.Door.TheVariants.{Clients, Children}
@@ -100,25 +101,25 @@ new_port number door = record {
 
 -- ---- ports
 
+-- the number of a port
+abbrev pub number_of : Port → ℕ
+number_of port = port.number
+
 -- the open port of this number
 abbrev pub find_port : ℕ → List Port → Option Port
-find_port number [] = None
-find_port number (port ∷ ports) = if number == port.number then Some port else find_port number ports
+find_port number ports = find_by number_of number ports
 
 -- the ports, that of this number changed by f
 abbrev pub change_port : ℕ → (Port → Port) → List Port → List Port
-change_port number f [] = []
-change_port number f (port ∷ ports) = if number == port.number then f port ∷ ports else port ∷ change_port number f ports
+change_port number f ports = change_by number_of number f ports
 
 -- the ports but for that of this number
 abbrev pub remove_port : ℕ → List Port → List Port
-remove_port number [] = []
-remove_port number (port ∷ ports) = if number == port.number then ports else port ∷ remove_port number ports
+remove_port number ports = remove_by number_of number ports
 
 -- the numbers of the ports
 abbrev pub numbers : List Port → List ℕ
-numbers [] = []
-numbers (port ∷ ports) = port.number ∷ numbers ports
+numbers ports = map number_of ports
 
 -- a port of this number is open
 abbrev pub is_open : ℕ → State → Bool
@@ -264,10 +265,13 @@ next_due state = next_death state.held.table.identities
 
 -- ---- which events may come
 
+-- the number of a job
+abbrev pub job_number : Job → ℕ
+job_number job = job.number
+
 -- the job of this number
 abbrev pub find_to_start : ℕ → List Job → Option Job
-find_to_start number [] = None
-find_to_start number (job ∷ jobs) = if job.number == number then Some job else find_to_start number jobs
+find_to_start number jobs = find_by job_number number jobs
 
 -- the event may come where the last port that joined has this number, these ports are open and this is under way
 abbrev pub FitsAt : Happening → ℕ → List Port → UnderWay → Type 0

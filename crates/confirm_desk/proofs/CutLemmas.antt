@@ -58,7 +58,7 @@ still_linked port f all found keeps apart is =
 -- ---- a piece and then another
 
 -- what is heard in two pieces
-told-told : (job : ℕ) (piece more : List ℕ) (all : List Confirmation) →
+pub told-told : (job : ℕ) (piece more : List ℕ) (all : List Confirmation) →
     told job more (told job piece all) ≡ told job (piece ++ more) all
 told-told job piece more all =
     change-twice (has_key job_of job) (heard_more piece) (heard_more more) all (λ _. refl)

@@ -1,8 +1,9 @@
 -- Lemmas on the first element that passes a test.
-use Rattle.std.proofs.Common.{◌≡◌, ℕ, zero, suc, ◌+◌, ◌<◌, ◌≤◌, Bool, true, false, cond, not, List, [], ◌∷◌, ◌++◌, length, get_or, set, map, filter, Option, Some, None, MatchOption, refl, sym, ap, ◌∙◌, arith}
+use Rattle.std.proofs.Common.{◌≡◌, ℕ, zero, suc, ◌+◌, ◌<◌, ◌≤◌, Bool, true, false, cond, not, List, [], ◌∷◌, ◌++◌, length, get_or, set, map, filter, Option, Some, None, MatchOption, ◌⊎◌, inl, inr, refl, sym, ap, ◌∙◌, arith}
 use Rattle.std.specs.List.{find, position, position_from, remove}
-use Rattle.std.specs.Option.{option_map}
+use Rattle.std.specs.Option.{option_map, option_or}
 use Rattle.std.proofs.lemmas.Bool.Decides.{nat_tests}
+use Rattle.std.proofs.lemmas.List.Folds.{find-append}
 use Rattle.std.proofs.lemmas.List.Quantifiers.{position-Some}
 use Rattle.std.proofs.lemmas.Iterator.Adapters.{position_from-zero}
 use Rattle.lists.specs.Firsts.{IsFirst, IsOnly, change_first, remove_first}
@@ -159,6 +160,28 @@ change-agree test f g (first ∷ all) one found same =
         ≡ g first = ap f is ∙ same ∙ ap g (sym is) in ap (λ here. here ∷ all) changed
     by_test false there later = ap (λ rest. first ∷ rest) (later there)
 
+-- a change that keeps the test leaves what is found, or it is found changed
+pub find-change_either : {A : Type 0} (test other : A → Bool) (f : A → A) (all : List A) →
+    ((one : A) → test (f one) ≡ test one) →
+    (find test (change_first other f all) ≡ find test all)
+    ⊎ (find test (change_first other f all) ≡ option_map f (find test all))
+find-change_either test other f [] keeps = inl refl
+find-change_either test other f (one ∷ all) keeps =
+    by_tests (other one) (test one) refl (find-change_either test other f all keeps)
+  where
+    by_tests : (here is : Bool) → test one ≡ is →
+        (find test (change_first other f all) ≡ find test all)
+        ⊎ (find test (change_first other f all) ≡ option_map f (find test all)) →
+        (find test (cond here (f one ∷ all) (one ∷ change_first other f all))
+        ≡ cond is (Some one) (find test all))
+        ⊎ (find test (cond here (f one ∷ all) (one ∷ change_first other f all))
+        ≡ option_map f (cond is (Some one) (find test all)))
+    by_tests true true is rest = inr (rw (keeps one, is) refl)
+    by_tests true false is rest = inl (rw (keeps one, is) refl)
+    by_tests false true is rest = inl (rw is refl)
+    by_tests false false is (inl same) = inl (rw is same)
+    by_tests false false is (inr changed) = inr (rw is changed)
+
 -- so are two that agree on all
 pub change-pointwise : {A : Type 0} (test : A → Bool) (f g : A → A) (all : List A) →
     ((one : A) → f one ≡ g one) → change_first test f all ≡ change_first test g all
@@ -224,6 +247,12 @@ pub find-push_other : {A : Type 0} (test : A → Bool) (all : List A) (last : A)
 find-push_other test [] last fails = rw fails refl
 find-push_other test (one ∷ all) last fails =
     ap (cond (test one) (Some one)) (find-push_other test all last fails)
+
+-- what is found is found before any more
+pub find-before : {A : Type 0} (test : A → Bool) (all more : List A) (one : A) →
+    find test all ≡ Some one → find test (all ++ more) ≡ Some one
+find-before test all more one found =
+    find-append test all more ∙ ap (λ here. option_or here (find test more)) found
 
 -- one that passes, where none did
 pub find-pushed : {A : Type 0} (test : A → Bool) (all : List A) (last : A) → test last ≡ true →

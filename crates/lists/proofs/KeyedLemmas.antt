@@ -1,5 +1,5 @@
 -- Lemmas on lists whose elements have a number each.
-use Rattle.std.proofs.Common.{◌≡◌, ◌≢◌, ℕ, ◌<◌, ◌≤◌, Bool, true, false, cond, eqb, List, [], ◌∷◌, ◌++◌, Some, None, refl, sym, ap, subst, ◌∙◌, arith, inl, inr}
+use Rattle.std.proofs.Common.{◌≡◌, ◌≢◌, ℕ, ◌<◌, ◌≤◌, Bool, true, false, cond, eqb, List, [], ◌∷◌, ◌++◌, Option, Some, None, ◌⊎◌, refl, sym, ap, subst, ◌∙◌, arith, inl, inr}
 use Rattle.std.specs.Option.{option_map}
 use Rattle.std.proofs.lemmas.Bool.{cases_eq, eqb-true, false_from_ne_true}
 use Rattle.std.proofs.lemmas.Bool.Decides.{nat_tests}
@@ -51,6 +51,40 @@ module _ {A : Type 0} (key : A → ℕ) where
       find_by key number (change_by key number f all) ≡ option_map f (find_by key number all)
   find_by-change number f all keeps =
       find-change (has_key key number) f all (keeps_key number f keeps)
+
+  -- what is found after a change was there, as it is or before it was changed
+  pub changed_back : (number other : ℕ) (f : A → A) (all : List A) (one : A) →
+      ((any : A) → key (f any) ≡ key any) → find_by key number (change_by key other f all) ≡ Some one →
+      (was : A) × (find_by key number all ≡ Some was) × ((one ≡ was) ⊎ (one ≡ f was))
+  changed_back number other f all one keeps found = elim (cases_eq number other) [
+    | inl same ↦ by_found (find_by key number all) refl
+        (sym (find_by-change number f all keeps)
+        ∙ ap (λ n. find_by key number (change_by key n f all)) same ∙ found)
+    | inr apart ↦
+        (one, sym (find_by-change_apart number other f all keeps apart) ∙ found, inl refl)
+  ]
+    where
+      by_found : (was : Option A) → find_by key number all ≡ was → option_map f was ≡ Some one →
+          (was : A) × (find_by key number all ≡ Some was) × ((one ≡ was) ⊎ (one ≡ f was))
+      by_found None is there = absurd cc
+      by_found (Some was) is there =
+          let changed : f was ≡ one = cc in (was, is, inr (sym changed))
+
+  -- and what was there is found after it
+  pub changed_forth : (number other : ℕ) (f : A → A) (all : List A) (was : A) →
+      ((any : A) → key (f any) ≡ key any) → find_by key number all ≡ Some was →
+      (one : A) × (find_by key number (change_by key other f all) ≡ Some one)
+      × ((one ≡ was) ⊎ (one ≡ f was))
+  changed_forth number other f all was keeps found = elim (cases_eq number other) [
+    | inl same ↦ (
+      f was,
+      ap (λ n. find_by key number (change_by key n f all)) (sym same)
+          ∙ find_by-change number f all keeps ∙ ap (option_map f) found,
+      inr refl,
+    )
+    | inr apart ↦
+        (was, find_by-change_apart number other f all keeps apart ∙ found, inl refl)
+  ]
 
   -- ---- numbers that rise
 
