@@ -1,3 +1,6 @@
+pub mod KeyLemmas
+pub mod TraceLemmas
+pub mod PutLemmas
 pub mod PastLemmas
 pub mod HoldsLemmas
 pub mod RaisedLemmas

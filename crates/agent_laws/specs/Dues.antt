@@ -11,6 +11,7 @@ use Rattle.agent_model.specs.Actions.{Action, Answered, Asked, Granted, Lost, Ov
 use Rattle.agent_model.specs.Bindings.{bound_by}
 use Rattle.agent_model.specs.Binds.{agent_request_of}
 use Rattle.agent_model.specs.Runs.{Stamped}
+use Rattle.agent_laws.specs.Grants.{pending_by}
 use Rattle.agent_laws.specs.Past.{PastAddition, held_by, last_addition, was_locked}
 
 -- ---- bindings, asks and confirmations
@@ -41,21 +42,10 @@ abbrev pub open_asks : List Stamped → List ℕ
 open_asks [] = []
 open_asks (one ∷ before) = open_by one.action (open_asks before)
 
--- an action's part in what the user is asked for by this job
-abbrev pub raised_by : Action → ℕ → Option Raising → Option Raising
-raised_by (Requested requesting) job before = before
-raised_by (Asked asking) job before = before
-raised_by (Answered settled) job before = before
-raised_by (Proved proving) job before = before
-raised_by (Raised raising) job before = if raising.job == job then Some raising else before
-raised_by (Granted other) job before = if other == job then None else before
-raised_by (Over other) job before = if other == job then None else before
-raised_by Lost job before = before
-
 -- what the user is asked for by this job, if it isn't over
 abbrev pub raised_at : ℕ → List Stamped → Option Raising
 raised_at job [] = None
-raised_at job (one ∷ before) = raised_by one.action job (raised_at job before)
+raised_at job (one ∷ before) = pending_by job one.action (raised_at job before)
 
 -- ---- claims
 

@@ -2,11 +2,13 @@
 //! done before, without a state. It stands on agent_model, whose definitions it checks by other words.
 #![tactic(auto)]
 
+mod consents;
 mod consequences;
 mod laws;
 mod rows;
 mod runs;
 
+pub use consents::{a_signature_has_a_consent_of_its_own, an_addition_that_left_is_never_used};
 pub use consequences::{
     a_confirmed_key_signs_with_consent, a_constrained_key_signs_where_permitted,
     a_key_for_one_host_signs_for_it, nothing_is_signed_while_locked, only_what_was_added_signs,

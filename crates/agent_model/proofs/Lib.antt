@@ -26,11 +26,8 @@ pub mod TiedLemmas
 pub mod FatedLemmas
 pub mod AttendedLemmas
 pub mod ConsentCutLemmas
-pub mod KeyLemmas
 pub mod OnceLemmas
 pub mod ActionLemmas
-pub mod TraceLemmas
-pub mod PutLemmas
 pub mod AgreedLemmas
 pub mod SignLemmas
 pub mod AnswerLemmas

@@ -1,20 +1,17 @@
 //! Laws of the user's consent: who waits for it, and where what a child process sends is cut.
 
-ghost use Rattle.std.specs.Prelude.{◌≡◌, ◌≢◌, ◌↔◌, ◌+◌, ◌++◌, ◌≤◌, ℕ, List, Option, None, Some, IsSome};
-ghost use Rattle.std.specs.Option.{option_map};
+ghost use Rattle.std.specs.Prelude.{◌≡◌, ◌≢◌, ◌↔◌, ◌+◌, ◌++◌, ℕ, List, Option, None, Some};
 ghost use Rattle.world_ports.specs.declared.Moment.{Moment};
 ghost use Rattle.confirm_desk.specs.Confirmations.{Confirmation};
 ghost use Rattle.dest_rule.specs.declared.binding.Binding.{Binding};
-ghost use Rattle.identity_table.specs.Identities.{HeldKey, find_number};
-ghost use Rattle.agent_msg.specs.Requests.{Signing};
-ghost use Rattle.agent_model.specs.Actions.{Asked, Asking, ForSignature, Granted, Over, Raising};
+ghost use Rattle.identity_table.specs.Identities.{HeldKey};
 ghost use Rattle.agent_model.specs.Askable.{HasRoom, IsGrantable, IsRefusedAtGrant};
 ghost use Rattle.agent_model.specs.Asking.{IsAsking, IsAttended};
 ghost use Rattle.agent_model.specs.Consents.{grant_by, signing_of};
 ghost use Rattle.agent_model.specs.Errands.{Signs, put_unless};
 ghost use Rattle.agent_model.specs.Events.{Ended, Happening, Heard, Timed};
-ghost use Rattle.agent_model.specs.Fates.{IsTold, actions_of};
-ghost use Rattle.agent_model.specs.Grants.{HaveOwnParts, IsAgreed, IsAmong, IsPut, noted, pending, times_ended, times_raised, wanted};
+ghost use Rattle.agent_model.specs.Fates.{IsTold};
+ghost use Rattle.agent_model.specs.Grants.{IsAgreed};
 ghost use Rattle.agent_model.specs.KeyStates.{KeyState};
 ghost use Rattle.agent_model.specs.Runs.{run};
 ghost use Rattle.agent_model.specs.Sound.{IsTied};
@@ -87,46 +84,4 @@ pub fn consent_counts_exactly_where_it_may()
         (wall : ℕ) (under_way : UnderWay)
         → ((grant_by held.lock held chain confirmation wall under_way).verdict ≡ Refuses cause)
         ↔ IsRefusedAtGrant cause chain confirmation wall held under_way }
-{}
-
-/// Over all events: each signature that is put to the helper was asked for in that very event, with a key that asks for
-/// no confirmation; or the user agreed in that event to this very request of this very client, of an addition that may
-/// be used by then. A confirmation is raised at most once under its job, and ends at most once: after it was granted, or
-/// ended otherwise, it is never granted again. What waits is what the actions so far tell.
-pub fn a_signature_has_a_consent_of_its_own()
-    ensures put { (life : Option ℕ) (events : List Timed) (moment : Moment) (event : Happening) (asking : Asking)
-        (signing : Signing) → asking.purpose ≡ ForSignature signing
-        → IsAmong (Asked asking) (step (run (first_state life) events) moment event).actions
-        → IsPut asking signing (pending (actions_of (first_state life) events))
-        (at_moment moment (run (first_state life) events)) (step (run (first_state life) events) moment event).actions }
-    ensures granted { (life : Option ℕ) (events : List Timed) (moment : Moment) (event : Happening) (job : ℕ)
-        → IsAmong (Granted job) (step (run (first_state life) events) moment event).actions
-        → IsSome (pending (actions_of (first_state life) events) job) }
-    ensures over { (life : Option ℕ) (events : List Timed) (moment : Moment) (event : Happening) (job : ℕ)
-        → IsAmong (Over job) (step (run (first_state life) events) moment event).actions
-        → IsSome (pending (actions_of (first_state life) events) job) }
-    ensures ended { (life : Option ℕ) (events : List Timed) (job : ℕ)
-        → times_ended job (actions_of (first_state life) events) ≤ 1 }
-    ensures raised { (life : Option ℕ) (events : List Timed) (job : ℕ)
-        → times_raised job (actions_of (first_state life) events) ≤ 1 }
-    ensures waits { (life : Option ℕ) (events : List Timed) (job : ℕ)
-        → noted job (run (first_state life) events).under_way.confirmations
-        ≡ option_map wanted (pending (actions_of (first_state life) events) job) }
-{}
-
-/// Over all events: no two identities have one number or one blob, and an addition that was replaced, removed or has run
-/// out is never found by its number again; so no consent that was asked for before leads to an ask.
-pub fn an_addition_that_left_is_never_used()
-    ensures own { (life : Option ℕ) (events : List Timed)
-        → HaveOwnParts (run (first_state life) events).held.table }
-    ensures found { (state : State) (events : List Timed) (number : ℕ) (key : HeldKey)
-        → HaveOwnParts state.held.table → number ≤ state.held.table.last
-        → find_number number (run state events).held.table.identities ≡ Some key
-        → find_number number state.held.table.identities ≡ Some key }
-    ensures gone { (state : State) (events : List Timed) (number : ℕ) → HaveOwnParts state.held.table
-        → number ≤ state.held.table.last → find_number number state.held.table.identities ≡ None
-        → find_number number (run state events).held.table.identities ≡ None }
-    ensures given { (life : Option ℕ) (events : List Timed) (job : ℕ) (raising : Raising)
-        → pending (actions_of (first_state life) events) job ≡ Some raising
-        → raising.addition ≤ (run (first_state life) events).held.table.last }
 {}

@@ -35,7 +35,6 @@ pub use consent_rows::{
 };
 pub use consents::{
     a_client_waits_for_its_own_consent, a_piece_of_a_confirmer_in_two_parts,
-    a_signature_has_a_consent_of_its_own, an_addition_that_left_is_never_used,
     consent_counts_exactly_where_it_may, who_waits_for_the_user_is_open,
 };
 pub use laws::{

@@ -1,13 +1,13 @@
 use Rattle.std.proofs.Common.{arith}
 use Rattle.agent_model.specs.Fates.{actions_of}
-use Rattle.agent_model.specs.Grants.{noted, pending}
+use Rattle.agent_laws.specs.Grants.{noted, pending}
 use Rattle.agent_model.specs.Runs.{run}
 use Rattle.agent_model.specs.State.{first_state}
 use Rattle.agent_model.proofs.FatedLemmas.{first-tied, run-tied}
 use Rattle.agent_model.proofs.OnceLemmas.{unused_most}
-use Rattle.agent_model.proofs.PutLemmas.{noted_some, run-put, run-tie}
-use Rattle.agent_model.proofs.TraceLemmas.{endable_most, run-ended, run-raised, step-traces}
-use Rattle.agent_model.proofs.consents.a_signature_has_a_consent_of_its_own.Goals as goal
+use Rattle.agent_laws.proofs.PutLemmas.{noted_some, run-put, run-tie}
+use Rattle.agent_laws.proofs.TraceLemmas.{endable_most, run-ended, run-raised, step-traces}
+use Rattle.agent_laws.proofs.consents.a_signature_has_a_consent_of_its_own.Goals as goal
 
 pub returns-clause-put : goal.returns-clause-put
 returns-clause-put c = run-put

@@ -1,8 +1,8 @@
 use Rattle.agent_model.specs.Runs.{run}
 use Rattle.agent_model.specs.State.{first_state}
-use Rattle.agent_model.proofs.KeyLemmas.{first-own, never_again, run-kept}
-use Rattle.agent_model.proofs.PutLemmas.{run-all_named}
-use Rattle.agent_model.proofs.consents.an_addition_that_left_is_never_used.Goals as goal
+use Rattle.agent_laws.proofs.KeyLemmas.{first-own, never_again, run-kept}
+use Rattle.agent_laws.proofs.PutLemmas.{run-all_named}
+use Rattle.agent_laws.proofs.consents.an_addition_that_left_is_never_used.Goals as goal
 
 pub returns-clause-own : goal.returns-clause-own
 returns-clause-own c = λ life events. (run-kept (first_state life) events (first-own life)).own

@@ -18,7 +18,7 @@ use Rattle.agent_model.specs.Answers.{lose_if}
 use Rattle.agent_model.specs.Binds.{agent_request_of}
 use Rattle.agent_model.specs.Dispatch.{Served, Asker, with_addition}
 use Rattle.agent_model.specs.Events.{Happening, Timed}
-use Rattle.agent_model.specs.Grants.{HaveOwnParts}
+use Rattle.agent_laws.specs.Grants.{HaveOwnParts}
 use Rattle.agent_model.specs.KeyStates.{KeyState}
 use Rattle.agent_model.specs.Runs.{run}
 use Rattle.agent_model.specs.State.{State, UnderWay, first_state}

@@ -18,7 +18,8 @@ use Rattle.agent_model.specs.Dispatch.{Asker, Served}
 use Rattle.agent_model.specs.Errands.{held_for}
 use Rattle.agent_model.specs.Events.{Happening, Timed}
 use Rattle.agent_model.specs.Fates.{actions_of}
-use Rattle.agent_model.specs.Grants.{IsAmong, Wanted, ends_by, noted, pending_after, pending_by, raises_by, times_ended, times_raised, wanted, wanted_of}
+use Rattle.agent_model.specs.Grants.{IsAmong}
+use Rattle.agent_laws.specs.Grants.{Wanted, ends_by, noted, pending_after, pending_by, raises_by, times_ended, times_raised, wanted, wanted_of}
 use Rattle.agent_model.specs.KeyStates.{KeyState}
 use Rattle.agent_model.specs.Runs.{run}
 use Rattle.agent_model.specs.Sound.{IsTied}

@@ -20,7 +20,8 @@ use Rattle.agent_model.specs.Consents.{signing_of, without_confirmation}
 use Rattle.agent_model.specs.Errands.{binding_of}
 use Rattle.agent_model.specs.Events.{Happening, Timed}
 use Rattle.agent_model.specs.Fates.{actions_of}
-use Rattle.agent_model.specs.Grants.{HaveOwnParts, IsAmong, IsPut, Wanted, at_once, by_consent, noted, pending, pending_after, pending_by, wanted, wanted_of}
+use Rattle.agent_model.specs.Grants.{IsAmong}
+use Rattle.agent_laws.specs.Grants.{HaveOwnParts, IsPut, Wanted, at_once, by_consent, noted, pending, pending_after, pending_by, wanted, wanted_of}
 use Rattle.agent_model.specs.KeyStates.{KeyState}
 use Rattle.agent_model.specs.Runs.{run}
 use Rattle.agent_model.specs.Sound.{IsTied}
@@ -33,10 +34,10 @@ use Rattle.agent_model.proofs.GrantLemmas.{IsGranted, allowed, disallowed, grant
 use Rattle.agent_model.proofs.JobLemmas.{in-found}
 use Rattle.agent_model.proofs.JudgedLemmas.{keeps-quiet}
 use Rattle.agent_model.proofs.JudgeLemmas.{KeepsChains}
-use Rattle.agent_model.proofs.KeyLemmas.{KeysKept, first-own, kept-event, kept-opened, run-kept}
+use Rattle.agent_laws.proofs.KeyLemmas.{KeysKept, first-own, kept-event, kept-opened, run-kept}
 use Rattle.agent_model.proofs.MakeLemmas.{Makes, Quiet, alters, by_event, closes, first, goes_on, grants, links, loses, names, overs, serves, stays, tells}
 use Rattle.agent_model.proofs.ServeLemmas.{Serves, adds, confirms, denies, empties, lists, locks, removes, serves-any, signs, unlocks, verifies}
-use Rattle.agent_model.proofs.TraceLemmas.{pending-append, quiet-noted, run-pending}
+use Rattle.agent_laws.proofs.TraceLemmas.{pending-append, quiet-noted, run-pending}
 
 -- ---- what a request does
 
