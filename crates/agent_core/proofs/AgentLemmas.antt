@@ -1,24 +1,24 @@
 -- What a change of the agent's parts is in its state.
-use Rattle.std.proofs.Common.{◌≡◌, ℕ, suc, List, [], ◌∷◌, drop, arith, refl, ap, sym, ◌∙◌, Option, Some, None, Bool, nat_lt, ◌++◌, if◌then◌else◌, max}
+use Rattle.std.proofs.Common.{◌≡◌, ℕ, suc, List, [], ◌∷◌, drop, arith, refl, ap, sym, ◌∙◌, Option, Some, None, IsSome, Bool, true, false, ◌++◌, max}
 use Rattle.world_ports.specs.declared.Door.{Door}
 use Rattle.world_ports.specs.declared.Moment.{Moment}
-use Rattle.agent_model.specs.NumberLists.{without}
+use Rattle.agent_model.specs.NumberLists.{put_all}
 use Rattle.wire_text.specs.Frames.{Bad, More, Whole, front_body}
 use Rattle.helper_link.specs.HelperLink.{sent}
 use Rattle.helper_link.specs.declared.state.LinkState.TheVariants as states
-use Rattle.agent_model.specs.Children.{changed, closed, heard_more, remove_to_start, started_if, unnamed_heard}
+use Rattle.agent_model.specs.Children.{changed, heard_more, remove_to_start, shut, started_if, unnamed_heard}
+use Rattle.agent_model.specs.Actions.{Outcome, Stepped, stay, stepped}
 use Rattle.agent_model.specs.Dispatch.{Served}
 use Rattle.agent_model.specs.Events.{Happening, Heard, Joined, Started, Tick, Took}
 use Rattle.agent_model.specs.KeyStates.{KeyState, expired}
 use Rattle.agent_model.specs.Looks.{due, due_at, due_by}
-use Rattle.agent_model.specs.State.{Client, Confirmer, Helper, Nothing, OnAsk, OnConfirmation, Port, State, UnderWay, Unnamed, Waits, change_port, find_port, find_to_start, numbers, remove_port, role_of}
-use Rattle.agent_model.specs.Step.{admitted, asker_at, attempts, at_moment, closed_between, gone, handle, has_room, looked, step, take_frame, took_some}
+use Rattle.agent_model.specs.State.{Client, Confirmer, Helper, Nothing, OnAsk, OnConfirmation, Port, State, UnderWay, Unnamed, Waits, change_port, find_port, find_to_start, remove_port, role_of}
+use Rattle.agent_model.specs.Step.{admitted, asker_at, attempts, at_moment, handle, has_room, look_port, looked, step, take_frame, took_some, turned_away}
 use Rattle.agent_model.specs.Verdicts.{tell}
-use Rattle.agent_model.proofs.ClientLemmas.{looked-bad, looked-stays, looked-whole}
-use Rattle.agent_model.proofs.ClosesLemmas.{gone-none}
-use Rattle.agent_model.proofs.PortsLemmas.{found_number, numbers-change_port}
+use Rattle.agent_model.proofs.ClientLemmas.{looked-found, looked-whole}
+use Rattle.agent_model.proofs.PortsLemmas.{found_number}
 use Rattle.agent_model.proofs.SecondLemmas.{second-serve}
-use Rattle.agent_core.specs.Parts.{state_of, with_closes}
+use Rattle.agent_core.specs.Parts.{after, parts_of, state_of}
 use Rattle.lists.specs.Rising.{inserted}
 use Rattle.agent_core.specs.Roles.{role_by}
 use Rattle.agent_core.specs.Served.{served_at}
@@ -30,14 +30,23 @@ use Rattle.agent_model.specs.Sound.{IsTied}
 use Rattle.agent_model.proofs.TiedLemmas.{tied-quiet}
 use Rattle.agent_model.proofs.JobLemmas.{asker_own, in-by_asker, in-found}
 use Rattle.agent_model.proofs.MakeLemmas.{alters}
-use Rattle.agent_core.specs.Bound.{AreHeldFor, IsBound, IsCalm}
+use Rattle.agent_core.specs.Bound.{AreHeldFor, IsBound, IsAtRest}
 use Rattle.agent_core.proofs.ConfirmerLemmas.{quiet-asking}
+use Rattle.agent_core.proofs.HelperLemmas.{closing-open}
 use Rattle.agent_core.proofs.RoleLemmas.{confirmer-as, heard-as, linked-as, port_of_role, took-as, unnamed-free}
 
--- a client is told what comes of its request
-pub agent_served : (wall : ℕ) (keys kept : KeyState) (going left : UnderWay) (old new : OpenPorts) (closes : List ℕ) (number body_len : ℕ) (port : Port) → find_port number old.ports ≡ Some port → due port ≡ Whole body_len → kept ≡ (served_at body_len wall port keys going).held → left ≡ (served_at body_len wall port keys going).work.under_way → new ≡ record old { ports = change_port number (λ p. tell (served_at body_len wall port keys going).work.verdict (take_frame body_len (attempts keys.lock (front_body body_len port.heard)) p)) old.ports } → state_of wall kept left new closes ≡ (looked number (state_of wall keys going old closes)).state
-agent_served wall keys kept going left old new closes number body_len port found whole kept_is left_is new_is =
-    let state : State = state_of wall keys going old closes in
+-- ---- a client is looked at
+
+-- it is told what comes of its request
+pub agent_served : (wall : ℕ) (keys kept : KeyState) (going left : UnderWay) (old new : OpenPorts) (number body_len : ℕ)
+    (port : Port) → find_port number old.ports ≡ Some port → due port ≡ Whole body_len
+    → kept ≡ (served_at body_len wall port keys going).held
+    → left ≡ (served_at body_len wall port keys going).work.under_way → new ≡ record old {
+      ports = change_port number (λ p. tell (served_at body_len wall port keys going).work.verdict
+          (take_frame body_len (attempts keys.lock (front_body body_len port.heard)) p)) old.ports;
+    } → parts_of wall kept left new ≡ after old.closed (looked number (state_of wall keys going old))
+agent_served wall keys kept going left old new number body_len port found whole kept_is left_is new_is =
+    let state : State = state_of wall keys going old in
     let asked : Served = served_at body_len wall port keys going in
     let moment : Moment = record { mono = keys.table.greatest; wall = wall } in
     let at : KeyState → UnderWay → List Port → ℕ → ℕ → State = λ held under_way ports last mono. record {
@@ -46,52 +55,100 @@ agent_served wall keys kept going left old new closes number body_len port found
       ports = ports;
       last_port = last;
       moment = record { mono = mono; wall = wall };
-      closes = closes;
     } in
-    let told : List Port = change_port number (λ p. tell asked.work.verdict (take_frame body_len (attempts keys.lock (front_body body_len port.heard)) p)) old.ports in
+    let told : List Port = change_port number (λ p. tell asked.work.verdict
+    (take_frame body_len (attempts keys.lock (front_body body_len port.heard)) p)) old.ports in
+    let same : state_of wall kept left new ≡ (looked number state).state =
     ap (λ (held : KeyState). at held left new.ports new.last held.table.greatest) kept_is
     ∙ ap (λ under_way. at asked.held under_way new.ports new.last asked.held.table.greatest) left_is
     ∙ ap (λ (v : OpenPorts). at asked.held asked.work.under_way v.ports v.last asked.held.table.greatest) new_is
     ∙ ap (λ mono. at asked.held asked.work.under_way told old.last mono) (second-serve (front_body body_len port.heard) (asker_at moment port) keys going refl)
-    ∙ sym (looked-whole number body_len port state found whole)
+    ∙ sym (looked-whole number body_len port state found whole) in
+    let none : new.closed ≡ put_all old.closed (looked number state).closes =
+    ap (λ (v : OpenPorts). v.closed) new_is
+    ∙ sym (ap (λ (o : Outcome). put_all old.closed o.closes) (looked-found number port state (Whole body_len) found whole)) in
+    let to : State → List ℕ → Stepped = λ s cs. record { state = s; closes = cs } in
+    ap (λ s. to s new.closed) same ∙ ap (λ cs. to (looked number state).state cs) none
 
--- a client is closed
-pub agent_closed : (wall : ℕ) (keys : KeyState) (going : UnderWay) (old new : OpenPorts) (closes : List ℕ) (number announced : ℕ) (port : Port) → find_port number old.ports ≡ Some port → due port ≡ Bad announced → new ≡ record old { ports = remove_port number old.ports; closed = inserted number old.closed } → state_of wall keys going new closes ≡ (looked number (state_of wall keys going old closes)).state
-agent_closed wall keys going old new closes number announced port found bad new_is =
-    ap (λ (v : OpenPorts). state_of wall keys going v closes) new_is
-    ∙ sym (looked-bad number announced port (state_of wall keys going old closes) found bad)
+-- an open port is closed
+pub shut_parts : (wall : ℕ) (keys : KeyState) (going : UnderWay) (old new : OpenPorts) (number : ℕ)
+    → IsSome (find_port number old.ports) → new ≡ record old {
+      ports = remove_port number old.ports;
+      closed = inserted number old.closed;
+    } → parts_of wall keys going new ≡ after old.closed (shut number (state_of wall keys going old))
+shut_parts wall keys going old new number some new_is =
+    let to : List ℕ → Stepped = λ cs. parts_of wall keys going (record old {
+      ports = remove_port number old.ports;
+      closed = put_all old.closed cs;
+    }) in
+    ap (λ (v : OpenPorts). parts_of wall keys going v) new_is
+    ∙ ap to (sym (closing-open number old.ports [] some))
+
+-- it is closed
+pub agent_closed : (wall : ℕ) (keys : KeyState) (going : UnderWay) (old new : OpenPorts) (number announced : ℕ) (port : Port)
+    → find_port number old.ports ≡ Some port → due port ≡ Bad announced → new ≡ record old {
+      ports = remove_port number old.ports;
+      closed = inserted number old.closed;
+    } → parts_of wall keys going new ≡ after old.closed (looked number (state_of wall keys going old))
+agent_closed wall keys going old new number announced port found bad new_is =
+    let state : State = state_of wall keys going old in
+    shut_parts wall keys going old new number (rw found refl) new_is
+    ∙ ap (λ n. after old.closed (shut n state)) (sym (found_number number old.ports port found))
+    ∙ ap (after old.closed) (sym (looked-found number port state (Bad announced) found bad))
 
 -- nothing is taken of it
-pub agent_waits : (wall : ℕ) (keys : KeyState) (going : UnderWay) (ports : OpenPorts) (closes : List ℕ) (number : ℕ) → due_by (find_port number ports.ports) ≡ More → state_of wall keys going ports closes ≡ (looked number (state_of wall keys going ports closes)).state
-agent_waits wall keys going ports closes number more = sym (looked-stays number (state_of wall keys going ports closes) more)
+looked-nothing : (number : ℕ) (found : Option Port) (state : State) → find_port number state.ports ≡ found
+    → due_by found ≡ More → looked number state ≡ stay state
+looked-nothing number None state absent is = ap (λ (o : Option Port). look_port o state) absent
+looked-nothing number (Some port) state found is = looked-found number port state More found is
+
+pub agent_waits : (wall : ℕ) (keys : KeyState) (going : UnderWay) (ports : OpenPorts) (number : ℕ)
+    → due_by (find_port number ports.ports) ≡ More
+    → parts_of wall keys going ports ≡ after ports.closed (looked number (state_of wall keys going ports))
+agent_waits wall keys going ports number more =
+    let state : State = state_of wall keys going ports in
+    ap (after ports.closed) (sym (looked-nothing number (find_port number ports.ports) state refl more))
+
+-- ---- a port sent more, or took some
 
 -- a client sent more, and is looked at
-pub agent_hears : (number : ℕ) (piece : List ℕ) (state : State) → role_by (find_port number state.ports) state.under_way ≡ Some Client → (looked number (changed number (heard_more piece) state)).state ≡ (handle (Heard number piece) state).state
+pub agent_hears : (number : ℕ) (piece : List ℕ) (state : State)
+    → role_by (find_port number state.ports) state.under_way ≡ Some Client
+    → looked number (changed number (heard_more piece) state) ≡ handle (Heard number piece) state
 agent_hears number piece state is =
     let there = port_of_role (find_port number state.ports) state.under_way Client is in
-    ap (λ n. (looked n (changed n (heard_more piece) state)).state) (sym (found_number number state.ports there.0 there.1))
+    ap (λ n. looked n (changed n (heard_more piece) state)) (sym (found_number number state.ports there.0 there.1))
     ∙ sym (heard-as number piece there.0 Client state there.1 there.2)
 
 -- a client took some of what it is owed, and is looked at
-pub agent_sends : (wall : ℕ) (keys : KeyState) (going : UnderWay) (old mid : OpenPorts) (closes : List ℕ) (number count : ℕ) → role_by (find_port number old.ports) going ≡ Some Client → mid ≡ record old { ports = change_port number (took_some count) old.ports } → (looked number (state_of wall keys going mid closes)).state ≡ (handle (Took number count) (state_of wall keys going old closes)).state
-agent_sends wall keys going old mid closes number count is mid_is =
+pub agent_sends : (wall : ℕ) (keys : KeyState) (going : UnderWay) (old mid : OpenPorts) (number count : ℕ)
+    → role_by (find_port number old.ports) going ≡ Some Client
+    → mid ≡ record old { ports = change_port number (took_some count) old.ports }
+    → after mid.closed (looked number (state_of wall keys going mid))
+    ≡ after old.closed (handle (Took number count) (state_of wall keys going old))
+agent_sends wall keys going old mid number count is mid_is =
     let there = port_of_role (find_port number old.ports) going Client is in
-    ap (λ (v : OpenPorts). (looked number (state_of wall keys going v closes)).state) mid_is
-    ∙ ap (λ n. (looked n (changed n (took_some count) (state_of wall keys going old closes))).state) (sym (found_number number old.ports there.0 there.1))
-    ∙ sym (took-as number count there.0 Client (state_of wall keys going old closes) there.1 there.2)
+    let state : State = state_of wall keys going old in
+    ap (λ (v : OpenPorts). after v.closed (looked number (state_of wall keys going v))) mid_is
+    ∙ ap (λ n. after old.closed (looked n (changed n (took_some count) state))) (sym (found_number number old.ports there.0 there.1))
+    ∙ ap (after old.closed) (sym (took-as number count there.0 Client state there.1 there.2))
 
 -- a child process that hasn't named itself sent more
-pub agent_unnamed : (number : ℕ) (piece : List ℕ) (port : Port) (state : State) → find_port number state.ports ≡ Some port → role_of port.door port.number state.under_way ≡ Unnamed → (unnamed_heard port.heard piece number state).state ≡ (handle (Heard number piece) state).state
+pub agent_unnamed : (number : ℕ) (piece : List ℕ) (port : Port) (state : State) → find_port number state.ports ≡ Some port
+    → role_of port.door port.number state.under_way ≡ Unnamed
+    → unnamed_heard port.heard piece number state ≡ handle (Heard number piece) state
 agent_unnamed number piece port state found role =
-    ap (λ n. (unnamed_heard port.heard piece n state).state) (sym (found_number number state.ports port found))
+    ap (λ n. unnamed_heard port.heard piece n state) (sym (found_number number state.ports port found))
     ∙ sym (heard-as number piece port Unnamed state found role)
 
 -- the helper took some of what it is owed
-pub agent_pays : (wall : ℕ) (keys : KeyState) (going left : UnderWay) (ports : OpenPorts) (closes : List ℕ) (number count : ℕ) → role_by (find_port number ports.ports) going ≡ Some Helper → left ≡ record going { link = sent count going.link } → state_of wall keys left ports closes ≡ (handle (Took number count) (state_of wall keys going ports closes)).state
-agent_pays wall keys going left ports closes number count is left_is =
+pub agent_pays : (wall : ℕ) (keys : KeyState) (going left : UnderWay) (ports : OpenPorts) (number count : ℕ)
+    → role_by (find_port number ports.ports) going ≡ Some Helper → left ≡ record going { link = sent count going.link }
+    → parts_of wall keys left ports ≡ after ports.closed (handle (Took number count) (state_of wall keys going ports))
+agent_pays wall keys going left ports number count is left_is =
     let there = port_of_role (find_port number ports.ports) going Helper is in
-    ap (λ (u : UnderWay). state_of wall keys u ports closes) left_is
-    ∙ sym (took-as number count there.0 Helper (state_of wall keys going ports closes) there.1 there.2)
+    ap (λ (u : UnderWay). parts_of wall keys u ports) left_is
+    ∙ ap (after ports.closed) (sym (took-as number count there.0 Helper (state_of wall keys going ports) there.1 there.2))
 
 -- the helper is at its port
 pub agent_linked : (number : ℕ) (ports : List Port) (going : UnderWay) → role_by (find_port number ports) going ≡ Some Helper → going.link.state ≡ states.Linked number
@@ -112,17 +169,23 @@ agent_free number ports going is =
     ap (λ n. find_linked n going.confirmations) (sym (found_number number ports there.0 there.1)) ∙ (unnamed-free there.0.door there.0.number going there.2).1
 
 -- a confirmer took some of what it is owed
-pub agent_asked : (wall : ℕ) (keys : KeyState) (going left : UnderWay) (ports : OpenPorts) (closes : List ℕ) (number count : ℕ) (one : Confirmation) → role_by (find_port number ports.ports) going ≡ Some (Confirmer one) → left ≡ record going { confirmations = took_at number count going.confirmations } → state_of wall keys left ports closes ≡ (handle (Took number count) (state_of wall keys going ports closes)).state
-agent_asked wall keys going left ports closes number count one is left_is =
+pub agent_asked : (wall : ℕ) (keys : KeyState) (going left : UnderWay) (ports : OpenPorts) (number count : ℕ)
+    (one : Confirmation) → role_by (find_port number ports.ports) going ≡ Some (Confirmer one)
+    → left ≡ record going { confirmations = took_at number count going.confirmations }
+    → parts_of wall keys left ports ≡ after ports.closed (handle (Took number count) (state_of wall keys going ports))
+agent_asked wall keys going left ports number count one is left_is =
     let there = port_of_role (find_port number ports.ports) going (Confirmer one) is in
-    ap (λ (u : UnderWay). state_of wall keys u ports closes) left_is
-    ∙ ap (λ f. state_of wall keys (record going { confirmations = took_by f count going.confirmations }) ports closes) (agent_asks number ports.ports going one is)
-    ∙ sym (took-as number count there.0 (Confirmer one) (state_of wall keys going ports closes) there.1 there.2)
+    ap (λ (u : UnderWay). parts_of wall keys u ports) left_is
+    ∙ ap (λ f. parts_of wall keys (record going { confirmations = took_by f count going.confirmations }) ports) (agent_asks number ports.ports going one is)
+    ∙ ap (after ports.closed) (sym (took-as number count there.0 (Confirmer one) (state_of wall keys going ports) there.1 there.2))
 
 -- a job was started
-pub agent_starts : (wall : ℕ) (keys : KeyState) (going left : UnderWay) (ports : OpenPorts) (closes : List ℕ) (job : ℕ) (ticket : List ℕ) → left ≡ record going { to_start = remove_to_start job going.to_start; started = going.started ++ started_if (find_to_start job going.to_start) ticket going.confirmations } → state_of wall keys left ports closes ≡ (handle (Started job ticket) (state_of wall keys going ports closes)).state
-agent_starts wall keys going left ports closes job ticket left_is =
-    ap (λ (u : UnderWay). state_of wall keys u ports closes) left_is
+pub agent_starts : (wall : ℕ) (keys : KeyState) (going left : UnderWay) (ports : OpenPorts) (job : ℕ) (ticket : List ℕ)
+    → left ≡ record going {
+      to_start = remove_to_start job going.to_start;
+      started = going.started ++ started_if (find_to_start job going.to_start) ticket going.confirmations;
+    } → parts_of wall keys left ports ≡ after ports.closed (handle (Started job ticket) (state_of wall keys going ports))
+agent_starts wall keys going left ports job ticket left_is = ap (λ (u : UnderWay). parts_of wall keys u ports) left_is
 
 -- ---- what holds in between
 
@@ -155,46 +218,45 @@ tied-took number count state tied =
     tied-quiet {event = Tick} (alters number (took_some count) (record { number = λ p. refl; door = λ p. refl; waits = λ p. refl; owed = λ p none. ap (drop count) none ∙ drop_all count [] (omega arith); chain = λ p. refl })) tied
 
 -- what holds of the agent holds of its ports
-pub bound_of : (state : State) → IsCalm state → IsBound state.ports state.under_way
+pub bound_of : (state : State) → IsAtRest state → IsBound state.ports state.under_way
 bound_of state calm = record { order = calm.tied.order; tied = calm.tied.tied; judged = calm.judged.verified }
 
-pub held_of_all : (state : State) → IsCalm state → AreHeldFor state.under_way.confirmations state.ports
+pub held_of_all : (state : State) → IsAtRest state → AreHeldFor state.under_way.confirmations state.ports
 held_of_all state calm = λ job one found. record {
   is_open = calm.attended.askers job one found;
   silent = λ port at. quiet-asking state.ports state.under_way.confirmations calm.tied.raised.asking job one port found at;
 }
 
 -- and holds once the moment was taken in
-pub calm-moved : (wall more : ℕ) (keys kept : KeyState) (going : UnderWay) (ports : OpenPorts) (closes closed : List ℕ) → IsCalm (state_of wall keys going ports closes) → IsCalm (state_of more kept going (record ports { closed = [] }) closed)
-calm-moved wall more keys kept going ports closes closed calm = record {
-  tied = record { rising = calm.tied.rising; order = calm.tied.order; tied = calm.tied.tied; askers = calm.tied.askers; helper = calm.tied.helper; known = calm.tied.known; raised = calm.tied.raised };
-  attended = calm.attended;
-  judged = record { verified = calm.judged.verified; noted = calm.judged.noted; given = calm.judged.given; chains = calm.judged.chains };
+pub rest-moved : (wall more : ℕ) (keys kept : KeyState) (going : UnderWay) (ports : OpenPorts)
+    → IsAtRest (state_of wall keys going ports) → IsAtRest (state_of more kept going (record ports { closed = [] }))
+rest-moved wall more keys kept going ports rest = record {
+  tied = record { rising = rest.tied.rising; order = rest.tied.order; tied = rest.tied.tied; askers = rest.tied.askers; helper = rest.tied.helper; known = rest.tied.known; raised = rest.tied.raised };
+  attended = rest.attended;
+  judged = record { verified = rest.judged.verified; noted = rest.judged.noted; given = rest.judged.given; chains = rest.judged.chains };
 }
 
 -- a port joins
-pub agent_joins : (wall : ℕ) (keys : KeyState) (going : UnderWay) (old new : OpenPorts) (closes : List ℕ) (door : Door) (is_in : Bool) → is_in ≡ has_room door old.ports going → new ≡ record { ports = admitted is_in (suc old.last) door old.ports; last = suc old.last; closed = if is_in then [] else suc old.last ∷ [] } → state_of wall keys going new closes ≡ (handle (Joined door) (state_of wall keys going old closes)).state
-agent_joins wall keys going old new closes door is_in room new_is =
-    ap (λ (v : OpenPorts). state_of wall keys going v closes) new_is
-    ∙ ap (λ b. state_of wall keys going (record { ports = admitted b (suc old.last) door old.ports; last = suc old.last; closed = [] }) closes) room
+turned-away : (is_in : Bool) (number : ℕ) → turned_away is_in number ≡ put_all [] (turned_away is_in number)
+turned-away true number = refl
+turned-away false number = refl
 
--- ---- what an event closed
-
--- a port that is changed under its number isn't closed
-pub closes_none : (old new : OpenPorts) (number : ℕ) (f : Port → Port) → ((p : Port) → (f p).number ≡ p.number) → old.closed ≡ [] → new ≡ record old { ports = change_port number f old.ports } → new.closed ≡ gone old.last old.ports new.last new.ports
-closes_none old new number f keeps none new_is =
-    ap (λ (v : OpenPorts). v.closed) new_is ∙ none
-    ∙ sym (ap (λ (v : OpenPorts). gone old.last old.ports v.last v.ports) new_is ∙ gone-none old.last old.ports (change_port number f old.ports) (numbers-change_port number f old.ports keeps))
-
--- the port that is closed
-pub closes_one : (old new : OpenPorts) (number : ℕ) → old.closed ≡ [] → new ≡ record old { ports = remove_port number old.ports; closed = inserted number old.closed } → gone old.last old.ports new.last new.ports ≡ number ∷ [] → new.closed ≡ gone old.last old.ports new.last new.ports
-closes_one old new number none new_is is = ap (λ (v : OpenPorts). v.closed) new_is ∙ ap (inserted number) none ∙ sym is
-
--- what is closed after a port was changed under its number is closed since before
-pub closes_later : (old mid : OpenPorts) (last : ℕ) (ports : List Port) (closed : List ℕ) (number : ℕ) (f : Port → Port) → ((p : Port) → (f p).number ≡ p.number) → mid ≡ record old { ports = change_port number f old.ports } → closed ≡ gone mid.last mid.ports last ports → closed ≡ gone old.last old.ports last ports
-closes_later old mid last ports closed number f keeps mid_is is =
-    is ∙ ap (λ (v : OpenPorts). gone v.last v.ports last ports) mid_is
-    ∙ ap (λ ns. without (ns ++ (if nat_lt old.last last then last ∷ [] else [])) (numbers ports)) (numbers-change_port number f old.ports keeps)
+pub agent_joins : (wall : ℕ) (keys : KeyState) (going : UnderWay) (old new : OpenPorts) (door : Door) (is_in : Bool)
+    → is_in ≡ has_room door old.ports going → old.closed ≡ [] → new ≡ record {
+      ports = admitted is_in (suc old.last) door old.ports;
+      last = suc old.last;
+      closed = turned_away is_in (suc old.last);
+    } → parts_of wall keys going new ≡ after old.closed (handle (Joined door) (state_of wall keys going old))
+agent_joins wall keys going old new door is_in room none new_is =
+    let to : Bool → List ℕ → Stepped = λ b cs. parts_of wall keys going (record {
+      ports = admitted b (suc old.last) door old.ports;
+      last = suc old.last;
+      closed = cs;
+    }) in
+    ap (λ (v : OpenPorts). parts_of wall keys going v) new_is
+    ∙ ap (λ b. to b (turned_away b (suc old.last))) room
+    ∙ ap (to (has_room door old.ports going)) (turned-away (has_room door old.ports going) (suc old.last))
+    ∙ ap (λ cs. to (has_room door old.ports going) (put_all cs (turned_away (has_room door old.ports going) (suc old.last)))) (sym none)
 
 -- ---- what is to be taken
 
@@ -211,17 +273,17 @@ bad_port (Some port) announced is = (port, refl, is)
 -- ---- a step
 
 -- the moment is taken in
-pub agent_begins : (moment : Moment) (wall now : ℕ) (keys kept : KeyState) (going : UnderWay) (old new : OpenPorts) (closes : List ℕ) → now ≡ max keys.table.greatest moment.mono → kept ≡ expired now keys → new ≡ record old { closed = [] } → state_of moment.wall kept going new closes ≡ at_moment moment (state_of wall keys going old closes)
-agent_begins moment wall now keys kept going old new closes now_is kept_is new_is =
-    ap (λ (k : KeyState). state_of moment.wall k going new closes) kept_is
-    ∙ ap (λ (v : OpenPorts). state_of moment.wall (expired now keys) going v closes) new_is
-    ∙ ap (λ n. state_of moment.wall (expired n keys) going old closes) now_is
+pub agent_begins : (moment : Moment) (wall now : ℕ) (keys kept : KeyState) (going : UnderWay) (old new : OpenPorts)
+    → now ≡ max keys.table.greatest moment.mono → kept ≡ expired now keys → new ≡ record old { closed = [] }
+    → state_of moment.wall kept going new ≡ at_moment moment (state_of wall keys going old)
+agent_begins moment wall now keys kept going old new now_is kept_is new_is =
+    ap (λ (k : KeyState). state_of moment.wall k going new) kept_is
+    ∙ ap (λ (v : OpenPorts). state_of moment.wall (expired now keys) going v) new_is
+    ∙ ap (λ n. state_of moment.wall (expired n keys) going old) now_is
 
--- then the event is handled, and the state tells what it closed
-pub agent_steps : (moment : Moment) (event : Happening) (state mid new : State) → with_closes state.closes mid ≡ at_moment moment state → with_closes state.closes new ≡ (handle event (with_closes state.closes mid)).state → new.closes ≡ closed_between mid new → new ≡ (step state moment event).state
-agent_steps moment event state mid new begins handled closes =
-    let after : State = (handle event (at_moment moment state)).state in
-    let same : with_closes state.closes new ≡ after = handled ∙ ap (λ s. (handle event s).state) begins in
-    let closed : new.closes ≡ closed_between state after =
-    closes ∙ ap (λ (s : State). closed_between s new) begins ∙ ap (λ (s : State). closed_between state s) same in
-    ap (λ (s : State). with_closes new.closes s) same ∙ ap (λ xs. with_closes xs after) closed
+-- then the event is handled
+pub agent_steps : (moment : Moment) (event : Happening) (state mid : State) (closed : List ℕ) (new : Stepped)
+    → mid ≡ at_moment moment state → closed ≡ [] → new ≡ after closed (handle event mid)
+    → new ≡ stepped (step state moment event)
+agent_steps moment event state mid closed new begins none handled =
+    handled ∙ ap (λ cs. after cs (handle event mid)) none ∙ ap (λ s. after [] (handle event s)) begins

@@ -40,14 +40,11 @@ silent-asks low last (one ∷ asks) ports rise tied =
       silent-asks one.number last asks (change_port one.asker (tell (Refuses HelperLost)) ports) rise.1 after,
     )
 
--- the first of those that are left is, and then the others
-pub silent-first : (failed : List ℕ) (asker : ℕ) (ports : List Port) → slice_get failed 0 ≡ Some asker → AreSilent failed ports → ((port : Port) → find_port asker ports ≡ Some port → port.owed ≡ []) × AreSilent (drop 1 failed) (change_port asker (tell (Refuses HelperLost)) ports)
-silent-first [] asker ports first silent = absurd (cc)
-silent-first (other ∷ failed) asker ports first silent =
-    let same : other ≡ asker = cc in
-    subst (λ n. ((port : Port) → find_port n ports ≡ Some port → port.owed ≡ []) × AreSilent failed (change_port n (tell (Refuses HelperLost)) ports)) same silent
-
--- ---- other changes
+-- the next one is, and those behind it
+pub silent-at : (one : Ask) (later all : List Ask) (ports : List Port) → all ≡ one ∷ later → AreSilent (askers all) ports
+    → ((port : Port) → find_port one.asker ports ≡ Some port → port.owed ≡ [])
+    × AreSilent (askers later) (change_port one.asker (tell (Refuses HelperLost)) ports)
+silent-at one later all ports all_is silent = subst (λ s. AreSilent (askers s) ports) all_is silent
 
 -- a port goes
 pub tied-removed : (number last : ℕ) (ports : List Port) (asks : List Ask) → IsRising 0 last ports → AreTied ports asks → AreTied (remove_port number ports) asks

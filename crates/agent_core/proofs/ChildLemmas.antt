@@ -9,34 +9,36 @@ use Rattle.world_ports.specs.declared.JobKind.TheVariants as kinds
 use Rattle.child_msg.specs.Messages.{Denied, False, FromChildMessage, Granted, Hello, Refused, Signed, True}
 use Rattle.child_msg.specs.declared.fault.ChildFault.{ChildFault}
 use Rattle.confirm_desk.specs.Confirmations.{Confirmation, find_job, find_linked, is_at, linked, linked_at}
-use Rattle.agent_model.specs.Actions.{Outcome, stay}
+use Rattle.agent_model.specs.Actions.{closing}
 use Rattle.agent_model.specs.Answers.{helper_heard}
 use Rattle.helper_link.specs.HelperLink.{linked_to}
+use Rattle.wire_text.specs.Bounds.{longest_body}
 use Rattle.wire_text.specs.Frames.{Front, front}
-use Rattle.agent_model.specs.Children.{closed, confirmer_goes_on, confirmer_named, first_frame, first_message, heard_more, hello_by, helper_named, named_by, ticket_by, unheard, unnamed_heard}
+use Rattle.agent_model.specs.Children.{confirmer_goes_on, confirmer_named, first_frame, first_message, heard_more, hello_by, helper_named, named_by, shut, ticket_by, unheard, unnamed_heard}
 use Rattle.agent_model.specs.Consents.{confirmer_heard, find_started, remove_started}
 use Rattle.agent_model.specs.KeyStates.{KeyState}
+use Rattle.agent_model.specs.NumberLists.{put_all}
 use Rattle.agent_model.specs.State.{Port, StartedJob, State, UnderWay, change_port, find_port, remove_port}
 use Rattle.agent_model.proofs.PortsLemmas.{find_port-change_port}
 use Rattle.under_way.specs.Parts.{IsAwaited, IsFor}
 use Rattle.agent_core.specs.Confirmers.{IsHeldFor}
-use Rattle.agent_core.specs.Parts.{state_of}
+use Rattle.agent_core.specs.Parts.{after, parts_of, state_of}
 use Rattle.agent_core.specs.Settlings.{IsNamed, named_job, ticket_of}
 use Rattle.agent_core.specs.Slots.{OpenPorts, heard_in}
-use Rattle.agent_core.proofs.ConfirmerLemmas.{closed_state}
+use Rattle.agent_core.proofs.ConfirmerLemmas.{closed_parts}
 use Rattle.agent_core.proofs.HelperLemmas.{open-change_port}
 
 -- by whether the ticket is the job's own
-unnamed_ticket : (same : Bool) (one : StartedJob) (number : ℕ) (rest : List ℕ) (state : State) → (if same then Some one.job else None) ≡ None → ticket_by same one.job number rest state ≡ stay (closed number state)
+unnamed_ticket : (same : Bool) (one : StartedJob) (number : ℕ) (rest : List ℕ) (state : State) → (if same then Some one.job else None) ≡ None → ticket_by same one.job number rest state ≡ shut number state
 unnamed_ticket true one number rest state none = absurd (cc)
 unnamed_ticket false one number rest state none = refl
 
-unnamed_hello : (found : Option StartedJob) (ticket : List ℕ) (number : ℕ) (rest : List ℕ) (state : State) → ticket_of found ticket ≡ None → hello_by found ticket number rest state ≡ stay (closed number state)
+unnamed_hello : (found : Option StartedJob) (ticket : List ℕ) (number : ℕ) (rest : List ℕ) (state : State) → ticket_of found ticket ≡ None → hello_by found ticket number rest state ≡ shut number state
 unnamed_hello None ticket number rest state none = refl
 unnamed_hello (Some one) ticket number rest state none = unnamed_ticket (bytes_eq one.ticket ticket) one number rest state none
 
 -- a first message that names no started job by its ticket closes the port
-pub first-unnamed : (read : Result FromChildMessage ChildFault) (number : ℕ) (rest : List ℕ) (state : State) → named_job read state.under_way ≡ None → first_message read number rest state ≡ stay (closed number state)
+pub first-unnamed : (read : Result FromChildMessage ChildFault) (number : ℕ) (rest : List ℕ) (state : State) → named_job read state.under_way ≡ None → first_message read number rest state ≡ shut number state
 first-unnamed (Ok (Hello job ticket)) number rest state none =
     unnamed_hello (find_started job state.under_way.started) ticket number rest state none
 first-unnamed (Ok (Signed ask signature)) number rest state none = refl
@@ -164,34 +166,71 @@ pushed_found ports mid number piece port found mid_is =
     ∙ ap (option_map (heard_more piece)) found
 
 -- what stands at its front decides
-pub unnamed_state : (wall : ℕ) (keys : KeyState) (going : UnderWay) (ports mid : OpenPorts) (closes : List ℕ) (number : ℕ) (piece : List ℕ) (port : Port) (f : Front) → find_port number ports.ports ≡ Some port → mid ≡ record ports { ports = change_port number (heard_more piece) ports.ports } → f ≡ front 262144 (heard_in (find_port number mid.ports)) → (first_frame f number (port.heard ++ piece) (state_of wall keys going mid closes)).state ≡ (unnamed_heard port.heard piece number (state_of wall keys going ports closes)).state
-unnamed_state wall keys going ports mid closes number piece port f found mid_is is =
-    ap (λ (v : OpenPorts). (first_frame f number (port.heard ++ piece) (state_of wall keys going v closes)).state) mid_is
-    ∙ ap (λ (g : Front). (first_frame g number (port.heard ++ piece) (state_of wall keys going (record ports { ports = change_port number (heard_more piece) ports.ports }) closes)).state) (is ∙ ap (λ o. front 262144 (heard_in o)) (pushed_found ports mid number piece port found mid_is))
+pub unnamed_state : (wall : ℕ) (keys : KeyState) (going : UnderWay) (ports mid : OpenPorts) (number : ℕ) (piece : List ℕ)
+    (port : Port) (f : Front) → find_port number ports.ports ≡ Some port
+    → mid ≡ record ports { ports = change_port number (heard_more piece) ports.ports }
+    → f ≡ front longest_body (heard_in (find_port number mid.ports))
+    → after mid.closed (first_frame f number (port.heard ++ piece) (state_of wall keys going mid))
+    ≡ after ports.closed (unnamed_heard port.heard piece number (state_of wall keys going ports))
+unnamed_state wall keys going ports mid number piece port f found mid_is is =
+    let pushed : OpenPorts = record ports { ports = change_port number (heard_more piece) ports.ports } in
+    ap (λ (v : OpenPorts). after v.closed (first_frame f number (port.heard ++ piece) (state_of wall keys going v))) mid_is
+    ∙ ap (λ (g : Front). after ports.closed (first_frame g number (port.heard ++ piece) (state_of wall keys going pushed)))
+    (is ∙ ap (λ o. front longest_body (heard_in o)) (pushed_found ports mid number piece port found mid_is))
 
 -- the helper named itself, and goes on
-pub child_named : (wall : ℕ) (keys : KeyState) (going mid : UnderWay) (ports after : OpenPorts) (closes : List ℕ) (read : Result FromChildMessage ChildFault) (job : Job) (number : ℕ) (sent rest : List ℕ) → named_job read going ≡ Some job → job.kind ≡ kinds.Helper → mid ≡ record going { link = linked_to number going.link; started = remove_started job.number going.started } → after ≡ record ports { ports = change_port number unheard ports.ports } → sent ≡ rest → (helper_heard sent (state_of wall keys mid after closes)).state ≡ (first_message read number rest (state_of wall keys going ports closes)).state
-child_named wall keys going mid ports after closes read job number sent rest named kind mid_is after_is same =
-    let state : State = state_of wall keys going ports closes in
-    ap (λ (u : UnderWay). (helper_heard sent (state_of wall keys u after closes)).state) mid_is
-    ∙ ap (λ (v : OpenPorts). (helper_heard sent (state_of wall keys (record going { link = linked_to number going.link; started = remove_started job.number going.started }) v closes)).state) after_is
-    ∙ ap (λ bytes. (helper_heard bytes (helper_named job.number number state)).state) same
-    ∙ ap (λ k. (named_by k job.number number rest state).state) (sym kind)
-    ∙ ap (λ (o : Outcome). o.state) (sym (first-named read job number rest state named))
+pub child_named : (wall : ℕ) (keys : KeyState) (going mid : UnderWay) (ports new : OpenPorts)
+    (read : Result FromChildMessage ChildFault) (job : Job) (number : ℕ) (sent rest : List ℕ)
+    → named_job read going ≡ Some job → job.kind ≡ kinds.Helper → mid ≡ record going {
+      link = linked_to number going.link;
+      started = remove_started job.number going.started;
+    } → new ≡ record ports { ports = change_port number unheard ports.ports } → sent ≡ rest
+    → after new.closed (helper_heard sent (state_of wall keys mid new))
+    ≡ after ports.closed (first_message read number rest (state_of wall keys going ports))
+child_named wall keys going mid ports new read job number sent rest named kind mid_is new_is same =
+    let state : State = state_of wall keys going ports in
+    let linked : UnderWay = record going {
+      link = linked_to number going.link;
+      started = remove_started job.number going.started;
+    } in
+    ap (λ (u : UnderWay). after new.closed (helper_heard sent (state_of wall keys u new))) mid_is
+    ∙ ap (λ (v : OpenPorts). after v.closed (helper_heard sent (state_of wall keys linked v))) new_is
+    ∙ ap (λ bytes. after ports.closed (helper_heard bytes (helper_named job.number number state))) same
+    ∙ ap (λ k. after ports.closed (named_by k job.number number rest state)) (sym kind)
+    ∙ ap (after ports.closed) (sym (first-named read job number rest state named))
 
 -- so does one that asks the user
-pub child_asks : (wall : ℕ) (keys : KeyState) (going mid : UnderWay) (ports after : OpenPorts) (closes : List ℕ) (read : Result FromChildMessage ChildFault) (job : Job) (number : ℕ) (sent rest : List ℕ) (one : Confirmation) → named_job read going ≡ Some job → job.kind ≡ kinds.Confirm → find_job job.number going.confirmations ≡ Some one → mid ≡ record going { started = remove_started job.number going.started; confirmations = linked job.number number going.confirmations } → after ≡ record ports { ports = change_port number unheard ports.ports } → sent ≡ rest → (confirmer_heard (linked_at number one) sent (state_of wall keys mid after closes)).state ≡ (first_message read number rest (state_of wall keys going ports closes)).state
-child_asks wall keys going mid ports after closes read job number sent rest one named kind found mid_is after_is same =
-    let state : State = state_of wall keys going ports closes in
-    ap (λ (u : UnderWay). (confirmer_heard (linked_at number one) sent (state_of wall keys u after closes)).state) mid_is
-    ∙ ap (λ (v : OpenPorts). (confirmer_heard (linked_at number one) sent (state_of wall keys (record going { started = remove_started job.number going.started; confirmations = linked job.number number going.confirmations }) v closes)).state) after_is
-    ∙ ap (λ bytes. (confirmer_heard (linked_at number one) bytes (confirmer_named job.number number state)).state) same
-    ∙ ap (λ f. (confirmer_goes_on f rest (confirmer_named job.number number state)).state) (sym (linked_job job.number number going.confirmations one found))
-    ∙ ap (λ k. (named_by k job.number number rest state).state) (sym kind)
-    ∙ ap (λ (o : Outcome). o.state) (sym (first-named read job number rest state named))
+pub child_asks : (wall : ℕ) (keys : KeyState) (going mid : UnderWay) (ports new : OpenPorts)
+    (read : Result FromChildMessage ChildFault) (job : Job) (number : ℕ) (sent rest : List ℕ) (one : Confirmation)
+    → named_job read going ≡ Some job → job.kind ≡ kinds.Confirm → find_job job.number going.confirmations ≡ Some one
+    → mid ≡ record going {
+      started = remove_started job.number going.started;
+      confirmations = linked job.number number going.confirmations;
+    } → new ≡ record ports { ports = change_port number unheard ports.ports } → sent ≡ rest
+    → after new.closed (confirmer_heard (linked_at number one) sent (state_of wall keys mid new))
+    ≡ after ports.closed (first_message read number rest (state_of wall keys going ports))
+child_asks wall keys going mid ports new read job number sent rest one named kind found mid_is new_is same =
+    let state : State = state_of wall keys going ports in
+    let asking : UnderWay = record going {
+      started = remove_started job.number going.started;
+      confirmations = linked job.number number going.confirmations;
+    } in
+    ap (λ (u : UnderWay). after new.closed (confirmer_heard (linked_at number one) sent (state_of wall keys u new))) mid_is
+    ∙ ap (λ (v : OpenPorts). after v.closed (confirmer_heard (linked_at number one) sent (state_of wall keys asking v))) new_is
+    ∙ ap (λ bytes. after ports.closed (confirmer_heard (linked_at number one) bytes (confirmer_named job.number number state))) same
+    ∙ ap (λ f. after ports.closed (confirmer_goes_on f rest (confirmer_named job.number number state)))
+    (sym (linked_job job.number number going.confirmations one found))
+    ∙ ap (λ k. after ports.closed (named_by k job.number number rest state)) (sym kind)
+    ∙ ap (after ports.closed) (sym (first-named read job number rest state named))
 
 -- or it is closed
-pub child_refused : (wall : ℕ) (keys : KeyState) (going : UnderWay) (ports after : OpenPorts) (closes : List ℕ) (read : Result FromChildMessage ChildFault) (number : ℕ) (rest : List ℕ) → named_job read going ≡ None → after.ports ≡ remove_port number ports.ports → after.last ≡ ports.last → state_of wall keys going after closes ≡ (first_message read number rest (state_of wall keys going ports closes)).state
-child_refused wall keys going ports after closes read number rest none ports_is last_is =
-    closed_state wall keys going ports after closes number ports_is last_is
-    ∙ ap (λ (o : Outcome). o.state) (sym (first-unnamed read number rest (state_of wall keys going ports closes) none))
+pub child_refused : (wall : ℕ) (keys : KeyState) (going : UnderWay) (ports new : OpenPorts)
+    (read : Result FromChildMessage ChildFault) (number : ℕ) (rest : List ℕ) → named_job read going ≡ None
+    → new ≡ record ports {
+      ports = remove_port number ports.ports;
+      closed = put_all ports.closed (closing number ports.ports []);
+    } → parts_of wall keys going new
+    ≡ after ports.closed (first_message read number rest (state_of wall keys going ports))
+child_refused wall keys going ports new read number rest none new_is =
+    closed_parts wall keys going ports new number new_is
+    ∙ ap (after ports.closed) (sym (first-unnamed read number rest (state_of wall keys going ports) none))

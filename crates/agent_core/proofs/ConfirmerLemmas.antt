@@ -12,21 +12,23 @@ use Rattle.confirm_desk.specs.declared.held.Verdict.{Verdict as DeskVerdict}
 use Rattle.confirm_desk.specs.declared.held.Verdict.TheVariants as verdicts
 use Rattle.confirm_desk.specs.declared.held.Held.{Held as CodeHeld}
 use Rattle.identity_table.specs.Identities.{AreShort, HeldKey, answer_len, entries_len, entry_len, find_number, longest_private, max_answer}
-use Rattle.agent_model.specs.Actions.{Work}
+use Rattle.agent_model.specs.Actions.{Outcome, Stepped, Work, closing}
 use Rattle.agent_model.specs.Asking.{AreAsking, AreAttended, JobsRise}
-use Rattle.agent_model.specs.Consents.{close_confirmer, confirmer_heard, consent_by, grant_by, grant_concluded, grant_to, grant_unless, grant_with, over, signing_of, without_confirmation}
+use Rattle.agent_model.specs.Consents.{close_confirmer, confirmer_closes, confirmer_heard, consent_by, grant_by, grant_concluded, grant_to, grant_unless, grant_with, over, signing_of, without_confirmation}
 use Rattle.agent_model.specs.Errands.{Signs, put_ask}
 use Rattle.agent_model.specs.KeyStates.{KeyState}
-use Rattle.agent_model.specs.Children.{closed}
+use Rattle.agent_model.specs.NumberLists.{put_all}
+use Rattle.agent_model.specs.Children.{shut, shut_then}
 use Rattle.agent_model.specs.Sound.{IsRising}
 use Rattle.agent_model.specs.State.{OnAsk, Port, State, UnderWay, change_port, find_port, remove_port}
 use Rattle.agent_model.specs.Verdicts.{Awaits, NotConfirmed, Refuses, Verdict, tell}
 use Rattle.agent_model.proofs.PortsLemmas.{find_port-left, find_port-remove_port}
 use Rattle.agent_model.proofs.JobLemmas.{in-by_asker, in-by_port, in-found}
 use Rattle.under_way.specs.Parts.{TellsOf, confirmer_told, told_by, told_if}
-use Rattle.agent_core.specs.Parts.{state_of}
+use Rattle.agent_core.specs.Parts.{after, parts_of, state_of}
 use Rattle.agent_core.specs.Slots.{OpenPorts}
 use Rattle.agent_core.specs.Confirmers.{AreQuiet, IsGrant, IsHeldFor, IsShortKey, grant_of, granted_by, granted_key, granted_unless, granted_with}
+use Rattle.agent_core.proofs.HelperLemmas.{shut-first}
 
 -- ---- the second test
 
@@ -98,10 +100,14 @@ told_so None = (Refuses NotConfirmed, (refl, refl))
 -- ---- what a decision is
 
 -- nothing yet
-pub told_nothing : (k : Consent) (one : Confirmation) (piece : List ℕ) (wall : ℕ) (keys : KeyState) (going : UnderWay) (ports : OpenPorts) (closes : List ℕ) → (telling_by k one piece going.confirmations).verdict ≡ verdicts.NotYet → state_of wall keys (told_by (telling_by k one piece going.confirmations).verdict one.job (telling_by k one piece going.confirmations).desk going) ports closes ≡ (consent_by k one piece (state_of wall keys going ports closes)).state
-told_nothing NotYet one piece wall keys going ports closes is = refl
-told_nothing Yes one piece wall keys going ports closes is = absurd (cc)
-told_nothing No one piece wall keys going ports closes is = absurd (cc)
+pub told_nothing : (k : Consent) (one : Confirmation) (piece : List ℕ) (wall : ℕ) (keys : KeyState) (going : UnderWay)
+    (ports : OpenPorts) → (telling_by k one piece going.confirmations).verdict ≡ verdicts.NotYet
+    → parts_of wall keys (told_by (telling_by k one piece going.confirmations).verdict one.job
+    (telling_by k one piece going.confirmations).desk going) ports
+    ≡ after ports.closed (consent_by k one piece (state_of wall keys going ports))
+told_nothing NotYet one piece wall keys going ports is = refl
+told_nothing Yes one piece wall keys going ports is = absurd (cc)
+told_nothing No one piece wall keys going ports is = absurd (cc)
 
 -- a yes, to what the confirmation held
 pub told_yes : (k : Consent) (one : Confirmation) (piece : List ℕ) (confirmations : List Confirmation) (held : CodeHeld) → (telling_by k one piece confirmations).verdict ≡ verdicts.Granted held → (k ≡ Yes) × (given_back one ≡ held)
@@ -118,25 +124,45 @@ told_no No one piece confirmations held is = (refl, cc)
 -- ---- what a decision does to the state
 
 -- the client gets what comes of a consent
-pub concluded_state : (wall : ℕ) (keys : KeyState) (going left : UnderWay) (old new : OpenPorts) (closes : List ℕ) (work : Work) (one : Confirmation) (confirmer : Option ℕ) (asker : ℕ) → left ≡ work.under_way → new.ports ≡ change_port asker (tell work.verdict) (close_confirmer confirmer old.ports) → new.last ≡ old.last → one.asker ≡ asker → one.port ≡ confirmer → state_of wall keys left new closes ≡ (grant_concluded work one (state_of wall keys going old closes)).state
-concluded_state wall keys going left old new closes work one confirmer asker left_is ports_is last_is asker_is port_is =
-    let to : UnderWay → List Port → ℕ → State = λ u ps l. state_of wall keys u (record old { ports = ps; last = l }) closes in
-    ap (λ u. to u new.ports new.last) left_is
-    ∙ ap (λ ps. to work.under_way ps new.last) ports_is
-    ∙ ap (λ l. to work.under_way (change_port asker (tell work.verdict) (close_confirmer confirmer old.ports)) l) last_is
-    ∙ ap (λ a. to work.under_way (change_port a (tell work.verdict) (close_confirmer confirmer old.ports)) old.last) (sym asker_is)
-    ∙ ap (λ p. to work.under_way (change_port one.asker (tell work.verdict) (close_confirmer p old.ports)) old.last) (sym port_is)
+pub concluded_parts : (wall : ℕ) (keys : KeyState) (going before left : UnderWay) (old new : OpenPorts) (work : Work)
+    (one : Confirmation) (confirmer : Option ℕ) (asker : ℕ) → left ≡ work.under_way → new ≡ record old {
+      ports = change_port asker (tell work.verdict) (close_confirmer confirmer old.ports);
+      closed = put_all old.closed (confirmer_closes confirmer old.ports);
+    } → one.asker ≡ asker → one.port ≡ confirmer
+    → parts_of wall keys left new ≡ after old.closed (grant_concluded work one (state_of wall keys before old))
+concluded_parts wall keys going before left old new work one confirmer asker left_is new_is asker_is port_is =
+    let to : UnderWay → OpenPorts → Stepped = λ u v. parts_of wall keys u v in
+    ap (λ u. to u new) left_is
+    ∙ ap (λ v. to work.under_way v) new_is
+    ∙ ap (λ a. to work.under_way (record old {
+      ports = change_port a (tell work.verdict) (close_confirmer confirmer old.ports);
+      closed = put_all old.closed (confirmer_closes confirmer old.ports);
+    })) (sym asker_is)
+    ∙ ap (λ p. to work.under_way (record old {
+      ports = change_port one.asker (tell work.verdict) (close_confirmer p old.ports);
+      closed = put_all old.closed (confirmer_closes p old.ports);
+    })) (sym port_is)
 
 -- the client is told that there is none
-pub over_state : (wall : ℕ) (keys : KeyState) (going left : UnderWay) (old new : OpenPorts) (closes : List ℕ) (one : Confirmation) (confirmer : Option ℕ) (asker : ℕ) → left ≡ without_confirmation one.job going → new.ports ≡ change_port asker (tell (Refuses NotConfirmed)) (close_confirmer confirmer old.ports) → new.last ≡ old.last → one.asker ≡ asker → one.port ≡ confirmer → state_of wall keys left new closes ≡ (over one (state_of wall keys going old closes)).state
-over_state wall keys going left old new closes one confirmer asker left_is ports_is last_is asker_is port_is =
-    let to : UnderWay → List Port → ℕ → State = λ u ps l. state_of wall keys u (record old { ports = ps; last = l }) closes in
+pub over_parts : (wall : ℕ) (keys : KeyState) (going left : UnderWay) (old new : OpenPorts) (one : Confirmation)
+    (confirmer : Option ℕ) (asker : ℕ) → left ≡ without_confirmation one.job going → new ≡ record old {
+      ports = change_port asker (tell (Refuses NotConfirmed)) (close_confirmer confirmer old.ports);
+      closed = put_all old.closed (confirmer_closes confirmer old.ports);
+    } → one.asker ≡ asker → one.port ≡ confirmer
+    → parts_of wall keys left new ≡ after old.closed (over one (state_of wall keys going old))
+over_parts wall keys going left old new one confirmer asker left_is new_is asker_is port_is =
+    let to : UnderWay → OpenPorts → Stepped = λ u v. parts_of wall keys u v in
     let without : UnderWay = without_confirmation one.job going in
-    ap (λ u. to u new.ports new.last) left_is
-    ∙ ap (λ ps. to without ps new.last) ports_is
-    ∙ ap (λ l. to without (change_port asker (tell (Refuses NotConfirmed)) (close_confirmer confirmer old.ports)) l) last_is
-    ∙ ap (λ a. to without (change_port a (tell (Refuses NotConfirmed)) (close_confirmer confirmer old.ports)) old.last) (sym asker_is)
-    ∙ ap (λ p. to without (change_port one.asker (tell (Refuses NotConfirmed)) (close_confirmer p old.ports)) old.last) (sym port_is)
+    ap (λ u. to u new) left_is
+    ∙ ap (λ v. to without v) new_is
+    ∙ ap (λ a. to without (record old {
+      ports = change_port a (tell (Refuses NotConfirmed)) (close_confirmer confirmer old.ports);
+      closed = put_all old.closed (confirmer_closes confirmer old.ports);
+    })) (sym asker_is)
+    ∙ ap (λ p. to without (record old {
+      ports = change_port one.asker (tell (Refuses NotConfirmed)) (close_confirmer p old.ports);
+      closed = put_all old.closed (confirmer_closes p old.ports);
+    })) (sym port_is)
 
 -- ---- confirmations that are found
 
@@ -193,13 +219,29 @@ given_job (Some one) job is =
     let same : job ≡ one.job = cc in
     (one, refl, sym same)
 
+pub no_job : (found : Option Confirmation) → None ≡ option_map job_of found → found ≡ None
+no_job None is = refl
+no_job (Some one) is = absurd (cc)
+
 -- ---- a port that was closed before
 
--- the state without it
-pub closed_state : (wall : ℕ) (keys : KeyState) (going : UnderWay) (old new : OpenPorts) (closes : List ℕ) (number : ℕ) → new.ports ≡ remove_port number old.ports → new.last ≡ old.last → state_of wall keys going new closes ≡ closed number (state_of wall keys going old closes)
-closed_state wall keys going old new closes number ports_is last_is =
-    let to : List Port → ℕ → State = λ ps l. state_of wall keys going (record old { ports = ps; last = l }) closes in
-    ap (λ ps. to ps new.last) ports_is ∙ ap (λ l. to (remove_port number old.ports) l) last_is
+-- the parts without it
+pub closed_parts : (wall : ℕ) (keys : KeyState) (going : UnderWay) (old new : OpenPorts) (number : ℕ) → new ≡ record old {
+  ports = remove_port number old.ports;
+  closed = put_all old.closed (closing number old.ports []);
+} → parts_of wall keys going new ≡ after old.closed (shut number (state_of wall keys going old))
+closed_parts wall keys going old new number new_is = ap (λ (v : OpenPorts). parts_of wall keys going v) new_is
+
+-- and what happens then
+pub closed_then : (wall : ℕ) (keys : KeyState) (going : UnderWay) (old new : OpenPorts) (number : ℕ)
+    (next : State → Outcome) → new ≡ record old {
+      ports = remove_port number old.ports;
+      closed = put_all old.closed (closing number old.ports []);
+    } → after new.closed (next (state_of wall keys going new))
+    ≡ after old.closed (shut_then number next (state_of wall keys going old))
+closed_then wall keys going old new number next new_is =
+    ap (λ (v : OpenPorts). after v.closed (next (state_of wall keys going v))) new_is
+    ∙ shut-first number old.closed next (state_of wall keys going old)
 
 -- the client that has left is told nothing
 pub silent-left : (job number last : ℕ) (confirmations : List Confirmation) (ports left : List Port) (one : Confirmation) → find_job job confirmations ≡ Some one → one.asker ≡ number → IsRising 0 last ports → left ≡ remove_port number ports → IsSomeAnd (find_job job confirmations) (λ c. (port : Port) → find_port c.asker left ≡ Some port → port.owed ≡ [])
@@ -230,9 +272,13 @@ ended_by number piece going one verdict found is =
     ap (λ f. told_if f told going) found ∙ ap (λ v. told_by v one.job told.desk going) (sym is)
 
 -- a yes is a grant
-pub granted_state : (piece : List ℕ) (wall : ℕ) (keys : KeyState) (going mid : UnderWay) (ports : OpenPorts) (closes : List ℕ) (one : Confirmation) (port : Port) → consent one.job (one.heard ++ piece) ≡ Yes → find_port one.asker ports.ports ≡ Some port → mid ≡ without_confirmation one.job going → (grant_concluded (grant_of port.chain one wall keys mid) one (state_of wall keys going ports closes)).state ≡ (confirmer_heard one piece (state_of wall keys going ports closes)).state
-granted_state piece wall keys going mid ports closes one port agreed found mid_is =
-    let state : State = state_of wall keys going ports closes in
-    ap (λ u. (grant_concluded (grant_of port.chain one wall keys u) one state).state) mid_is
-    ∙ ap (λ f. (grant_to f one state).state) (sym found)
-    ∙ ap (λ k. (consent_by k one piece state).state) (sym agreed)
+pub granted_parts : (piece : List ℕ) (wall : ℕ) (keys : KeyState) (going mid : UnderWay) (ports : OpenPorts)
+    (one : Confirmation) (port : Port) → consent one.job (one.heard ++ piece) ≡ Yes
+    → find_port one.asker ports.ports ≡ Some port → mid ≡ without_confirmation one.job going
+    → grant_concluded (grant_of port.chain one wall keys mid) one (state_of wall keys going ports)
+    ≡ confirmer_heard one piece (state_of wall keys going ports)
+granted_parts piece wall keys going mid ports one port agreed found mid_is =
+    let state : State = state_of wall keys going ports in
+    ap (λ u. grant_concluded (grant_of port.chain one wall keys u) one state) mid_is
+    ∙ ap (λ f. grant_to f one state) (sym found)
+    ∙ ap (λ k. consent_by k one piece state) (sym agreed)

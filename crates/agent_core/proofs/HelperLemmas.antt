@@ -1,7 +1,8 @@
 -- What the helper's answers and its loss are to the agent's parts.
-use Rattle.std.proofs.Common.{◌≡◌, ℕ, ◌+◌, ◌<◌, arith, drop, get_or, length, slice_get, subst, List, [], ◌∷◌, ◌++◌, nat_lt, refl, ap, sym, ◌∙◌, Option, Some, None, IsSome, Bool, false, true, if◌then◌else◌, ◌==◌}
+use Rattle.std.proofs.Common.{◌≡◌, ◌↔◌, IsTrue, ℕ, ◌+◌, ◌<◌, arith, drop, get_or, length, subst, List, [], ◌∷◌, ◌++◌, refl, ap, sym, ◌∙◌, Option, Some, None, IsSome, is_some, Bool, false, true, if◌then◌else◌, ◌==◌}
 use Rattle.std.proofs.lemmas.List.{drop_more}
-use Rattle.helper_link.specs.HelperLink.{HelperLink, IsStarting, askers}
+use Rattle.helper_link.specs.HelperLink.{HelperLink, IsStarting, askers, lost}
+use Rattle.helper_link.specs.declared.ask.Ask.{Ask}
 use Rattle.helper_link.specs.Telling.{Telling, telling}
 use Rattle.helper_link.specs.declared.answer.Answer.{Answer}
 use Rattle.helper_link.specs.declared.answer.Answer.TheVariants as answer
@@ -9,17 +10,16 @@ use Rattle.helper_link.specs.declared.answer.Settled.{Settled}
 use Rattle.helper_link.specs.declared.fault.LinkFault.{LinkFault}
 use Rattle.helper_link.specs.declared.state.LinkState.{LinkState}
 use Rattle.helper_link.specs.declared.state.LinkState.TheVariants as states
-use Rattle.agent_model.specs.Answers.{Answering, answer_all, answer_by, answer_true, answers_in, close_helper, find_verification, helper_heard, link_lost, lose, lose_if, remove_verification, tell_each, with_answers}
+use Rattle.agent_model.specs.Actions.{Outcome, Stepped, closing}
+use Rattle.agent_model.specs.Answers.{Answering, answer_all, answer_by, answer_true, answers_in, close_helper, find_verification, helper_closes, helper_heard, lose, lose_if, remove_verification, tell_each, with_answers}
 use Rattle.agent_model.specs.KeyStates.{KeyState}
 use Rattle.agent_model.specs.State.{Port, State, UnderWay, Verification, change_port, find_port, numbers, remove_port}
-use Rattle.agent_model.specs.Step.{gone}
-use Rattle.agent_model.specs.Verdicts.{HelperLost, HelperRefused, Refuses, Verdict, tell}
-use Rattle.agent_model.specs.Children.{closed}
-use Rattle.agent_model.specs.NumberLists.{without}
+use Rattle.agent_model.specs.Verdicts.{HelperLost, Refuses, Verdict, tell}
+use Rattle.agent_model.specs.Children.{closed, shut_then}
+use Rattle.agent_model.specs.NumberLists.{put_all}
 use Rattle.agent_model.specs.Sound.{IsRising}
-use Rattle.agent_model.proofs.ClosesLemmas.{gone-none}
 use Rattle.agent_model.proofs.PortsLemmas.{find_port-remove_port, numbers-change_port}
-use Rattle.agent_core.specs.Parts.{state_of}
+use Rattle.agent_core.specs.Parts.{after, parts_of, state_of}
 use Rattle.agent_core.specs.Settlings.{AreProvable, AreShortAnswers, IsProvable, IsShortAnswer, answered, told_with, unanswered}
 use Rattle.agent_core.specs.Slots.{OpenPorts}
 
@@ -69,10 +69,14 @@ abbrev pub with_left : List Verification → UnderWay → UnderWay
 with_left verifications going = record going { verifications = verifications }
 
 -- the state after answers
-pub with_answers-is : (wall : ℕ) (keys : KeyState) (going : UnderWay) (ports : OpenPorts) (closes : List ℕ) (told : Telling) → with_answers told.link (answers_in told.settled (state_of wall keys going ports closes)) (state_of wall keys going ports closes) ≡ state_of wall keys (with_left (unanswered told.settled going.verifications) (with_link told.link going)) (record ports { ports = answered told.settled going.verifications ports.ports }) closes
-with_answers-is wall keys going ports closes told =
+pub with_answers-is : (wall : ℕ) (keys : KeyState) (going : UnderWay) (ports : OpenPorts) (told : Telling)
+    → with_answers told.link (answers_in told.settled (state_of wall keys going ports)) (state_of wall keys going ports)
+    ≡ state_of wall keys (with_left (unanswered told.settled going.verifications) (with_link told.link going))
+    (record ports { ports = answered told.settled going.verifications ports.ports })
+with_answers-is wall keys going ports told =
     let before : Answering = record { ports = ports.ports; verifications = going.verifications; actions = [] } in
-    let to : List Port → List Verification → State = λ ps vs. state_of wall keys (with_left vs (with_link told.link going)) (record ports { ports = ps }) closes in
+    let to : List Port → List Verification → State =
+    λ ps vs. state_of wall keys (with_left vs (with_link told.link going)) (record ports { ports = ps }) in
     ap (λ ps. to ps (answer_all told.settled before).verifications) (all_answered told.settled before)
     ∙ ap (λ vs. to (answered told.settled going.verifications ports.ports) vs) (all_unanswered told.settled before)
 
@@ -98,10 +102,6 @@ numbers-tell_each verdict (asker ∷ askers) ports =
     numbers-tell_each verdict askers (change_port asker (tell verdict) ports)
     ∙ numbers-change_port asker (tell verdict) ports (λ p. refl)
 
--- the numbers of these ports
-pub numbers-is : (new : OpenPorts) (ports : List Port) → new.ports ≡ ports → numbers new.ports ≡ numbers ports
-numbers-is new ports is = ap numbers is
-
 -- nothing changes where the port isn't open
 pub change_port-absent : (number : ℕ) (f : Port → Port) (ports : List Port) → find_port number ports ≡ None → change_port number f ports ≡ ports
 change_port-absent number f [] absent = refl
@@ -119,31 +119,89 @@ remove_port-absent number (port ∷ ports) absent = by_test (number == port.numb
     by_test true is rest = absurd (cc)
     by_test false is rest = ap (λ (ps : List Port). port ∷ ps) (rest is)
 
+-- ---- ports that are closed
+
+-- a port that isn't open isn't found
+pub is_absent : (found : Option Port) (is_open : Bool) → (IsTrue is_open ↔ IsSome found) → is_open ≡ false → found ≡ None
+is_absent None is_open tells not_open = refl
+is_absent (Some port) is_open tells not_open = absurd (cc (tells.1 refl, not_open))
+
+-- an open one
+pub closing-open : (number : ℕ) (ports : List Port) (later : List ℕ) → IsSome (find_port number ports)
+    → closing number ports later ≡ number ∷ later
+closing-open number ports later some = by_found (find_port number ports) some
+  where
+    by_found : (found : Option Port) → IsSome found → (if is_some found then number ∷ later else later) ≡ number ∷ later
+    by_found None some = absurd (cc)
+    by_found (Some port) some = refl
+
+-- one that isn't open
+pub closing-absent : (number : ℕ) (ports : List Port) (later : List ℕ) → find_port number ports ≡ None
+    → closing number ports later ≡ later
+closing-absent number ports later absent = ap (λ f. if is_some f then number ∷ later else later) absent
+
+-- one port is closed before others
+pub closing-first : (number : ℕ) (ports : List Port) (closed later : List ℕ)
+    → put_all (put_all closed (closing number ports [])) later ≡ put_all closed (closing number ports later)
+closing-first number ports closed later = by_found (is_some (find_port number ports))
+  where
+    by_found : (test : Bool) → put_all (put_all closed (if test then number ∷ [] else [])) later
+        ≡ put_all closed (if test then number ∷ later else later)
+    by_found true = refl
+    by_found false = refl
+
+-- one port is closed, and then this happens
+pub shut-first : (number : ℕ) (closed_before : List ℕ) (next : State → Outcome) (state : State)
+    → after (put_all closed_before (closing number state.ports [])) (next (closed number state))
+    ≡ after closed_before (shut_then number next state)
+shut-first number closed_before next state =
+    let left : Outcome = next (closed number state) in
+    let to : List ℕ → Stepped = λ cs. record { state = left.state; closes = cs } in
+    ap to (closing-first number state.ports closed_before left.closes)
+
 -- ---- the helper sent more
 
 -- at a fault of what was told the helper is lost
-pub heard_state : (wall : ℕ) (keys : KeyState) (going mid left : UnderWay) (ports after : OpenPorts) (closes piece : List ℕ) (settled : List Settled) (fault : Option LinkFault) → mid ≡ with_link (telling piece going.link).link going → settled ≡ (telling piece going.link).settled → fault ≡ (telling piece going.link).fault → left ≡ with_left (unanswered settled mid.verifications) mid → after ≡ record ports { ports = answered settled mid.verifications ports.ports } → (lose_if fault (state_of wall keys left after closes)).state ≡ (helper_heard piece (state_of wall keys going ports closes)).state
-heard_state wall keys going mid left ports after closes piece settled fault mid_is settled_is fault_is left_is after_is =
+pub heard_parts : (wall : ℕ) (keys : KeyState) (going mid left : UnderWay) (ports new : OpenPorts) (piece : List ℕ)
+    (settled : List Settled) (fault : Option LinkFault) → mid ≡ with_link (telling piece going.link).link going
+    → settled ≡ (telling piece going.link).settled → fault ≡ (telling piece going.link).fault
+    → left ≡ with_left (unanswered settled mid.verifications) mid
+    → new ≡ record ports { ports = answered settled mid.verifications ports.ports }
+    → after new.closed (lose_if fault (state_of wall keys left new))
+    ≡ after ports.closed (helper_heard piece (state_of wall keys going ports))
+heard_parts wall keys going mid left ports new piece settled fault mid_is settled_is fault_is left_is new_is =
     let told : Telling = telling piece going.link in
-    let to : UnderWay → List Settled → State = λ u s. state_of wall keys (with_left (unanswered s u.verifications) u) (record ports { ports = answered s u.verifications ports.ports }) closes in
-    ap (λ (f : Option LinkFault). (lose_if f (state_of wall keys left after closes)).state) fault_is
-    ∙ ap (λ (u : UnderWay). (lose_if told.fault (state_of wall keys u after closes)).state) left_is
-    ∙ ap (λ (v : OpenPorts). (lose_if told.fault (state_of wall keys (with_left (unanswered settled mid.verifications) mid) v closes)).state) after_is
-    ∙ ap (λ (u : UnderWay). (lose_if told.fault (to u settled)).state) mid_is
-    ∙ ap (λ (s : List Settled). (lose_if told.fault (to (with_link told.link going) s)).state) settled_is
-    ∙ ap (λ (s : State). (lose_if told.fault s).state) (sym (with_answers-is wall keys going ports closes told))
+    let to : UnderWay → List Settled → Stepped = λ u s. after ports.closed (lose_if told.fault
+    (state_of wall keys (with_left (unanswered s u.verifications) u) (record ports { ports = answered s u.verifications ports.ports }))) in
+    ap (λ (f : Option LinkFault). after new.closed (lose_if f (state_of wall keys left new))) fault_is
+    ∙ ap (λ (u : UnderWay). after new.closed (lose_if told.fault (state_of wall keys u new))) left_is
+    ∙ ap (λ (v : OpenPorts). after v.closed (lose_if told.fault (state_of wall keys (with_left (unanswered settled mid.verifications) mid) v))) new_is
+    ∙ ap (λ (u : UnderWay). to u settled) mid_is
+    ∙ ap (λ (s : List Settled). to (with_link told.link going) s) settled_is
+    ∙ ap (λ (s : State). after ports.closed (lose_if told.fault s)) (sym (with_answers-is wall keys going ports told))
 
 -- ---- the helper is lost
 
 -- its port is closed, and each that waits for it is told
-pub lost_state : (wall : ℕ) (keys : KeyState) (going left : UnderWay) (before ports after : OpenPorts) (closes : List ℕ) → close_helper going.link.state before.ports ≡ ports.ports → before.last ≡ ports.last → left ≡ with_left [] (with_link (link_lost going.link) going) → after ≡ record ports { ports = tell_each (Refuses HelperLost) (askers going.link.asks) ports.ports } → state_of wall keys left after closes ≡ (lose (state_of wall keys going before closes)).state
-lost_state wall keys going left before ports after closes closed last left_is after_is =
-    let gone : UnderWay = with_left [] (with_link (link_lost going.link) going) in
-    let to : List Port → ℕ → State = λ ps n. state_of wall keys gone (record ports { ports = tell_each (Refuses HelperLost) (askers going.link.asks) ps; last = n }) closes in
-    ap (λ (u : UnderWay). state_of wall keys u after closes) left_is
-    ∙ ap (λ (v : OpenPorts). state_of wall keys gone v closes) after_is
-    ∙ ap (λ ps. to ps ports.last) (sym closed)
-    ∙ ap (λ n. to (close_helper going.link.state before.ports) n) (sym last)
+pub lost_parts : (wall : ℕ) (keys : KeyState) (going left : UnderWay) (before ports new : OpenPorts)
+    → close_helper going.link.state before.ports ≡ ports.ports
+    → put_all before.closed (helper_closes going.link.state before.ports) ≡ ports.closed → before.last ≡ ports.last
+    → left ≡ with_left [] (with_link (lost going.link) going)
+    → new ≡ record ports { ports = tell_each (Refuses HelperLost) (askers going.link.asks) ports.ports }
+    → parts_of wall keys left new ≡ after before.closed (lose (state_of wall keys going before))
+lost_parts wall keys going left before ports new closed closes last left_is new_is =
+    let gone : UnderWay = with_left [] (with_link (lost going.link) going) in
+    let to : List Port → List ℕ → ℕ → Stepped = λ ps cs n. parts_of wall keys gone (record {
+      ports = tell_each (Refuses HelperLost) (askers going.link.asks) ps;
+      last = n;
+      closed = cs;
+    }) in
+    ap (λ (u : UnderWay). parts_of wall keys u new) left_is
+    ∙ ap (λ (v : OpenPorts). parts_of wall keys gone v) new_is
+    ∙ ap (λ ps. to ps ports.closed ports.last) (sym closed)
+    ∙ ap (λ cs. to (close_helper going.link.state before.ports) cs ports.last) (sym closes)
+    ∙ ap (λ n. to (close_helper going.link.state before.ports)
+    (put_all before.closed (helper_closes going.link.state before.ports)) n) (sym last)
 
 -- a helper that is being started has no port
 pub starting_closes : (state : LinkState) (ports : List Port) → IsStarting state → close_helper state ports ≡ ports
@@ -151,18 +209,31 @@ starting_closes states.None ports is = absurd is
 starting_closes (states.Starting job) ports is = refl
 starting_closes (states.Linked port) ports is = absurd is
 
+pub starting_none : (state : LinkState) (ports : List Port) → IsStarting state → helper_closes state ports ≡ []
+starting_none states.None ports is = absurd is
+starting_none (states.Starting job) ports is = refl
+starting_none (states.Linked port) ports is = absurd is
+
 -- a port is closed once
 pub remove_port-twice : (number last : ℕ) (ports : List Port) → IsRising 0 last ports → remove_port number (remove_port number ports) ≡ remove_port number ports
 remove_port-twice number last ports rising =
     remove_port-absent number (remove_port number ports) (find_port-remove_port number 0 last ports rising)
 
 -- the helper's port may be closed before the helper is lost
-pub lose-closed : (number last : ℕ) (state : State) → state.under_way.link.state ≡ states.Linked number → IsRising 0 last state.ports → (lose state).state ≡ (lose (closed number state)).state
+pub lose-closed : (number last : ℕ) (state : State) → state.under_way.link.state ≡ states.Linked number
+    → IsRising 0 last state.ports → lose state ≡ shut_then number lose state
 lose-closed number last state linked rising =
-    let to : List Port → State = λ ps. record (lose state).state { ports = tell_each (Refuses HelperLost) (askers state.under_way.link.asks) ps } in
-    ap (λ l. to (close_helper l state.ports)) linked
-    ∙ ap to (sym (remove_port-twice number last state.ports rising))
-    ∙ ap (λ l. to (close_helper l (remove_port number state.ports))) (sym linked)
+    let left : List Port = remove_port number state.ports in
+    let to : List Port → List ℕ → Outcome = λ ps cs. record (lose state) {
+      state = record (lose state).state { ports = tell_each (Refuses HelperLost) (askers state.under_way.link.asks) ps };
+      closes = cs;
+    } in
+    let none : closing number left [] ≡ [] =
+    closing-absent number left [] (find_port-remove_port number 0 last state.ports rising) in
+    ap (λ l. to (close_helper l state.ports) (helper_closes l state.ports)) linked
+    ∙ ap (λ ps. to ps (closing number state.ports [])) (sym (remove_port-twice number last state.ports rising))
+    ∙ ap (λ cs. to (remove_port number left) (closing number state.ports cs)) (sym none)
+    ∙ ap (λ l. to (close_helper l left) (closing number state.ports (helper_closes l left))) (sym linked)
 
 -- a change of another port, or of its own under its number, leaves a port open
 pub open-change_port : (number other : ℕ) (f : Port → Port) (ports : List Port) → ((p : Port) → (f p).number ≡ p.number) → IsSome (find_port number ports) → IsSome (find_port number (change_port other f ports))
@@ -181,20 +252,6 @@ open-answered number [] vs ports some = some
 open-answered number (one ∷ later) vs ports some =
     open-answered number later (remove_verification one.ask vs) (change_port one.asker (told_with one.answer (find_verification one.ask vs)) ports)
     (open-change_port number one.asker (told_with one.answer (find_verification one.ask vs)) ports (number-told_with one.answer (find_verification one.ask vs)) some)
-
--- ---- what was closed
-
--- nothing, where the ports have the numbers that they had
-pub closes_same : (old new : OpenPorts) (ports : List Port) → old.closed ≡ [] → new ≡ record old { ports = ports } → numbers ports ≡ numbers old.ports → new.closed ≡ gone old.last old.ports new.last new.ports
-closes_same old new ports none new_is same =
-    ap (λ (v : OpenPorts). v.closed) new_is ∙ none
-    ∙ sym (ap (λ (v : OpenPorts). gone old.last old.ports v.last v.ports) new_is ∙ gone-none old.last old.ports ports same)
-
--- what was closed since then
-pub closes_since : (old mid : OpenPorts) (last : ℕ) (between ports : List Port) (closed : List ℕ) → mid ≡ record old { ports = between } → numbers between ≡ numbers old.ports → closed ≡ gone mid.last mid.ports last ports → closed ≡ gone old.last old.ports last ports
-closes_since old mid last between ports closed mid_is same is =
-    is ∙ ap (λ (v : OpenPorts). gone v.last v.ports last ports) mid_is
-    ∙ ap (λ ns. without (ns ++ (if nat_lt old.last last then last ∷ [] else [])) (numbers ports)) same
 
 -- ---- one after another
 
@@ -215,23 +272,19 @@ unanswered-more one later all going new all_is new_is =
     ap (λ (u : UnderWay). with_left (unanswered later u.verifications) u) new_is
     ∙ ap (λ (s : List Settled). with_left (unanswered s going.verifications) going) (sym all_is)
 
--- and so is what is told behind the first whose ask failed
-pub told-first : (failed : List ℕ) (asker : ℕ) (ports new : OpenPorts) → slice_get failed 0 ≡ Some asker → new ≡ record ports { ports = change_port asker (tell (Refuses HelperRefused)) ports.ports } → (let v : OpenPorts = record new { ports = tell_each (Refuses HelperLost) (drop 1 failed) new.ports } in v) ≡ record ports { ports = tell_each (Refuses HelperLost) failed ports.ports }
-told-first [] asker ports new first new_is = absurd (cc)
-told-first (other ∷ failed) asker ports new first new_is =
-    let same : other ≡ asker = cc in
-    ap (λ (v : OpenPorts). let w : OpenPorts = record v { ports = tell_each (Refuses HelperLost) failed v.ports } in w) new_is
-    ∙ ap (λ n. let w : OpenPorts = record ports { ports = tell_each (Refuses HelperLost) failed (change_port n (tell (Refuses HelperLost)) ports.ports) } in w) (sym same)
+-- the asks from one on are that one and those behind it
+pub drop-ask : (asks : List Ask) (i : ℕ) (one : Ask) → i < length asks → one ≡ get_or asks i one
+    → drop i asks ≡ one ∷ drop (i + 1) asks
+drop-ask asks i one within is = drop_more asks i one within ∙ ap (λ (o : Ask). o ∷ drop (i + 1) asks) (sym is)
 
--- none is left
-pub none_failed : (failed : List ℕ) → slice_get failed 0 ≡ None → failed ≡ []
-none_failed [] none = refl
-none_failed (asker ∷ failed) none = absurd (cc)
-
--- one fewer is left
-pub fewer_failed : (failed : List ℕ) (asker : ℕ) → slice_get failed 0 ≡ Some asker → length (drop 1 failed) < length failed
-fewer_failed [] asker first = absurd (cc)
-fewer_failed (other ∷ failed) asker first = omega arith
+-- and so is what is told behind one whose ask failed
+pub refused-more : (one : Ask) (later all : List Ask) (ports new : OpenPorts) → all ≡ one ∷ later
+    → new ≡ record ports { ports = change_port one.asker (tell (Refuses HelperLost)) ports.ports }
+    → (let v : OpenPorts = record new { ports = tell_each (Refuses HelperLost) (askers later) new.ports } in v)
+    ≡ record ports { ports = tell_each (Refuses HelperLost) (askers all) ports.ports }
+refused-more one later all ports new all_is new_is =
+    ap (λ (v : OpenPorts). let w : OpenPorts = record v { ports = tell_each (Refuses HelperLost) (askers later) v.ports } in w) new_is
+    ∙ ap (λ (s : List Ask). let w : OpenPorts = record ports { ports = tell_each (Refuses HelperLost) (askers s) ports.ports } in w) (sym all_is)
 
 -- the next answer is short, and those behind it
 pub short-at : (one : Settled) (later all : List Settled) → all ≡ one ∷ later → AreShortAnswers all → IsShortAnswer one.answer × AreShortAnswers later

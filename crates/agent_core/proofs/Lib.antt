@@ -1,7 +1,6 @@
 pub mod PlaceLemmas
 pub mod HeldLemmas
 pub mod SeenLemmas
-pub mod ClosedLemmas
 pub mod ConfirmerLemmas
 pub mod LookLemmas
 pub mod OwingLemmas

@@ -26,20 +26,20 @@ no_role None going is some = absurd (cc)
 no_role (Some port) going is some = absurd (cc)
 
 -- an event at a port is by who is there
-pub heard-as : (number : ℕ) (piece : List ℕ) (port : Port) (role : Role) (state : State) → find_port number state.ports ≡ Some port → role_of port.door port.number state.under_way ≡ role → (handle (Heard number piece) state).state ≡ (heard_by_role role port piece state).state
+pub heard-as : (number : ℕ) (piece : List ℕ) (port : Port) (role : Role) (state : State) → find_port number state.ports ≡ Some port → role_of port.door port.number state.under_way ≡ role → handle (Heard number piece) state ≡ heard_by_role role port piece state
 heard-as number piece port role state found is =
-    ap (λ (o : Option Port). (heard_at o piece state).state) found
-    ∙ ap (λ (r : Role). (heard_by_role r port piece state).state) is
+    ap (λ (o : Option Port). heard_at o piece state) found
+    ∙ ap (λ (r : Role). heard_by_role r port piece state) is
 
-pub took-as : (number count : ℕ) (port : Port) (role : Role) (state : State) → find_port number state.ports ≡ Some port → role_of port.door port.number state.under_way ≡ role → (handle (Took number count) state).state ≡ (took_by_role role port.number count state).state
+pub took-as : (number count : ℕ) (port : Port) (role : Role) (state : State) → find_port number state.ports ≡ Some port → role_of port.door port.number state.under_way ≡ role → handle (Took number count) state ≡ took_by_role role port.number count state
 took-as number count port role state found is =
-    ap (λ (o : Option Port). (took_at o count state).state) found
-    ∙ ap (λ (r : Role). (took_by_role r port.number count state).state) is
+    ap (λ (o : Option Port). took_at o count state) found
+    ∙ ap (λ (r : Role). took_by_role r port.number count state) is
 
-pub ended-as : (number : ℕ) (port : Port) (role : Role) (state : State) → find_port number state.ports ≡ Some port → role_of port.door port.number state.under_way ≡ role → (handle (Ended number) state).state ≡ (ended_by_role role port.number state).state
+pub ended-as : (number : ℕ) (port : Port) (role : Role) (state : State) → find_port number state.ports ≡ Some port → role_of port.door port.number state.under_way ≡ role → handle (Ended number) state ≡ ended_by_role role port.number state
 ended-as number port role state found is =
-    ap (λ (o : Option Port). (ended_at o state).state) found
-    ∙ ap (λ (r : Role). (ended_by_role r port.number state).state) is
+    ap (λ (o : Option Port). ended_at o state) found
+    ∙ ap (λ (r : Role). ended_by_role r port.number state) is
 
 -- ---- the helper
 

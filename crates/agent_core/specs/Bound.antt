@@ -23,15 +23,8 @@ AreSilent (asker ∷ others) ports =
     × AreSilent others (change_port asker (tell (Refuses HelperLost)) ports)
 
 -- the agent between two events: who waits is tied to the asks and the confirmations, whose clients and child processes
--- are open, what is verified is judged as it was, and each failed ask was handed out
+-- are open, and what is verified is judged as it was
 pub record IsAtRest (state : State) : Type 0 where
-  pub tied : IsTied state
-  pub attended : IsAttended state
-  pub judged : IsJudged state
-  pub failed : state.under_way.link.failed ≡ []
-
--- the same but for the asks that failed
-pub record IsCalm (state : State) : Type 0 where
   pub tied : IsTied state
   pub attended : IsAttended state
   pub judged : IsJudged state

@@ -1,4 +1,3 @@
-pub mod Closed
 pub mod Happenings
 pub mod Listed
 pub mod Owing

@@ -2,12 +2,14 @@
 
 ghost use Rattle.std.specs.Prelude.{◌≡◌, ◌↔◌, IsOk, IsSome, IsTrue, OnErr, OnOk, length};
 ghost use Rattle.identity_table.specs.Identities.{IsSound};
+ghost use Rattle.agent_model.specs.Actions.{stepped};
 ghost use Rattle.agent_model.specs.Sound.{IsSteady};
-ghost use Rattle.agent_model.specs.State.{Fits, client_count, find_port, first_state, next_due, next_owed, owed_of, starts, wants};
+ghost use Rattle.agent_model.specs.State.{Fits, client_count, find_port, next_due, next_owed, owed_of, starts, wants};
 ghost use Rattle.agent_model.specs.Step.{step};
 ghost use Rattle.agent_core.specs.Bound.{WantsNoMemory};
 ghost use Rattle.agent_core.specs.Happenings.{happening};
 ghost use Rattle.agent_core.specs.Owing.{is_client_at, next_child_owed};
+ghost use Rattle.agent_core.specs.Parts.{opening};
 
 use crate::keys::Keys;
 use crate::parts::Parts;
@@ -29,20 +31,20 @@ pub struct Agent {
 }
 
 impl Model for Agent {
-    ghost use Rattle.agent_model.specs.State.{State};
+    ghost use Rattle.agent_model.specs.Actions.{Stepped};
     ghost use Rattle.agent_core.specs.Bound.{IsAtRest};
 
-    ghost Value = { State };
+    ghost Value = { Stepped };
 
     ghost view = { λ a. a.parts };
 
-    ghost invariant = { λ a. IsAtRest a.parts };
+    ghost invariant = { λ a. IsAtRest a.parts.state };
 }
 
 impl Agent {
     /// An agent that holds nothing and to which nobody is connected. Takes no memory.
     pub fn new(alloc: Global, settings: Settings) -> Agent
-        ensures { result ≡ first_state settings.default_life }
+        ensures { result ≡ opening settings.default_life }
     {
         Agent {
             alloc,
@@ -58,7 +60,7 @@ impl Agent {
     /// Whether the event may come now: the port that it names is open, a piece isn't empty, a port takes at least one
     /// byte and no more than it is owed, and the job that it names waits to be started.
     pub fn fits(&self, event: &Event<'_>) -> bool
-        ensures { IsTrue result ↔ Fits (happening event.now) self.now }
+        ensures { IsTrue result ↔ Fits (happening event.now) self.now.state }
     {
         match *event {
             Event::Joined(_) => self.parts.ports.last() < u64::MAX,
@@ -79,11 +81,11 @@ impl Agent {
     /// Where memory runs out, all that was held and owed is wiped, and the agent is as a new one: the run is over,
     /// and it is to be dropped.
     pub fn step(&mut self, moment: Moment, event: &Event<'_>) -> Result<(), CoreMemory>
-        requires { Fits (happening event.now) self.old }
+        requires { Fits (happening event.now) self.old.state }
         ensures stepped { OnOk result
-            (self.new ≡ (step self.old moment (happening event.now)).state) }
+            (self.new ≡ stepped (step self.old.state moment (happening event.now))) }
         ensures succeeds { WantsNoMemory (happening event.now) → IsOk result }
-        ensures wiped { OnErr result (self.new ≡ first_state self.old.held.table.life) }
+        ensures wiped { OnErr result (self.new ≡ opening self.old.state.held.table.life) }
     {
         let default_life = self.parts.keys.default_life();
         let stepped = self.parts.take(moment, event);
@@ -95,52 +97,52 @@ impl Agent {
 
     /// What the port is owed: nothing where it isn't open.
     pub fn owed(&self, port: u64) -> &[u8]
-        ensures { result.now ≡ owed_of port self.now }
+        ensures { result.now ≡ owed_of port self.now.state }
     {
         self.parts.owed(port)
     }
 
     /// The open port of the least number above `after` that is owed bytes.
     pub fn next_owed(&self, after: u64) -> Option<u64>
-        ensures next { result ≡ next_owed after self.now }
-        ensures steady { IsSteady self.now }
+        ensures next { result ≡ next_owed after self.now.state }
+        ensures steady { IsSteady self.now.state }
     {
         self.parts.next_owed(after)
     }
 
     /// The open port of the least number above `after` that is a child process's and owed bytes.
     pub fn next_child_owed(&self, after: u64) -> Option<u64>
-        ensures next { result ≡ next_child_owed after self.now }
-        ensures steady { IsSteady self.now }
+        ensures next { result ≡ next_child_owed after self.now.state }
+        ensures steady { IsSteady self.now.state }
     {
         self.parts.next_child_owed(after)
     }
 
     /// Whether the port is to be read: not where it isn't open, and not while a request of it waits to be taken.
     pub fn wants(&self, port: u64) -> bool
-        ensures { result ≡ wants port self.now }
+        ensures { result ≡ wants port self.now.state }
     {
         self.parts.ports.wants(port)
     }
 
     /// Whether the port is open.
     pub fn is_port(&self, port: u64) -> bool
-        ensures { IsTrue result ↔ IsSome (find_port port self.now.ports) }
+        ensures { IsTrue result ↔ IsSome (find_port port self.now.state.ports) }
     {
         self.parts.ports.is_open(port)
     }
 
     /// Whether the port is open and a client's.
     pub fn is_client(&self, port: u64) -> bool
-        ensures value { result ≡ is_client_at (find_port port self.now.ports) }
-        ensures steady { IsSteady self.now }
+        ensures value { result ≡ is_client_at (find_port port self.now.state.ports) }
+        ensures steady { IsSteady self.now.state }
     {
         self.parts.ports.is_client(port)
     }
 
     /// The child processes that wait to be started.
     pub fn starts(&self) -> &[Job]
-        ensures { result.now ≡ starts self.now }
+        ensures { result.now ≡ starts self.now.state }
     {
         self.parts.under_way.starts()
     }
@@ -154,14 +156,14 @@ impl Agent {
 
     /// The first second from which an identity is dead, or `None` where the clock comes to none.
     pub fn next_due(&self) -> Option<u64>
-        ensures { result ≡ next_due self.now }
+        ensures { result ≡ next_due self.now.state }
     {
         self.parts.keys.next_death()
     }
 
     /// The greatest second of the monotonic clock so far, 0 before the first event.
     pub fn second(&self) -> u64
-        ensures { result ≡ self.now.moment.mono }
+        ensures { result ≡ self.now.state.moment.mono }
     {
         self.parts.keys.second()
     }
@@ -169,30 +171,30 @@ impl Agent {
     /// How many identities are held. Each has its own blob and its own number, one message lists them all, and no
     /// private string is longer than a message.
     pub fn held(&self) -> usize
-        ensures value { result ≡ length self.now.held.table.identities }
-        ensures sound { IsSound self.now.held.table.identities self.now.held.table.last }
+        ensures value { result ≡ length self.now.state.held.table.identities }
+        ensures sound { IsSound self.now.state.held.table.identities self.now.state.held.table.last }
     {
         self.parts.keys.len()
     }
 
     /// How many clients are connected.
     pub fn clients(&self) -> usize
-        ensures { result ≡ client_count self.now.ports }
+        ensures { result ≡ client_count self.now.state.ports }
     {
         self.parts.ports.clients()
     }
 
     /// How often the helper was lost: it stays at 2^64 - 1.
     pub fn link_faults(&self) -> u64
-        ensures { result ≡ self.now.under_way.link.faults }
+        ensures { result ≡ self.now.state.under_way.link.faults }
     {
         self.parts.under_way.link_faults()
     }
 
     /// The number of the last port that joined, 0 where none did.
     pub fn ports_so_far(&self) -> u64
-        ensures value { result ≡ self.now.last_port }
-        ensures steady { IsSteady self.now }
+        ensures value { result ≡ self.now.state.last_port }
+        ensures steady { IsSteady self.now.state }
     {
         self.parts.ports.last()
     }

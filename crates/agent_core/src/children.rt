@@ -1,6 +1,6 @@
 //! Child processes that haven't named themselves.
 
-ghost use Rattle.std.specs.Prelude.{◌≡◌, ◌≤◌, ◌+◌, ℕ, List, [], None, Some, IfSome, IsSome, OnOk, length};
+ghost use Rattle.std.specs.Prelude.{◌≡◌, ◌≤◌, ◌+◌, [], None, Some, IfSome, IsSome, OnOk, length};
 ghost use Rattle.child_msg.specs.Reading.{from_child_of};
 ghost use Rattle.frame_core.specs.Looks.{front_of};
 ghost use Rattle.wire_text.specs.Frames.{Whole, after_front, front, front_body};
@@ -8,9 +8,8 @@ ghost use Rattle.agent_model.specs.Children.{first_message, unnamed_heard};
 ghost use Rattle.agent_model.specs.State.{Port, find_port};
 ghost use Rattle.agent_model.specs.Asking.{JobsRise};
 ghost use Rattle.confirm_desk.specs.Confirmations.{find_linked};
-ghost use Rattle.agent_core.specs.Closed.{IsClosedSince};
 ghost use Rattle.agent_core.specs.Bound.{AreHeldFor, IsBound};
-ghost use Rattle.agent_core.specs.Parts.{state_of};
+ghost use Rattle.agent_core.specs.Parts.{after, parts_of, state_of};
 ghost use Rattle.agent_core.specs.Settlings.{IsNamed, named_job};
 ghost use Rattle.agent_core.specs.Slots.{heard_in};
 
@@ -39,15 +38,10 @@ pub fn hear_unnamed(
     requires held { AreHeldFor under_way.old.confirmations ports.old.ports }
     requires free { find_linked number under_way.old.confirmations ≡ None }
     requires jobs { JobsRise 0 under_way.old.confirmations under_way.old.last_job }
-    requires failed { under_way.old.link.failed ≡ [] }
 
-    ensures state { (port : Port) (c : List ℕ)
-        → find_port number ports.old.ports ≡ Some port → OnOk result
-        (state_of wall keys.now under_way.new ports.new c
-        ≡ (unnamed_heard port.heard piece.now number (state_of wall keys.now under_way.old ports.old c)).state) }
-    ensures closed { (last : ℕ) (began : List Port) → IsClosedSince last began ports.old
-        → OnOk result (IsClosedSince last began ports.new) }
-    ensures failed { OnOk result (under_way.new.link.failed ≡ []) }
+    ensures { (port : Port) → find_port number ports.old.ports ≡ Some port → OnOk result
+        (parts_of wall keys.now under_way.new ports.new ≡ after ports.old.closed
+        (unnamed_heard port.heard piece.now number (state_of wall keys.now under_way.old ports.old))) }
 {
     ports.push(number, piece)?;
     match first_frame(ports, number) {
@@ -83,16 +77,11 @@ fn take_first(
     requires held { AreHeldFor under_way.old.confirmations ports.old.ports }
     requires free { find_linked number under_way.old.confirmations ≡ None }
     requires jobs { JobsRise 0 under_way.old.confirmations under_way.old.last_job }
-    requires failed { under_way.old.link.failed ≡ [] }
 
-    ensures state { (port : Port) (c : List ℕ)
-        → find_port number ports.old.ports ≡ Some port → OnOk result
-        (state_of wall keys.now under_way.new ports.new c
-        ≡ (first_message (from_child_of (front_body body_len port.heard)) number (after_front body_len port.heard)
-        (state_of wall keys.now under_way.old ports.old c)).state) }
-    ensures closed { (last : ℕ) (began : List Port) → IsClosedSince last began ports.old
-        → OnOk result (IsClosedSince last began ports.new) }
-    ensures failed { OnOk result (under_way.new.link.failed ≡ []) }
+    ensures { (port : Port) → find_port number ports.old.ports ≡ Some port → OnOk result
+        (parts_of wall keys.now under_way.new ports.new ≡ after ports.old.closed
+        (first_message (from_child_of (front_body body_len port.heard)) number (after_front body_len port.heard)
+        (state_of wall keys.now under_way.old ports.old))) }
 {
     let Some(job) = job_named(under_way, first_body(ports.heard(number), body_len)) else {
         ports.close_open(number);

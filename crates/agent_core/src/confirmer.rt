@@ -1,18 +1,17 @@
 //! What comes of a confirmation: the user's consent, or its end without it.
 
-ghost use Rattle.std.specs.Prelude.{◌≡◌, ◌≤◌, ℕ, List, [], IsSome, IsSomeAnd, OnOk, Some, length};
+ghost use Rattle.std.specs.Prelude.{◌≡◌, ◌≤◌, ℕ, [], IsSome, IsSomeAnd, OnOk, Some, length};
 ghost use Rattle.std.specs.Option.{option_map};
 ghost use Rattle.confirm_desk.specs.Calls.{given_back};
 ghost use Rattle.confirm_desk.specs.Confirmations.{Confirmation, find_asker, find_job, find_linked, job_of};
 ghost use Rattle.agent_model.specs.Asking.{JobsRise};
-ghost use Rattle.agent_model.specs.Children.{closed};
+ghost use Rattle.agent_model.specs.Children.{shut_then};
 ghost use Rattle.agent_model.specs.Consents.{confirmer_heard, grant_concluded, over, over_if};
 ghost use Rattle.agent_model.specs.KeyStates.{KeyState};
 ghost use Rattle.wire_text.specs.Bounds.{longest_body};
 ghost use Rattle.agent_model.specs.State.{Port, UnderWay as AnUnderWay, find_port};
-ghost use Rattle.agent_core.specs.Closed.{IsClosedSince};
 ghost use Rattle.agent_core.specs.Confirmers.{AreQuiet, IsHeldFor, grant_of};
-ghost use Rattle.agent_core.specs.Parts.{state_of};
+ghost use Rattle.agent_core.specs.Parts.{after, parts_of, state_of};
 
 use crate::CoreMemory;
 use crate::granted::{conclude, put_granted};
@@ -32,14 +31,10 @@ pub fn hear_confirmer(
 ) -> Result<(), CoreMemory>
     requires asker { IsSomeAnd (find_linked number under_way.old.confirmations)
         (λ one. IsHeldFor one ports.old.ports) }
-    requires failed { under_way.old.link.failed ≡ [] }
 
-    ensures state { (c : List ℕ) (one : Confirmation) → find_linked number under_way.old.confirmations ≡ Some one
-        → OnOk result (state_of wall keys.now under_way.new ports.new c
-        ≡ (confirmer_heard one piece.now (state_of wall keys.now under_way.old ports.old c)).state) }
-    ensures closed { (last : ℕ) (began : List Port) → IsClosedSince last began ports.old
-        → OnOk result (IsClosedSince last began ports.new) }
-    ensures failed { OnOk result (under_way.new.link.failed ≡ []) }
+    ensures { (one : Confirmation) → find_linked number under_way.old.confirmations ≡ Some one
+        → OnOk result (parts_of wall keys.now under_way.new ports.new ≡ after ports.old.closed
+        (confirmer_heard one piece.now (state_of wall keys.now under_way.old ports.old))) }
 {
     match under_way.confirmer_told(number, piece)? {
         Verdict::NotYet => Ok(()),
@@ -63,16 +58,12 @@ fn grant(
     requires is_open { IsSome (find_port held.now.asker ports.old.ports) }
     requires silent { (port : Port) → find_port held.now.asker ports.old.ports ≡ Some port → port.owed ≡ [] }
     requires short { length held.now.message ≤ longest_body }
-    requires failed { under_way.old.link.failed ≡ [] }
 
-    ensures state { (c : List ℕ) (going : AnUnderWay) (port : Port) (one : Confirmation)
+    ensures { (going : AnUnderWay) (port : Port) (one : Confirmation)
         → find_port held.now.asker ports.old.ports ≡ Some port → given_back one ≡ held.now → one.port ≡ Some number
-        → OnOk result (state_of wall keys.now under_way.new ports.new c
-        ≡ (grant_concluded (grant_of port.chain one wall keys.now under_way.old) one
-        (state_of wall keys.now going ports.old c)).state) }
-    ensures closed { (last : ℕ) (began : List Port) → IsClosedSince last began ports.old
-        → OnOk result (IsClosedSince last began ports.new) }
-    ensures failed { OnOk result (under_way.new.link.failed ≡ []) }
+        → OnOk result (parts_of wall keys.now under_way.new ports.new ≡ after ports.old.closed
+        (grant_concluded (grant_of port.chain one wall keys.now under_way.old) one
+        (state_of wall keys.now going ports.old))) }
 {
     let asked = put_granted(ports, under_way, keys, wall, held)?;
     conclude(ports, Some(number), held.asker, asked);
@@ -85,11 +76,9 @@ pub fn end_confirmation(ports: &mut Ports, under_way: &mut UnderWay, job: u64)
     requires silent { IsSomeAnd (find_job job under_way.old.confirmations) (λ one. (port : Port)
         → find_port one.asker ports.old.ports ≡ Some port → port.owed ≡ []) }
 
-    ensures state { (wall : ℕ) (keys : KeyState) (c : List ℕ) (one : Confirmation)
-        → find_job job under_way.old.confirmations ≡ Some one → state_of wall keys under_way.new ports.new c
-        ≡ (over one (state_of wall keys under_way.old ports.old c)).state }
-    ensures closed { (last : ℕ) (began : List Port) → IsClosedSince last began ports.old
-        → IsClosedSince last began ports.new }
+    ensures parts { (wall : ℕ) (keys : KeyState) (one : Confirmation)
+        → find_job job under_way.old.confirmations ≡ Some one → parts_of wall keys under_way.new ports.new
+        ≡ after ports.old.closed (over one (state_of wall keys under_way.old ports.old)) }
     ensures link { under_way.new.link ≡ under_way.old.link }
 {
     let confirmer = confirmer_of(under_way, job);
@@ -111,11 +100,9 @@ fn confirmer_of(under_way: &UnderWay, job: u64) -> Option<u64>
 pub fn lose_client(ports: &mut Ports, under_way: &mut UnderWay, number: u64)
     requires order { JobsRise 0 under_way.old.confirmations under_way.old.last_job }
 
-    ensures state { (wall : ℕ) (keys : KeyState) (c : List ℕ) → state_of wall keys under_way.new ports.new c
-        ≡ (over_if (find_asker number under_way.old.confirmations)
-        (closed number (state_of wall keys under_way.old ports.old c))).state }
-    ensures closed { (last : ℕ) (began : List Port) → IsClosedSince last began ports.old
-        → IsClosedSince last began ports.new }
+    ensures parts { (wall : ℕ) (keys : KeyState) → parts_of wall keys under_way.new ports.new
+        ≡ after ports.old.closed (shut_then number (over_if (find_asker number under_way.old.confirmations))
+        (state_of wall keys under_way.old ports.old)) }
     ensures link { under_way.new.link ≡ under_way.old.link }
 {
     ports.close_open(number);
@@ -137,11 +124,9 @@ pub fn lose_confirmer(ports: &mut Ports, under_way: &mut UnderWay, number: u64)
     requires order { JobsRise 0 under_way.old.confirmations under_way.old.last_job }
     requires quiet { AreQuiet under_way.old.confirmations ports.old.ports }
 
-    ensures state { (wall : ℕ) (keys : KeyState) (c : List ℕ) (one : Confirmation)
-        → find_linked number under_way.old.confirmations ≡ Some one → state_of wall keys under_way.new ports.new c
-        ≡ (over one (closed number (state_of wall keys under_way.old ports.old c))).state }
-    ensures closed { (last : ℕ) (began : List Port) → IsClosedSince last began ports.old
-        → IsClosedSince last began ports.new }
+    ensures parts { (wall : ℕ) (keys : KeyState) (one : Confirmation)
+        → find_linked number under_way.old.confirmations ≡ Some one → parts_of wall keys under_way.new ports.new
+        ≡ after ports.old.closed (shut_then number (over one) (state_of wall keys under_way.old ports.old)) }
     ensures link { under_way.new.link ≡ under_way.old.link }
 {
     ports.close_open(number);
@@ -156,10 +141,9 @@ pub fn lose_confirmer(ports: &mut Ports, under_way: &mut UnderWay, number: u64)
 pub fn end_if(ports: &mut Ports, under_way: &mut UnderWay, job: u64)
     requires quiet { AreQuiet under_way.old.confirmations ports.old.ports }
 
-    ensures state { (wall : ℕ) (keys : KeyState) (c : List ℕ) → state_of wall keys under_way.new ports.new c
-        ≡ (over_if (find_job job under_way.old.confirmations) (state_of wall keys under_way.old ports.old c)).state }
-    ensures closed { (last : ℕ) (began : List Port) → IsClosedSince last began ports.old
-        → IsClosedSince last began ports.new }
+    ensures parts { (wall : ℕ) (keys : KeyState) → parts_of wall keys under_way.new ports.new
+        ≡ after ports.old.closed (over_if (find_job job under_way.old.confirmations)
+        (state_of wall keys under_way.old ports.old)) }
     ensures link { under_way.new.link ≡ under_way.old.link }
 {
     match under_way.find_confirmation(job) {

@@ -1,16 +1,16 @@
 //! What is tested again when the user consents.
 
-ghost use Rattle.std.specs.Prelude.{◌≡◌, ◌≤◌, ℕ, List, [], IfOk, IfSome, IsSome, OnOk, Some, is_none, length};
+ghost use Rattle.std.specs.Prelude.{◌≡◌, ◌≤◌, ℕ, [], IfOk, IfSome, IsSome, OnOk, Some, is_none, length};
 ghost use Rattle.std.specs.Option.{option_copied};
 ghost use Rattle.dest_rule.specs.Rules.{denial_under};
 ghost use Rattle.confirm_desk.specs.Calls.{given_back};
 ghost use Rattle.confirm_desk.specs.Confirmations.{Confirmation};
-ghost use Rattle.agent_model.specs.Consents.{close_confirmer};
+ghost use Rattle.agent_model.specs.Consents.{close_confirmer, confirmer_closes};
+ghost use Rattle.agent_model.specs.NumberLists.{put_all};
 ghost use Rattle.wire_text.specs.Bounds.{longest_body};
 ghost use Rattle.agent_model.specs.State.{Port, change_port, find_port};
 ghost use Rattle.agent_model.specs.Verdicts.{Verdict, tell};
 ghost use Rattle.under_way.specs.Parts.{TellsOf};
-ghost use Rattle.agent_core.specs.Closed.{IsClosedSince};
 ghost use Rattle.agent_core.specs.Confirmers.{IsGrant, IsShortKey, grant_of, granted_by};
 
 use crate::CoreMemory;
@@ -63,12 +63,10 @@ pub fn put_granted(
 ) -> Result<Option<u64>, CoreMemory>
     requires is_open { IsSome (find_port held.now.asker ports.now.ports) }
     requires short { length held.now.message ≤ longest_body }
-    requires failed { under_way.old.link.failed ≡ [] }
 
     ensures put { (port : Port) (one : Confirmation) → find_port held.now.asker ports.now.ports ≡ Some port
         → given_back one ≡ held.now → IfOk result (λ asked. IsGrant asked under_way.new
         (grant_of port.chain one wall keys.now under_way.old)) }
-    ensures failed { OnOk result (under_way.new.link.failed ≡ []) }
 {
     let Some(chain) = ports.chain(held.asker) else {
         unreachable!()
@@ -85,11 +83,10 @@ pub fn put_granted(
 pub fn conclude(ports: &mut Ports, confirmer: Option<u64>, asker: u64, asked: Option<u64>)
     requires silent { (port : Port) → find_port asker ports.old.ports ≡ Some port → port.owed ≡ [] }
 
-    ensures ports { (verdict : Verdict) → TellsOf verdict asked → ports.new.ports
-        ≡ change_port asker (tell verdict) (close_confirmer confirmer ports.old.ports) }
-    ensures last { ports.new.last ≡ ports.old.last }
-    ensures closed { (last : ℕ) (began : List Port) → IsClosedSince last began ports.old
-        → IsClosedSince last began ports.new }
+    ensures { (verdict : Verdict) → TellsOf verdict asked → ports.new ≡ record ports.old {
+      ports = change_port asker (tell verdict) (close_confirmer confirmer ports.old.ports);
+      closed = put_all ports.old.closed (confirmer_closes confirmer ports.old.ports);
+    } }
 {
     close_confirmer(ports, confirmer);
     ports.conclude(asker, asked);
@@ -97,10 +94,10 @@ pub fn conclude(ports: &mut Ports, confirmer: Option<u64>, asker: u64, asked: Op
 
 // Closes the port of a confirmer, where that came and is open.
 fn close_confirmer(ports: &mut Ports, confirmer: Option<u64>)
-    ensures ports { ports.new.ports ≡ close_confirmer confirmer ports.old.ports }
-    ensures last { ports.new.last ≡ ports.old.last }
-    ensures closed { (last : ℕ) (began : List Port) → IsClosedSince last began ports.old
-        → IsClosedSince last began ports.new }
+    ensures ports { ports.new ≡ record ports.old {
+      ports = close_confirmer confirmer ports.old.ports;
+      closed = put_all ports.old.closed (confirmer_closes confirmer ports.old.ports);
+    } }
     ensures left { (number : ℕ) (port : Port) → find_port number ports.new.ports ≡ Some port
         → find_port number ports.old.ports ≡ Some port }
 {

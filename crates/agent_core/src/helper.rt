@@ -1,21 +1,20 @@
 //! What comes of the helper: its answers, and its loss.
 
-ghost use Rattle.std.specs.Prelude.{◌≡◌, ◌≢◌, ℕ, List, [], IsSome, OnOk};
-ghost use Rattle.helper_link.specs.HelperLink.{IsStarting, askers};
-ghost use Rattle.agent_model.specs.Answers.{find_verification, helper_heard, link_lost, lose, remove_verification, tell_each};
+ghost use Rattle.std.specs.Prelude.{◌≡◌, ◌≢◌, ℕ, [], IsSome, OnOk};
+ghost use Rattle.helper_link.specs.HelperLink.{IsStarting, askers, lost};
+ghost use Rattle.agent_model.specs.Answers.{find_verification, helper_heard, lose, remove_verification, tell_each};
 ghost use Rattle.agent_model.specs.KeyStates.{KeyState};
 ghost use Rattle.agent_model.specs.Sound.{IsRising};
 ghost use Rattle.agent_model.specs.State.{Port, change_port, find_port};
 ghost use Rattle.agent_model.specs.Verdicts.{HelperLost, Refuses};
 ghost use Rattle.agent_core.specs.Bound.{AreSilent, IsBound};
-ghost use Rattle.agent_core.specs.Closed.{IsClosedSince};
-ghost use Rattle.agent_core.specs.Parts.{state_of};
+ghost use Rattle.agent_core.specs.Parts.{after, parts_of, state_of};
 ghost use Rattle.under_way.specs.Parts.{HasNoHelper};
 ghost use Rattle.agent_core.specs.Settlings.{AreProvable, AreShortAnswers, IsProvable, IsShortAnswer, answered, told_with, unanswered};
 
 use crate::CoreMemory;
 use crate::ports::Ports;
-use helper_link::{Answer, LinkState, Settled};
+use helper_link::{Answer, Ask, LinkState, Settled};
 use under_way::UnderWay;
 
 /// The helper sent more: each asker is told its answer, and at a fault of the stream the helper is lost.
@@ -28,14 +27,9 @@ pub fn hear_helper(
     requires linked { under_way.old.link.state ≡ LinkState.Linked helper }
     requires is_open { IsSome (find_port helper ports.old.ports) }
     requires bound { IsBound ports.old.ports under_way.old }
-    requires failed { under_way.old.link.failed ≡ [] }
 
-    ensures state { (wall : ℕ) (keys : KeyState) (c : List ℕ) → OnOk result
-        (state_of wall keys under_way.new ports.new c
-        ≡ (helper_heard piece.now (state_of wall keys under_way.old ports.old c)).state) }
-    ensures closed { (last : ℕ) (began : List Port) → IsClosedSince last began ports.old
-        → OnOk result (IsClosedSince last began ports.new) }
-    ensures failed { OnOk result (under_way.new.link.failed ≡ []) }
+    ensures { (wall : ℕ) (keys : KeyState) → OnOk result (parts_of wall keys under_way.new ports.new
+        ≡ after ports.old.closed (helper_heard piece.now (state_of wall keys under_way.old ports.old))) }
 {
     let told = under_way.helper_told(piece)?;
     answer_all(ports, under_way, told.settled.as_slice())?;
@@ -53,14 +47,10 @@ pub fn lose_helper(ports: &mut Ports, under_way: &mut UnderWay, helper: u64)
     requires linked { under_way.old.link.state ≡ LinkState.Linked helper }
     requires is_open { IsSome (find_port helper ports.old.ports) }
     requires bound { IsBound ports.old.ports under_way.old }
-    requires failed { under_way.old.link.failed ≡ [] }
 
-    ensures state { (wall : ℕ) (keys : KeyState) (c : List ℕ) → state_of wall keys under_way.new ports.new c
-        ≡ (lose (state_of wall keys under_way.old ports.old c)).state }
+    ensures parts { (wall : ℕ) (keys : KeyState) → parts_of wall keys under_way.new ports.new
+        ≡ after ports.old.closed (lose (state_of wall keys under_way.old ports.old)) }
     ensures rising { IsRising 0 ports.old.last ports.old.ports }
-    ensures closed { (last : ℕ) (began : List Port) → IsClosedSince last began ports.old
-        → IsClosedSince last began ports.new }
-    ensures failed { under_way.new.link.failed ≡ [] }
 {
     ports.close(helper);
     lose_link(ports, under_way);
@@ -71,17 +61,26 @@ pub fn lose_link(ports: &mut Ports, under_way: &mut UnderWay)
     requires some { under_way.old.link.state ≢ LinkState.None }
     requires jobs { IsStarting under_way.old.link.state → HasNoHelper under_way.old }
     requires silent { AreSilent (askers under_way.old.link.asks) ports.old.ports }
-    requires failed { under_way.old.link.failed ≡ [] }
 
     ensures ports { ports.new ≡ record ports.old {
       ports = tell_each (Refuses HelperLost) (askers under_way.old.link.asks) ports.old.ports;
     } }
     ensures under_way { under_way.new
-        ≡ record under_way.old { link = link_lost under_way.old.link; verifications = [] } }
+        ≡ record under_way.old { link = lost under_way.old.link; verifications = [] } }
 {
-    under_way.lose();
-    'askers: while let Some(asker) = under_way.next_failed() {
-        ports.refuse(asker);
+    let failed = under_way.lose();
+    refuse_all(ports, failed.as_slice());
+}
+
+// Tells who asked that the helper is lost, in the order of the asks. Takes no memory.
+fn refuse_all(ports: &mut Ports, asks: &[Ask])
+    requires { AreSilent (askers asks.now) ports.old.ports }
+    ensures { ports.new ≡ record ports.old {
+      ports = tell_each (Refuses HelperLost) (askers asks.now) ports.old.ports;
+    } }
+{
+    for ask in asks {
+        ports.conclude(ask.asker, None);
     }
 }
 

@@ -108,13 +108,11 @@ impl Keys {
     ) -> Result<Waits, CoreMemory>
         requires nothing { owed.old ≡ [] }
         requires short { length body.now ≤ longest_body }
-        requires failed { under_way.old.link.failed ≡ [] }
         requires alone { find_asker asker.now.port under_way.old.confirmations ≡ None }
 
         ensures keys { OnOk result (self.new ≡ (served_body asker.now body.now self.old under_way.old).held) }
         ensures under_way { OnOk result
             (under_way.new ≡ (served_body asker.now body.now self.old under_way.old).work.under_way) }
-        ensures failed { OnOk result (under_way.new.link.failed ≡ []) }
         ensures reply { OnOk result
             (owed.new ≡ verdict_text (served_body asker.now body.now self.old under_way.old).work.verdict) }
         ensures waits { IfOk result (λ waits.

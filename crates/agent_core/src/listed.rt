@@ -5,7 +5,7 @@ ghost use Rattle.wire_text.specs.Frames.{Whole, front_body};
 ghost use Rattle.agent_model.specs.Answers.{prove};
 ghost use Rattle.agent_model.specs.Looks.{due};
 ghost use Rattle.agent_model.specs.Step.{attempts, take_frame, took_some};
-ghost use Rattle.agent_model.specs.Verdicts.{HelperLost, Refuses, Verdict, tell};
+ghost use Rattle.agent_model.specs.Verdicts.{Verdict, tell};
 ghost use Rattle.under_way.specs.Parts.{TellsOf};
 ghost use Rattle.lists.specs.Rising.{IsRisingList, inserted};
 ghost use Rattle.agent_core.specs.Listed.{noted};
@@ -64,7 +64,6 @@ pub fn serve_at(
     body_len: u32,
 ) -> Result<(), CoreMemory>
     requires due { due (port_of slot.old) ≡ Whole body_len }
-    requires failed { under_way.old.link.failed ≡ [] }
     requires alone { find_asker slot.old.number under_way.old.confirmations ≡ None }
     requires rising { IsRisingList owing.old.items }
     requires room { length (inserted slot.old.number owing.old.items) ≤ vec_capacity owing.old }
@@ -75,7 +74,6 @@ pub fn serve_at(
     ensures keys { OnOk result (keys.new ≡ (served_at body_len wall (port_of slot.old) keys.old under_way.old).held) }
     ensures under_way { OnOk result
         (under_way.new ≡ (served_at body_len wall (port_of slot.old) keys.old under_way.old).work.under_way) }
-    ensures failed { OnOk result (under_way.new.link.failed ≡ []) }
     ensures number { slot.new.number ≡ slot.old.number }
     ensures door { slot.new.door ≡ slot.old.door }
     ensures items { owing.new.items ≡ noted (is_owing (port_of slot.new)) slot.old.number owing.old.items }
@@ -124,23 +122,7 @@ pub fn tell_at(slot: &mut Slot, owing: &mut Vec<u64>, answer: &Answer) -> Result
     told
 }
 
-/// Tells a client that waits that the helper is lost, and lists it. Takes no memory.
-pub fn refuse_at(slot: &mut Slot, owing: &mut Vec<u64>)
-    requires silent { slot.old.owed ≡ [] }
-    requires rising { IsRisingList owing.old.items }
-    requires room { length (inserted slot.old.number owing.old.items) ≤ vec_capacity owing.old }
-
-    ensures port { port_of slot.new ≡ tell (Refuses HelperLost) (port_of slot.old) }
-    ensures number { slot.new.number ≡ slot.old.number }
-    ensures door { slot.new.door ≡ slot.old.door }
-    ensures items { owing.new.items ≡ noted (is_owing (port_of slot.new)) slot.old.number owing.old.items }
-    ensures room { vec_capacity owing.old ≤ vec_capacity owing.new }
-{
-    slot::refuse(slot);
-    note_owed(slot, owing);
-}
-
-/// Lets an asker wait for an ask, or tells it that there is none, and lists it. Takes no memory.
+/// Lets an asker wait for an ask, or tells it that there is none any more, and lists it. Takes no memory.
 pub fn conclude_at(slot: &mut Slot, owing: &mut Vec<u64>, asked: Option<u64>)
     requires silent { slot.old.owed ≡ [] }
     requires rising { IsRisingList owing.old.items }

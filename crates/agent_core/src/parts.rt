@@ -1,15 +1,16 @@
 //! The agent's state in storage, and what each event does to it.
 
-ghost use Rattle.std.specs.Prelude.{◌≡◌, ℕ, List, [], IsOk, IsSome, OnOk};
+ghost use Rattle.std.specs.Prelude.{◌≡◌, [], IsOk, IsSome, OnOk};
+ghost use Rattle.agent_model.specs.Actions.{stepped};
 ghost use Rattle.agent_model.specs.Children.{changed, heard_more};
 ghost use Rattle.agent_model.specs.Events.{Ended, Heard, Joined, StartFailed, Started, Took};
 ghost use Rattle.agent_model.specs.Sound.{IsSteady, IsTied};
 ghost use Rattle.agent_model.specs.State.{Fits, find_port, next_owed, owed_of};
-ghost use Rattle.agent_model.specs.Step.{closed_between, handle, looked, step};
-ghost use Rattle.agent_core.specs.Bound.{IsCalm, WantsNoMemory};
+ghost use Rattle.agent_model.specs.Step.{handle, looked, step};
+ghost use Rattle.agent_core.specs.Bound.{IsAtRest, WantsNoMemory};
 ghost use Rattle.agent_core.specs.Happenings.{happening};
 ghost use Rattle.agent_core.specs.Owing.{next_child_owed};
-ghost use Rattle.agent_core.specs.Parts.{with_closes};
+ghost use Rattle.agent_core.specs.Parts.{after};
 
 use crate::children::hear_unnamed;
 use crate::confirmer::{end_if, hear_confirmer, lose_client, lose_confirmer};
@@ -39,24 +40,23 @@ pub struct Parts {
 }
 
 impl Model for Parts {
-    ghost use Rattle.agent_model.specs.State.{State};
-    ghost use Rattle.agent_core.specs.Parts.{state_of};
+    ghost use Rattle.agent_model.specs.Actions.{Stepped};
+    ghost use Rattle.agent_core.specs.Parts.{parts_of};
 
-    ghost Value = { State };
+    ghost Value = { Stepped };
 
-    ghost view = { λ c. state_of c.wall c.keys c.under_way c.ports c.ports.closed };
+    ghost view = { λ c. parts_of c.wall c.keys c.under_way c.ports };
 }
 
 impl Parts {
     /// Takes one event at a moment.
     pub fn take(&mut self, moment: Moment, event: &Event<'_>) -> Result<(), CoreMemory>
-        requires fits { Fits (happening event.now) self.old }
-        requires calm { IsCalm self.old }
-        requires failed { self.old.under_way.link.failed ≡ [] }
+        requires fits { Fits (happening event.now) self.old.state }
+        requires rest { IsAtRest self.old.state }
 
-        ensures stepped { OnOk result (self.new ≡ (step self.old moment (happening event.now)).state) }
+        ensures stepped { OnOk result
+            (self.new ≡ stepped (step self.old.state moment (happening event.now))) }
         ensures succeeds { WantsNoMemory (happening event.now) → IsOk result }
-        ensures failed { OnOk result (self.new.under_way.link.failed ≡ []) }
     {
         self.wall = moment.wall;
         self.keys.expire(self.keys.second().max(moment.mono));
@@ -66,7 +66,7 @@ impl Parts {
 
     /// What the port is owed: nothing where it isn't open.
     pub fn owed(&self, port: u64) -> &[u8]
-        ensures { result.now ≡ owed_of port self.now }
+        ensures { result.now ≡ owed_of port self.now.state }
     {
         match role_at(&self.ports, &self.under_way, port) {
             Some(Role::Client) => self.ports.owed(port),
@@ -79,9 +79,9 @@ impl Parts {
 
     /// The open port of the least number above `after` that is owed bytes.
     pub fn next_owed(&self, after: u64) -> Option<u64>
-        requires { IsCalm self.now }
-        ensures next { result ≡ next_owed after self.now }
-        ensures steady { IsSteady self.now }
+        requires { IsAtRest self.now.state }
+        ensures next { result ≡ next_owed after self.now.state }
+        ensures steady { IsSteady self.now.state }
     {
         let client = self.ports.next_owed(after);
         let child = self.next_child_owed(after);
@@ -90,9 +90,9 @@ impl Parts {
 
     /// The open port of the least number above `after` that is a child process's and owed bytes.
     pub fn next_child_owed(&self, after: u64) -> Option<u64>
-        requires { IsCalm self.now }
-        ensures next { result ≡ next_child_owed after self.now }
-        ensures steady { IsSteady self.now }
+        requires { IsAtRest self.now.state }
+        ensures next { result ≡ next_child_owed after self.now.state }
+        ensures steady { IsSteady self.now.state }
     {
         let helper = owed_helper_above(&self.ports, &self.under_way, after);
         let confirmer = self.under_way.next_confirmer_owed(after);
@@ -101,16 +101,13 @@ impl Parts {
 
     // Takes one event after its moment.
     fn handle(&mut self, event: &Event<'_>) -> Result<(), CoreMemory>
-        requires fits { Fits (happening event.now) self.old }
-        requires calm { IsCalm self.old }
-        requires failed { self.old.under_way.link.failed ≡ [] }
+        requires fits { Fits (happening event.now) self.old.state }
+        requires rest { IsAtRest self.old.state }
         requires closes { self.old.closes ≡ [] }
 
-        ensures state { (c : List ℕ) → OnOk result (with_closes c self.new
-            ≡ (handle (happening event.now) (with_closes c self.old)).state) }
-        ensures closes { OnOk result (self.new.closes ≡ closed_between self.old self.new) }
+        ensures handled { OnOk result
+            (self.new ≡ after self.old.closes (handle (happening event.now) self.old.state)) }
         ensures succeeds { WantsNoMemory (happening event.now) → IsOk result }
-        ensures failed { OnOk result (self.new.under_way.link.failed ≡ []) }
     {
         match *event {
             Event::Joined(door) => self.join(door),
@@ -134,13 +131,11 @@ impl Parts {
 
     // A client or a child process joins.
     fn join(&mut self, door: Door) -> Result<(), CoreMemory>
-        requires fits { Fits (Joined door) self.old }
+        requires fits { Fits (Joined door) self.old.state }
         requires closes { self.old.closes ≡ [] }
 
-        ensures state { (c : List ℕ) → OnOk result (with_closes c self.new
-            ≡ (handle (Joined door) (with_closes c self.old)).state) }
-        ensures closes { OnOk result (self.new.closes ≡ closed_between self.old self.new) }
-        ensures under_way { self.new.under_way ≡ self.old.under_way }
+        ensures { OnOk result
+            (self.new ≡ after self.old.closes (handle (Joined door) self.old.state)) }
     {
         let has_room = match door {
             Door::Clients => self.ports.clients() < MOST_CLIENTS,
@@ -151,15 +146,11 @@ impl Parts {
 
     // A port sent more.
     fn hear(&mut self, port: u64, piece: &[u8]) -> Result<(), CoreMemory>
-        requires is_open { IsSome (find_port port self.old.ports) }
-        requires calm { IsCalm self.old }
-        requires failed { self.old.under_way.link.failed ≡ [] }
-        requires closes { self.old.closes ≡ [] }
+        requires is_open { IsSome (find_port port self.old.state.ports) }
+        requires rest { IsAtRest self.old.state }
 
-        ensures state { (c : List ℕ) → OnOk result (with_closes c self.new
-            ≡ (handle (Heard port piece.now) (with_closes c self.old)).state) }
-        ensures closes { OnOk result (self.new.closes ≡ closed_between self.old self.new) }
-        ensures failed { OnOk result (self.new.under_way.link.failed ≡ []) }
+        ensures { OnOk result
+            (self.new ≡ after self.old.closes (handle (Heard port piece.now) self.old.state)) }
     {
         match role_at(&self.ports, &self.under_way, port) {
             Some(Role::Client) => self.hear_client(port, piece),
@@ -186,15 +177,11 @@ impl Parts {
 
     // A client sent more.
     fn hear_client(&mut self, port: u64, piece: &[u8]) -> Result<(), CoreMemory>
-        requires is_open { IsSome (find_port port self.old.ports) }
-        requires calm { IsCalm self.old }
-        requires failed { self.old.under_way.link.failed ≡ [] }
-        requires closes { self.old.closes ≡ [] }
+        requires is_open { IsSome (find_port port self.old.state.ports) }
+        requires rest { IsAtRest self.old.state }
 
-        ensures state { (c : List ℕ) → OnOk result (with_closes c self.new
-            ≡ (looked port (changed port (heard_more piece.now) (with_closes c self.old))).state) }
-        ensures closes { OnOk result (self.new.closes ≡ closed_between self.old self.new) }
-        ensures failed { OnOk result (self.new.under_way.link.failed ≡ []) }
+        ensures { OnOk result (self.new ≡ after self.old.closes
+            (looked port (changed port (heard_more piece.now) self.old.state))) }
     {
         self.ports.push(port, piece)?;
         self.look(port)
@@ -202,15 +189,11 @@ impl Parts {
 
     // A port took some of what it is owed.
     fn send(&mut self, port: u64, count: usize) -> Result<(), CoreMemory>
-        requires fits { Fits (Took port count) self.old }
-        requires calm { IsCalm self.old }
-        requires failed { self.old.under_way.link.failed ≡ [] }
-        requires closes { self.old.closes ≡ [] }
+        requires fits { Fits (Took port count) self.old.state }
+        requires rest { IsAtRest self.old.state }
 
-        ensures state { (c : List ℕ) → OnOk result (with_closes c self.new
-            ≡ (handle (Took port count) (with_closes c self.old)).state) }
-        ensures closes { OnOk result (self.new.closes ≡ closed_between self.old self.new) }
-        ensures failed { OnOk result (self.new.under_way.link.failed ≡ []) }
+        ensures { OnOk result
+            (self.new ≡ after self.old.closes (handle (Took port count) self.old.state)) }
     {
         match role_at(&self.ports, &self.under_way, port) {
             Some(Role::Client) => {
@@ -232,15 +215,10 @@ impl Parts {
 
     // A port has ended.
     fn end(&mut self, port: u64)
-        requires is_open { IsSome (find_port port self.old.ports) }
-        requires calm { IsCalm self.old }
-        requires failed { self.old.under_way.link.failed ≡ [] }
-        requires closes { self.old.closes ≡ [] }
+        requires is_open { IsSome (find_port port self.old.state.ports) }
+        requires rest { IsAtRest self.old.state }
 
-        ensures state { (c : List ℕ) → with_closes c self.new
-            ≡ (handle (Ended port) (with_closes c self.old)).state }
-        ensures closes { self.new.closes ≡ closed_between self.old self.new }
-        ensures failed { self.new.under_way.link.failed ≡ [] }
+        ensures { self.new ≡ after self.old.closes (handle (Ended port) self.old.state) }
     {
         match role_at(&self.ports, &self.under_way, port) {
             Some(Role::Client) => lose_client(&mut self.ports, &mut self.under_way, port),
@@ -253,28 +231,19 @@ impl Parts {
 
     // A child process was started.
     fn start(&mut self, job: u64, ticket: [u8; 16])
-        requires fits { Fits (Started job ticket) self.old }
-        requires closes { self.old.closes ≡ [] }
+        requires fits { Fits (Started job ticket) self.old.state }
 
-        ensures state { (c : List ℕ) → with_closes c self.new
-            ≡ (handle (Started job ticket) (with_closes c self.old)).state }
-        ensures closes { self.new.closes ≡ closed_between self.old self.new }
-        ensures link { self.new.under_way.link ≡ self.old.under_way.link }
+        ensures { self.new ≡ after self.old.closes (handle (Started job ticket) self.old.state) }
     {
         self.under_way.job_started(job, ticket);
     }
 
     // A child process could not be started.
     fn fail(&mut self, job: u64)
-        requires fits { Fits (StartFailed job) self.old }
-        requires calm { IsCalm self.old }
-        requires failed { self.old.under_way.link.failed ≡ [] }
-        requires closes { self.old.closes ≡ [] }
+        requires fits { Fits (StartFailed job) self.old.state }
+        requires rest { IsAtRest self.old.state }
 
-        ensures state { (c : List ℕ) → with_closes c self.new
-            ≡ (handle (StartFailed job) (with_closes c self.old)).state }
-        ensures closes { self.new.closes ≡ closed_between self.old self.new }
-        ensures failed { self.new.under_way.link.failed ≡ [] }
+        ensures { self.new ≡ after self.old.closes (handle (StartFailed job) self.old.state) }
     {
         match self.under_way.job_failed(job) {
             JobKind::Helper => lose_link(&mut self.ports, &mut self.under_way),
@@ -284,14 +253,9 @@ impl Parts {
 
     // Takes the first request of a client where it is whole, and closes its port where its length is bad.
     fn look(&mut self, port: u64) -> Result<(), CoreMemory>
-        requires tied { IsTied self.old }
-        requires failed { self.old.under_way.link.failed ≡ [] }
-        requires closes { self.old.closes ≡ [] }
+        requires tied { IsTied self.old.state }
 
-        ensures state { (c : List ℕ) → OnOk result (with_closes c self.new
-            ≡ (looked port (with_closes c self.old)).state) }
-        ensures closes { OnOk result (self.new.closes ≡ closed_between self.old self.new) }
-        ensures failed { OnOk result (self.new.under_way.link.failed ≡ []) }
+        ensures { OnOk result (self.new ≡ after self.old.closes (looked port self.old.state)) }
     {
         match self.ports.due(port) {
             Look::Whole { body } => self

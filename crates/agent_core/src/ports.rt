@@ -1,17 +1,18 @@
 //! The open ports.
 
-ghost use Rattle.std.specs.Prelude.{◌≡◌, ◌↔◌, ℕ, List, ◌-◌, ◌^◌, ◌<◌, ◌≤◌, [], ◌∷◌, true, if◌then◌else◌, suc, false, None, Some, IsSome, IsTrue, MatchOption, OnOk, length};
+ghost use Rattle.std.specs.Prelude.{◌≡◌, ◌↔◌, ◌-◌, ◌^◌, ◌<◌, ◌≤◌, [], true, suc, false, None, Some, IsSome, IsTrue, MatchOption, OnOk, length};
 ghost use Rattle.wire_text.specs.Frames.{Whole, front_body};
 ghost use Rattle.frame_core.specs.Looks.{front_of};
+ghost use Rattle.agent_model.specs.Actions.{closing};
 ghost use Rattle.agent_model.specs.Answers.{prove};
 ghost use Rattle.agent_model.specs.Children.{heard_more, unheard};
 ghost use Rattle.agent_model.specs.Looks.{due_by};
+ghost use Rattle.agent_model.specs.NumberLists.{put_all};
 ghost use Rattle.agent_model.specs.Sound.{IsRising};
 ghost use Rattle.agent_model.specs.State.{Port, change_port, client_count, find_port, remove_port, unnamed_count, wants_by};
-ghost use Rattle.agent_model.specs.Step.{admitted, attempts, gone, take_frame, took_some};
-ghost use Rattle.agent_model.specs.Verdicts.{HelperLost, Refuses, Verdict, tell};
+ghost use Rattle.agent_model.specs.Step.{admitted, attempts, take_frame, took_some, turned_away};
+ghost use Rattle.agent_model.specs.Verdicts.{Verdict, tell};
 ghost use Rattle.under_way.specs.Parts.{TellsOf};
-ghost use Rattle.agent_core.specs.Closed.{IsClosedSince};
 ghost use Rattle.lists.specs.Rising.{first_above, inserted};
 ghost use Rattle.agent_core.specs.Owing.{is_client_at};
 ghost use Rattle.agent_core.specs.Roles.{door_by};
@@ -22,7 +23,7 @@ ghost use Rattle.agent_core.specs.Slots.{chain_of, heard_in, owed_in, owing_of, 
 ghost use Rattle.under_way.specs.Verifications.{verification_of};
 
 use crate::keys::Keys;
-use crate::listed::{conclude_at, drop_sent_at, prove_at, refuse_at, serve_at, tell_at};
+use crate::listed::{conclude_at, drop_sent_at, prove_at, serve_at, tell_at};
 use crate::owed::Owed;
 use crate::places::place_of;
 use crate::slot::{self, Slot};
@@ -175,13 +176,11 @@ impl Ports {
         requires some { has_room ≡ false → 0 < length self.old.ports }
         requires closed { self.old.closed ≡ [] }
 
-        ensures ports { OnOk result (self.new ≡ record {
+        ensures { OnOk result (self.new ≡ record {
           ports = admitted has_room (suc self.old.last) door self.old.ports;
           last = suc self.old.last;
-          closed = if has_room then [] else suc self.old.last ∷ [];
+          closed = turned_away has_room (suc self.old.last);
         }) }
-        ensures closed { OnOk result (self.new.closed
-            ≡ gone self.old.last self.old.ports self.new.last self.new.ports) }
     {
         if has_room {
             self.admit(door)?;
@@ -254,7 +253,6 @@ impl Ports {
         body_len: u32,
     ) -> Result<(), CoreMemory>
         requires due { due_by (find_port number self.old.ports) ≡ Whole body_len }
-        requires failed { under_way.old.link.failed ≡ [] }
         requires alone { find_asker number under_way.old.confirmations ≡ None }
 
         ensures ports { (port : Port) → find_port number self.old.ports ≡ Some port
@@ -267,7 +265,6 @@ impl Ports {
             → OnOk result (keys.new ≡ (served_at body_len wall port keys.old under_way.old).held) }
         ensures under_way { (port : Port) → find_port number self.old.ports ≡ Some port
             → OnOk result (under_way.new ≡ (served_at body_len wall port keys.old under_way.old).work.under_way) }
-        ensures failed { OnOk result (under_way.new.link.failed ≡ []) }
     {
         let Some(place) = place_of(&self.slots, number) else {
             unreachable!()
@@ -310,20 +307,6 @@ impl Ports {
         }
     }
 
-    /// Tells a client that waits that the helper is lost: nobody, where it has left. Takes no memory.
-    pub fn refuse(&mut self, number: u64)
-        requires { (port : Port) → find_port number self.old.ports ≡ Some port → port.owed ≡ [] }
-
-        ensures { self.new ≡ record self.old {
-          ports = change_port number (tell (Refuses HelperLost)) self.old.ports;
-        } }
-    {
-        match place_of(&self.slots, number) {
-            Some(place) => refuse_at(&mut self.slots[place], &mut self.owing),
-            None => {}
-        }
-    }
-
     /// Closes a port. What it was owed and what was heard of it is wiped. Takes no memory.
     pub fn close(&mut self, number: u64)
         requires { IsSome (find_port number self.old.ports) }
@@ -332,7 +315,6 @@ impl Ports {
           ports = remove_port number self.old.ports;
           closed = inserted number self.old.closed;
         } }
-        ensures gone { gone self.old.last self.old.ports self.new.last self.new.ports ≡ number ∷ [] }
         ensures rising { IsRising 0 self.old.last self.old.ports }
     {
         let Some(place) = place_of(&self.slots, number) else {
@@ -380,8 +362,6 @@ impl Ports {
           ports = admitted true (suc self.old.last) door self.old.ports;
           last = suc self.old.last;
         }) }
-        ensures gone { OnOk result
-            (gone self.old.last self.old.ports self.new.last self.new.ports ≡ []) }
     {
         let alloc = *self.slots.allocator();
         let owed = Owed::new(alloc)?;
@@ -416,7 +396,8 @@ impl Ports {
         }
     }
 
-    /// Lets an asker wait for an ask, or tells it that there is none: nobody, where it has left. Takes no memory.
+    /// Lets an asker wait for an ask, or tells it that there is none any more: nobody, where it has left. Takes no
+    /// memory.
     pub fn conclude(&mut self, number: u64, asked: Option<u64>)
         requires { (port : Port) → find_port number self.old.ports ≡ Some port → port.owed ≡ [] }
 
@@ -432,10 +413,10 @@ impl Ports {
 
     /// Closes a port, where it is open. What it was owed and what was heard of it is wiped. Takes no memory.
     pub fn close_open(&mut self, number: u64)
-        ensures ports { self.new.ports ≡ remove_port number self.old.ports }
-        ensures last { self.new.last ≡ self.old.last }
-        ensures closed { (last : ℕ) (ports : List Port) → IsClosedSince last ports self.old
-            → IsClosedSince last ports self.new }
+        ensures ports { self.new ≡ record self.old {
+          ports = remove_port number self.old.ports;
+          closed = put_all self.old.closed (closing number self.old.ports []);
+        } }
         ensures rising { IsRising 0 self.old.last self.old.ports }
     {
         if self.has(number) {

@@ -40,14 +40,12 @@ pub fn answer(
 ) -> Result<Waits, CoreMemory>
     requires nothing { owed.old ≡ [] }
     requires short { length body.now ≤ longest_body }
-    requires failed { under_way.old.link.failed ≡ [] }
     requires alone { find_asker asker.now.port under_way.old.confirmations ≡ None }
 
     ensures keys { OnOk result (keys_of table.new lock.new
         ≡ (served_body asker.now body.now (keys_of table.old lock.old) under_way.old).held) }
     ensures under_way { OnOk result (under_way.new
         ≡ (served_body asker.now body.now (keys_of table.old lock.old) under_way.old).work.under_way) }
-    ensures failed { OnOk result (under_way.new.link.failed ≡ []) }
     ensures reply { OnOk result (owed.new ≡ verdict_text
         (served_body asker.now body.now (keys_of table.old lock.old) under_way.old).work.verdict) }
     ensures waits { IfOk result (λ waits. waits_of waits ≡ verdict_waits
@@ -120,7 +118,6 @@ fn sign(
     flags: u32,
 ) -> Result<Option<Waits>, CoreMemory>
     requires short { length blob.now + length message.now ≤ longest_body }
-    requires failed { under_way.old.link.failed ≡ [] }
     requires alone { find_asker asker.now.port under_way.old.confirmations ≡ None }
 
     ensures keys { (served_by asker.now (Sign record { blob = blob.now; message = message.now; flags = flags })
@@ -131,7 +128,6 @@ fn sign(
     ensures told { IfOk result (TellsWait (served_by asker.now
         (Sign record { blob = blob.now; message = message.now; flags = flags })
         (keys_of table.now lock.now) under_way.old).work.verdict) }
-    ensures failed { OnOk result (under_way.new.link.failed ≡ []) }
 {
     if lock.is_locked() {
         return Ok(None);
@@ -154,14 +150,12 @@ fn sign_with(
 ) -> Result<Option<Waits>, CoreMemory>
     requires short { 25 + length key.now.private + length key.now.blob + length message.now ≤ 1048576 }
     requires message { length message.now ≤ longest_body }
-    requires failed { under_way.old.link.failed ≡ [] }
     requires alone { find_asker port under_way.old.confirmations ≡ None }
 
     ensures under_way { OnOk result (under_way.new ≡ (sign_work key.now.confirm port key.now message.now flags
         under_way.old).under_way) }
     ensures told { IfOk result (TellsWait
         (sign_work key.now.confirm port key.now message.now flags under_way.old).verdict) }
-    ensures failed { OnOk result (under_way.new.link.failed ≡ []) }
 {
     if key.confirm() {
         let job = under_way.ask_user(port, key, message, flags)?;
@@ -203,7 +197,6 @@ fn bind(
     forwarding: bool,
 ) -> Result<Option<u64>, CoreMemory>
     requires short { length host_key.now + length session.now + length signature.now ≤ longest_body }
-    requires failed { under_way.old.link.failed ≡ [] }
 
     ensures keys { (table : TableState) → (served_by asker.now (binds host_key.now session.now signature.now forwarding)
         (keys_of table lock.now) under_way.old).held ≡ keys_of table lock.now }
@@ -213,7 +206,6 @@ fn bind(
     ensures told { (table : TableState) → IfOk result (TellsOf (served_by asker.now
         (binds host_key.now session.now signature.now forwarding)
         (keys_of table lock.now) under_way.old).work.verdict) }
-    ensures failed { OnOk result (under_way.new.link.failed ≡ []) }
 {
     if lock.is_locked() || read_public(host_key).is_err() {
         return Ok(None);

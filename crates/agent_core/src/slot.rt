@@ -10,7 +10,7 @@ ghost use Rattle.agent_model.specs.Looks.{due};
 ghost use Rattle.agent_model.specs.State.{wants_at};
 ghost use Rattle.agent_model.specs.Step.{attempts, take_frame, took_some};
 ghost use Rattle.confirm_desk.specs.Confirmations.{find_asker};
-ghost use Rattle.agent_model.specs.Verdicts.{HelperLost, Refuses, Verdict, tell};
+ghost use Rattle.agent_model.specs.Verdicts.{Verdict, tell};
 ghost use Rattle.under_way.specs.Parts.{TellsOf};
 ghost use Rattle.agent_core.specs.Served.{served_at};
 ghost use Rattle.agent_core.specs.Settlings.{IsShortAnswer, verdict_of};
@@ -125,7 +125,6 @@ pub fn serve(
     body_len: u32,
 ) -> Result<(), CoreMemory>
     requires due { due (port_of slot.old) ≡ Whole body_len }
-    requires failed { under_way.old.link.failed ≡ [] }
     requires alone { find_asker slot.old.number under_way.old.confirmations ≡ None }
 
     ensures port { OnOk result (port_of slot.new ≡ tell
@@ -134,7 +133,6 @@ pub fn serve(
     ensures keys { OnOk result (keys.new ≡ (served_at body_len wall (port_of slot.old) keys.old under_way.old).held) }
     ensures under_way { OnOk result
         (under_way.new ≡ (served_at body_len wall (port_of slot.old) keys.old under_way.old).work.under_way) }
-    ensures failed { OnOk result (under_way.new.link.failed ≡ []) }
     ensures number { slot.new.number ≡ slot.old.number }
     ensures door { slot.new.door ≡ slot.old.door }
 {
@@ -217,17 +215,6 @@ pub fn first_body(heard: &[u8], body_len: u32) -> &[u8]
 {
     let end = body_len as usize + 4;
     &heard[4..end]
-}
-
-/// Owes a failure, and waits no more. Takes no memory.
-pub fn refuse(slot: &mut Slot)
-    requires { slot.old.owed ≡ [] }
-    ensures port { port_of slot.new ≡ tell (Refuses HelperLost) (port_of slot.old) }
-    ensures number { slot.new.number ≡ slot.old.number }
-    ensures door { slot.new.door ≡ slot.old.door }
-{
-    slot.owed.put_status(false);
-    slot.waits = Waits::Nothing;
 }
 
 // Drops the frame at the front, and with the last byte the storage that a long one took.

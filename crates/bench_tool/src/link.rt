@@ -1,6 +1,6 @@
 //! Puts asks to a link and tells it the answers, for `bench/helper_link.sh`, which takes the time.
 
-ghost use Rattle.std.specs.Prelude.{◌≡◌, [], OnOk};
+ghost use Rattle.std.specs.Prelude.{OnOk};
 ghost use Rattle.helper_link.specs.HelperLink.{IsLinked};
 
 use helper_link::{AskFault, Link};
@@ -24,10 +24,8 @@ pub fn answered(alloc: Global, batches: u64) -> Result<u64, AllocError> {
 
 // Puts a batch of asks, sends their requests, and tells their answers.
 fn batch(alloc: Global, link: &mut Link) -> Result<u64, AllocError>
-    requires linked { IsLinked link.old.state }
-    requires failed { link.old.failed ≡ [] }
-    ensures linked { OnOk result (IsLinked link.new.state) }
-    ensures failed { OnOk result (link.new.failed ≡ []) }
+    requires { IsLinked link.old.state }
+    ensures { OnOk result (IsLinked link.new.state) }
 {
     let mut stream = Vec::new(alloc);
     'asks: for _ in 0..BATCH {
@@ -42,10 +40,8 @@ fn batch(alloc: Global, link: &mut Link) -> Result<u64, AllocError>
 }
 
 fn put(link: &mut Link) -> Result<u64, AskFault>
-    requires linked { IsLinked link.old.state }
-    requires failed { link.old.failed ≡ [] }
-    ensures linked { IsLinked link.new.state }
-    ensures failed { link.new.failed ≡ [] }
+    requires { IsLinked link.old.state }
+    ensures { IsLinked link.new.state }
 {
     link.ask_verify(1, &[1], &[2], &[3])
 }

@@ -49,7 +49,7 @@ happened-next : (event : Happening) (size : ℕ) (run after : Run) → 0 < size 
 happened-next event size run after some within counted agent_is line_is read_is accepted =
     let state = after_event after.moment after.agent event in
     let stepping = step-last_port after.agent after.moment event ∙ ap (λ (s : State). last_after event s.last_port) agent_is in
-    settling-next (event_lines after.agent state) size run (record after { agent = state }) some within counted
+    settling-next (event_lines after.moment after.agent event) size run (record after { agent = state }) some within counted
     (rw stepping (last_after-most event run.agent.last_port)) line_is read_is accepted
 
 -- the line of a port

@@ -2,6 +2,7 @@
 use Rattle.std.specs.Prelude.{◌≡◌, ℕ, true, List, ◌++◌, Option, None, Some}
 use Rattle.world_ports.specs.Causes.{Rose}
 use Rattle.world_ports.specs.Streams.{StreamView, WritesPart}
+use Rattle.agent_model.specs.Actions.{Stepped}
 use Rattle.agent_model.specs.State.{State}
 use Rattle.schedule_text.specs.declared.fault.LineFault.{LineFault}
 use Rattle.replay_run.specs.declared.run_end.RunEnd.{RunEnd}
@@ -52,6 +53,11 @@ Finishes (Refused line fault) old run before after = FinishesRefused line fault 
 Finishes Memory old run before after = WritesPart (ending_text old) before after
 Finishes ReadFault old run before after = ⊥
 Finishes WriteFault old run before after = FinishesAtWriteFault old before after
+
+-- the state of an agent, where one is handed back
+abbrev pub state_left : Option Stepped → Option State
+state_left None = None
+state_left (Some agent) = Some agent.state
 
 -- the agent is handed back where the schedule was run to its end or to a refused line
 abbrev pub agent_at : RunEnd → Run → Option State

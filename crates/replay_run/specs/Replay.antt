@@ -74,8 +74,8 @@ settling_turn output size run =
 -- the line's event, and the settling after it
 abbrev pub happened : Happening → ℕ → Run → Turned
 happened event size run =
-    let state = after_event run.moment run.agent event in
-    settling_turn (event_lines run.agent state) size (record run { agent = state })
+    settling_turn (event_lines run.moment run.agent event) size
+    (record run { agent = after_event run.moment run.agent event })
 
 -- what a line of a port brings, where that one is open
 abbrev pub at_port : Option Port → Turned → Run → Turned

@@ -13,6 +13,10 @@ use Rattle.replay_run.specs.Holding.{next_unheld}
 abbrev pub after_event : Moment → State → Happening → State
 after_event moment state event = (step state moment event).state
 
+-- and the ports that it closes, rising
+abbrev pub closed_at : Moment → State → Happening → List ℕ
+closed_at moment state event = (step state moment event).closes
+
 -- the state after a port took so many bytes
 abbrev pub sent : Moment → ℕ → ℕ → State → State
 sent moment port count state = after_event moment state (Took port count)
@@ -28,15 +32,15 @@ start_lines before [] = []
 start_lines before (job ∷ jobs) =
     (if is_some (find_to_start job.number before) then [] else start_line job) ++ start_lines before jobs
 
--- what an event prints, by the states before and after it: the jobs that are to be started since, and then the ports
--- that it closed
-abbrev pub event_lines : State → State → List ℕ
-event_lines old new = start_lines (starts old) (starts new) ++ close_lines new.closes
+-- what an event prints: the jobs that are to be started since, and then the ports that it closed
+abbrev pub event_lines : Moment → State → Happening → List ℕ
+event_lines moment state event =
+    start_lines (starts state) (starts (after_event moment state event)) ++ close_lines (closed_at moment state event)
 
 -- what a taking prints: the bytes, and then what comes of it
 abbrev pub sending_lines : Moment → ℕ → ℕ → State → List ℕ
 sending_lines moment port count state =
-    to_line port (take count (owed_of port state)) ++ event_lines state (sent moment port count state)
+    to_line port (take count (owed_of port state)) ++ event_lines moment state (Took port count)
 
 -- the state after a port took all that it was owed, and what that prints
 abbrev pub delivered : Moment → ℕ → State → State

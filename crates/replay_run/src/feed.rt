@@ -2,7 +2,7 @@
 ghost use Rattle.std.specs.Prelude.{◌≡◌, ◌∷◌, [], ◌++◌, ◌≤◌, ◌+◌, length, true};
 ghost use Rattle.std.specs.Prelude.{MatchOption, None, OnErr, OnOk};
 ghost use Rattle.world_ports.specs.Causes.{HasCause};
-ghost use Rattle.replay_run.specs.Finishing.{Finishes, agent_at, end_of};
+ghost use Rattle.replay_run.specs.Finishing.{Finishes, agent_at, end_of, state_left};
 ghost use Rattle.replay_run.specs.Replay.{last_turned, ending};
 ghost use Rattle.replay_run.specs.Feeding.{Wrote, start_feeding, IsReady, GoesOnFed, Halts, fed_so_far};
 ghost use Rattle.replay_run.specs.GoesOn.{HasNoLf, IsLineEnd, GoesOn};
@@ -247,7 +247,7 @@ impl Feed {
 
     /// The agent that was run, where the schedule was run to its end or to a refused line.
     pub fn into_agent(self, end: RunEnd) -> Option<Agent>
-        ensures { result ≡ agent_at end self.run }
+        ensures { state_left result ≡ agent_at end self.run }
     {
         match end {
             RunEnd::Done | RunEnd::Refused { .. } => {

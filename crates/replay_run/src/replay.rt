@@ -36,7 +36,7 @@ impl Model for Replay {
     ghost Value = { Run };
 
     ghost view = { λ r. record {
-      agent = r.agent;
+      agent = r.agent.state;
       moment = r.moment;
       held = r.held;
       line = r.line;
@@ -76,7 +76,7 @@ impl Replay {
 
     /// The agent that was run.
     pub fn into_agent(self) -> Agent
-        ensures { result ≡ self.agent }
+        ensures { result.state ≡ self.agent }
     {
         let Replay { agent, .. } = self;
         agent

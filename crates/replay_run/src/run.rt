@@ -2,7 +2,7 @@
 ghost use Rattle.std.specs.Prelude.{◌≡◌, ◌<◌, ℕ, IfOk, MatchOption, Option, length, vec_len};
 ghost use Rattle.replay_run.specs.Claims.{Seen, Ends, HandsBack};
 ghost use Rattle.replay_run.specs.Feeding.{IsReady};
-ghost use Rattle.replay_run.specs.Finishing.{agent_at};
+ghost use Rattle.replay_run.specs.Finishing.{agent_at, state_left};
 ghost use Rattle.replay_run.specs.Rounds.{IsLonger, IsUnderWay};
 ghost use Rattle.world_ports.specs.Streams.{OnlyReads, OnlyWrites};
 
@@ -58,7 +58,7 @@ fn run_rounds<I: Source, O: Sink>(
     ensures ends { Ends life result.0
         (record { input = I.seen input.old; output = O.seen output.old })
         (record { input = I.seen input.new; output = O.seen output.new }) }
-    ensures agent { HandsBack life result.0 result.1
+    ensures agent { HandsBack life result.0 (state_left result.1)
         (record { input = I.seen input.old; output = O.seen output.old })
         (record { input = I.seen input.new; output = O.seen output.new }) }
     ensures input_only { OnlyReads (I.seen input.old) (I.seen input.new) }
@@ -88,7 +88,7 @@ pub fn run_replay<I: Source, O: Sink>(
     ensures ends { Ends life result.0
         (record { input = I.seen input.old; output = O.seen output.old })
         (record { input = I.seen input.new; output = O.seen output.new }) }
-    ensures agent { HandsBack life result.0 result.1
+    ensures agent { HandsBack life result.0 (state_left result.1)
         (record { input = I.seen input.old; output = O.seen output.old })
         (record { input = I.seen input.new; output = O.seen output.new }) }
     ensures input_only { OnlyReads (I.seen input.old) (I.seen input.new) }

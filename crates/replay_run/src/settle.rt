@@ -49,10 +49,11 @@ pub fn run_event(
     event: &Event<'_>,
     out: &mut Vec<u8>,
 ) -> Result<(), CoreMemory>
-    requires { Fits (happening event.now) agent.old }
-    ensures agent { OnOk result (agent.new ≡ after_event moment agent.old (happening event.now)) }
+    requires { Fits (happening event.now) agent.old.state }
+    ensures agent { OnOk result
+        (agent.new.state ≡ after_event moment agent.old.state (happening event.now)) }
     ensures out { OnOk result (out.new.items ≡ out.old.items
-        ++ event_lines agent.old (after_event moment agent.old (happening event.now))) }
+        ++ event_lines moment agent.old.state (happening event.now)) }
 {
     let before = Vec::from_slice(alloc, agent.starts())?;
     agent.step(moment, event)?;
@@ -70,10 +71,10 @@ pub fn send(
     out: &mut Vec<u8>,
 ) -> Result<(), CoreMemory>
     requires some { 0 < count }
-    requires owed { count ≤ length (owed_of port agent.old) }
-    ensures agent { OnOk result (agent.new ≡ sent moment port count agent.old) }
+    requires owed { count ≤ length (owed_of port agent.old.state) }
+    ensures agent { OnOk result (agent.new.state ≡ sent moment port count agent.old.state) }
     ensures out { OnOk result
-        (out.new.items ≡ out.old.items ++ sending_lines moment port count agent.old) }
+        (out.new.items ≡ out.old.items ++ sending_lines moment port count agent.old.state) }
 {
     let bytes = &agent.owed(port)[..count];
     put_deed(out, &Deed::To { port, bytes })?;
@@ -82,8 +83,8 @@ pub fn send(
 
 // The open port of the least number that isn't held and is owed bytes.
 fn next_unheld(agent: &Agent, held: &Held) -> Option<u64>
-    ensures next { result ≡ next_to_take held.now agent.now }
-    ensures steady { IsSteady agent.now }
+    ensures next { result ≡ next_to_take held.now agent.now.state }
+    ensures steady { IsSteady agent.now.state }
 {
     let mut after = 0;
     'owed: while let Some(port) = agent.next_owed(after) {
@@ -103,9 +104,9 @@ pub fn settle(
     held: &Held,
     out: &mut Vec<u8>,
 ) -> Result<(), CoreMemory>
-    ensures agent { OnOk result (agent.new ≡ (settled moment held.now agent.old).agent) }
+    ensures agent { OnOk result (agent.new.state ≡ (settled moment held.now agent.old.state).agent) }
     ensures out { OnOk result
-        (out.new.items ≡ out.old.items ++ (settled moment held.now agent.old).output) }
+        (out.new.items ≡ out.old.items ++ (settled moment held.now agent.old.state).output) }
 {
     'takings: while let Some(port) = next_unheld(agent, held) {
         let count = agent.owed(port).len();

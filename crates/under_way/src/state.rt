@@ -1,11 +1,11 @@
 //! What is under way.
 
-ghost use Rattle.std.specs.Prelude.{◌≡◌, ◌≢◌, ◌↔◌, ◌+◌, ◌-◌, ◌^◌, ◌<◌, ◌≤◌, [], ◌++◌, ◌∷◌, ◌⊎◌, ℕ, List, IfOk, IsFalse, IsSome, IsSomeAnd, IsTrue, MatchOption, OnOk, if◌then◌else◌, length, slice_get, Some, None};
+ghost use Rattle.std.specs.Prelude.{◌≡◌, ◌≢◌, ◌↔◌, ◌+◌, ◌-◌, ◌^◌, ◌<◌, ◌≤◌, [], ◌++◌, ◌∷◌, ◌⊎◌, ℕ, List, IfOk, IsFalse, IsSome, IsSomeAnd, IsTrue, MatchOption, OnOk, if◌then◌else◌, length, Some, None};
 ghost use Rattle.std.specs.Option.{option_copied, option_map};
 ghost use Rattle.confirm_desk.specs.Calls.{given_back, held_of, next_owed, telling as desk_telling, took_at};
 ghost use Rattle.confirm_desk.specs.Sound.{IsSound};
 ghost use Rattle.confirm_desk.specs.Confirmations.{find_asker, find_job, find_linked, linked, owed_to, raise};
-ghost use Rattle.helper_link.specs.HelperLink.{IsLinked, IsStarting, handed_out, linked_to, lost, sendable, sent};
+ghost use Rattle.helper_link.specs.HelperLink.{IsLinked, IsStarting, linked_to, lost, sendable, sent};
 ghost use Rattle.helper_link.specs.Sound.{IsSound as IsLinkSound};
 ghost use Rattle.helper_link.specs.Telling.{telling};
 ghost use Rattle.agent_model.specs.Answers.{find_verification, remove_verification};
@@ -22,7 +22,7 @@ ghost use Rattle.under_way.specs.Verifications.{bind_of, verification_of};
 use crate::jobs::{Started, forget, is_among, place_of, place_of_started};
 use crate::verification::{Verification, place_of_verification};
 use confirm_desk::{Desk, Held, Pending, Verdict, prompt_for};
-use helper_link::{AskFault, Link, LinkState, Told};
+use helper_link::{Ask, AskFault, Link, LinkState, Told};
 use identity_table::Identity;
 use plain_lists::Bytes;
 use std::alloc::{AllocError, AllocFailed, Global};
@@ -139,14 +139,12 @@ impl UnderWay {
         message: &[u8],
         flags: u32,
     ) -> Result<Option<u64>, JobMemory>
-        requires failed { self.old.link.failed ≡ [] }
         requires short { 25 + length key.now.private + length key.now.blob + length message.now ≤ 1048576 }
 
         ensures work { OnOk result (self.new ≡ (put_ask (Signs key.now
             record { blob = key.now.blob; message = message.now; flags = flags }) asker self.old).under_way) }
         ensures told { IfOk result (TellsOf (put_ask (Signs key.now
             record { blob = key.now.blob; message = message.now; flags = flags }) asker self.old).verdict) }
-        ensures failed { OnOk result (self.new.link.failed ≡ []) }
     {
         if self.lacks_helper() {
             if self.is_spent() {
@@ -176,14 +174,12 @@ impl UnderWay {
         forwarding: bool,
         is_new: bool,
     ) -> Result<Option<u64>, JobMemory>
-        requires failed { self.old.link.failed ≡ [] }
         requires short { 21 + length host_key.now + length signature.now + length session.now ≤ 1048576 }
 
         ensures work { OnOk result (self.new ≡ (put_ask
             (Verifies (bind_of host_key.now session.now signature.now forwarding) is_new) asker self.old).under_way) }
         ensures told { IfOk result (TellsOf (put_ask
             (Verifies (bind_of host_key.now session.now signature.now forwarding) is_new) asker self.old).verdict) }
-        ensures failed { OnOk result (self.new.link.failed ≡ []) }
     {
         if self.lacks_helper() {
             if self.is_spent() {
@@ -297,23 +293,16 @@ impl UnderWay {
         Ok(self.link.told(piece)?)
     }
 
-    /// The helper is gone, or failed to start: `next_failed` gives the askers of what was unanswered, and nothing is to
-    /// be verified any more. Takes no memory.
-    pub fn lose(&mut self)
+    /// The helper is gone, or failed to start, and nothing is to be verified any more. Gives the unanswered asks: they
+    /// failed. Takes no memory.
+    pub fn lose(&mut self) -> Vec<Ask>
         requires some { self.old.link.state ≢ LinkState.None }
         requires jobs { IsStarting self.old.link.state → HasNoHelper self.old }
-        ensures { self.new ≡ record self.old { link = lost self.old.link; verifications = [] } }
+        ensures failed { result.items ≡ self.old.link.asks }
+        ensures left { self.new ≡ record self.old { link = lost self.old.link; verifications = [] } }
     {
-        self.link.lose();
         self.verifications.clear();
-    }
-
-    /// Hands out the asker of the first ask that failed. Takes no memory.
-    pub fn next_failed(&mut self) -> Option<u64>
-        ensures value { result ≡ slice_get self.old.link.failed 0 }
-        ensures link { self.new ≡ record self.old { link = handed_out self.old.link } }
-    {
-        self.link.next_failed()
+        self.link.lose()
     }
 }
 

@@ -1,15 +1,13 @@
-use Rattle.std.proofs.Common.{◌∙◌, ℕ, List, ap, refl, subst, sym}
+use Rattle.std.proofs.Common.{◌∙◌, ℕ, ap, refl, subst, sym}
 use Rattle.wire_text.specs.Frames.{Bad, More, Whole}
 use Rattle.confirm_desk.specs.Confirmations.{Confirmation}
 use Rattle.agent_model.specs.Children.{heard_more}
 use Rattle.agent_model.specs.State.{Port}
-use Rattle.agent_model.proofs.PortsLemmas.{numbers-change_port}
 use Rattle.agent_core.specs.Confirmers.{IsHeldFor}
 use Rattle.agent_core.specs.Slots.{OpenPorts}
 use Rattle.agent_core.proofs.BoundLemmas.{bound-pushed}
 use Rattle.agent_core.proofs.ChildLemmas.{held-changed, pushed_found, unnamed_state}
-use Rattle.agent_core.proofs.ClosedLemmas.{closed-changed}
-use Rattle.agent_core.proofs.ConfirmerLemmas.{closed_state}
+use Rattle.agent_core.proofs.ConfirmerLemmas.{closed_parts}
 use Rattle.agent_core.proofs.HeldLemmas.{after_ok}
 use Rattle.agent_core.proofs.HelperLemmas.{open-change_port}
 use Rattle.agent_core.proofs.children.hear_unnamed.Goals as goal
@@ -27,34 +25,20 @@ take_first-requires-clause-held c = λ (job : ℕ) (one : Confirmation) found.
     subst (λ ports. IsHeldFor one ports) (sym (ap (λ (v : OpenPorts). v.ports) c.in_ok-push.ensures.ports))
     (held-changed c.args.number (heard_more c.args.piece.now) c.args.ports.now.ports one one (λ p. refl) (λ p. refl) refl (c.requires.held job one found))
 
-pub returns-in-Whole-clause-state : goal.returns-in-Whole-clause-state
-returns-in-Whole-clause-state c = λ (port : Port) (closes : List ℕ) there.
+pub returns-in-Whole : goal.returns-in-Whole
+returns-in-Whole c = λ (port : Port) there.
     let old = c.args.ports.now in
     let mid = c.push.new.self in
     let pushed = c.in_ok-push.ensures.ports in
     after_ok c.take_first.result (λ told.
-    told ∙ unnamed_state c.args.wall c.args.keys.now c.args.under_way.now old mid closes c.args.number c.args.piece.now port (Whole c.in-Whole.body) there pushed c.in-Whole.ensures)
-    (c.take_first.ensures.state (heard_more c.args.piece.now port) closes (pushed_found old mid c.args.number c.args.piece.now port there pushed))
+    told ∙ unnamed_state c.args.wall c.args.keys.now c.args.under_way.now old mid c.args.number c.args.piece.now port (Whole c.in-Whole.body) there pushed c.in-Whole.ensures)
+    (c.take_first.ensures (heard_more c.args.piece.now port) (pushed_found old mid c.args.number c.args.piece.now port there pushed))
 
-pub returns-in-Whole-clause-closed : goal.returns-in-Whole-clause-closed
-returns-in-Whole-clause-closed c = λ (last : ℕ) (began : List Port) was.
-    c.take_first.ensures.closed last began
-    (closed-changed last began c.args.ports.now c.push.new.self _ c.in_ok-push.ensures.ports (numbers-change_port c.args.number (heard_more c.args.piece.now) c.args.ports.now.ports (λ p. refl)) was)
+pub returns-in-Bad : goal.returns-in-Bad
+returns-in-Bad c = λ (port : Port) there.
+    closed_parts c.args.wall c.args.keys.now c.args.under_way.now c.push.new.self c.close_open.new.self c.args.number c.close_open.ensures.ports
+    ∙ unnamed_state c.args.wall c.args.keys.now c.args.under_way.now c.args.ports.now c.push.new.self c.args.number c.args.piece.now port (Bad c.in-Bad.announced) there c.in_ok-push.ensures.ports c.in-Bad.ensures
 
-pub returns-in-Bad-clause-state : goal.returns-in-Bad-clause-state
-returns-in-Bad-clause-state c = λ (port : Port) (closes : List ℕ) there.
-    closed_state c.args.wall c.args.keys.now c.args.under_way.now c.push.new.self c.close_open.new.self closes c.args.number c.close_open.ensures.ports c.close_open.ensures.last
-    ∙ unnamed_state c.args.wall c.args.keys.now c.args.under_way.now c.args.ports.now c.push.new.self closes c.args.number c.args.piece.now port (Bad c.in-Bad.announced) there c.in_ok-push.ensures.ports c.in-Bad.ensures
-
-pub returns-in-Bad-clause-closed : goal.returns-in-Bad-clause-closed
-returns-in-Bad-clause-closed c = λ (last : ℕ) (began : List Port) was.
-    c.close_open.ensures.closed last began
-    (closed-changed last began c.args.ports.now c.push.new.self _ c.in_ok-push.ensures.ports (numbers-change_port c.args.number (heard_more c.args.piece.now) c.args.ports.now.ports (λ p. refl)) was)
-
-pub returns-in-More-clause-state : goal.returns-in-More-clause-state
-returns-in-More-clause-state c = λ (port : Port) (closes : List ℕ) there.
-    unnamed_state c.args.wall c.args.keys.now c.args.under_way.now c.args.ports.now c.push.new.self closes c.args.number c.args.piece.now port More there c.in_ok-push.ensures.ports c.in-More.ensures
-
-pub returns-in-More-clause-closed : goal.returns-in-More-clause-closed
-returns-in-More-clause-closed c = λ (last : ℕ) (began : List Port) was.
-    closed-changed last began c.args.ports.now c.push.new.self _ c.in_ok-push.ensures.ports (numbers-change_port c.args.number (heard_more c.args.piece.now) c.args.ports.now.ports (λ p. refl)) was
+pub returns-in-More : goal.returns-in-More
+returns-in-More c = λ (port : Port) there.
+    unnamed_state c.args.wall c.args.keys.now c.args.under_way.now c.args.ports.now c.push.new.self c.args.number c.args.piece.now port More there c.in_ok-push.ensures.ports c.in-More.ensures

@@ -1,17 +1,15 @@
 use Rattle.std.specs.Option.{IsSomeAnd}
-use Rattle.std.proofs.Common.{◌∙◌, ℕ, List, Option, ap, refl, subst, sym}
+use Rattle.std.proofs.Common.{◌∙◌, Option, ap, refl, subst, sym}
 use Rattle.wire_text.specs.Frames.{after_front, front_body}
 use Rattle.child_msg.specs.Reading.{from_child_of}
 use Rattle.confirm_desk.specs.Confirmations.{Confirmation, find_linked, linked_at}
 use Rattle.agent_model.specs.Children.{unheard}
 use Rattle.agent_model.specs.State.{Port, UnderWay}
-use Rattle.agent_model.proofs.PortsLemmas.{numbers-change_port}
 use Rattle.agent_core.specs.Confirmers.{IsHeldFor}
 use Rattle.agent_core.specs.Settlings.{named_job}
 use Rattle.agent_core.specs.Slots.{OpenPorts, heard_in}
 use Rattle.agent_core.proofs.BoundLemmas.{bound-named}
 use Rattle.agent_core.proofs.ChildLemmas.{child_asks, child_named, confirmation_named, held-changed, linked_there}
-use Rattle.agent_core.proofs.ClosedLemmas.{closed-changed}
 use Rattle.agent_core.proofs.HeldLemmas.{after_ok}
 use Rattle.agent_core.proofs.HelperLemmas.{open-change_port}
 use Rattle.agent_core.proofs.children.take_first.Goals as goal
@@ -24,33 +22,30 @@ pub hear_helper-requires-clause-bound : goal.hear_helper-requires-clause-bound
 hear_helper-requires-clause-bound c =
     bound-named c.args.number c.in-Some.job.number c.args.ports.now c.take_heard-heard.new.self c.args.under_way.now c.helper_named.new.self c.requires.bound c.helper_named.ensures c.take_heard-heard.ensures.ports
 
-pub returns-in-Helper-clause-state : goal.returns-in-Helper-clause-state
-returns-in-Helper-clause-state c = λ (port : Port) (closes : List ℕ) there.
+pub returns-in-Helper : goal.returns-in-Helper
+returns-in-Helper c = λ (port : Port) there.
     let going = c.args.under_way.now in
     let body = c.first_body.ensures.body ∙ ap (front_body c.args.body_len) (c.heard.ensures ∙ ap heard_in there) in
     let rest = c.behind-rest.ensures ∙ ap (after_front c.args.body_len) (c.live.ensures ∙ c.take_heard-heard.ensures.heard port there) in
     let named = ap (λ b. named_job (from_child_of b) going) (sym body) ∙ sym c.job_named.ensures.job ∙ c.in-Some.is in
     after_ok c.hear_helper.result (λ told.
-    told ∙ child_named c.args.wall c.args.keys.now going c.helper_named.new.self c.args.ports.now c.take_heard-heard.new.self closes (from_child_of (front_body c.args.body_len port.heard)) c.in-Some.job c.args.number c.behind-rest.result.now (after_front c.args.body_len port.heard) named c.in-Helper.is c.helper_named.ensures c.take_heard-heard.ensures.ports rest)
-    (c.hear_helper.ensures.state c.args.wall c.args.keys.now closes)
+    told ∙ child_named c.args.wall c.args.keys.now going c.helper_named.new.self c.args.ports.now c.take_heard-heard.new.self (from_child_of (front_body c.args.body_len port.heard)) c.in-Some.job c.args.number c.behind-rest.result.now (after_front c.args.body_len port.heard) named c.in-Helper.is c.helper_named.ensures c.take_heard-heard.ensures.ports rest)
+    (c.hear_helper.ensures c.args.wall c.args.keys.now)
 
-pub returns-in-Helper-clause-closed : goal.returns-in-Helper-clause-closed
-returns-in-Helper-clause-closed c = λ (last : ℕ) (began : List Port) was.
-    c.hear_helper.ensures.closed last began
-    (closed-changed last began c.args.ports.now c.take_heard-heard.new.self _ c.take_heard-heard.ensures.ports (numbers-change_port c.args.number unheard c.args.ports.now.ports (λ p. refl)) was)
-
-pub hear_confirmer-requires-clause-asker : goal.hear_confirmer-requires-clause-asker
-hear_confirmer-requires-clause-asker c =
+pub hear_confirmer-requires : goal.hear_confirmer-requires
+hear_confirmer-requires c =
     let going = c.args.under_way.now in
     let number = c.args.number in
     let one = confirmation_named c.in-Some.job going c.in-Some.ensures.named c.in-Confirm.is in
     let linked = ap (λ (u : UnderWay). find_linked number u.confirmations) c.confirmer_named.ensures ∙ linked_there c.in-Some.job.number number going.confirmations one.0 one.1 c.requires.free in
     let P : Option Confirmation → Type 0 = λ f. IsSomeAnd f (λ o. IsHeldFor o c.take_heard-heard.new.self.ports) in
-    subst P (sym linked) (subst (λ ports. IsHeldFor (linked_at number one.0) ports) (sym (ap (λ (v : OpenPorts). v.ports) c.take_heard-heard.ensures.ports))
-    (held-changed number unheard c.args.ports.now.ports one.0 (linked_at number one.0) (λ p. refl) (λ p. refl) refl (c.requires.held c.in-Some.job.number one.0 one.1)))
+    let held = held-changed number unheard c.args.ports.now.ports one.0 (linked_at number one.0) (λ p. refl) (λ p. refl) refl (c.requires.held c.in-Some.job.number one.0 one.1) in
+    record {
+      asker = subst P (sym linked) (subst (λ ports. IsHeldFor (linked_at number one.0) ports) (sym (ap (λ (v : OpenPorts). v.ports) c.take_heard-heard.ensures.ports)) held);
+    }
 
-pub returns-clause-state : goal.returns-clause-state
-returns-clause-state c = λ (port : Port) (closes : List ℕ) there.
+pub returns : goal.returns
+returns c = λ (port : Port) there.
     let going = c.args.under_way.now in
     let number = c.args.number in
     let body = c.first_body.ensures.body ∙ ap (front_body c.args.body_len) (c.heard.ensures ∙ ap heard_in there) in
@@ -59,10 +54,5 @@ returns-clause-state c = λ (port : Port) (closes : List ℕ) there.
     let one = confirmation_named c.in-Some.job going c.in-Some.ensures.named c.in-Confirm.is in
     let linked = ap (λ (u : UnderWay). find_linked number u.confirmations) c.confirmer_named.ensures ∙ linked_there c.in-Some.job.number number going.confirmations one.0 one.1 c.requires.free in
     after_ok c.hear_confirmer.result (λ told.
-    told ∙ child_asks c.args.wall c.args.keys.now going c.confirmer_named.new.self c.args.ports.now c.take_heard-heard.new.self closes (from_child_of (front_body c.args.body_len port.heard)) c.in-Some.job number c.behind-rest.result.now (after_front c.args.body_len port.heard) one.0 named c.in-Confirm.is one.1 c.confirmer_named.ensures c.take_heard-heard.ensures.ports rest)
-    (c.hear_confirmer.ensures.state closes (linked_at number one.0) linked)
-
-pub returns-clause-closed : goal.returns-clause-closed
-returns-clause-closed c = λ (last : ℕ) (began : List Port) was.
-    c.hear_confirmer.ensures.closed last began
-    (closed-changed last began c.args.ports.now c.take_heard-heard.new.self _ c.take_heard-heard.ensures.ports (numbers-change_port c.args.number unheard c.args.ports.now.ports (λ p. refl)) was)
+    told ∙ child_asks c.args.wall c.args.keys.now going c.confirmer_named.new.self c.args.ports.now c.take_heard-heard.new.self (from_child_of (front_body c.args.body_len port.heard)) c.in-Some.job number c.behind-rest.result.now (after_front c.args.body_len port.heard) one.0 named c.in-Confirm.is one.1 c.confirmer_named.ensures c.take_heard-heard.ensures.ports rest)
+    (c.hear_confirmer.ensures (linked_at number one.0) linked)

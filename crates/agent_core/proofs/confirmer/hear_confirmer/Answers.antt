@@ -1,4 +1,4 @@
-use Rattle.std.proofs.Common.{◌∙◌, ◌++◌, ℕ, List, Option, Some, ap, refl, subst, sym}
+use Rattle.std.proofs.Common.{◌∙◌, ◌++◌, Option, Some, ap, refl, subst, sym}
 use Rattle.std.specs.Option.{IsSomeAnd}
 use Rattle.confirm_desk.specs.Calls.{Telling}
 use Rattle.confirm_desk.specs.Confirmations.{Confirmation, consent}
@@ -9,13 +9,13 @@ use Rattle.agent_model.specs.Verdicts.{NotConfirmed, Refuses}
 use Rattle.agent_model.proofs.AttendedLemmas.{some_port}
 use Rattle.agent_model.proofs.JobLemmas.{linked_port}
 use Rattle.agent_core.specs.Confirmers.{IsHeldFor}
-use Rattle.agent_core.specs.Parts.{state_of}
-use Rattle.agent_core.proofs.ConfirmerLemmas.{ended_by, granted_state, over_state, told_no, told_of, told_yes}
+use Rattle.agent_core.specs.Parts.{after, state_of}
+use Rattle.agent_core.proofs.ConfirmerLemmas.{ended_by, granted_parts, over_parts, told_no, told_of, told_yes}
 use Rattle.agent_core.proofs.HeldLemmas.{after_ok}
 use Rattle.agent_core.proofs.confirmer.hear_confirmer.Goals as goal
 
-pub returns-in-Granted-clause-state : goal.returns-in-Granted-clause-state
-returns-in-Granted-clause-state c = λ (closes : List ℕ) (one : Confirmation) found.
+pub returns-in-Granted : goal.returns-in-Granted
+returns-in-Granted c = λ (one : Confirmation) found.
     let going = c.args.under_way.now in
     let ports = c.args.ports.now in
     let number = c.args.number in
@@ -28,19 +28,19 @@ returns-in-Granted-clause-state c = λ (closes : List ℕ) (one : Confirmation) 
     let there = some_port one.asker ports.ports held.is_open in
     let asker = ap (λ (h : CodeHeld). h.asker) agreed.1 in
     after_ok c.grant.result
-    (λ is. is ∙ granted_state piece c.args.wall c.args.keys.now going c.confirmer_told.new.self ports closes one there.0 agreed.0 there.1 mid)
-    (c.grant.ensures.state closes going there.0 one (ap (λ a. find_port a ports.ports) (sym asker) ∙ there.1) agreed.1 (linked_port number going.confirmations one found))
+    (λ is. is ∙ ap (after ports.closed) (granted_parts piece c.args.wall c.args.keys.now going c.confirmer_told.new.self ports one there.0 agreed.0 there.1 mid))
+    (c.grant.ensures going there.0 one (ap (λ a. find_port a ports.ports) (sym asker) ∙ there.1) agreed.1 (linked_port number going.confirmations one found))
 
-pub returns-in-Denied-clause-state : goal.returns-in-Denied-clause-state
-returns-in-Denied-clause-state c = λ (closes : List ℕ) (one : Confirmation) found.
+pub returns-in-Denied : goal.returns-in-Denied
+returns-in-Denied c = λ (one : Confirmation) found.
     let going = c.args.under_way.now in
     let number = c.args.number in
     let piece = c.args.piece.now in
     let said = sym c.in_ok-confirmer_told.ensures.verdict ∙ c.in-Denied.is in
     let refused = told_no (consent one.job (one.heard ++ piece)) one piece going.confirmations c.in-Denied.held (sym (ap (λ (t : Telling). t.verdict) (told_of number piece going.confirmations one found)) ∙ said) in
     let mid = c.in_ok-confirmer_told.ensures.under_way ∙ ended_by number piece going one _ found (sym said) in
-    let state : State = state_of c.args.wall c.args.keys.now going c.args.ports.now closes in
-    over_state c.args.wall c.args.keys.now going c.confirmer_told.new.self c.args.ports.now c.conclude.new.ports closes one (Some number) c.in-Denied.held.asker mid
-    (c.conclude.ensures.ports (Refuses NotConfirmed) (refl, refl)) c.conclude.ensures.last
+    let state : State = state_of c.args.wall c.args.keys.now going c.args.ports.now in
+    over_parts c.args.wall c.args.keys.now going c.confirmer_told.new.self c.args.ports.now c.conclude.new.ports one (Some number) c.in-Denied.held.asker mid
+    (c.conclude.ensures (Refuses NotConfirmed) (refl, refl))
     (ap (λ (h : CodeHeld). h.asker) refused.1) (linked_port number going.confirmations one found)
-    ∙ ap (λ k. (consent_by k one piece state).state) (sym refused.0)
+    ∙ ap (λ k. after c.args.ports.now.closed (consent_by k one piece state)) (sym refused.0)

@@ -1,9 +1,8 @@
-use Rattle.std.proofs.Common.{◌≡◌, ◌∙◌, ℕ, List, Some, ap, subst, sym}
+use Rattle.std.proofs.Common.{◌≡◌, ◌∙◌, ℕ, Some, ap, subst, sym}
 use Rattle.confirm_desk.specs.Confirmations.{Confirmation, find_job}
 use Rattle.agent_model.specs.Consents.{over}
 use Rattle.agent_model.specs.KeyStates.{KeyState}
-use Rattle.agent_model.specs.State.{State}
-use Rattle.agent_core.proofs.ConfirmerLemmas.{closed_state, found_linked, silent-kept}
+use Rattle.agent_core.proofs.ConfirmerLemmas.{closed_then, found_linked, silent-kept}
 use Rattle.agent_core.proofs.confirmer.lose_confirmer.Goals as goal
 
 pub end_confirmation-requires : goal.end_confirmation-requires
@@ -16,12 +15,12 @@ end_confirmation-requires c =
           (subst (λ job. find_job job going.confirmations ≡ Some one) (sym c.job-job.ensures) found) c.requires.quiet c.close_open.ensures.rising c.close_open.ensures.ports;
     }
 
-pub returns-clause-state : goal.returns-clause-state
-returns-clause-state c = λ (wall : ℕ) (keys : KeyState) (closes : List ℕ) (one : Confirmation) linked.
+pub returns-clause-parts : goal.returns-clause-parts
+returns-clause-parts c = λ (wall : ℕ) (keys : KeyState) (one : Confirmation) linked.
     let going = c.args.under_way.now in
     let both : Some c.in-Some.one.now ≡ Some one = c.in-Some.ensures.value ∙ linked in
     let same : c.in-Some.one.now ≡ one = cc in
     let job = c.job-job.ensures ∙ ap (λ (o : Confirmation). o.job) same in
     let found = found_linked c.args.number going.last_job going.confirmations one c.requires.order linked in
-    c.end_confirmation.ensures.state wall keys closes one (subst (λ j. find_job j going.confirmations ≡ Some one) (sym job) found)
-    ∙ ap (λ (s : State). (over one s).state) (closed_state wall keys going c.args.ports.now c.close_open.new.self closes c.args.number c.close_open.ensures.ports c.close_open.ensures.last)
+    c.end_confirmation.ensures.parts wall keys one (subst (λ j. find_job j going.confirmations ≡ Some one) (sym job) found)
+    ∙ closed_then wall keys going c.args.ports.now c.close_open.new.self c.args.number (over one) c.close_open.ensures.ports

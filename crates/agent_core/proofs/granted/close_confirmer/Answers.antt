@@ -1,9 +1,10 @@
 use Rattle.std.proofs.Common.{◌≡◌, ℕ, Some, subst}
 use Rattle.agent_model.specs.State.{Port, find_port}
+use Rattle.agent_core.specs.Slots.{OpenPorts}
 use Rattle.agent_model.proofs.PortsLemmas.{find_port-left}
 use Rattle.agent_core.proofs.granted.close_confirmer.Goals as goal
 
 pub returns-in-Some-clause-left : goal.returns-in-Some-clause-left
 returns-in-Some-clause-left c = λ (number : ℕ) (port : Port) found.
     find_port-left number c.in-Some.number 0 c.args.ports.now.last c.args.ports.now.ports port c.close_open.ensures.rising
-    (subst (λ ports. find_port number ports ≡ Some port) c.close_open.ensures.ports found)
+    (subst (λ (v : OpenPorts). find_port number v.ports ≡ Some port) c.close_open.ensures.ports found)

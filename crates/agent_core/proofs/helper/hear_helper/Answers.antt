@@ -1,11 +1,9 @@
 use Rattle.std.proofs.Common.{◌∙◌, ℕ, List, None, Some, sym, subst}
 use Rattle.agent_model.specs.KeyStates.{KeyState}
-use Rattle.agent_model.specs.State.{Port}
 use Rattle.helper_link.specs.declared.answer.Settled.{Settled}
 use Rattle.agent_core.specs.Settlings.{AreShortAnswers}
-use Rattle.agent_core.proofs.ClosedLemmas.{closed-changed}
 use Rattle.agent_core.proofs.BoundLemmas.{bound-answered, provable-answers}
-use Rattle.agent_core.proofs.HelperLemmas.{heard_state, numbers-answered, open-answered}
+use Rattle.agent_core.proofs.HelperLemmas.{heard_parts, open-answered}
 use Rattle.agent_core.proofs.ShortLemmas.{told_short}
 use Rattle.agent_core.proofs.helper.hear_helper.Goals as goal
 
@@ -26,20 +24,11 @@ pub lose_helper-requires-clause-bound : goal.lose_helper-requires-clause-bound
 lose_helper-requires-clause-bound c =
     bound-answered c.args.piece.now c.args.ports.now c.answer_all.new.ports c.args.under_way.now c.helper_told.new.self c.answer_all.new.under_way c.as_slice.result.now c.requires.bound c.in_ok-told.ensures.link (c.as_slice.ensures ∙ c.in_ok-told.ensures.settled) c.in_ok-answer_all.ensures.under_way c.in_ok-answer_all.ensures.ports
 
-pub returns-in-Some-clause-state : goal.returns-in-Some-clause-state
-returns-in-Some-clause-state c = λ (wall : ℕ) (keys : KeyState) (closes : List ℕ).
-    c.lose_helper.ensures.state wall keys closes
-    ∙ heard_state wall keys c.args.under_way.now c.helper_told.new.self c.answer_all.new.under_way c.args.ports.now c.answer_all.new.ports closes c.args.piece.now c.as_slice.result.now (Some c.in-Some.field-0) c.in_ok-told.ensures.link (c.as_slice.ensures ∙ c.in_ok-told.ensures.settled) (sym c.in-Some.is ∙ c.in_ok-told.ensures.fault) c.in_ok-answer_all.ensures.under_way c.in_ok-answer_all.ensures.ports
+pub returns-in-Some : goal.returns-in-Some
+returns-in-Some c = λ (wall : ℕ) (keys : KeyState).
+    c.lose_helper.ensures.parts wall keys
+    ∙ heard_parts wall keys c.args.under_way.now c.helper_told.new.self c.answer_all.new.under_way c.args.ports.now c.answer_all.new.ports c.args.piece.now c.as_slice.result.now (Some c.in-Some.field-0) c.in_ok-told.ensures.link (c.as_slice.ensures ∙ c.in_ok-told.ensures.settled) (sym c.in-Some.is ∙ c.in_ok-told.ensures.fault) c.in_ok-answer_all.ensures.under_way c.in_ok-answer_all.ensures.ports
 
-pub returns-clause-state : goal.returns-clause-state
-returns-clause-state c = λ (wall : ℕ) (keys : KeyState) (closes : List ℕ).
-    heard_state wall keys c.args.under_way.now c.helper_told.new.self c.answer_all.new.under_way c.args.ports.now c.answer_all.new.ports closes c.args.piece.now c.as_slice.result.now None c.in_ok-told.ensures.link (c.as_slice.ensures ∙ c.in_ok-told.ensures.settled) (sym c.in-None.is ∙ c.in_ok-told.ensures.fault) c.in_ok-answer_all.ensures.under_way c.in_ok-answer_all.ensures.ports
-
-pub returns-in-Some-clause-closed : goal.returns-in-Some-clause-closed
-returns-in-Some-clause-closed c = λ (last : ℕ) (began : List Port) was.
-    c.lose_helper.ensures.closed last began
-    (closed-changed last began c.args.ports.now c.answer_all.new.ports _ c.in_ok-answer_all.ensures.ports (numbers-answered c.as_slice.result.now c.helper_told.new.self.verifications c.args.ports.now.ports) was)
-
-pub returns-clause-closed : goal.returns-clause-closed
-returns-clause-closed c = λ (last : ℕ) (began : List Port) was.
-    closed-changed last began c.args.ports.now c.answer_all.new.ports _ c.in_ok-answer_all.ensures.ports (numbers-answered c.as_slice.result.now c.helper_told.new.self.verifications c.args.ports.now.ports) was
+pub returns : goal.returns
+returns c = λ (wall : ℕ) (keys : KeyState).
+    heard_parts wall keys c.args.under_way.now c.helper_told.new.self c.answer_all.new.under_way c.args.ports.now c.answer_all.new.ports c.args.piece.now c.as_slice.result.now None c.in_ok-told.ensures.link (c.as_slice.ensures ∙ c.in_ok-told.ensures.settled) (sym c.in-None.is ∙ c.in_ok-told.ensures.fault) c.in_ok-answer_all.ensures.under_way c.in_ok-answer_all.ensures.ports

@@ -1,6 +1,5 @@
-use Rattle.std.proofs.Common.{◌≡◌, []}
 use Rattle.helper_link.specs.HelperLink.{IsLinked}
 use Rattle.bench_tool.proofs.link.answered.Given as goal
 
 abbrev pub invariant-batches : goal.invariant-batches
-invariant-batches l = IsLinked l.link.state × (l.link.failed ≡ [])
+invariant-batches l = IsLinked l.link.state

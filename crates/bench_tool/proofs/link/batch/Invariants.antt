@@ -1,6 +1,5 @@
-use Rattle.std.proofs.Common.{◌≡◌, []}
 use Rattle.helper_link.specs.HelperLink.{IsLinked}
 use Rattle.bench_tool.proofs.link.batch.Given as goal
 
 abbrev pub invariant-asks : goal.invariant-asks
-invariant-asks l = IsLinked l.link.state × (l.link.failed ≡ [])
+invariant-asks l = IsLinked l.link.state

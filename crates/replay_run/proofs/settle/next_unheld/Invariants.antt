@@ -5,7 +5,7 @@ use Rattle.replay_run.proofs.settle.next_unheld.Given as goal
 
 -- the ports that were passed over take nothing
 abbrev pub invariant-owed : goal.invariant-owed
-invariant-owed l = next_unheld l.agent.under_way l.after l.held l.agent.ports ≡ next_to_take l.held l.agent
+invariant-owed l = next_unheld l.agent.state.under_way l.after l.held l.agent.state.ports ≡ next_to_take l.held l.agent.state
 
 abbrev pub decreases-owed : goal.decreases-owed
-decreases-owed l = l.agent.last_port - l.after
+decreases-owed l = l.agent.state.last_port - l.after

@@ -8,14 +8,14 @@ use Rattle.replay_run.proofs.settle.settle.Goals as goal
 pub send-requires-clause-some : goal.send-requires-clause-some
 send-requires-clause-some c =
     rw c.owed-count.ensures
-    (owed_some c.args.held.now c.in-Some.port c.takings.agent c.in-Some.ensures.steady (sym c.in-Some.ensures.next))
+    (owed_some c.args.held.now c.in-Some.port c.takings.agent.state c.in-Some.ensures.steady (sym c.in-Some.ensures.next))
 
 pub takings-smaller : goal.takings-smaller
 takings-smaller c =
     let moment = c.args.moment in
     let port = c.in-Some.port in
-    let state = c.takings.agent in
-    let agent_is : c.send.new.agent ≡ delivered moment port state =
+    let state = c.takings.agent.state in
+    let agent_is : c.send.new.agent.state ≡ delivered moment port state =
     c.in_ok-send.ensures.agent ∙ ap (λ (b : List ℕ). sent moment port (length b) state) c.owed-count.ensures in
     rw agent_is (delivered_lowers moment c.args.held.now port state c.in-Some.ensures.steady (sym c.in-Some.ensures.next))
 
@@ -24,10 +24,10 @@ takings-preserved c =
     let moment = c.args.moment in
     let held = c.args.held.now in
     let port = c.in-Some.port in
-    let state = c.takings.agent in
+    let state = c.takings.agent.state in
     let out = c.takings.out.items in
     let next = settled_some moment held port state c.in-Some.ensures.steady (sym c.in-Some.ensures.next) in
-    let agent_is : c.send.new.agent ≡ delivered moment port state =
+    let agent_is : c.send.new.agent.state ≡ delivered moment port state =
     c.in_ok-send.ensures.agent ∙ ap (λ (b : List ℕ). sent moment port (length b) state) c.owed-count.ensures in
     let out_is : c.send.new.out.items ≡ out ++ delivery_lines moment port state =
     c.in_ok-send.ensures.out ∙ ap (λ (b : List ℕ). out ++ sending_lines moment port (length b) state) c.owed-count.ensures in
@@ -46,12 +46,12 @@ takings-preserved c =
 
 pub returns-clause-agent : goal.returns-clause-agent
 returns-clause-agent c =
-    sym (ap (λ (s : Settled). s.agent) (settled_none c.args.moment c.args.held.now c.takings.agent (sym c.in_default.ensures.next)))
+    sym (ap (λ (s : Settled). s.agent) (settled_none c.args.moment c.args.held.now c.takings.agent.state (sym c.in_default.ensures.next)))
     ∙ c.takings.invariant.agent
 
 pub returns-clause-out : goal.returns-clause-out
 returns-clause-out c =
     sym (append-nil c.takings.out.items)
     ∙ sym (ap (λ (s : Settled). c.takings.out.items ++ s.output)
-    (settled_none c.args.moment c.args.held.now c.takings.agent (sym c.in_default.ensures.next)))
+    (settled_none c.args.moment c.args.held.now c.takings.agent.state (sym c.in_default.ensures.next)))
     ∙ c.takings.invariant.output

@@ -5,14 +5,14 @@ use Rattle.agent_core.proofs.parts.Parts.next_child_owed.Goals as goal
 
 pub returns-clause-next : goal.returns-clause-next
 returns-clause-next c =
-    let calm = rw (← c.self.view_is) at c.requires in
+    let rest = rw (← c.self.view_is) at c.requires in
     let ports = c.self.inside.ports in
     rw (← c.self.view_is) (c.lesser.ensures
     ∙ ap (λ n. lesser n c.next_confirmer_owed-confirmer.result) c.owed_helper_above-helper.ensures
     ∙ ap (lesser _) c.next_confirmer_owed-confirmer.ensures
-    ∙ sym (next-child ports.ports c.self.inside.under_way ports.last calm.tied.raised calm.attended c.args.after calm.tied.rising))
+    ∙ sym (next-child ports.ports c.self.inside.under_way ports.last rest.tied.raised rest.attended c.args.after rest.tied.rising))
 
 pub returns-clause-steady : goal.returns-clause-steady
 returns-clause-steady c =
-    let calm = rw (← c.self.view_is) at c.requires in
-    rw (← c.self.view_is) (record { rising = calm.tied.rising; order = calm.tied.raised.order })
+    let rest = rw (← c.self.view_is) at c.requires in
+    rw (← c.self.view_is) (record { rising = rest.tied.rising; order = rest.tied.raised.order })

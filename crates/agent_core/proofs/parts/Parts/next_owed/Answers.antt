@@ -5,15 +5,15 @@ use Rattle.agent_core.proofs.parts.Parts.next_owed.Goals as goal
 
 pub returns-clause-next : goal.returns-clause-next
 returns-clause-next c =
-    let calm = rw (← c.self.view_is) at c.requires in
+    let rest = rw (← c.self.view_is) at c.requires in
     let child = rw (← c.self.view_is) at c.next_child_owed-child.ensures.next in
     let ports = c.self.inside.ports in
     rw (← c.self.view_is) (c.lesser.ensures
     ∙ ap (λ n. lesser n c.next_child_owed-child.result) c.next_owed-client.ensures.next
     ∙ ap (lesser _) child
-    ∙ sym (next-client-child ports.ports c.self.inside.under_way ports.last calm.tied.raised calm.attended c.args.after calm.tied.rising))
+    ∙ sym (next-client-child ports.ports c.self.inside.under_way ports.last rest.tied.raised rest.attended c.args.after rest.tied.rising))
 
 pub returns-clause-steady : goal.returns-clause-steady
 returns-clause-steady c =
-    let calm = rw (← c.self.view_is) at c.requires in
-    rw (← c.self.view_is) (record { rising = calm.tied.rising; order = calm.tied.raised.order })
+    let rest = rw (← c.self.view_is) at c.requires in
+    rw (← c.self.view_is) (record { rising = rest.tied.rising; order = rest.tied.raised.order })

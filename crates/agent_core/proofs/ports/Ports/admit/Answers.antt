@@ -1,6 +1,4 @@
 use Rattle.std.proofs.Common.{◌≡◌, ◌∙◌, ◌++◌, [], ◌∷◌, ◌<◌, ◌^◌, ◌+◌, suc, ap, add-one, refl, arith, true}
-use Rattle.agent_model.specs.State.{new_port}
-use Rattle.agent_model.proofs.ClosesLemmas.{gone-admitted}
 use Rattle.agent_core.specs.Slots.{OpenPorts, ports_of}
 use Rattle.agent_core.proofs.KeptLemmas.{joined_port, kept-joined, ports_of-push}
 use Rattle.agent_core.proofs.ports.Ports.admit.Goals as goal
@@ -11,10 +9,3 @@ invariant_of-self-2 c =
     let below : suc c.self.inside.last < 2 ^ 64 = omega (arith, c.requires, last) in
     let new = joined_port c.self.inside.last (suc c.self.inside.last) c.args.door c.new-2.result c.in_ok-owed.owed c.new-3.result refl c.new-2.ensures c.in_ok-owed.ensures c.new-3.ensures in
     rw (c.in_default.ensures.items, c.in_ok-reserve.ensures.items, c.in_ok-reserve-2.ensures.items, add-one) (kept-joined _ _ _ _ _ _ _ _ _ _ c.self.invariant new (omega (arith, c.in_ok-reserve.ensures.ok)) (omega (arith, c.in_ok-reserve-2.ensures.ok)) below)
-
-pub returns-clause-gone : goal.returns-clause-gone
-returns-clause-gone c =
-    let new = joined_port c.self.inside.last (c.self.inside.last + 1) c.args.door c.new-2.result c.in_ok-owed.owed c.new-3.result (add-one c.self.inside.last) c.new-2.ensures c.in_ok-owed.ensures c.new-3.ensures in
-    let same : ports_of c.push.new.self.items ≡ ports_of c.self.inside.slots.items ++ new_port (suc c.self.inside.last) c.args.door ∷ [] =
-    ap ports_of c.in_default.ensures.items ∙ ports_of-push _ _ ∙ ap (λ port. ports_of c.self.inside.slots.items ++ port ∷ []) new in
-    rw (← c.self.view_is, same, add-one) (gone-admitted true c.self.inside.last c.args.door _ c.self.invariant.rising)

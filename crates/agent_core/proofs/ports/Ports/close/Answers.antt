@@ -1,8 +1,7 @@
 use Rattle.std.proofs.Common.{◌≡◌, ◌∙◌, sym, ap}
 use Rattle.agent_core.specs.Slots.{OpenPorts, ports_of}
 use Rattle.agent_model.specs.State.{remove_port}
-use Rattle.agent_model.proofs.ClosesLemmas.{gone-removed}
-use Rattle.agent_core.proofs.KeptLemmas.{closed_room, found_port, kept-removed, kept_numbers, kept_rising, ports_of-remove}
+use Rattle.agent_core.proofs.KeptLemmas.{closed_room, kept-removed, kept_numbers, kept_rising, ports_of-remove}
 use Rattle.agent_core.proofs.ports.Ports.close.Goals as goal
 
 pub place_of-requires : goal.place_of-requires
@@ -28,14 +27,6 @@ returns-clause-ports c =
     ap ports_of c.remove.ensures.items ∙ ports_of-remove _ c.in-Some.place ∙ sym is.removed in
     rw (← c.self.view_is) (ap (λ ports. let after : OpenPorts = record { ports = ports; last = c.self.inside.last; closed = c.put_in.new.numbers.items } in after) same
     ∙ ap (λ closed. let after : OpenPorts = record { ports = remove_port c.args.number (ports_of c.self.inside.slots.items); last = c.self.inside.last; closed = closed } in after) c.put_in.ensures.items)
-
-pub returns-clause-gone : goal.returns-clause-gone
-returns-clause-gone c =
-    let is = rw c.deref.ensures.value at c.in-Some.ensures in
-    let same : ports_of c.remove.new.self.items ≡ remove_port c.args.number (ports_of c.self.inside.slots.items) =
-    ap ports_of c.remove.ensures.items ∙ ports_of-remove _ c.in-Some.place ∙ sym is.removed in
-    let found = found_port _ _ _ is in
-    rw (← c.self.view_is, same) (gone-removed c.args.number c.self.inside.last _ _ found c.self.invariant.rising)
 
 pub returns-clause-rising : goal.returns-clause-rising
 returns-clause-rising c = rw (← c.self.view_is) c.self.invariant.rising

@@ -1,5 +1,5 @@
-use Rattle.std.proofs.Common.{◌≡◌, ◌∙◌, [], ◌<◌, ◌^◌, ◌+◌, suc, ap, add-one, arith, length, sym, false}
-use Rattle.agent_model.proofs.ClosesLemmas.{gone-admitted}
+use Rattle.std.proofs.Common.{◌≡◌, ◌∙◌, [], ◌<◌, ◌^◌, ◌+◌, suc, ap, add-one, arith, length, refl, true}
+use Rattle.agent_model.specs.Step.{admitted}
 use Rattle.lists.specs.Rising.{inserted}
 use Rattle.agent_core.specs.Slots.{OpenPorts, ports_of}
 use Rattle.agent_core.proofs.KeptLemmas.{kept-refused}
@@ -15,12 +15,18 @@ invariant_of-self c =
     omega (arith, c.requires.some c.if-has_room.false, ap (λ (v : OpenPorts). length v.ports) c.self.view_is, length-ports_of c.self.inside.slots.items) in
     rw (c.put_in.ensures.items, add-one) (kept-refused _ _ _ _ _ _ _ c.self.invariant none c.put_in.ensures.room some below)
 
-pub returns-in_ok-admit-clause-closed : goal.returns-in_ok-admit-clause-closed
-returns-in_ok-admit-clause-closed c =
-    ap (λ (v : OpenPorts). v.closed) c.in_ok-admit.ensures.ports ∙ c.requires.closed ∙ sym c.in_ok-admit.ensures.gone
+pub returns-in_ok-admit : goal.returns-in_ok-admit
+returns-in_ok-admit c =
+    c.in_ok-admit.ensures ∙ ap (λ cs. let v : OpenPorts = record {
+      ports = admitted true (suc c.args.self.now.last) c.args.door c.args.self.now.ports;
+      last = suc c.args.self.now.last;
+      closed = cs;
+    } in v) c.requires.closed
 
-pub returns-else-has_room-clause-closed : goal.returns-else-has_room-clause-closed
-returns-else-has_room-clause-closed c =
+pub returns-else-has_room : goal.returns-else-has_room
+returns-else-has_room c =
     let none : c.self.inside.closed.items ≡ [] = ap (λ (v : OpenPorts). v.closed) c.self.view_is ∙ c.requires.closed in
-    rw (← c.self.view_is) (c.put_in.ensures.items ∙ ap (inserted (c.self.inside.last + 1)) none
-    ∙ (rw add-one (sym (gone-admitted false c.self.inside.last c.args.door (ports_of c.self.inside.slots.items) c.self.invariant.rising))))
+    rw (← c.self.view_is) (
+    ap (λ cs. let v : OpenPorts = record { ports = ports_of c.self.inside.slots.items; last = c.self.inside.last + 1; closed = cs } in v)
+    (c.put_in.ensures.items ∙ ap (inserted (c.self.inside.last + 1)) none)
+    ∙ (rw add-one refl))
