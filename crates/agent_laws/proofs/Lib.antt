@@ -12,3 +12,4 @@ pub mod HistoryLemmas
 pub mod ConsequenceLemmas
 pub mod ConsentLemmas
 pub mod HostLemmas
+pub mod AnsweredLemmas

@@ -4,3 +4,4 @@ pub mod Dues
 pub mod History
 pub mod PastRows
 pub mod Deciding
+pub mod Answered

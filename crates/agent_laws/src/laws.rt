@@ -4,6 +4,7 @@ ghost use Rattle.std.specs.Prelude.{ℕ, List, [], Option};
 ghost use Rattle.agent_model.specs.Events.{Timed};
 ghost use Rattle.agent_model.specs.Runs as runs;
 ghost use Rattle.agent_model.specs.State.{first_state};
+ghost use Rattle.agent_laws.specs.Answered.{IsAnswered};
 ghost use Rattle.agent_laws.specs.History.{HasNumbers, IsLawful};
 
 /// Whatever happened, and while the numbers of asks and jobs are not spent: a signature is put to the helper directly
@@ -15,4 +16,11 @@ ghost use Rattle.agent_laws.specs.History.{HasNumbers, IsLawful};
 pub fn history()
     ensures lawful { (life : Option ℕ) (events : List Timed) → HasNumbers (runs.run (first_state life) events)
         → IsLawful life [] (runs.history (first_state life) events) }
+{}
+
+/// Whatever happened, and while its port stays: a client that waits for an ask is owed nothing, and goes on waiting until
+/// the helper's first answer to that ask, of which it is told as the helper gave it, or until the helper is lost, of which
+/// it is told SSH_AGENT_FAILURE.
+pub fn a_client_gets_that_helpers_answer()
+    ensures { (life : Option ℕ) (events : List Timed) → IsAnswered (first_state life) events }
 {}

@@ -4,6 +4,8 @@ use Rattle.std.specs.Io.KnownBytes.{Consumes}
 use Rattle.schedule_text.specs.declared.fault.LineFault.{LineFault}
 use Rattle.replay_run.specs.declared.run_end.RunEnd.{RunEnd}
 use Rattle.replay_run.specs.declared.run_end.RunEnd.TheVariants.{Done, Refused, Memory, ReadFault, WriteFault}
+use Rattle.agent_laws.proofs.AnsweredLemmas.{first-answered}
+use Rattle.replay_run.specs.Brought.{events_of}
 use Rattle.replay_run.specs.Replay.{run_of}
 use Rattle.replay_run.specs.Claims.{Seen, IsRefused, Ends}
 use Rattle.replay_run.proofs.BroughtLemmas.{run-schedule, schedule-lawful}
@@ -58,7 +60,11 @@ completes_by life end old new ends = record {
 -- ---- the law of history
 
 lawful_run : (life : Option ℕ) (text : List ℕ) → IsLawfulRun life text
-lawful_run life text = record { agent = run-schedule life text; lawful = schedule-lawful life text }
+lawful_run life text = record {
+  agent = run-schedule life text;
+  lawful = schedule-lawful life text;
+  answered = first-answered life (events_of life text);
+}
 
 pub lawful_by : (life : Option ℕ) (old new : Seen) → RunsLawfully life old new
 lawful_by life old new = λ bytes read. record {

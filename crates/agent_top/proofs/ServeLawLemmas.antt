@@ -17,6 +17,7 @@ use Rattle.world_ports.specs.declared.entry.Entry.TheVariants as entry
 use Rattle.world_ports.specs.declared.events.Door.{Door}
 use Rattle.world_ports.specs.declared.events.Door.TheVariants.{Clients, Children}
 use Rattle.world_ports.specs.declared.events.Moment.{Moment}
+use Rattle.agent_laws.proofs.AnsweredLemmas.{first-answered}
 use Rattle.agent_laws.proofs.HistoryLemmas.{first-lawful}
 use Rattle.agent_laws.specs.History.{HasNumbers}
 use Rattle.agent_model.specs.Events.{Happening, Timed, Tick}
@@ -211,4 +212,5 @@ serves_lawfully life setting old new first = λ calls to told legal.
     record {
       agent = same;
       lawful = λ numbers. first-lawful life (calls_events setting Unbound calls) (subst HasNumbers same numbers);
+      answered = first-answered life (calls_events setting Unbound calls);
     }

@@ -10,6 +10,7 @@
 --   agent_model, specs/Dispatch.antt: the table of requests
 use Rattle.std.specs.Prelude.{◌≡◌, ℕ, List, [], Option, None, IfSome}
 use Rattle.world_ports.specs.Causes.{Rose}
+use Rattle.agent_laws.specs.Answered.{IsAnswered}
 use Rattle.agent_laws.specs.History.{HasNumbers, IsLawful}
 use Rattle.agent_model.specs.Runs.{history, run}
 use Rattle.agent_model.specs.State.{first_state}
@@ -84,10 +85,12 @@ pub record Completes (life : Option ℕ) (result : Status) (old new : Seen) : Ty
       IfSome old.input.left (λ input. (run_of life input).refused ≡ None → IsFinished result)
 
 -- the run of a schedule is that of the events which its lines and their settlings bring; and while neither the numbers of
--- asks nor those of jobs are spent, a signature is put to the helper in it exactly where what was done before says so
+-- asks nor those of jobs are spent, a signature is put to the helper in it exactly where what was done before says so; and
+-- whoever waits for the helper gets its first answer to the own request, or is told that the helper was lost
 pub record IsLawfulRun (life : Option ℕ) (text : List ℕ) : Type 0 where
   pub agent : (run_of life text).agent ≡ run (first_state life) (events_of life text)
   pub lawful : HasNumbers (run_of life text).agent → IsLawful life [] (history (first_state life) (events_of life text))
+  pub answered : IsAnswered (first_state life) (events_of life text)
 
 -- the run of what was read is such a run, and that of the whole input, where that is told
 abbrev pub RunsLawfully : Option ℕ → Seen → Seen → Type 0

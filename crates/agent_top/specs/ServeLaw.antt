@@ -7,6 +7,7 @@ use Rattle.world_ports.specs.Journal.{Grows}
 use Rattle.world_ports.specs.declared.entry.Entry.{Entry}
 use Rattle.world_ports.specs.declared.entry.Entry.TheVariants as entry
 use Rattle.world_ports.specs.declared.events.Moment.{Moment}
+use Rattle.agent_laws.specs.Answered.{IsAnswered}
 use Rattle.agent_laws.specs.History.{HasNumbers, IsLawful}
 use Rattle.agent_model.specs.Events.{Happening, Timed, Tick}
 use Rattle.agent_model.specs.Runs.{history, run}
@@ -69,11 +70,13 @@ agent_at setting (Running turning) = turning.reading.state
 agent_at setting Refused = setting.state
 
 -- the calls lead to the state of the events which they bring; and while neither the numbers of asks nor those of jobs are
--- spent, a signature is put to the helper exactly where what was done before says so
+-- spent, a signature is put to the helper exactly where what was done before says so; and whoever waits for the helper
+-- gets its first answer to the own request, or is told that the helper was lost
 pub record IsLawfulServing (life : Option ℕ) (setting : Setting) (calls : List Entry) (to : Stage) : Type 0 where
   pub agent : agent_at setting to ≡ run (first_state life) (calls_events setting Unbound calls)
   pub lawful : HasNumbers (agent_at setting to) →
       IsLawful life [] (history (first_state life) (calls_events setting Unbound calls))
+  pub answered : IsAnswered (first_state life) (calls_events setting Unbound calls)
 
 -- so do the calls that were added
 abbrev pub ServesLawfully : Option ℕ → Setting → Option (List Entry) → Option (List Entry) → Type 0
