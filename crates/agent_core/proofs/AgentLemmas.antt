@@ -1,19 +1,18 @@
 -- What a change of the agent's parts is in its state.
-use Rattle.std.proofs.Common.{◌≡◌, ℕ, suc, List, [], ◌∷◌, drop, arith, refl, ap, sym, ◌∙◌, Option, Some, None, IsSome, Bool, true, false, ◌++◌, max}
-use Rattle.world_ports.specs.declared.Door.{Door}
+use Rattle.std.proofs.Common.{◌≡◌, ℕ, List, [], drop, arith, refl, ap, sym, ◌∙◌, Option, Some, None, IsSome, max}
 use Rattle.world_ports.specs.declared.Moment.{Moment}
 use Rattle.agent_model.specs.NumberLists.{put_all}
 use Rattle.wire_text.specs.Frames.{Bad, More, Whole, front_body}
 use Rattle.helper_link.specs.HelperLink.{sent}
 use Rattle.helper_link.specs.declared.state.LinkState.TheVariants as states
-use Rattle.agent_model.specs.Children.{changed, heard_more, remove_to_start, shut, started_if, unnamed_heard}
+use Rattle.agent_model.specs.Children.{changed, heard_more, shut, unnamed_heard}
 use Rattle.agent_model.specs.Actions.{Outcome, Stepped, stay, stepped}
 use Rattle.agent_model.specs.Dispatch.{Served}
-use Rattle.agent_model.specs.Events.{Happening, Heard, Joined, Started, Tick, Took}
+use Rattle.agent_model.specs.Events.{Happening, Heard, Tick, Took}
 use Rattle.agent_model.specs.KeyStates.{KeyState, expired}
 use Rattle.agent_model.specs.Looks.{due, due_at, due_by}
-use Rattle.agent_model.specs.State.{Client, Confirmer, Helper, Nothing, OnAsk, OnConfirmation, Port, State, UnderWay, Unnamed, Waits, change_port, find_port, find_to_start, remove_port, role_of}
-use Rattle.agent_model.specs.Step.{admitted, asker_at, attempts, at_moment, handle, has_room, look_port, looked, step, take_frame, took_some, turned_away}
+use Rattle.agent_model.specs.State.{Client, Confirmer, Helper, Nothing, OnAsk, OnConfirmation, Port, State, UnderWay, Unnamed, Waits, change_port, find_port, remove_port, role_of}
+use Rattle.agent_model.specs.Step.{asker_at, attempts, at_moment, handle, look_port, looked, step, take_frame, took_some}
 use Rattle.agent_model.specs.Verdicts.{tell}
 use Rattle.agent_model.proofs.ClientLemmas.{looked-found, looked-whole}
 use Rattle.agent_model.proofs.PortsLemmas.{found_number}
@@ -179,14 +178,6 @@ agent_asked wall keys going left ports number count one is left_is =
     ∙ ap (λ f. parts_of wall keys (record going { confirmations = took_by f count going.confirmations }) ports) (agent_asks number ports.ports going one is)
     ∙ ap (after ports.closed) (sym (took-as number count there.0 (Confirmer one) (state_of wall keys going ports) there.1 there.2))
 
--- a job was started
-pub agent_starts : (wall : ℕ) (keys : KeyState) (going left : UnderWay) (ports : OpenPorts) (job : ℕ) (ticket : List ℕ)
-    → left ≡ record going {
-      to_start = remove_to_start job going.to_start;
-      started = going.started ++ started_if (find_to_start job going.to_start) ticket going.confirmations;
-    } → parts_of wall keys left ports ≡ after ports.closed (handle (Started job ticket) (state_of wall keys going ports))
-agent_starts wall keys going left ports job ticket left_is = ap (λ (u : UnderWay). parts_of wall keys u ports) left_is
-
 -- ---- what holds in between
 
 -- nobody waits for consent who is served
@@ -235,28 +226,6 @@ rest-moved wall more keys kept going ports rest = record {
   attended = rest.attended;
   judged = record { verified = rest.judged.verified; noted = rest.judged.noted; given = rest.judged.given; chains = rest.judged.chains };
 }
-
--- a port joins
-turned-away : (is_in : Bool) (number : ℕ) → turned_away is_in number ≡ put_all [] (turned_away is_in number)
-turned-away true number = refl
-turned-away false number = refl
-
-pub agent_joins : (wall : ℕ) (keys : KeyState) (going : UnderWay) (old new : OpenPorts) (door : Door) (is_in : Bool)
-    → is_in ≡ has_room door old.ports going → old.closed ≡ [] → new ≡ record {
-      ports = admitted is_in (suc old.last) door old.ports;
-      last = suc old.last;
-      closed = turned_away is_in (suc old.last);
-    } → parts_of wall keys going new ≡ after old.closed (handle (Joined door) (state_of wall keys going old))
-agent_joins wall keys going old new door is_in room none new_is =
-    let to : Bool → List ℕ → Stepped = λ b cs. parts_of wall keys going (record {
-      ports = admitted b (suc old.last) door old.ports;
-      last = suc old.last;
-      closed = cs;
-    }) in
-    ap (λ (v : OpenPorts). parts_of wall keys going v) new_is
-    ∙ ap (λ b. to b (turned_away b (suc old.last))) room
-    ∙ ap (to (has_room door old.ports going)) (turned-away (has_room door old.ports going) (suc old.last))
-    ∙ ap (λ cs. to (has_room door old.ports going) (put_all cs (turned_away (has_room door old.ports going) (suc old.last)))) (sym none)
 
 -- ---- what is to be taken
 

@@ -1,6 +1,6 @@
 -- Who waits stays tied to the asks while ports change a little, and is owed nothing when the helper is lost.
 use Rattle.std.specs.Result.{is_err}
-use Rattle.std.proofs.Common.{◌≡◌, ℕ, List, [], ◌∷◌, drop, slice_get, refl, ap, sym, subst, ◌∙◌, ◌++◌, Some, Result, Ok, Err, false, arith}
+use Rattle.std.proofs.Common.{◌≡◌, ℕ, List, [], ◌∷◌, refl, ap, sym, subst, ◌∙◌, ◌++◌, Some, Result, Ok, Err, false, arith}
 use Rattle.std.specs.Prelude.{OnOk}
 use Rattle.std.proofs.lemmas.Bool.Decides.{nat_tests}
 use Rattle.helper_link.specs.HelperLink.{askers, linked_to}

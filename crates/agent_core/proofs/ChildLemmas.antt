@@ -1,5 +1,5 @@
 -- What a child process that names itself is to the agent's parts.
-use Rattle.std.specs.Option.{IsSomeAnd, option_map}
+use Rattle.std.specs.Option.{option_map}
 use Rattle.std.proofs.Common.{◌≡◌, ◌++◌, ◌==◌, ℕ, List, [], ◌∷◌, refl, ap, arith, sym, subst, ◌∙◌, Option, Some, None, IsSome, Result, Ok, Err, Bool, true, false, if◌then◌else◌}
 use Rattle.std.proofs.lemmas.Bool.Decides.{nat_tests}
 use Rattle.std.specs.Str.{bytes_eq}
@@ -9,45 +9,21 @@ use Rattle.world_ports.specs.declared.JobKind.TheVariants as kinds
 use Rattle.child_msg.specs.Messages.{Denied, False, FromChildMessage, Granted, Hello, Refused, Signed, True}
 use Rattle.child_msg.specs.declared.fault.ChildFault.{ChildFault}
 use Rattle.confirm_desk.specs.Confirmations.{Confirmation, find_job, find_linked, is_at, linked, linked_at}
-use Rattle.agent_model.specs.Actions.{closing}
 use Rattle.agent_model.specs.Answers.{helper_heard}
 use Rattle.helper_link.specs.HelperLink.{linked_to}
 use Rattle.wire_text.specs.Bounds.{longest_body}
 use Rattle.wire_text.specs.Frames.{Front, front}
-use Rattle.agent_model.specs.Children.{confirmer_goes_on, confirmer_named, first_frame, first_message, heard_more, hello_by, helper_named, named_by, shut, ticket_by, unheard, unnamed_heard}
+use Rattle.agent_model.specs.Children.{confirmer_goes_on, confirmer_named, first_frame, first_message, heard_more, hello_by, helper_named, named_by, ticket_by, unheard, unnamed_heard}
 use Rattle.agent_model.specs.Consents.{confirmer_heard, find_started, remove_started}
 use Rattle.agent_model.specs.KeyStates.{KeyState}
-use Rattle.agent_model.specs.NumberLists.{put_all}
-use Rattle.agent_model.specs.State.{Port, StartedJob, State, UnderWay, change_port, find_port, remove_port}
+use Rattle.agent_model.specs.State.{Port, StartedJob, State, UnderWay, change_port, find_port}
 use Rattle.agent_model.proofs.PortsLemmas.{find_port-change_port}
 use Rattle.under_way.specs.Parts.{IsAwaited, IsFor}
 use Rattle.agent_core.specs.Confirmers.{IsHeldFor}
-use Rattle.agent_core.specs.Parts.{after, parts_of, state_of}
+use Rattle.agent_core.specs.Parts.{after, state_of}
 use Rattle.agent_core.specs.Settlings.{IsNamed, named_job, ticket_of}
 use Rattle.agent_core.specs.Slots.{OpenPorts, heard_in}
-use Rattle.agent_core.proofs.ConfirmerLemmas.{closed_parts}
 use Rattle.agent_core.proofs.HelperLemmas.{open-change_port}
-
--- by whether the ticket is the job's own
-unnamed_ticket : (same : Bool) (one : StartedJob) (number : ℕ) (rest : List ℕ) (state : State) → (if same then Some one.job else None) ≡ None → ticket_by same one.job number rest state ≡ shut number state
-unnamed_ticket true one number rest state none = absurd (cc)
-unnamed_ticket false one number rest state none = refl
-
-unnamed_hello : (found : Option StartedJob) (ticket : List ℕ) (number : ℕ) (rest : List ℕ) (state : State) → ticket_of found ticket ≡ None → hello_by found ticket number rest state ≡ shut number state
-unnamed_hello None ticket number rest state none = refl
-unnamed_hello (Some one) ticket number rest state none = unnamed_ticket (bytes_eq one.ticket ticket) one number rest state none
-
--- a first message that names no started job by its ticket closes the port
-pub first-unnamed : (read : Result FromChildMessage ChildFault) (number : ℕ) (rest : List ℕ) (state : State) → named_job read state.under_way ≡ None → first_message read number rest state ≡ shut number state
-first-unnamed (Ok (Hello job ticket)) number rest state none =
-    unnamed_hello (find_started job state.under_way.started) ticket number rest state none
-first-unnamed (Ok (Signed ask signature)) number rest state none = refl
-first-unnamed (Ok (Refused ask)) number rest state none = refl
-first-unnamed (Ok (True ask)) number rest state none = refl
-first-unnamed (Ok (False ask)) number rest state none = refl
-first-unnamed (Ok (Granted job)) number rest state none = refl
-first-unnamed (Ok (Denied job)) number rest state none = refl
-first-unnamed (Err fault) number rest state none = refl
 
 named_ticket : (same : Bool) (one : StartedJob) (job : Job) (number : ℕ) (rest : List ℕ) (state : State) → (if same then Some one.job else None) ≡ Some job → ticket_by same one.job number rest state ≡ named_by job.kind job.number number rest state
 named_ticket false one job number rest state some = absurd (cc)
@@ -73,12 +49,6 @@ first-named (Ok (Denied other)) job number rest state some = absurd (cc)
 first-named (Err fault) job number rest state some = absurd (cc)
 
 -- ---- the job that was named
-
--- it was started, and is of its kind
-pub started_kind : (job : Job) (kind : JobKind) (going : UnderWay) → IsNamed job going → job.kind ≡ kind → IsSomeAnd (find_started job.number going.started) (λ one. one.job.kind ≡ kind)
-started_kind job kind going named is =
-    let P : Option StartedJob → Type 0 = λ f. IsSomeAnd f (λ one. one.job.kind ≡ kind) in
-    subst P (sym named.found) (ap (λ (j : Job). j.kind) named.same ∙ is)
 
 -- the confirmation that it is for
 awaited_one : (found : Option Confirmation) → IsAwaited found → (one : Confirmation) × (found ≡ Some one)
@@ -222,15 +192,3 @@ child_asks wall keys going mid ports new read job number sent rest one named kin
     (sym (linked_job job.number number going.confirmations one found))
     ∙ ap (λ k. after ports.closed (named_by k job.number number rest state)) (sym kind)
     ∙ ap (after ports.closed) (sym (first-named read job number rest state named))
-
--- or it is closed
-pub child_refused : (wall : ℕ) (keys : KeyState) (going : UnderWay) (ports new : OpenPorts)
-    (read : Result FromChildMessage ChildFault) (number : ℕ) (rest : List ℕ) → named_job read going ≡ None
-    → new ≡ record ports {
-      ports = remove_port number ports.ports;
-      closed = put_all ports.closed (closing number ports.ports []);
-    } → parts_of wall keys going new
-    ≡ after ports.closed (first_message read number rest (state_of wall keys going ports))
-child_refused wall keys going ports new read number rest none new_is =
-    closed_parts wall keys going ports new number new_is
-    ∙ ap (after ports.closed) (sym (first-unnamed read number rest (state_of wall keys going ports) none))

@@ -2,9 +2,6 @@
 use Rattle.std.proofs.Common.{◌≡◌, ℕ, ◌+◌, ◌≤◌, ◌==◌, List, [], ◌∷◌, ◌++◌, length, refl, ap, arith, sym, subst, ◌∙◌, Option, Some, None, Bool, true, false, if◌then◌else◌}
 use Rattle.std.specs.Option.{IsSomeAnd, option_map}
 use Rattle.std.proofs.lemmas.Bool.Decides.{nat_tests}
-use Rattle.dest_rule.specs.Rules.{denial_under}
-use Rattle.dest_rule.specs.declared.binding.Binding.{Binding}
-use Rattle.dest_rule.specs.declared.denial.Denial.{Denial}
 use Rattle.helper_link.specs.declared.state.LinkState.{LinkState}
 use Rattle.confirm_desk.specs.Confirmations.{Confirmation, Consent, No, NotYet, Yes, consent, find_asker, find_job, find_linked, job_of}
 use Rattle.confirm_desk.specs.Calls.{Telling, given_back, telling, telling_by, telling_if}
@@ -12,10 +9,9 @@ use Rattle.confirm_desk.specs.declared.held.Verdict.{Verdict as DeskVerdict}
 use Rattle.confirm_desk.specs.declared.held.Verdict.TheVariants as verdicts
 use Rattle.confirm_desk.specs.declared.held.Held.{Held as CodeHeld}
 use Rattle.identity_table.specs.Identities.{AreShort, HeldKey, answer_len, entries_len, entry_len, find_number, longest_private, max_answer}
-use Rattle.agent_model.specs.Actions.{Outcome, Stepped, Work, closing}
+use Rattle.agent_model.specs.Actions.{Outcome, Stepped, closing}
 use Rattle.agent_model.specs.Asking.{AreAsking, AreAttended, JobsRise}
-use Rattle.agent_model.specs.Consents.{close_confirmer, confirmer_closes, confirmer_heard, consent_by, grant_by, grant_concluded, grant_to, grant_unless, grant_with, over, signing_of, without_confirmation}
-use Rattle.agent_model.specs.Errands.{Signs, put_ask}
+use Rattle.agent_model.specs.Consents.{close_confirmer, confirmer_closes, confirmer_heard, consent_by, grant_concluded, grant_to, over, without_confirmation}
 use Rattle.agent_model.specs.KeyStates.{KeyState}
 use Rattle.agent_model.specs.NumberLists.{put_all}
 use Rattle.agent_model.specs.Children.{shut, shut_then}
@@ -27,48 +23,8 @@ use Rattle.agent_model.proofs.JobLemmas.{in-by_asker, in-by_port, in-found}
 use Rattle.under_way.specs.Parts.{TellsOf, confirmer_told, told_by, told_if}
 use Rattle.agent_core.specs.Parts.{after, parts_of, state_of}
 use Rattle.agent_core.specs.Slots.{OpenPorts}
-use Rattle.agent_core.specs.Confirmers.{AreQuiet, IsGrant, IsHeldFor, IsShortKey, grant_of, granted_by, granted_key, granted_unless, granted_with}
+use Rattle.agent_core.specs.Confirmers.{AreQuiet, IsHeldFor, IsShortKey, grant_of}
 use Rattle.agent_core.proofs.HelperLemmas.{shut-first}
-
--- ---- the second test
-
--- a key that may sign is put to the helper
-asked_unless : (denial : Option Denial) (key found : HeldKey) (one : Confirmation) (going : UnderWay) → granted_unless denial found ≡ Some key → grant_unless denial found one going ≡ put_ask (Signs key (signing_of key one)) one.asker going
-asked_unless (Some denial) key found one going is = absurd (cc)
-asked_unless None key found one going is =
-    let same : found ≡ key = cc in
-    ap (λ (k : HeldKey). put_ask (Signs k (signing_of k one)) one.asker going) same
-
-asked_with : (found : Option HeldKey) (key : HeldKey) (chain : List Binding) (one : Confirmation) (wall : ℕ) (going : UnderWay) → granted_with found chain one.message wall ≡ Some key → grant_with found chain one wall going ≡ put_ask (Signs key (signing_of key one)) one.asker going
-asked_with None key chain one wall going is = absurd (cc)
-asked_with (Some found) key chain one wall going is =
-    asked_unless (denial_under found.rules found.blob chain one.message wall) key found one going is
-
-asked_by : (lock : Option (List ℕ)) (key : HeldKey) (chain : List Binding) (one : Confirmation) (wall : ℕ) (held : KeyState) (going : UnderWay) → granted_by lock one.addition held.table.identities chain one.message wall ≡ Some key → grant_by lock held chain one wall going ≡ put_ask (Signs key (signing_of key one)) one.asker going
-asked_by (Some passphrase) key chain one wall held going is = absurd (cc)
-asked_by None key chain one wall held going is =
-    asked_with (find_number one.addition held.table.identities) key chain one wall going is
-
-pub granted-asks : (key : HeldKey) (chain : List Binding) (one : Confirmation) (wall : ℕ) (held : KeyState) (going : UnderWay) → granted_key one.addition chain one.message wall held ≡ Some key → grant_of chain one wall held going ≡ put_ask (Signs key (signing_of key one)) one.asker going
-granted-asks key chain one wall held going is = asked_by held.lock key chain one wall held going is
-
--- for any other the client is refused
-refused_unless : (denial : Option Denial) (found : HeldKey) (one : Confirmation) (going : UnderWay) → granted_unless denial found ≡ None → IsGrant None going (grant_unless denial found one going)
-refused_unless (Some denial) found one going is = record { under_way = refl; told = (refl, refl) }
-refused_unless None found one going is = absurd (cc)
-
-refused_with : (found : Option HeldKey) (chain : List Binding) (one : Confirmation) (wall : ℕ) (going : UnderWay) → granted_with found chain one.message wall ≡ None → IsGrant None going (grant_with found chain one wall going)
-refused_with None chain one wall going is = record { under_way = refl; told = (refl, refl) }
-refused_with (Some found) chain one wall going is =
-    refused_unless (denial_under found.rules found.blob chain one.message wall) found one going is
-
-refused_by : (lock : Option (List ℕ)) (chain : List Binding) (one : Confirmation) (wall : ℕ) (held : KeyState) (going : UnderWay) → granted_by lock one.addition held.table.identities chain one.message wall ≡ None → IsGrant None going (grant_by lock held chain one wall going)
-refused_by (Some passphrase) chain one wall held going is = record { under_way = refl; told = (refl, refl) }
-refused_by None chain one wall held going is =
-    refused_with (find_number one.addition held.table.identities) chain one wall going is
-
-pub granted-refuses : (chain : List Binding) (one : Confirmation) (wall : ℕ) (held : KeyState) (going : UnderWay) → granted_key one.addition chain one.message wall held ≡ None → IsGrant None going (grant_of chain one wall held going)
-granted-refuses chain one wall held going is = refused_by held.lock chain one wall held going is
 
 -- ---- what fits a message to the helper
 
@@ -99,16 +55,6 @@ told_so None = (Refuses NotConfirmed, (refl, refl))
 
 -- ---- what a decision is
 
--- nothing yet
-pub told_nothing : (k : Consent) (one : Confirmation) (piece : List ℕ) (wall : ℕ) (keys : KeyState) (going : UnderWay)
-    (ports : OpenPorts) → (telling_by k one piece going.confirmations).verdict ≡ verdicts.NotYet
-    → parts_of wall keys (told_by (telling_by k one piece going.confirmations).verdict one.job
-    (telling_by k one piece going.confirmations).desk going) ports
-    ≡ after ports.closed (consent_by k one piece (state_of wall keys going ports))
-told_nothing NotYet one piece wall keys going ports is = refl
-told_nothing Yes one piece wall keys going ports is = absurd (cc)
-told_nothing No one piece wall keys going ports is = absurd (cc)
-
 -- a yes, to what the confirmation held
 pub told_yes : (k : Consent) (one : Confirmation) (piece : List ℕ) (confirmations : List Confirmation) (held : CodeHeld) → (telling_by k one piece confirmations).verdict ≡ verdicts.Granted held → (k ≡ Yes) × (given_back one ≡ held)
 told_yes NotYet one piece confirmations held is = absurd (cc)
@@ -122,26 +68,6 @@ told_no Yes one piece confirmations held is = absurd (cc)
 told_no No one piece confirmations held is = (refl, cc)
 
 -- ---- what a decision does to the state
-
--- the client gets what comes of a consent
-pub concluded_parts : (wall : ℕ) (keys : KeyState) (going before left : UnderWay) (old new : OpenPorts) (work : Work)
-    (one : Confirmation) (confirmer : Option ℕ) (asker : ℕ) → left ≡ work.under_way → new ≡ record old {
-      ports = change_port asker (tell work.verdict) (close_confirmer confirmer old.ports);
-      closed = put_all old.closed (confirmer_closes confirmer old.ports);
-    } → one.asker ≡ asker → one.port ≡ confirmer
-    → parts_of wall keys left new ≡ after old.closed (grant_concluded work one (state_of wall keys before old))
-concluded_parts wall keys going before left old new work one confirmer asker left_is new_is asker_is port_is =
-    let to : UnderWay → OpenPorts → Stepped = λ u v. parts_of wall keys u v in
-    ap (λ u. to u new) left_is
-    ∙ ap (λ v. to work.under_way v) new_is
-    ∙ ap (λ a. to work.under_way (record old {
-      ports = change_port a (tell work.verdict) (close_confirmer confirmer old.ports);
-      closed = put_all old.closed (confirmer_closes confirmer old.ports);
-    })) (sym asker_is)
-    ∙ ap (λ p. to work.under_way (record old {
-      ports = change_port one.asker (tell work.verdict) (close_confirmer p old.ports);
-      closed = put_all old.closed (confirmer_closes p old.ports);
-    })) (sym port_is)
 
 -- the client is told that there is none
 pub over_parts : (wall : ℕ) (keys : KeyState) (going left : UnderWay) (old new : OpenPorts) (one : Confirmation)

@@ -1,5 +1,5 @@
 -- Lemmas on what is held.
-use Rattle.std.proofs.Common.{◌≡◌, ℕ, ◌+◌, ◌<◌, ◌≤◌, List, [], ◌∷◌, ◌++◌, length, map, drop, get_or, refl, ap, sym, arith, ◌∙◌, Option, Some, None, Result, Ok, Err, is_some, not, subst, Bool, true, false, if◌then◌else◌}
+use Rattle.std.proofs.Common.{◌≡◌, ℕ, ◌+◌, ◌≤◌, List, [], ◌∷◌, ◌++◌, length, map, refl, ap, sym, arith, ◌∙◌, Option, Some, None, Result, Ok, Err, is_some, not, subst, Bool, true, false, if◌then◌else◌}
 use Rattle.std.specs.Prelude.{◌↔◌, IsSome, IsTrue, OnOk}
 use Rattle.agent_msg.specs.Requests.{Addition, ClientRequest, IsRequest, session_bind, ListIdentities, Sign, Add, Remove, RemoveAll, Lock, Unlock, Bind, OtherExtension, Unsupported}
 use Rattle.agent_msg.specs.Reading.{request_of}
@@ -8,7 +8,7 @@ use Rattle.wire_text.specs.Bounds.{longest_body}
 use Rattle.agent_model.proofs.BoundLemmas.{private-within, text-within}
 use Rattle.agent_core.specs.Served.{IsShortRequest, IsStatus, asker_of, hides, served_body, served_by}
 use Rattle.agent_core.specs.declared.asker.Asker.{Asker as CoreAsker}
-use Rattle.std.proofs.lemmas.List.{drop_more, length-append}
+use Rattle.std.proofs.lemmas.List.{length-append}
 use Rattle.wire_text.specs.Wire.{string, uint32}
 use Rattle.wire_text.proofs.WireLemmas.{length-string}
 use Rattle.identity_table.specs.Identities.{HeldKey}
@@ -18,7 +18,7 @@ use Rattle.identity_table.proofs.FindLemmas.{found_has}
 use Rattle.identity_table.proofs.PlaceLemmas.{remove_identity-none}
 use Rattle.agent_model.specs.Dispatch.{Asker, add_by, add_seen, remove_by, remove_seen, sees, serve, with_identities}
 use Rattle.agent_model.specs.State.{UnderWay}
-use Rattle.agent_msg.specs.Replies.{entry, entries, entries_length, identities_length}
+use Rattle.agent_msg.specs.Replies.{entry, entries_length, identities_length}
 use Rattle.agent_model.specs.KeyStates.{KeyState, shown}
 
 -- ---- lists of identities
@@ -37,12 +37,6 @@ pub length-entries_len : (keys : List HeldKey) → length keys ≤ entries_len k
 unfolding entries_len
 length-entries_len [] = omega arith
 length-entries_len (key ∷ keys) = omega (arith, length-entries_len keys)
-
--- the entries from place i on are the one there and those behind it
-pub entries-more : (keys : List HeldKey) (i : ℕ) (key : HeldKey) → i < length keys → key ≡ get_or keys i key → entries (map shown (drop i keys)) ≡ entry (shown key) ++ entries (map shown (drop (i + 1) keys))
-entries-more keys i key inside is =
-    ap (λ rest. entries (map shown rest)) (drop_more keys i key inside)
-    ∙ ap (λ k. entry (shown k) ++ entries (map shown (drop (i + 1) keys))) (sym is)
 
 pub entry_of : (key : HeldKey) (blob comment : List ℕ) → blob ≡ key.blob → comment ≡ key.comment → entry (blob, comment) ≡ entry (shown key)
 entry_of key blob comment is_blob is_comment = ap (λ b. entry (b, comment)) is_blob ∙ ap (λ c. entry (key.blob, c)) is_comment
@@ -121,11 +115,6 @@ none_of (Some passphrase) unlocked = absurd (cc)
 pub after_ok : {A B : Type 0} {P Q : Type 0} (r : Result A B) → (P → Q) → OnOk r P → OnOk r Q
 after_ok (Ok a) f p = f p
 after_ok (Err e) f p = p
-
--- and of two clauses
-pub both_ok : {A B : Type 0} {P Q X : Type 0} (r : Result A B) → (P → Q → X) → OnOk r P → OnOk r Q → OnOk r X
-both_ok (Ok a) f p q = f p q
-both_ok (Err e) f p q = p
 
 -- and of three
 pub all_ok : {A B : Type 0} {P Q R X : Type 0} (r : Result A B) → (P → Q → R → X) → OnOk r P → OnOk r Q → OnOk r R → OnOk r X

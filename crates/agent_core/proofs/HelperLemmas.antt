@@ -1,5 +1,5 @@
 -- What the helper's answers and its loss are to the agent's parts.
-use Rattle.std.proofs.Common.{◌≡◌, ◌↔◌, IsTrue, ℕ, ◌+◌, ◌<◌, arith, drop, get_or, length, subst, List, [], ◌∷◌, ◌++◌, refl, ap, sym, ◌∙◌, Option, Some, None, IsSome, is_some, Bool, false, true, if◌then◌else◌, ◌==◌}
+use Rattle.std.proofs.Common.{◌≡◌, ◌↔◌, IsTrue, ℕ, ◌+◌, ◌<◌, drop, get_or, length, subst, List, [], ◌∷◌, refl, ap, sym, ◌∙◌, Option, Some, None, IsSome, is_some, Bool, false, true, if◌then◌else◌, ◌==◌}
 use Rattle.std.proofs.lemmas.List.{drop_more}
 use Rattle.helper_link.specs.HelperLink.{HelperLink, IsStarting, askers, lost}
 use Rattle.helper_link.specs.declared.ask.Ask.{Ask}
@@ -89,12 +89,6 @@ number-told_with answer.Refused found p = refl
 number-told_with answer.True None p = refl
 number-told_with answer.True (Some verification) p = refl
 number-told_with answer.False found p = refl
-
-pub numbers-answered : (settled : List Settled) (vs : List Verification) (ports : List Port) → numbers (answered settled vs ports) ≡ numbers ports
-numbers-answered [] vs ports = refl
-numbers-answered (one ∷ later) vs ports =
-    numbers-answered later (remove_verification one.ask vs) (change_port one.asker (told_with one.answer (find_verification one.ask vs)) ports)
-    ∙ numbers-change_port one.asker (told_with one.answer (find_verification one.ask vs)) ports (number-told_with one.answer (find_verification one.ask vs))
 
 pub numbers-tell_each : (verdict : Verdict) (askers : List ℕ) (ports : List Port) → numbers (tell_each verdict askers ports) ≡ numbers ports
 numbers-tell_each verdict [] ports = refl
@@ -272,12 +266,7 @@ unanswered-more one later all going new all_is new_is =
     ap (λ (u : UnderWay). with_left (unanswered later u.verifications) u) new_is
     ∙ ap (λ (s : List Settled). with_left (unanswered s going.verifications) going) (sym all_is)
 
--- the asks from one on are that one and those behind it
-pub drop-ask : (asks : List Ask) (i : ℕ) (one : Ask) → i < length asks → one ≡ get_or asks i one
-    → drop i asks ≡ one ∷ drop (i + 1) asks
-drop-ask asks i one within is = drop_more asks i one within ∙ ap (λ (o : Ask). o ∷ drop (i + 1) asks) (sym is)
-
--- and so is what is told behind one whose ask failed
+-- and what is told behind one whose ask failed
 pub refused-more : (one : Ask) (later all : List Ask) (ports new : OpenPorts) → all ≡ one ∷ later
     → new ≡ record ports { ports = change_port one.asker (tell (Refuses HelperLost)) ports.ports }
     → (let v : OpenPorts = record new { ports = tell_each (Refuses HelperLost) (askers later) new.ports } in v)

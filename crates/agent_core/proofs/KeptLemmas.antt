@@ -17,7 +17,7 @@ use Rattle.lists.specs.Rising.{IsRisingList, inserted, removed}
 use Rattle.lists.proofs.RisingLemmas.{length-inserted, rising_list, rising_list-inserted}
 use Rattle.agent_core.specs.Slots.{IsKept, is_owing, owing_of, port_of, ports_of, waits_of}
 use Rattle.agent_core.proofs.OwingLemmas.{length-owing_of, listed-changed, owing_of-owed, owing_of-append, owing_of-kept, owing_of-remove_port, rising_numbers}
-use Rattle.agent_core.proofs.PlaceLemmas.{length-ports_of, no_slot}
+use Rattle.agent_core.proofs.PlaceLemmas.{length-ports_of}
 use Rattle.agent_model.specs.KeyStates.{KeyState}
 use Rattle.agent_model.specs.Sound.{IsRising}
 use Rattle.agent_model.specs.Step.{attempts, take_frame}
@@ -60,11 +60,6 @@ found_slot slots number place slot is here =
     let within : place < length slots = within_place slots number place is in
     let got : slice_get slots place ≡ Some (get_or slots place slot) = slice_get-within slots place slot within in
     is.found ∙ slice_get-map port_of slots place ∙ ap (option_map port_of) (got ∙ ap Some (sym here))
-
--- there is a port at its place
-pub found_port : (slots : List Slot) (number place : ℕ) → IsPlace number (ports_of slots) place → find_port number (ports_of slots) ≡ Some (port_of (get_or slots place no_slot))
-found_port slots number place is =
-    is.found ∙ slice_get-map port_of slots place ∙ ap (option_map port_of) (slice_get-within slots place no_slot (within_place slots number place is))
 
 -- ---- one port is changed
 

@@ -1,5 +1,5 @@
 -- Who is at a port, and what an event brings there.
-use Rattle.std.proofs.Common.{◌≡◌, ℕ, List, [], refl, ap, ◌∙◌, Option, Some, None, IsSome, Bool, true, false, arith, ◌==◌}
+use Rattle.std.proofs.Common.{◌≡◌, ℕ, List, refl, ap, ◌∙◌, Option, Some, None, Bool, true, false, arith, ◌==◌}
 use Rattle.std.proofs.lemmas.Bool.Decides.{nat_tests}
 use Rattle.world_ports.specs.declared.Door.{Door}
 use Rattle.world_ports.specs.declared.Door.TheVariants.{Clients, Children}
@@ -19,11 +19,6 @@ use Rattle.helper_link.specs.HelperLink.{sendable}
 pub port_of_role : (found : Option Port) (going : UnderWay) (role : Role) → role_by found going ≡ Some role → (port : Port) × (found ≡ Some port) × (role_of port.door port.number going ≡ role)
 port_of_role None going role is = absurd (cc)
 port_of_role (Some port) going role is = (port, refl, cc)
-
--- none stands at one that isn't
-pub no_role : (found : Option Port) (going : UnderWay) → role_by found going ≡ None → IsSome found → ⊥
-no_role None going is some = absurd (cc)
-no_role (Some port) going is some = absurd (cc)
 
 -- an event at a port is by who is there
 pub heard-as : (number : ℕ) (piece : List ℕ) (port : Port) (role : Role) (state : State) → find_port number state.ports ≡ Some port → role_of port.door port.number state.under_way ≡ role → handle (Heard number piece) state ≡ heard_by_role role port piece state
@@ -121,10 +116,6 @@ confirmer-kind (Some Unnamed) is = let no : core.Unnamed ≡ core.Confirmer = cc
 confirmer-kind (Some Helper) is = let no : core.Helper ≡ core.Confirmer = cc in absurd (cc)
 confirmer-kind (Some (Confirmer one)) is = (one, refl)
 
-pub no-kind : (role : Option Role) → option_map role_kind role ≡ None → role ≡ None
-no-kind None is = refl
-no-kind (Some role) is = absurd (cc)
-
 -- whether it has named itself
 pub unnamed_of_kind : (role : Role) → is_unnamed_kind (role_kind role) ≡ is_unnamed role
 unnamed_of_kind Client = refl
@@ -133,10 +124,6 @@ unnamed_of_kind Helper = refl
 unnamed_of_kind (Confirmer one) = refl
 
 -- ---- a child process
-
--- whether it is the helper
-pub linked_true : (number : ℕ) (state : LinkState) → state ≡ states.Linked number → is_linked_to number state ≡ true
-linked_true number state is = ap (is_linked_to number) is ∙ (grind (arith, nat_tests))
 
 pub linked_false : (number : ℕ) (state : LinkState) → (state ≡ states.Linked number → ⊥) → is_linked_to number state ≡ false
 linked_false number states.None other = refl
@@ -168,16 +155,6 @@ owed-helper None going is = absurd (cc)
 owed-helper (Some port) going is =
     let role : role_of port.door port.number going ≡ Helper = cc in
     ap (λ r. owed_as r port going) role
-
-pub owed-unnamed : (found : Option Port) (going : UnderWay) → role_by found going ≡ Some Unnamed → owed_by found going ≡ []
-owed-unnamed None going is = refl
-owed-unnamed (Some port) going is =
-    let role : role_of port.door port.number going ≡ Unnamed = cc in
-    ap (λ r. owed_as r port going) role
-
-pub owed-none : (found : Option Port) (going : UnderWay) → role_by found going ≡ None → owed_by found going ≡ []
-owed-none None going is = refl
-owed-none (Some port) going is = absurd (cc)
 
 pub owed-confirmer : (found : Option Port) (going : UnderWay) (one : Confirmation) → role_by found going ≡ Some (Confirmer one) → owed_by found going ≡ one.owed
 owed-confirmer None going one is = absurd (cc)

@@ -1,15 +1,10 @@
 -- Lists of the identities that are seen.
-use Rattle.std.proofs.Common.{◌≡◌, ℕ, ◌+◌, ◌<◌, ◌≤◌, List, [], ◌∷◌, ◌++◌, length, map, drop, get_or, refl, ap, sym, arith, ◌∙◌, filter, cond, Bool, true, false, Option, Some, None, is_some}
+use Rattle.std.proofs.Common.{◌≡◌, ℕ, ◌+◌, ◌<◌, ◌≤◌, List, [], ◌∷◌, ◌++◌, length, map, drop, get_or, refl, ap, sym, arith, ◌∙◌, filter, cond, Bool, true, false}
 use Rattle.std.proofs.lemmas.List.{drop_more, drop_all}
-use Rattle.identity_table.specs.Identities.{HeldKey, TableState, entries_len, entry_len}
-use Rattle.agent_msg.specs.Requests.{ListIdentities}
-use Rattle.agent_msg.specs.Replies.{entries, identities_answer}
+use Rattle.identity_table.specs.Identities.{HeldKey, entries_len, entry_len}
+use Rattle.agent_msg.specs.Replies.{entries}
 use Rattle.agent_model.specs.KeyStates.{shown}
-use Rattle.agent_model.specs.State.{UnderWay}
-use Rattle.agent_model.specs.Verdicts.{verdict_text}
-use Rattle.agent_core.specs.Seen.{count_if, entry_if, len_if, seen}
-use Rattle.agent_core.specs.Served.{keys_of, served_by}
-use Rattle.agent_core.specs.declared.asker.Asker.{Asker as CoreAsker}
+use Rattle.agent_core.specs.Seen.{count_if, entry_if, len_if}
 
 -- ---- one identity
 
@@ -62,8 +57,3 @@ shorter_by false key some all rest = omega (arith, rest)
 pub seen-shorter : (f : HeldKey → Bool) (keys : List HeldKey) → entries_len (filter f keys) ≤ entries_len keys
 seen-shorter f [] = omega arith
 seen-shorter f (key ∷ keys) = shorter_by (f key) key (filter f keys) keys (seen-shorter f keys)
-
--- the answer of an agent that isn't locked
-pub listed-seen : (table : TableState) (lock : Option (List ℕ)) (asker : CoreAsker) (going : UnderWay) → is_some lock ≡ false → identities_answer (map shown (seen asker table.identities)) ≡ verdict_text (served_by asker ListIdentities (keys_of table lock) going).work.verdict
-listed-seen table None asker going unlocked = refl
-listed-seen table (Some passphrase) asker going unlocked = absurd (cc)

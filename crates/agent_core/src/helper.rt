@@ -1,12 +1,12 @@
 //! What comes of the helper: its answers, and its loss.
 
-ghost use Rattle.std.specs.Prelude.{◌≡◌, ◌≢◌, ℕ, [], IsSome, OnOk};
+ghost use Rattle.std.specs.Prelude.{◌≡◌, ◌≢◌, ℕ, [], IsSome, OnOk, Some};
 ghost use Rattle.helper_link.specs.HelperLink.{IsStarting, askers, lost};
 ghost use Rattle.agent_model.specs.Answers.{find_verification, helper_heard, lose, remove_verification, tell_each};
 ghost use Rattle.agent_model.specs.KeyStates.{KeyState};
 ghost use Rattle.agent_model.specs.Sound.{IsRising};
 ghost use Rattle.agent_model.specs.State.{Port, change_port, find_port};
-ghost use Rattle.agent_model.specs.Verdicts.{HelperLost, Refuses};
+ghost use Rattle.agent_model.specs.Verdicts.{HelperLost, Refuses, tell};
 ghost use Rattle.agent_core.specs.Bound.{AreSilent, IsBound};
 ghost use Rattle.agent_core.specs.Parts.{after, parts_of, state_of};
 ghost use Rattle.under_way.specs.Parts.{HasNoHelper};
@@ -80,8 +80,18 @@ fn refuse_all(ports: &mut Ports, asks: &[Ask])
     } }
 {
     for ask in asks {
-        ports.conclude(ask.asker, None);
+        refuse_one(ports, ask);
     }
+}
+
+// Tells who asked that the helper is lost.
+fn refuse_one(ports: &mut Ports, ask: &Ask)
+    requires { (port : Port) → find_port ask.now.asker ports.old.ports ≡ Some port → port.owed ≡ [] }
+    ensures { ports.new ≡ record ports.old {
+      ports = change_port ask.now.asker (tell (Refuses HelperLost)) ports.old.ports;
+    } }
+{
+    ports.conclude(ask.asker, None);
 }
 
 // Tells each asker its answer, in the order of the answers.

@@ -11,7 +11,7 @@ returns-in-Some-clause-parts c = λ (wall : ℕ) (keys : KeyState).
     c.end_confirmation.ensures.parts wall keys c.in-Some.field-0.now (sym c.in-Some.ensures.value)
     ∙ ap (λ f. after c.args.ports.now.closed (over_if f state)) c.in-Some.ensures.value
 
-pub returns-clause-parts : goal.returns-clause-parts
-returns-clause-parts c = λ (wall : ℕ) (keys : KeyState).
+pub returns-in-None-clause-parts : goal.returns-in-None-clause-parts
+returns-in-None-clause-parts c = λ (wall : ℕ) (keys : KeyState).
     let state : State = state_of wall keys c.args.under_way.now c.args.ports.now in
     ap (λ f. after c.args.ports.now.closed (over_if f state)) c.in-None.ensures.value

@@ -2,6 +2,7 @@ use Rattle.std.proofs.Common.{◌≡◌, ◌∙◌, ℕ, Some, ap, subst, sym}
 use Rattle.confirm_desk.specs.Confirmations.{Confirmation, find_job}
 use Rattle.agent_model.specs.Consents.{over}
 use Rattle.agent_model.specs.KeyStates.{KeyState}
+use Rattle.agent_core.specs.Slots.{OpenPorts}
 use Rattle.agent_core.proofs.ConfirmerLemmas.{closed_then, found_linked, silent-kept}
 use Rattle.agent_core.proofs.confirmer.lose_confirmer.Goals as goal
 
@@ -12,7 +13,7 @@ end_confirmation-requires c =
     let found = found_linked c.args.number going.last_job going.confirmations one c.requires.order (sym c.in-Some.ensures.value) in
     record {
       silent = silent-kept c.job-job.result c.args.number c.args.ports.now.last going.confirmations c.args.ports.now.ports c.close_open.new.self.ports one
-          (subst (λ job. find_job job going.confirmations ≡ Some one) (sym c.job-job.ensures) found) c.requires.quiet c.close_open.ensures.rising c.close_open.ensures.ports;
+          (subst (λ job. find_job job going.confirmations ≡ Some one) (sym c.job-job.ensures) found) c.requires.quiet c.close_open.ensures.rising (ap (λ (v : OpenPorts). v.ports) c.close_open.ensures.ports);
     }
 
 pub returns-clause-parts : goal.returns-clause-parts

@@ -18,10 +18,12 @@ sign-requires-clause-short c =
     let P : Request → Type 0 = λ r. IsShortRequest (client_request r) in
     subst P c.in-Ok-Sign.field-0-is (short_request c.args.body.now (client_request c.in-Ok-Sign.field-0) c.in-Ok-Sign.ensures.found c.requires.short)
 
-pub bind-requires-clause-short : goal.bind-requires-clause-short
-bind-requires-clause-short c =
+pub bind-requires : goal.bind-requires
+bind-requires c =
     let P : Request → Type 0 = λ r. IsShortRequest (client_request r) in
-    subst P c.in-Ok-Bind.field-0-is (short_request c.args.body.now (client_request c.in-Ok-Bind.field-0) c.in-Ok-Bind.ensures.found c.requires.short)
+    record {
+      short = subst P c.in-Ok-Bind.field-0-is (short_request c.args.body.now (client_request c.in-Ok-Bind.field-0) c.in-Ok-Bind.ensures.found c.requires.short);
+    }
 
 pub returns-in_ok-asked-in-Ok-Sign-clause-reply : goal.returns-in_ok-asked-in-Ok-Sign-clause-reply
 returns-in_ok-asked-in-Ok-Sign-clause-reply c =

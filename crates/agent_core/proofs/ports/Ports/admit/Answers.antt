@@ -1,6 +1,6 @@
-use Rattle.std.proofs.Common.{◌≡◌, ◌∙◌, ◌++◌, [], ◌∷◌, ◌<◌, ◌^◌, ◌+◌, suc, ap, add-one, refl, arith, true}
-use Rattle.agent_core.specs.Slots.{OpenPorts, ports_of}
-use Rattle.agent_core.proofs.KeptLemmas.{joined_port, kept-joined, ports_of-push}
+use Rattle.std.proofs.Common.{◌<◌, ◌^◌, suc, ap, add-one, refl, arith}
+use Rattle.agent_core.specs.Slots.{OpenPorts}
+use Rattle.agent_core.proofs.KeptLemmas.{joined_port, kept-joined}
 use Rattle.agent_core.proofs.ports.Ports.admit.Goals as goal
 
 pub invariant_of-self-2 : goal.invariant_of-self-2

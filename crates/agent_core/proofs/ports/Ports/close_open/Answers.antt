@@ -1,5 +1,4 @@
-use Rattle.std.proofs.Common.{◌≡◌, ◌∙◌, [], ap, sym}
-use Rattle.agent_model.specs.Actions.{closing}
+use Rattle.std.proofs.Common.{◌∙◌, [], ap, sym}
 use Rattle.agent_model.specs.NumberLists.{put_all}
 use Rattle.agent_model.specs.State.{find_port, remove_port}
 use Rattle.agent_core.specs.Slots.{OpenPorts}

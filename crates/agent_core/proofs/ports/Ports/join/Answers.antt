@@ -1,5 +1,5 @@
-use Rattle.std.proofs.Common.{◌≡◌, ◌∙◌, [], ◌<◌, ◌^◌, ◌+◌, suc, ap, add-one, arith, length, refl, true}
-use Rattle.agent_model.specs.Step.{admitted}
+use Rattle.std.proofs.Common.{◌≡◌, ◌∙◌, [], ◌<◌, ◌^◌, ◌+◌, suc, ap, add-one, arith, length, sym, true, false, Bool, List, ℕ, ◌∷◌}
+use Rattle.agent_model.specs.Step.{admitted, turned_away}
 use Rattle.lists.specs.Rising.{inserted}
 use Rattle.agent_core.specs.Slots.{OpenPorts, ports_of}
 use Rattle.agent_core.proofs.KeptLemmas.{kept-refused}
@@ -17,16 +17,19 @@ invariant_of-self c =
 
 pub returns-in_ok-admit : goal.returns-in_ok-admit
 returns-in_ok-admit c =
-    c.in_ok-admit.ensures ∙ ap (λ cs. let v : OpenPorts = record {
-      ports = admitted true (suc c.args.self.now.last) c.args.door c.args.self.now.ports;
-      last = suc c.args.self.now.last;
-      closed = cs;
-    } in v) c.requires.closed
+    let old = c.args.self.now in
+    let to : Bool → List ℕ → OpenPorts =
+    λ b cs. record { ports = admitted b (suc old.last) c.args.door old.ports; last = suc old.last; closed = cs } in
+    c.in_ok-admit.ensures.ports
+    ∙ ap (to true) c.requires.closed
+    ∙ sym (ap (λ b. to b (turned_away b (suc old.last))) c.if-has_room.true)
 
 pub returns-else-has_room : goal.returns-else-has_room
 returns-else-has_room c =
     let none : c.self.inside.closed.items ≡ [] = ap (λ (v : OpenPorts). v.closed) c.self.view_is ∙ c.requires.closed in
-    rw (← c.self.view_is) (
-    ap (λ cs. let v : OpenPorts = record { ports = ports_of c.self.inside.slots.items; last = c.self.inside.last + 1; closed = cs } in v)
-    (c.put_in.ensures.items ∙ ap (inserted (c.self.inside.last + 1)) none)
-    ∙ (rw add-one refl))
+    let last = c.self.inside.last in
+    let to : Bool → List ℕ → OpenPorts =
+    λ b cs. record { ports = admitted b (suc last) c.args.door (ports_of c.self.inside.slots.items); last = suc last; closed = cs } in
+    rw (← c.self.view_is, add-one) (
+    ap (to false) (c.put_in.ensures.items ∙ ap (inserted (last + 1)) none ∙ ap (λ n. n ∷ []) (add-one last))
+    ∙ sym (ap (λ b. to b (turned_away b (suc last))) c.if-has_room.false))
