@@ -1,8 +1,9 @@
 #!/usr/bin/env bash
-# Shows that the law of history refuses wrong definitions of the agent: each file of tests/wrong_definitions changes one definition of
-# agent_model, on a copy that has the definitions and none of the proofs, and names the run of agent_laws (src/runs.rt)
-# on which the law fails then. So what refuses it is the run that is computed, and not the form of a proof. Those that
-# are named, or all. Ends with 1 where a run stays lawful, or where the definitions as they are don't pass.
+# Shows that the laws of history and of secrecy refuse wrong definitions of the agent: each file of tests/wrong_definitions
+# changes one definition of agent_model, on a copy that has the definitions and none of the proofs, and names the run of
+# agent_laws or of the crate that it names (src/runs.rt) on which the law fails then. So what refuses it is the run that is
+# computed, and not the form of a proof. Those that are named, or all. Ends with 1 where a run stays as the law wants it,
+# or where the definitions as they are don't pass.
 set -u
 cd "$(dirname "$0")/.." || exit 2
 names=("$@")
@@ -10,24 +11,37 @@ names=("$@")
 work=$(mktemp -d) || exit 2
 trap 'rm -rf "$work"' EXIT
 git ls-files -z crates crates.txt HANDLES | xargs -0 cp --parents -t "$work" || exit 2
-model=$work/crates/agent_model laws=$work/crates/agent_laws
-rm -rf "$model"/{proofs,must-fail,more-edits} "$laws"/proofs "$model"/src/*.rt "$laws"/src/{laws,consequences,rows}.rt
-mkdir -p "$model/proofs" "$laws/proofs"
-touch "$model/proofs/Lib.antt" "$laws/proofs/Lib.antt"
+model=$work/crates/agent_model
+rm -rf "$model"/{proofs,must-fail,more-edits} "$model"/src/*.rt
+mkdir -p "$model/proofs"
+touch "$model/proofs/Lib.antt"
 printf '//! The definitions alone.\n#![tactic(auto)]\n' >"$model/src/lib.rt"
-printf '//! The runs alone.\n#![tactic(auto)]\n\nmod runs;\n\npub use runs::these_runs_are_lawful;\n' >"$laws/src/lib.rt"
+sed -i '/^agent_laws:/s/ agent_secrecy\b//' "$work/crates.txt"
+declare -A runs=([agent_laws]=these_runs_are_lawful [agent_secrecy]=these_runs_tell_no_secret)
+for crate in "${!runs[@]}"; do
+    laws=$work/crates/$crate
+    rm -rf "$laws"/proofs
+    find "$laws/src" -name '*.rt' ! -name runs.rt -delete
+    mkdir -p "$laws/proofs"
+    touch "$laws/proofs/Lib.antt"
+    printf '//! The runs alone.\n#![tactic(auto)]\n\nmod runs;\n\npub use runs::%s;\n' "${runs[$crate]}" >"$laws/src/lib.rt"
+done
 
-# what a check of the runs says
-says() { (cd "$laws" && "${RT:-rt}" check 2>&1); }
+# what a check of the runs of a crate says
+says() { (cd "$work/crates/$1" && "${RT:-rt}" check 2>&1); }
 
-if ! says | grep -q 'these_runs_are_lawful: proved'; then
-    echo "the runs are not lawful as the definitions stand" >&2
-    exit 1
-fi
+for crate in "${!runs[@]}"; do
+    if ! says "$crate" | grep -q "${runs[$crate]}: proved"; then
+        echo "the runs of $crate are not as its law wants them as the definitions stand" >&2
+        exit 1
+    fi
+done
 bad=0
 for name in "${names[@]}"; do
     edit=tests/wrong_definitions/$name
     run=$(sed -n 's/^run: //p' "$edit")
+    crate=$(sed -n 's/^crate: //p' "$edit")
+    crate=${crate:-agent_laws}
     file=$(sed -n 's/^file: //p' "$edit")
     cp "$model/$file" "$work/kept" || exit 2
     python3 - "$edit" "$model/$file" <<'PYTHON' || exit 2
@@ -38,7 +52,7 @@ if text.count(lines["old"]) != 1:
     sys.exit(sys.argv[1] + ": the old text doesn't stand once in the file")
 open(sys.argv[2], "w").write(text.replace(lines["old"], lines["new"]))
 PYTHON
-    said=$(says)
+    said=$(says "$crate")
     if grep 'did not prove' <<<"$said" | grep -q "\`returns-clause-$run\`"; then
         echo "$name: refused by the run $run"
     else

@@ -8,6 +8,7 @@ mod laws;
 mod rows;
 mod runs;
 
+pub use agent_secrecy::secrecy;
 pub use consents::{a_signature_has_a_consent_of_its_own, an_addition_that_left_is_never_used};
 pub use consequences::{
     a_confirmed_key_signs_with_consent, a_constrained_key_signs_where_permitted,

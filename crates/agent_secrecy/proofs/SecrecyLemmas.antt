@@ -1,0 +1,208 @@
+-- Alike lists of events, from the first state on.
+use Rattle.std.proofs.Common.{◌≡◌, ℕ, ◌<◌, ◌≤◌, List, [], ◌∷◌, ◌++◌, length, refl, sym, ap, subst, ◌∙◌, arith, cond, Option, Some, None}
+use Rattle.std.specs.Prelude.{IsSome, nat_lt}
+use Rattle.agent_model.specs.NumberLists.{put_all}
+use Rattle.world_ports.specs.declared.Door.{Door}
+use Rattle.world_ports.specs.declared.Door.TheVariants.{Clients, Children}
+use Rattle.world_ports.specs.declared.Moment.{Moment}
+use Rattle.agent_model.specs.Actions.{Outcome}
+use Rattle.agent_model.specs.Events.{Happening, Timed, Joined, Heard, Ended, Took, Started, StartFailed, Tick}
+use Rattle.agent_model.specs.Runs.{AllFit, outcomes}
+use Rattle.agent_model.specs.Sound.{IsSound}
+use Rattle.agent_model.specs.State.{Fits, Port, State, UnderWay, client_count, find_port, first_state, is_more, next_due, numbers, owed_as, owed_by, role_of, wants, wants_at, wants_by}
+use Rattle.agent_model.specs.Step.{at_moment, handle, step}
+use Rattle.agent_model.proofs.PortsLemmas.{found_within}
+use Rattle.agent_model.proofs.RunLemmas.{first_is_sound}
+use Rattle.agent_secrecy.specs.Secrets.{hidden}
+use Rattle.agent_secrecy.specs.Hiding.{Seen, hide_port, hide_ports}
+use Rattle.agent_secrecy.specs.Alike.{AreAlike, AreAlikeStreams, AreOfOneShape, JoinThrough, JoinsThrough, heard_in, last_after, stream_of}
+use Rattle.agent_secrecy.specs.Secrecy.{AreAlikeSeen, IsAlikeSeen}
+use Rattle.agent_secrecy.proofs.BlankLemmas.{length-blank}
+use Rattle.agent_secrecy.proofs.TableLemmas.{length-hidden, next_death-hidden}
+use Rattle.agent_secrecy.proofs.PortLemmas.{client_count-hidden, numbers-hidden}
+use Rattle.agent_secrecy.proofs.EventLemmas.{at_moment-hidden}
+use Rattle.agent_secrecy.proofs.LengthLemmas.{length-hidden_bytes}
+use Rattle.agent_secrecy.proofs.LookLemmas.{blanked}
+use Rattle.agent_secrecy.proofs.StreamLemmas.{AreAlikeFronts, alike_fronts, both_bad, both_more, both_whole}
+use Rattle.wire_text.specs.Frames.{Front, front}
+use Rattle.wire_text.specs.Bounds.{longest_body}
+use Rattle.agent_secrecy.proofs.TrackLemmas.{follows, tracked-moment, tracked-step}
+use Rattle.agent_secrecy.proofs.RunLemmas.{ArePair, Tracks, handle-after, heard_lengths, no_piece, pair, pair_of, pieces, same_event, seen_of, without_secrets}
+
+-- ---- the number of the last port
+
+quiet-last : (event : Happening) (state : State) → ((d : Door) → event ≡ Joined d → ⊥) → (handle event state).state.last_port ≡ state.last_port
+quiet-last event state other = (follows event state other).last
+
+last-handle : (event : Happening) (state : State) → (handle event state).state.last_port ≡ last_after state.last_port event
+last-handle (Joined through) state = refl
+last-handle (Heard port piece) state = quiet-last (Heard port piece) state (λ d is. absurd (cc))
+last-handle (Ended port) state = quiet-last (Ended port) state (λ d is. absurd (cc))
+last-handle (Took port count) state = quiet-last (Took port count) state (λ d is. absurd (cc))
+last-handle (Started job ticket) state = quiet-last (Started job ticket) state (λ d is. absurd (cc))
+last-handle (StartFailed job) state = quiet-last (StartFailed job) state (λ d is. absurd (cc))
+last-handle Tick state = quiet-last Tick state (λ d is. absurd (cc))
+
+last-grows : (last : ℕ) (event : Happening) → last ≤ last_after last event
+last-grows last (Joined through) = omega arith
+last-grows last (Heard port piece) = omega arith
+last-grows last (Ended port) = omega arith
+last-grows last (Took port count) = omega arith
+last-grows last (Started job ticket) = omega arith
+last-grows last (StartFailed job) = omega arith
+last-grows last Tick = omega arith
+
+-- ---- nothing is heard of a port that hasn't joined
+
+within_by : (state : State) (port : ℕ) (found : Option Port) → IsSound state → find_port port state.ports ≡ found → IsSome found → port ≤ state.last_port
+within_by state port None sound is there = absurd (cc)
+within_by state port (Some p) sound is there = found_within port 0 state.last_port state.ports p sound.rising is
+
+unheard_piece : (state : State) (number port : ℕ) (piece : List ℕ) → IsSound state → IsSome (find_port port state.ports) → state.last_port < number → heard_in number (Heard port piece) ≡ []
+unheard_piece state number port piece sound there above =
+    let within = within_by state port (find_port port state.ports) sound refl there in
+    no_piece number port piece (λ same. omega (arith, within, above, same))
+
+unheard : (event : Happening) (state : State) (number : ℕ) → IsSound state → Fits event state → state.last_port < number → heard_in number event ≡ []
+unheard (Joined through) state number sound fits above = refl
+unheard (Heard port piece) state number sound fits above = unheard_piece state number port piece sound fits.0 above
+unheard (Ended port) state number sound fits above = refl
+unheard (Took port count) state number sound fits above = refl
+unheard (Started job ticket) state number sound fits above = refl
+unheard (StartFailed job) state number sound fits above = refl
+unheard Tick state number sound fits above = refl
+
+unheard_other : (door : ℕ → Door) (one other : Happening) (state : State) (number : ℕ) → ArePair door one other → IsSound state → Fits one state → state.last_port < number → heard_in number other ≡ []
+unheard_other door one other state number (same_event event) sound fits above = unheard event state number sound fits above
+unheard_other door one other state number (pieces port first second alike) sound fits above = unheard_piece state number port second sound fits.0 above
+
+joins_other : (door : ℕ → Door) (one other : Happening) (last : ℕ) → ArePair door one other → JoinsThrough door last one → JoinsThrough door last other
+joins_other door one other last (same_event event) joins = joins
+joins_other door one other last (pieces port first second alike) joins = tt
+
+-- ---- a step
+
+module _ (door : ℕ → Door) (f g : ℕ → List ℕ) where
+  moment-tracks : (moment : Moment) (s t : State) → Tracks door f g s t → Tracks door f g (at_moment moment s) (at_moment moment t)
+  moment-tracks moment s t tracks = record {
+    same = sym (at_moment-hidden hidden length-hidden_bytes blanked moment s) ∙ ap (at_moment moment) tracks.same ∙ at_moment-hidden hidden length-hidden_bytes blanked moment t;
+    one = tracked-moment door moment s tracks.one;
+    other = tracked-moment door moment t tracks.other;
+    streams = tracks.streams;
+    later = tracks.later;
+  }
+
+abbrev to_come : Happening → (ℕ → List ℕ) → ℕ → List ℕ
+to_come event f number = heard_in number event ++ f number
+
+record Stepped (door : ℕ → Door) (f g : ℕ → List ℕ) (o u : Outcome) : Type 0 where
+  seen : seen_of o ≡ seen_of u
+  tracks : Tracks door f g o.state u.state
+
+stepped : (door : ℕ → Door) (f g : ℕ → List ℕ) (s t : State) (moment : Moment) (one other : Happening) → ArePair door one other → Fits one s → JoinsThrough door s.last_port one → Tracks door (to_come one f) (to_come other g) s t → Stepped door f g (step s moment one) (step t moment other)
+stepped door f g s t moment one other both fits joins tracks =
+    let opened = moment-tracks door (to_come one f) (to_come other g) moment s t tracks in
+    let after = handle-after door f g (at_moment moment s) (at_moment moment t) one other both fits opened in
+    let seen : seen_of (step s moment one) ≡ seen_of (step t moment other) = ap (λ (x : Seen). let y : Seen = record x { closes = put_all [] x.closes } in y) after.seen in
+    let same_last : s.last_port ≡ t.last_port = ap (λ (x : State). x.last_port) tracks.same in
+    record {
+      seen = seen;
+      tracks = record {
+        same = ap (λ (x : Seen). x.state) seen;
+        one = tracked-step door s moment one joins tracks.one;
+        other = tracked-step door t moment other (subst (λ last. JoinsThrough door last other) same_last (joins_other door one other s.last_port both joins)) tracks.other;
+        streams = after.streams;
+        later = λ number above client.
+            let grows : s.last_port < number = omega (arith, above, last-handle one (at_moment moment s), last-grows s.last_port one) in
+            subst (λ bytes. AreAlikeStreams (bytes ++ f number) (g number)) (unheard one s number tracks.one.sound fits grows)
+            (subst (λ bytes. AreAlikeStreams (to_come one f number) (bytes ++ g number)) (unheard_other door one other s number both tracks.one.sound fits grows)
+            (tracks.later number grows client));
+      };
+    }
+
+-- ---- what is seen of it
+
+owed_at_client : (port : Port) (under_way : UnderWay) → port.door ≡ Clients → owed_by (Some port) under_way ≡ port.owed
+owed_at_client port under_way client = ap (λ d. owed_as (role_of d port.number under_way) port under_way) client
+
+-- a client is to be read in both
+more_in : {h k f g : List ℕ} (one other : Front) → AreAlikeFronts h k f g one other → is_more one ≡ is_more other
+more_in one other (both_whole body_len bodies streams) = refl
+more_in one other (both_bad first second) = refl
+more_in one other both_more = refl
+
+wants_at_by : (door : ℕ → Door) (f g : ℕ → List ℕ) (s t : State) (number : ℕ) (p q : Port) (through : Door) → Tracks door f g s t → find_port number s.ports ≡ Some p → find_port number t.ports ≡ Some q → hide_port blanked p ≡ hide_port blanked q → p.door ≡ through → wants_at through p.heard ≡ wants_at through q.heard
+wants_at_by door f g s t number p q Children tracks at_p at_q same is = refl
+wants_at_by door f g s t number p q Clients tracks at_p at_q same is =
+    let client : door number ≡ Clients = sym (tracks.one.doors number p at_p) ∙ is in
+    let q_is : q.door ≡ Clients = tracks.other.doors number q at_q ∙ client in
+    more_in (front longest_body p.heard) (front longest_body q.heard)
+    (alike_fronts p.heard q.heard (f number) (g number) (heard_lengths p q same is q_is) (tracks.streams number p q at_p at_q client))
+
+wants-by : (door : ℕ → Door) (f g : ℕ → List ℕ) (s t : State) (number : ℕ) (one other : Option Port) → Tracks door f g s t → find_port number s.ports ≡ one → find_port number t.ports ≡ other → wants_by one ≡ wants_by other
+wants-by door f g s t number None None tracks is other_is = refl
+wants-by door f g s t number None (Some q) tracks is other_is =
+    absurd (let p = pair_of t s number q (sym tracks.same) other_is in let e : None ≡ Some p.0 = sym is ∙ p.1 in cc)
+wants-by door f g s t number (Some p) None tracks is other_is =
+    absurd (let q = pair_of s t number p tracks.same is in let e : None ≡ Some q.0 = sym other_is ∙ q.1 in cc)
+wants-by door f g s t number (Some p) (Some q) tracks is other_is =
+    let pair = pair_of s t number p tracks.same is in
+    let q_is : pair.0 ≡ q = (let e : Some pair.0 ≡ Some q = sym pair.1 ∙ other_is in cc) in
+    let same : hide_port blanked p ≡ hide_port blanked q = pair.2 ∙ ap (hide_port blanked) q_is in
+    wants_at_by door f g s t number p q p.door tracks is other_is same refl
+    ∙ ap (λ (x : Port). wants_at x.door q.heard) same
+
+seen-alike : (o u : Outcome) → seen_of o ≡ seen_of u → ((number : ℕ) → wants number o.state ≡ wants number u.state) → IsAlikeSeen o u
+seen-alike o u same wanted =
+    let state : without_secrets o.state ≡ without_secrets u.state = ap (λ (x : Seen). x.state) same in
+    record {
+      owed = λ number port found client.
+          let other = pair_of o.state u.state number port state found in
+          let door : other.0.door ≡ Clients = sym (ap (λ (x : Port). x.door) other.2) ∙ client in
+          ap (λ x. owed_by x o.state.under_way) found ∙ owed_at_client port o.state.under_way client
+          ∙ ap (λ (x : Port). x.owed) other.2
+          ∙ sym (ap (λ x. owed_by x u.state.under_way) other.1 ∙ owed_at_client other.0 u.state.under_way door);
+      closes = ap (λ (x : Seen). x.closes) same;
+      starts = ap (λ (x : State). x.under_way.to_start) state;
+      ports = sym (numbers-hidden blanked o.state.ports) ∙ ap (λ (x : State). numbers x.ports) state ∙ numbers-hidden blanked u.state.ports;
+      held = sym (length-hidden hidden o.state.held.table.identities) ∙ ap (λ (x : State). length x.held.table.identities) state ∙ length-hidden hidden u.state.held.table.identities;
+      faults = ap (λ (x : State). x.under_way.link.faults) state;
+      last = ap (λ (x : State). x.last_port) state;
+      clients = sym (client_count-hidden blanked o.state.ports) ∙ ap (λ (x : State). client_count x.ports) state ∙ client_count-hidden blanked u.state.ports;
+      due = sym (next_death-hidden hidden o.state.held.table.identities) ∙ ap next_due state ∙ next_death-hidden hidden u.state.held.table.identities;
+      wants = wanted;
+      helper = sym (length-blank o.state.under_way.link.owed) ∙ ap (λ (x : State). length x.under_way.link.owed) state ∙ length-blank u.state.under_way.link.owed;
+      put = ap (λ (x : Seen). x.put) same;
+    }
+
+-- ---- runs
+
+runs : (door : ℕ → Door) (ones others : List Timed) (s t : State) → AreOfOneShape door ones others → JoinThrough door s.last_port ones → AllFit s ones
+    → Tracks door (λ number. stream_of number ones) (λ number. stream_of number others) s t → AreAlikeSeen (outcomes s ones) (outcomes t others)
+runs door [] [] s t shapes joins fit tracks = tt
+runs door [] (other ∷ others) s t shapes joins fit tracks = absurd shapes
+runs door (one ∷ ones) [] s t shapes joins fit tracks = absurd shapes
+runs door (one ∷ ones) (other ∷ others) s t shapes joins fit tracks =
+    subst (λ moment. AreAlikeSeen (outcomes s (one ∷ ones)) (outcomes t (record other { moment = moment } ∷ others))) shapes.0
+    (let both = pair door one.event other.event shapes.1 in
+    let next = stepped door (λ number. stream_of number ones) (λ number. stream_of number others) s t one.moment one.event other.event both fit.0 joins.0 tracks in
+    let later_joins : JoinThrough door (step s one.moment one.event).state.last_port ones =
+    subst (λ last. JoinThrough door last ones) (sym (last-handle one.event (at_moment one.moment s))) joins.1 in (
+      seen-alike (step s one.moment one.event) (step t one.moment other.event) next.seen
+          (λ number. wants-by door (λ number. stream_of number ones) (λ number. stream_of number others) (step s one.moment one.event).state (step t one.moment other.event).state number _ _ next.tracks refl refl),
+      runs door ones others (step s one.moment one.event).state (step t one.moment other.event).state shapes.2 later_joins fit.1 next.tracks,
+    ))
+
+first-tracks : (life : Option ℕ) (door : ℕ → Door) (f g : ℕ → List ℕ) → ((number : ℕ) → door number ≡ Clients → AreAlikeStreams (f number) (g number)) → Tracks door f g (first_state life) (first_state life)
+first-tracks life door f g streams = record {
+  same = refl;
+  one = record { sound = first_is_sound life; doors = λ number port found. absurd (cc) };
+  other = record { sound = first_is_sound life; doors = λ number port found. absurd (cc) };
+  streams = λ number p q at_p at_q client. absurd (cc);
+  later = λ number above client. streams number client;
+}
+
+pub every_run : (life : Option ℕ) (one other : List Timed) → AreAlike one other → AllFit (first_state life) one → AreAlikeSeen (outcomes (first_state life) one) (outcomes (first_state life) other)
+every_run life one other alike fit =
+    runs alike.door one other (first_state life) (first_state life) alike.shapes alike.joins fit
+    (first-tracks life alike.door (λ number. stream_of number one) (λ number. stream_of number other) alike.streams)

@@ -1,0 +1,7 @@
+pub mod Secrets
+pub mod Hiding
+pub mod Alike
+pub mod Secrecy
+pub mod Rows
+pub mod Frames
+pub mod Runs
