@@ -1,10 +1,9 @@
 // The tool over files, a connection, an input and outputs in memory.
-ghost use Rattle.std.specs.Prelude.{◌<◌};
-
 use crate::fixtures::{FILE_ONE, FILE_TWO, HOSTS, PUBLIC};
 use add_core::{AddStatus, add_main};
 use std::alloc::{AllocError, Global};
-use std::test::Fail;
+use std::process::Abort;
+use std::test::*;
 use world_ports::{MapFiles, MemPeer, SliceSource, VecSink};
 
 /// What the tool did.
@@ -66,24 +65,48 @@ pub fn words(alloc: Global, text: &str) -> Result<Vec<String>, AllocError> {
     Ok(words)
 }
 
-/// Plays the tool with these words. A read brings at most `cut` bytes.
+/// A sink with so much room, of which the call with this number fails.
+fn sink(rt: &impl Abort, alloc: Global, room: u32, failing: u64) -> VecSink {
+    let calls = [failing].to_vec(alloc).expect(rt, "a number");
+    VecSink::new(alloc, room, calls).expect(rt, "a sink")
+}
+
+/// A source of these bytes, at most `cut` at a time, of which the call with this number fails.
+fn source<'a>(
+    rt: &impl Abort,
+    alloc: Global,
+    bytes: &'a [u8],
+    cut: u32,
+    failing: u64,
+) -> SliceSource<'a> {
+    assert!(rt; cut > 0, "a cut");
+    let calls = [failing].to_vec(alloc).expect(rt, "a number");
+    SliceSource::new(bytes, cut, calls)
+}
+
+/// What was written, apart from the sink.
+fn copied(rt: &impl Abort, alloc: Global, bytes: &[u8]) -> Vec<u8> {
+    Vec::from_slice(alloc, bytes).expect(rt, "what was written")
+}
+
+/// Plays the tool with these words. A read brings at most `cut` bytes. What owns the files, the connection and the
+/// streams has no exit: at each their drops would be proved once more.
 pub fn play_words(
+    rt: &impl Abort,
     alloc: Global,
     words: &[String],
     input: &[u8],
     replies: &[u8],
     cut: u32,
     failing: Failing,
-) -> Result<Played, Fail>
-    requires { 0 < cut }
-{
-    let mut files = files(alloc, failing.files)?;
-    let source = SliceSource::new(replies, cut, [failing.reads].to_vec(alloc)?);
-    let sink = VecSink::new(alloc, 300_000, [failing.writes].to_vec(alloc)?)?;
-    let mut peer = Some(MemPeer::new(source, sink));
-    let mut input = SliceSource::new(input, 7, [failing.input].to_vec(alloc)?);
-    let mut output = VecSink::new(alloc, 200_000, [failing.outputs].to_vec(alloc)?)?;
-    let mut errors = VecSink::new(alloc, 1_000, [failing.outputs].to_vec(alloc)?)?;
+) -> Played {
+    let mut files = files(alloc, failing.files).expect(rt, "the files");
+    let replies = source(rt, alloc, replies, cut, failing.reads);
+    let requests = sink(rt, alloc, 300_000, failing.writes);
+    let mut peer = Some(MemPeer::new(replies, requests));
+    let mut input = source(rt, alloc, input, 7, failing.input);
+    let mut output = sink(rt, alloc, 200_000, failing.outputs);
+    let mut errors = sink(rt, alloc, 1_000, failing.outputs);
     let status = add_main(
         alloc,
         words,
@@ -94,18 +117,35 @@ pub fn play_words(
         &mut errors,
     );
     let sent = match &peer {
-        Some(peer) => Vec::from_slice(alloc, peer.written())?,
+        Some(peer) => copied(rt, alloc, peer.written()),
         None => Vec::new(alloc),
     };
-    Ok(Played {
+    Played {
         status,
         sent,
-        output: Vec::from_slice(alloc, output.written())?,
-        errors: Vec::from_slice(alloc, errors.written())?,
-    })
+        output: copied(rt, alloc, output.written()),
+        errors: copied(rt, alloc, errors.written()),
+    }
 }
 
 /// The same, with the words of a text and nothing that fails.
-pub fn play(alloc: Global, text: &str, input: &[u8], replies: &[u8]) -> Result<Played, Fail> {
-    play_words(alloc, &words(alloc, text)?, input, replies, 4096, NOTHING)
+pub fn play(rt: &impl Abort, alloc: Global, text: &str, input: &[u8], replies: &[u8]) -> Played {
+    let words = words(alloc, text).expect(rt, "words");
+    play_words(rt, alloc, &words, input, replies, 4096, NOTHING)
+}
+
+/// What the tool ended with.
+pub fn ends(rt: &impl Abort, played: &Played, status: AddStatus, label: &str) {
+    assert!(rt; played.status == status, "status at {label}");
+}
+
+/// What was sent.
+pub fn sends(rt: &impl Abort, played: &Played, bytes: &[u8], label: &str) {
+    assert!(rt; played.sent.as_slice() == bytes, "sent at {label}");
+}
+
+/// What stands on the output, and on the errors.
+pub fn prints(rt: &impl Abort, played: &Played, output: &[u8], errors: &[u8], label: &str) {
+    assert!(rt; played.output.as_slice() == output, "output at {label}");
+    assert!(rt; played.errors.as_slice() == errors, "errors at {label}");
 }

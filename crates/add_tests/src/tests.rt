@@ -1,10 +1,11 @@
 // Outside vectors, each fault with its word, and replies in pieces.
 use crate::fixtures::{ADD_ONE, ADD_ONE_RESTRICTED, ENTRY, FINGERPRINT_LINE, PUBLIC};
-use crate::play::{Failing, NOTHING, Played, play, play_words, words};
+use crate::play::{Failing, NOTHING, ends, play, play_words, prints, sends, words};
 use add_core::{AddFault, AddStatus, DestFault, add_main, read_life};
 use key_file::{KeyFileFault, PubFault};
 use std::alloc::Global;
-use std::test::Fail;
+use std::process::Abort;
+use std::test::*;
 use world_ports::{MapFiles, MemPeer, SliceSource, VecSink};
 
 const SUCCESS: &[u8] = b"\x00\x00\x00\x01\x06";
@@ -14,29 +15,23 @@ const NO_IDENTITIES: &[u8] = b"\x00\x00\x00\x05\x0c\x00\x00\x00\x00";
 #[test]
 fn a_key_is_added_for_a_way_between_hosts(rt: HostRuntime) -> Result<(), Fail> {
     let alloc = rt.alloc();
-    let text = "-H kh -h scylla.example.org>medea@charybdis.example.org f1";
-    let played = play(alloc, text, b"", SUCCESS)?;
-    assert!(rt; played.status == AddStatus::Done);
     let wanted = hex::decode(alloc, ADD_ONE_RESTRICTED)?;
-    assert_eq!(rt; played.sent.as_slice(), wanted.as_slice());
-    assert_eq!(rt;
-        played.errors.as_slice(),
-        b"Identity added: f1 (one)\n".as_slice()
-    );
+    let text = "-H kh -h scylla.example.org>medea@charybdis.example.org f1";
+    let played = play(&rt, alloc, text, b"", SUCCESS);
+    ends(&rt, &played, AddStatus::Done, text);
+    sends(&rt, &played, &wanted, text);
+    prints(&rt, &played, b"", b"Identity added: f1 (one)\n", text);
     Ok(())
 }
 
 #[test]
-fn an_empty_list_says_so(rt: HostRuntime) -> Result<(), Fail> {
-    let played = play(rt.alloc(), "-l", b"", NO_IDENTITIES)?;
-    assert!(rt; played.status == AddStatus::Failed(AddFault::NoIdentities));
-    assert_eq!(rt; played.sent.as_slice(), b"\x00\x00\x00\x01\x0b".as_slice());
-    assert_eq!(rt;
-        played.output.as_slice(),
-        b"The agent has no identities.\n".as_slice()
-    );
-    assert!(rt; played.errors.is_empty());
-    Ok(())
+fn an_empty_list_says_so(rt: HostRuntime) {
+    let played = play(&rt, rt.alloc(), "-l", b"", NO_IDENTITIES);
+    let status = AddStatus::Failed(AddFault::NoIdentities);
+    ends(&rt, &played, status, "no identities");
+    sends(&rt, &played, b"\x00\x00\x00\x01\x0b", "no identities");
+    let output = b"The agent has no identities.\n";
+    prints(&rt, &played, output, b"", "no identities");
 }
 
 #[test]
@@ -127,21 +122,13 @@ const UNSENT: [(&str, AddFault, &str); 15] = [
 ];
 
 #[test]
-fn faults_before_a_request_have_their_words(rt: HostRuntime) -> Result<(), Fail> {
+fn faults_before_a_request_have_their_words(rt: HostRuntime) {
     for (text, fault, errors) in UNSENT {
-        let played = play(rt.alloc(), text, b"\nsecret", SUCCESS)?;
-        assert!(rt;
-            played.status == AddStatus::Failed(fault),
-            "status at {text}"
-        );
-        assert!(rt;
-            played.errors.as_slice() == errors.as_bytes(),
-            "errors at {text}"
-        );
-        assert!(rt; played.sent.is_empty(), "sent at {text}");
-        assert!(rt; played.output.is_empty(), "output at {text}");
+        let played = play(&rt, rt.alloc(), text, b"\nsecret", SUCCESS);
+        ends(&rt, &played, AddStatus::Failed(fault), text);
+        sends(&rt, &played, b"", text);
+        prints(&rt, &played, b"", errors.as_bytes(), text);
     }
-    Ok(())
 }
 
 // Words, the agent's bytes, the fault, and all that stands on the errors, after a request.
@@ -193,34 +180,28 @@ const SENT: [(&str, &[u8], AddFault, &str); 9] = [
 ];
 
 #[test]
-fn faults_after_a_request_have_their_words(rt: HostRuntime) -> Result<(), Fail> {
+fn faults_after_a_request_have_their_words(rt: HostRuntime) {
     for (text, replies, fault, errors) in SENT {
-        let played = play(rt.alloc(), text, b"", replies)?;
-        assert!(rt;
-            played.status == AddStatus::Failed(fault),
-            "status at {text}"
-        );
-        assert!(rt;
-            played.errors.as_slice() == errors.as_bytes(),
-            "errors at {text}"
-        );
+        let played = play(&rt, rt.alloc(), text, b"", replies);
+        ends(&rt, &played, AddStatus::Failed(fault), text);
+        prints(&rt, &played, b"", errors.as_bytes(), text);
         assert!(rt; !played.sent.is_empty(), "sent at {text}");
     }
-    Ok(())
 }
 
 #[test]
 fn a_second_file_waits_for_the_first_reply(rt: HostRuntime) -> Result<(), Fail> {
     let alloc = rt.alloc();
-    let played = play(
-        alloc,
-        "f1 f2",
-        b"",
-        b"\x00\x00\x00\x01\x05\x00\x00\x00\x01\x06",
-    )?;
-    assert!(rt; played.status == AddStatus::Failed(AddFault::Refused));
     let wanted = hex::decode(alloc, ADD_ONE)?;
-    assert_eq!(rt; played.sent.as_slice(), wanted.as_slice());
+    let replies = b"\x00\x00\x00\x01\x05\x00\x00\x00\x01\x06";
+    let played = play(&rt, alloc, "f1 f2", b"", replies);
+    ends(
+        &rt,
+        &played,
+        AddStatus::Failed(AddFault::Refused),
+        "two files",
+    );
+    sends(&rt, &played, &wanted, "two files");
     Ok(())
 }
 
@@ -228,29 +209,39 @@ fn a_second_file_waits_for_the_first_reply(rt: HostRuntime) -> Result<(), Fail> 
 fn a_long_passphrase_is_refused(rt: HostRuntime) -> Result<(), Fail> {
     let alloc = rt.alloc();
     let long = vec![in alloc; b'x'; 1025]?;
-    let played = play(alloc, "-x", &long, SUCCESS)?;
-    assert!(rt; played.status == AddStatus::Failed(AddFault::LongPassphrase));
-    let played = play(alloc, "-x", b"a b\nmore", SUCCESS)?;
-    assert!(rt; played.status == AddStatus::Done);
-    assert_eq!(rt;
-        played.sent.as_slice(),
-        b"\x00\x00\x00\x08\x16\x00\x00\x00\x03a b".as_slice()
-    );
+    let played = play(&rt, alloc, "-x", &long, SUCCESS);
+    let status = AddStatus::Failed(AddFault::LongPassphrase);
+    ends(&rt, &played, status, "a long passphrase");
+    let played = play(&rt, alloc, "-x", b"a b\nmore", SUCCESS);
+    ends(&rt, &played, AddStatus::Done, "a passphrase");
+    let wanted = b"\x00\x00\x00\x08\x16\x00\x00\x00\x03a b";
+    sends(&rt, &played, wanted, "a passphrase");
     Ok(())
 }
 
-#[test]
-fn a_request_of_many_destinations_is_too_long(rt: HostRuntime) -> Result<(), Fail> {
-    let alloc = rt.alloc();
+// Words with 1400 destinations.
+fn many(alloc: Global) -> Result<Vec<String>, Fail> {
     let mut all = words(alloc, "-H kh f1")?;
     for _ in 0..1400 {
         all.push(String::from_str(alloc, "-h")?)?;
         all.push(String::from_str(alloc, "scylla.example.org")?)?;
     }
-    let played = play_words(alloc, &all, b"", SUCCESS, 4096, NOTHING)?;
-    assert!(rt; played.status == AddStatus::Failed(AddFault::TooLong));
-    assert!(rt; played.sent.is_empty());
-    assert_eq!(rt; played.errors.as_slice(), b"ssh-add: toolong\n".as_slice());
+    Ok(all)
+}
+
+#[test]
+fn a_request_of_many_destinations_is_too_long(rt: HostRuntime) -> Result<(), Fail> {
+    let alloc = rt.alloc();
+    let words = many(alloc)?;
+    let played = play_words(&rt, alloc, &words, b"", SUCCESS, 4096, NOTHING);
+    ends(
+        &rt,
+        &played,
+        AddStatus::Failed(AddFault::TooLong),
+        "too long",
+    );
+    sends(&rt, &played, b"", "too long");
+    prints(&rt, &played, b"", b"ssh-add: toolong\n", "too long");
     Ok(())
 }
 
@@ -275,17 +266,22 @@ fn lines(alloc: Global, line: &str, count: usize) -> Result<Vec<u8>, Fail> {
     Ok(lines)
 }
 
+// What a listing by a word prints.
+fn lists(rt: &impl Abort, alloc: Global, word: &str, reply: &[u8], cut: u32, wanted: &[u8]) {
+    let words = words(alloc, word).expect(rt, "words");
+    let played = play_words(rt, alloc, &words, b"", reply, cut, NOTHING);
+    ends(rt, &played, AddStatus::Done, word);
+    prints(rt, &played, wanted, b"", word);
+}
+
 #[test]
 fn a_thousand_identities_are_listed_once_each(rt: HostRuntime) -> Result<(), Fail> {
     let alloc = rt.alloc();
     let reply = list(alloc, 1000)?;
-    let played = play(alloc, "-l", b"", &reply)?;
-    assert!(rt; played.status == AddStatus::Done);
     let wanted = lines(alloc, FINGERPRINT_LINE, 1000)?;
-    assert!(rt; played.output.as_slice() == wanted.as_slice());
-    let played = play(alloc, "-L", b"", &reply)?;
+    lists(&rt, alloc, "-l", &reply, 4096, &wanted);
     let wanted = lines(alloc, PUBLIC, 1000)?;
-    assert!(rt; played.output.as_slice() == wanted.as_slice());
+    lists(&rt, alloc, "-L", &reply, 4096, &wanted);
     Ok(())
 }
 
@@ -293,10 +289,8 @@ fn a_thousand_identities_are_listed_once_each(rt: HostRuntime) -> Result<(), Fai
 fn a_reply_of_single_bytes_is_whole(rt: HostRuntime) -> Result<(), Fail> {
     let alloc = rt.alloc();
     let reply = list(alloc, 2)?;
-    let played = play_words(alloc, &words(alloc, "-l")?, b"", &reply, 1, NOTHING)?;
-    assert!(rt; played.status == AddStatus::Done);
     let wanted = lines(alloc, FINGERPRINT_LINE, 2)?;
-    assert!(rt; played.output.as_slice() == wanted.as_slice());
+    lists(&rt, alloc, "-l", &reply, 1, &wanted);
     Ok(())
 }
 
@@ -348,30 +342,37 @@ const FAILING: [(&str, Failing, AddFault); 5] = [
 fn what_fails_is_named(rt: HostRuntime) -> Result<(), Fail> {
     let alloc = rt.alloc();
     for (text, failing, fault) in FAILING {
-        let played = play_words(alloc, &words(alloc, text)?, b"secret", SUCCESS, 9, failing)?;
-        assert!(rt; played.status == AddStatus::Failed(fault), "at {text}");
+        let words = words(alloc, text)?;
+        let played = play_words(&rt, alloc, &words, b"secret", SUCCESS, 9, failing);
+        ends(&rt, &played, AddStatus::Failed(fault), text);
     }
     Ok(())
 }
 
-#[test]
-fn without_an_agent_nothing_is_read(rt: HostRuntime) -> Result<(), Fail> {
-    let alloc = rt.alloc();
+// What the tool ends with where nobody is connected, and how much stands on the errors then.
+fn alone(rt: &impl Abort, alloc: Global, words: &[String]) -> (AddStatus, usize) {
     let mut files = MapFiles::new(Vec::new(alloc), Vec::new(alloc));
     let mut peer: Option<MemPeer<'_>> = None;
     let mut input = SliceSource::new(b"", 1, Vec::new(alloc));
-    let mut output = VecSink::new(alloc, 9, Vec::new(alloc))?;
-    let mut errors = VecSink::new(alloc, 9, Vec::new(alloc))?;
+    let mut output = VecSink::new(alloc, 9, Vec::new(alloc)).expect(rt, "a sink");
+    let mut errors = VecSink::new(alloc, 9, Vec::new(alloc)).expect(rt, "a sink");
     let status = add_main(
         alloc,
-        &words(alloc, "missing")?,
+        words,
         &mut files,
         &mut peer,
         &mut input,
         &mut output,
         &mut errors,
     );
+    (status, errors.written().len())
+}
+
+#[test]
+fn without_an_agent_nothing_is_read(rt: HostRuntime) -> Result<(), Fail> {
+    let words = words(rt.alloc(), "missing")?;
+    let (status, errors) = alone(&rt, rt.alloc(), &words);
     assert!(rt; status == AddStatus::NoAgent);
-    assert!(rt; errors.written().is_empty());
+    assert_eq!(rt; errors, 0);
     Ok(())
 }

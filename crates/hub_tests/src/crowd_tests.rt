@@ -1,10 +1,10 @@
 // Many clients at once, most of them quiet.
 use crate::counted::Counted;
-use crate::scripts::{EMPTY, LIST, connect, play, play_with, send, taken};
+use crate::scripts::{EMPTY, LIST, connect, ends, play, play_with, send, takes};
 use ready_loop::ServeEnd;
 use std::alloc::{AllocError, Global};
 use std::sync::Wait;
-use std::test::Fail;
+use std::test::*;
 use world_ports::Cue;
 
 // So many clients connect.
@@ -30,45 +30,61 @@ fn pushes(alloc: Global, clients: usize) -> Result<Vec<Cue>, AllocError> {
     Ok(cues)
 }
 
-// How often the agent is asked where after these turns the first client sends so many requests.
-fn looks<R: Wait>(
-    rt: &R,
+// After these turns the first client sends so many requests.
+fn asking(
     alloc: Global,
     before: Vec<Vec<Cue>>,
     requests: usize,
-) -> Result<usize, AllocError> {
+) -> Result<Vec<Vec<Cue>>, AllocError> {
     let mut turns = before;
     for _ in 0..requests {
         turns.push(vec![in alloc; send(alloc, 1, LIST)?]?)?;
     }
+    Ok(turns)
+}
+
+// How often the agent is asked in these turns.
+fn looks<R: Wait>(rt: &R, alloc: Global, turns: Vec<Vec<Cue>>) -> usize {
     let mut counted = Counted::new(alloc);
     let script = (turns, Vec::new(alloc));
     let (_end, _world) = play_with(rt, alloc, &mut counted, script, false);
-    Ok(counted.looks())
+    counted.looks()
 }
 
-// How often it is asked for one request more, in a crowd of so many clients that are quiet.
-fn cost_among_quiet<R: Wait>(rt: &R, alloc: Global, clients: usize) -> Result<usize, AllocError> {
-    let once = looks(rt, alloc, vec![in alloc; connects(alloc, clients)?]?, 1)?;
-    let twice = looks(rt, alloc, vec![in alloc; connects(alloc, clients)?]?, 2)?;
-    Ok(twice.saturating_sub(once))
+// A crowd of so many clients that are quiet, or whose others push.
+fn crowd(alloc: Global, clients: usize, is_quiet: bool) -> Result<Vec<Vec<Cue>>, AllocError> {
+    if is_quiet {
+        return Ok(vec![in alloc; connects(alloc, clients)?]?);
+    }
+    Ok(vec![in alloc; connects(alloc, clients)?, pushes(alloc, clients)?]?)
 }
 
-// The same in a crowd whose others push.
-fn cost_among_pushing<R: Wait>(rt: &R, alloc: Global, clients: usize) -> Result<usize, AllocError> {
-    let crowd = vec![in alloc; connects(alloc, clients)?, pushes(alloc, clients)?]?;
-    let once = looks(rt, alloc, crowd, 1)?;
-    let crowd = vec![in alloc; connects(alloc, clients)?, pushes(alloc, clients)?]?;
-    let twice = looks(rt, alloc, crowd, 2)?;
+// How often it is asked for one request more in such a crowd.
+fn cost<R: Wait>(
+    rt: &R,
+    alloc: Global,
+    clients: usize,
+    is_quiet: bool,
+) -> Result<usize, AllocError> {
+    let once = looks(
+        rt,
+        alloc,
+        asking(alloc, crowd(alloc, clients, is_quiet)?, 1)?,
+    );
+    let twice = looks(
+        rt,
+        alloc,
+        asking(alloc, crowd(alloc, clients, is_quiet)?, 2)?,
+    );
     Ok(twice.saturating_sub(once))
 }
 
 #[test]
 fn quiet_clients_cost_a_request_no_look(rt: HostRuntime) -> Result<(), Fail> {
     let alloc = rt.alloc();
-    let beside_one = cost_among_quiet(&rt, alloc, 2)?;
+    let beside_one = cost(&rt, alloc, 2, true)?;
     assert!(rt; beside_one > 0);
-    assert_eq!(rt; cost_among_quiet(&rt, alloc, 128)?, beside_one);
+    assert_eq!(rt; cost(&rt, alloc, 128, true)?, beside_one);
     Ok(())
 }
 
@@ -77,26 +93,31 @@ fn clients_that_send_more_than_is_wanted_cost_a_request_no_look(
     rt: HostRuntime,
 ) -> Result<(), Fail> {
     let alloc = rt.alloc();
-    let beside_one = cost_among_pushing(&rt, alloc, 2)?;
+    let beside_one = cost(&rt, alloc, 2, false)?;
     assert!(rt; beside_one > 0);
-    assert_eq!(rt; cost_among_pushing(&rt, alloc, 128)?, beside_one);
-    assert!(rt; beside_one <= cost_among_quiet(&rt, alloc, 2)?);
+    assert_eq!(rt; cost(&rt, alloc, 128, false)?, beside_one);
+    assert!(rt; beside_one <= cost(&rt, alloc, 2, true)?);
     Ok(())
+}
+
+// So many clients connect, and send one request each.
+fn requests_of(alloc: Global, clients: u64) -> Result<Vec<Vec<Cue>>, AllocError> {
+    let mut sends = Vec::new(alloc);
+    for port in 0..clients {
+        sends.push(send(alloc, port.saturating_add(1), LIST)?)?;
+    }
+    Ok(vec![in alloc; connects(alloc, clients as usize)?, sends]?)
 }
 
 #[test]
 fn a_crowd_is_served_but_for_one_too_many(rt: HostRuntime) -> Result<(), Fail> {
     let alloc = rt.alloc();
-    let mut sends = Vec::new(alloc);
-    for port in 1..130 {
-        sends.push(send(alloc, port, LIST)?)?;
-    }
-    let turns = vec![in alloc; connects(alloc, 129)?, sends]?;
+    let turns = requests_of(alloc, 129)?;
     let (end, world) = play(&rt, alloc, turns, Vec::new(alloc), false);
-    assert_eq!(rt; end, ServeEnd::Over);
+    ends(&rt, end, ServeEnd::Over);
     for port in 1..129 {
-        assert_eq!(rt; taken(alloc, &world, port)?.as_slice(), EMPTY);
+        takes(&rt, alloc, &world, port, EMPTY);
     }
-    assert!(rt; taken(alloc, &world, 129)?.is_empty());
+    takes(&rt, alloc, &world, 129, b"");
     Ok(())
 }

@@ -1,8 +1,8 @@
 // A signature through the whole loop: the helper's process is started, connects and answers.
-use crate::scripts::{addition, connect, play, send, taken};
+use crate::scripts::{addition, connect, ends, play, send, takes};
 use ready_loop::ServeEnd;
 use std::alloc::{AllocError, Global};
-use std::test::Fail;
+use std::test::*;
 use world_ports::{Cue, Door, Entry, ScriptWorld};
 
 // The one-time token of the helper's process.
@@ -35,17 +35,23 @@ fn helpers(world: &ScriptWorld) -> usize {
         .count()
 }
 
-#[test]
-fn a_client_gets_a_signature_of_the_helper(rt: HostRuntime) -> Result<(), Fail> {
-    let alloc = rt.alloc();
+// A client adds a key and asks, and the helper's process connects and answers.
+fn turns(alloc: Global) -> Result<Vec<Vec<Cue>>, AllocError> {
     let adds = vec![in alloc; connect(), send(alloc, 1, &addition(alloc)?)?]?;
     let asks = vec![in alloc; Cue::Ticket(TICKET), send(alloc, 1, &sign_request(alloc)?)?]?;
     let joins = vec![in alloc; Cue::Connect(Door::Children), send(alloc, 2, HELLO)?]?;
     let answers = vec![in alloc; send(alloc, 2, SIGNED)?]?;
-    let turns = vec![in alloc; adds, asks, joins, answers]?;
+    Ok(vec![in alloc; adds, asks, joins, answers]?)
+}
+
+#[test]
+fn a_client_gets_a_signature_of_the_helper(rt: HostRuntime) -> Result<(), Fail> {
+    let alloc = rt.alloc();
+    let turns = turns(alloc)?;
     let (end, world) = play(&rt, alloc, turns, Vec::new(alloc), false);
-    assert_eq!(rt; end, ServeEnd::Over);
-    assert_eq!(rt; taken(alloc, &world, 1)?.as_slice(), REPLIES);
-    assert_eq!(rt; helpers(&world), 1);
+    ends(&rt, end, ServeEnd::Over);
+    takes(&rt, alloc, &world, 1, REPLIES);
+    let count = helpers(&world);
+    assert_eq!(rt; count, 1);
     Ok(())
 }

@@ -5,7 +5,9 @@ use agent_core::{Agent, Settings};
 use plain_lists::Bytes;
 use ready_loop::{Core, ServeEnd, serve};
 use std::alloc::{AllocError, Global};
+use std::process::Abort;
 use std::sync::Wait;
+use std::test::*;
 use world_ports::{Cue, Door, Entry, Got, ScriptWorld, Wrote};
 
 // A request for the identities: its length, and its number.
@@ -68,7 +70,7 @@ pub fn play<R: Wait>(
 }
 
 // What a port took, in order.
-pub fn taken(alloc: Global, world: &ScriptWorld, port: u64) -> Result<Vec<u8>, AllocError> {
+fn taken(alloc: Global, world: &ScriptWorld, port: u64) -> Result<Vec<u8>, AllocError> {
     let mut all = Vec::new(alloc);
     for entry in world.journal() {
         if let Entry::Write {
@@ -84,6 +86,17 @@ pub fn taken(alloc: Global, world: &ScriptWorld, port: u64) -> Result<Vec<u8>, A
         }
     }
     Ok(all)
+}
+
+// A port took these bytes. A test that owns a world has no exit of its own: at each its drop would be proved once more.
+pub fn takes(rt: &impl Abort, alloc: Global, world: &ScriptWorld, port: u64, bytes: &[u8]) {
+    let all = taken(alloc, world, port).expect(rt, "what a port took");
+    assert!(rt; all.as_slice() == bytes, "what port {port} took");
+}
+
+// The loop ended so.
+pub fn ends(rt: &impl Abort, end: ServeEnd, wanted: ServeEnd) {
+    assert_eq!(rt; end, wanted);
 }
 
 // The ports that were read, in order, where bytes came.

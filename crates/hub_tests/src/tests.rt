@@ -1,8 +1,10 @@
-use crate::scripts::{EMPTY, LIST, addition, connect, play, polls, read_order, send, taken};
+use crate::scripts::{EMPTY, LIST, addition, connect, ends, play, polls, read_order, send, takes};
 use ready_loop::ServeEnd;
 use std::alloc::{AllocError, Global};
-use std::test::Fail;
-use world_ports::{Cue, Entry};
+use std::process::Abort;
+use std::sync::Wait;
+use std::test::*;
+use world_ports::{Cue, Entry, ScriptWorld};
 
 // Success, and then the list of that one key: number 12, a count of 1, its blob, its comment.
 fn replies(alloc: Global) -> Result<Vec<u8>, AllocError> {
@@ -25,35 +27,38 @@ fn visit(alloc: Global) -> Result<Vec<Vec<Cue>>, AllocError> {
 #[test]
 fn a_client_adds_a_key_and_lists_it(rt: HostRuntime) -> Result<(), Fail> {
     let alloc = rt.alloc();
-    let (end, world) = play(&rt, alloc, visit(alloc)?, Vec::new(alloc), false);
-    assert_eq!(rt; end, ServeEnd::Over);
-    assert_eq!(rt;
-        taken(alloc, &world, 1)?.as_slice(),
-        replies(alloc)?.as_slice()
-    );
+    let replies = replies(alloc)?;
+    let turns = visit(alloc)?;
+    let (end, world) = play(&rt, alloc, turns, Vec::new(alloc), false);
+    ends(&rt, end, ServeEnd::Over);
+    takes(&rt, alloc, &world, 1, &replies);
     Ok(())
 }
 
-#[test]
-fn bytes_that_come_one_a_poll_are_a_request(rt: HostRuntime) -> Result<(), Fail> {
-    let alloc = rt.alloc();
+// Two clients, to each of which one byte of a request comes a poll.
+fn bytes_of_two(alloc: Global) -> Result<Vec<Vec<Cue>>, AllocError> {
     let mut turns = vec![in alloc; vec![in alloc; connect(), connect()]?]?;
     for byte in LIST {
         let sends = vec![in alloc; send(alloc, 1, &[*byte])?, send(alloc, 2, &[*byte])?]?;
         turns.push(sends)?;
     }
-    let (end, world) = play(&rt, alloc, turns, Vec::new(alloc), false);
-    assert_eq!(rt; end, ServeEnd::Over);
-    assert_eq!(rt; taken(alloc, &world, 1)?.as_slice(), EMPTY);
-    assert_eq!(rt; taken(alloc, &world, 2)?.as_slice(), EMPTY);
-    Ok(())
+    Ok(turns)
 }
 
 #[test]
-fn clients_that_send_all_the_time_are_read_in_turn(rt: HostRuntime) -> Result<(), Fail> {
+fn bytes_that_come_one_a_poll_are_a_request(rt: HostRuntime) -> Result<(), Fail> {
     let alloc = rt.alloc();
+    let turns = bytes_of_two(alloc)?;
+    let (end, world) = play(&rt, alloc, turns, Vec::new(alloc), false);
+    ends(&rt, end, ServeEnd::Over);
+    takes(&rt, alloc, &world, 1, EMPTY);
+    takes(&rt, alloc, &world, 2, EMPTY);
+    Ok(())
+}
+
+// Three clients, to each of which the front of a request of 262144 bytes comes: 81920 bytes, five reads.
+fn three_fronts(alloc: Global) -> Result<Vec<Vec<Cue>>, AllocError> {
     let connects = vec![in alloc; connect(), connect(), connect()]?;
-    // The front of a request of 262144 bytes, of which 81920 come: five reads for each client.
     let mut front = vec![in alloc; 0; 81_920]?;
     front[1] = 4;
     let sends = vec![in alloc;
@@ -61,37 +66,49 @@ fn clients_that_send_all_the_time_are_read_in_turn(rt: HostRuntime) -> Result<()
         send(alloc, 2, &front)?,
         send(alloc, 3, &front)?,
     ]?;
-    let (end, world) = play(
-        &rt,
-        alloc,
-        vec![in alloc; connects, sends]?,
-        Vec::new(alloc),
-        false,
-    );
-    assert_eq!(rt; end, ServeEnd::Over);
-    let order = read_order(alloc, &world)?;
+    Ok(vec![in alloc; connects, sends]?)
+}
+
+// Three clients were read in turn, five times.
+fn reads_in_turn(rt: &impl Abort, alloc: Global, world: &ScriptWorld) {
+    let order = read_order(alloc, world).expect(rt, "the order");
     assert_eq!(rt; order.len(), 15);
     for three in order.chunks(3) {
-        let mut ports = Vec::from_slice(alloc, three)?;
-        ports.sort()?;
-        assert_eq!(rt; ports.as_slice(), [1, 2, 3].as_slice());
+        for port in [1, 2, 3] {
+            assert!(rt; three.contains(&port), "port {port}");
+        }
     }
+}
+
+#[test]
+fn clients_that_send_all_the_time_are_read_in_turn(rt: HostRuntime) -> Result<(), Fail> {
+    let alloc = rt.alloc();
+    let turns = three_fronts(alloc)?;
+    let (end, world) = play(&rt, alloc, turns, Vec::new(alloc), false);
+    ends(&rt, end, ServeEnd::Over);
+    reads_in_turn(&rt, alloc, &world);
     Ok(())
+}
+
+// A visit, and nothing more.
+fn visit_and_nothing(alloc: Global) -> Result<Vec<Vec<Cue>>, AllocError> {
+    let mut turns = visit(alloc)?;
+    turns.push(Vec::new(alloc))?;
+    Ok(turns)
 }
 
 #[test]
 fn the_loop_ends_where_it_is_idle(rt: HostRuntime) -> Result<(), Fail> {
     let alloc = rt.alloc();
-    let mut turns = visit(alloc)?;
-    turns.push(Vec::new(alloc))?;
+    let turns = visit_and_nothing(alloc)?;
     let (end, world) = play(&rt, alloc, turns, Vec::new(alloc), true);
-    assert_eq!(rt; end, ServeEnd::Idle);
+    ends(&rt, end, ServeEnd::Idle);
     // One for each turn of the script but the last, which nobody waits for.
-    assert_eq!(rt; polls(&world), 3);
+    let count = polls(&world);
+    assert_eq!(rt; count, 3);
     Ok(())
 }
 
-// What the loop ends with where this call fails.
 // The call with this number, from 0. A close and a reading of the clocks can't fail and have none.
 fn numbered(journal: &[Entry], number: usize) -> Option<&Entry> {
     journal
@@ -100,6 +117,7 @@ fn numbered(journal: &[Entry], number: usize) -> Option<&Entry> {
         .nth(number)
 }
 
+// What the loop ends with where this call fails.
 fn end_at(call: Option<&Entry>) -> ServeEnd {
     match call {
         Some(Entry::Bind { .. }) => ServeEnd::BindFault,
@@ -108,17 +126,20 @@ fn end_at(call: Option<&Entry>) -> ServeEnd {
     }
 }
 
+// A visit of which the call with this number, from 1, fails: it ends as that call has it.
+fn fails_at<R: Abort + Wait>(rt: &R, alloc: Global, call: usize) -> Result<(), AllocError> {
+    let failing = vec![in alloc; call as u64]?;
+    let turns = visit(alloc)?;
+    let (end, world) = play(rt, alloc, turns, failing, false);
+    let wanted = end_at(numbered(world.journal(), call.saturating_sub(1)));
+    assert_eq!(rt; end, wanted, "at call {call}");
+    Ok(())
+}
+
 #[test]
 fn each_failed_call_ends_what_it_has_to(rt: HostRuntime) -> Result<(), Fail> {
-    let alloc = rt.alloc();
     for call in 1..30 {
-        let failing = vec![in alloc; call as u64]?;
-        let (end, world) = play(&rt, alloc, visit(alloc)?, failing, false);
-        assert_eq!(rt;
-            end,
-            end_at(numbered(world.journal(), call - 1)),
-            "at call {call}"
-        );
+        fails_at(&rt, rt.alloc(), call)?;
     }
     Ok(())
 }
