@@ -5,16 +5,12 @@ draft-miller-ssh-agent, OpenSSH's PROTOCOL.agent, and docs/PROTOCOL.md for what 
 """
 
 from collections import Counter
-from collections.abc import Callable, Iterable
+from collections.abc import Callable
 from dataclasses import dataclass, field
 
 from . import formats
 from .rules import Binding, Chain, Rules, may_sign, visible
 from .wire import Fault, demand, string, take_frame, uint32, within
-
-# What the agent does beside holding keys: there is a default lifetime; a helper signs; connections
-# are bound to sessions; keys have destination constraints; a user is asked before a key signs.
-STAGES = ("life", "asks", "bindings", "rules", "confirmations")
 
 # "client" and "child" are open ports, of children those that haven't said hello.
 LIMITS = {"body of a client": 262144, "body of a child": 262144, "list": 262144}
@@ -66,8 +62,7 @@ class Confirmation:
 
 
 class Agent:
-    def __init__(self, stages: Iterable[str] = (), default_life: int | None = None) -> None:
-        self.stages = frozenset(stages)
+    def __init__(self, default_life: int | None = None) -> None:
         self.default_life = default_life or None
         self.mono = self.wall = 0
         self.identities: dict[bytes, Identity] = {}
@@ -198,12 +193,10 @@ class Agent:
 
     def sign(self, number: int, client: Port, blob: bytes, message: bytes, flags: int) -> None:
         demand(blob in self.identities, "sign: not held")
-        demand("asks" in self.stages, "sign: no helper")
         identity, signing = self.identities[blob], (blob, message, flags)
         self.test_rules(client, identity, blob, message)
         if not identity.confirm:
             return self.put(Ask(number), formats.sign_frame, identity.private, *signing)
-        demand("confirmations" in self.stages, "sign: no confirmation")
         demand(not self.above("confirmations", len(self.confirmations) + 1), "confirmations")
         job = self.next_number("job")
         self.starts[job] = "confirm"
@@ -218,7 +211,6 @@ class Agent:
         self, number: int, client: Port, blob: bytes, private: bytes, comment: bytes, rest: bytes
     ) -> bytes:
         terms = within("constraints", formats.constraints, rest)
-        demand("rules" not in terms or "rules" in self.stages, "add: destination constraints")
         held = self.identities.get(blob)
         demand(held is None or self.may_see(client, held), "add: not visible")
         comments = {each: identity.comment for each, identity in self.identities.items()}
@@ -255,7 +247,7 @@ class Agent:
         return SUCCESS
 
     def extension(self, number: int, client: Port, name: bytes, *fields: bytes) -> None:
-        demand(name == formats.BIND and "bindings" in self.stages, "unknown extension")
+        demand(name == formats.BIND, "unknown extension")
         host_key, session, signature, forwarding = fields
         new = self.judge(client.chain, host_key, session)
         ask = Ask(number, Binding(host_key, session, bool(forwarding)), new)

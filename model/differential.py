@@ -15,8 +15,7 @@ from collections import Counter
 from collections.abc import Callable
 from pathlib import Path
 
-from .agent import STAGES
-from .generate import Case, Schedule, goals
+from .generate import GOALS, Case, Schedule
 from .replay import LONGEST_LINE, LONGEST_SCHEDULE, replay
 from .rows_logins import EVERY_ROW
 
@@ -77,9 +76,9 @@ def show(title: str, text: bytes) -> None:
         print("   ", line if len(line) <= 300 else f"{line[:300]}.. ({len(line)} characters)")
 
 
-def show_mismatch(program: str, text: bytes, stages: list[str], life: int | None) -> None:
+def show_mismatch(program: str, text: bytes, life: int | None) -> None:
     def differs(some: bytes) -> bool:
-        return run_program(program, some, life) != replay(some, stages, life)
+        return run_program(program, some, life) != replay(some, life)
 
     short = shorten(text, differs)
     place = Path("bin/mismatch.schedule")
@@ -87,28 +86,25 @@ def show_mismatch(program: str, text: bytes, stages: list[str], life: int | None
     show(f"a mismatch, with a default lifetime of {life} ({place} has it whole)", short)
     for name, (output, status) in [
         ("the program", run_program(program, short, life)),
-        ("the model", replay(short, stages, life)),
+        ("the model", replay(short, life)),
     ]:
         show(f"{name}, with status {status}", output)
 
 
-def try_rows(program: str, stages: list[str]) -> bool:
-    """The literal rows, by the model, and by the program where it does what they need."""
-    good, tried = True, 0
+def try_rows(program: str) -> bool:
+    """The literal rows, by the model and by the program."""
+    good = True
     for row in EVERY_ROW:
         wanted = (row.printed, row.status)
-        seen = {"the model": replay(row.schedule, row.needs, row.life)}
-        seen["the model of this stage"] = replay(row.schedule, {*row.needs, *stages}, row.life)
-        if set(row.needs) <= set(stages):
-            seen["the program"] = run_program(program, row.schedule, row.life)
-            tried += 1
+        seen = {"the model": replay(row.schedule, row.life)}
+        seen["the program"] = run_program(program, row.schedule, row.life)
         for name, result in seen.items():
             if result != wanted:
                 good = False
                 print(f"row '{row.name}': {name} differs, with status {result[1]}")
                 show("printed", result[0])
                 show("wanted", row.printed)
-    print(f"{len(EVERY_ROW)} rows by the model, {tried} by the program")
+    print(f"{len(EVERY_ROW)} rows by the model and by the program")
     return good
 
 
@@ -148,47 +144,46 @@ def try_longest(program: str) -> bool:
     return True
 
 
-def try_examples(program: str, stages: list[str]) -> bool:
+def try_examples(program: str) -> bool:
     for path in sorted(Path("examples").glob("*.schedule")):
         text = path.read_bytes()
-        if run_program(program, text) != replay(text, stages):
-            show_mismatch(program, text, stages, None)
+        if run_program(program, text) != replay(text):
+            show_mismatch(program, text, None)
             return False
     return True
 
 
-def try_one(task: tuple[str, str, list[str]]) -> tuple[bool, Counter[str], int]:
-    program, seed, stages = task
-    writer = Schedule(seed, stages)
+def try_one(task: tuple[str, str]) -> tuple[bool, Counter[str], int]:
+    program, seed = task
+    writer = Schedule(seed)
     text, life, wanted = writer.case()
     return run_program(program, text, life) == wanted, writer.seen(), text.count(b"\n")
 
 
-def try_schedules(program: str, count: int, seed: str, stages: list[str]) -> bool:
+def try_schedules(program: str, count: int, seed: str) -> bool:
     began, seen, lines = time.monotonic(), Counter(), 0
-    tasks = [(program, f"{seed}/{place}", stages) for place in range(count)]
+    tasks = [(program, f"{seed}/{place}") for place in range(count)]
     with multiprocessing.Pool() as pool:
         for task, (same, reached, length) in zip(tasks, pool.imap(try_one, tasks, 8)):
             if not same:
                 pool.terminate()
-                text, life, _ = Schedule(task[1], stages).case()
+                text, life, _ = Schedule(task[1]).case()
                 print(f"schedule {task[1]}:")
-                show_mismatch(program, text, stages, life)
+                show_mismatch(program, text, life)
                 return False
             seen += reached
             lines += length
-    return report(count, lines, seen, stages, time.monotonic() - began)
+    return report(count, lines, seen, time.monotonic() - began)
 
 
-def report(count: int, lines: int, seen: Counter, stages: list[str], seconds: float) -> bool:
+def report(count: int, lines: int, seen: Counter, seconds: float) -> bool:
     """How often each goal was reached. Each is where there were enough schedules."""
-    wanted = goals(stages)
-    counts = [f"{name} {seen[name]}" for name in wanted]
-    others = [f"{name} {number}" for name, number in sorted(seen.items()) if name not in wanted]
+    counts = [f"{name} {seen[name]}" for name in GOALS]
+    others = [f"{name} {number}" for name, number in sorted(seen.items()) if name not in GOALS]
     print("reached: " + "; ".join(counts))
     print("and: " + "; ".join(others))
     print(f"{count} schedules of {lines} lines in {seconds:.0f} s: no mismatch")
-    missed = [name for name in wanted if not seen[name]]
+    missed = [name for name in GOALS if not seen[name]]
     if missed:
         print("not reached: " + "; ".join(missed))
     return not missed or count < 2000
@@ -215,7 +210,7 @@ CASES: list[Case] = []
 
 
 def write_case(seed: str) -> Case:
-    return Schedule(seed, STAGES).case()
+    return Schedule(seed).case()
 
 
 def first_found(edit: dict[str, str]) -> int | None:
@@ -231,7 +226,7 @@ def first_found(edit: dict[str, str]) -> int | None:
         wrong = importlib.import_module("wrong_model.replay")
         for place, (text, life, wanted) in enumerate(CASES, 1):
             try:
-                if wrong.replay(text, STAGES, life) != wanted:
+                if wrong.replay(text, life) != wanted:
                     return place
             except Exception:
                 return place
@@ -258,18 +253,15 @@ def main() -> int:
     parser.add_argument("count", type=int)
     parser.add_argument("seed", nargs="?", default=str(int.from_bytes(os.urandom(4), "big")))
     parser.add_argument("--wrong", action="store_true", help="try the wrong models")
-    for stage in STAGES:
-        parser.add_argument(f"--{stage}", action="store_true")
     words = parser.parse_args()
     print(f"seed {words.seed}")
     if words.wrong:
         return int(not try_wrong(words.count, words.seed))
-    stages = [stage for stage in STAGES if getattr(words, stage)] or list(STAGES)
     good = (
-        try_rows(words.program, stages)
+        try_rows(words.program)
         and try_longest(words.program)
-        and try_examples(words.program, stages)
-        and try_schedules(words.program, words.count, words.seed, stages)
+        and try_examples(words.program)
+        and try_schedules(words.program, words.count, words.seed)
     )
     return int(not good)
 

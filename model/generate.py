@@ -1,13 +1,12 @@
 """Random schedules that know the protocol, steered by the model's state.
 
 A schedule is written line by line, and the model runs each line at once, so that most lines fit
-what happened before. The same seed and stages give the same schedule.
+what happened before. The same seed gives the same schedule.
 """
 
 from __future__ import annotations
 
 from collections import Counter
-from collections.abc import Iterable
 from random import Random
 
 from . import pool
@@ -26,7 +25,7 @@ class Schedule(ChildMoves):
         text = self.write()
         if text and self.chance(0.1):
             text = garbled_text(self.random, text)
-            self.run = Run(self.stages, self.life)
+            self.run = Run(self.life)
             self.run.text(text)
             self.reached = Counter({"text garbled": 1, f"default lifetime {self.life}": 1})
         if self.run.status:
@@ -97,7 +96,7 @@ class Schedule(ChildMoves):
         add = b"\x11" + key.added + string(b"c")
         sign = b"\x0d" + string(key.blob) + string(b"") + uint32(0)
         self.send(port, add, cut=0)
-        granted = "confirmations" in self.stages and self.chance(0.6)
+        granted = self.chance(0.6)
         if granted:
             other = self.keys[4]
             bodies = [b"\x19" + other.added + string(b"d") + b"\x02"]
@@ -191,88 +190,93 @@ def plain_with_long_secret() -> bytes:
     )
 
 
-# Each move's weight, and the stage from which on it is made.
-MOVES: dict[str, tuple[int, str]] = {
-    "joins": (4, ""),
-    "requests": (30, ""),
-    "in_one_piece": (6, ""),
-    "goes_on": (5, ""),
-    "bad_length": (1, ""),
-    "ends": (2, ""),
-    "clock": (8, ""),
-    "holds": (3, ""),
-    "takes": (8, ""),
-    "comments": (2, ""),
-    "mistakes": (1, ""),
-    "children": (12, "asks"),
-    "strays": (3, "asks"),
-    "ask": (10, "asks"),
-    "binds": (8, "bindings"),
-    "walk": (10, "rules"),
-    "confirm": (8, "confirmations"),
-    "late_grant": (3, "confirmations"),
+# Each move's weight.
+MOVES: dict[str, int] = {
+    "joins": 4,
+    "requests": 30,
+    "in_one_piece": 6,
+    "goes_on": 5,
+    "bad_length": 1,
+    "ends": 2,
+    "clock": 8,
+    "holds": 3,
+    "takes": 8,
+    "comments": 2,
+    "mistakes": 1,
+    "children": 12,
+    "strays": 3,
+    "ask": 10,
+    "binds": 8,
+    "walk": 10,
+    "confirm": 8,
+    "late_grant": 3,
 }
-LONG_MOVES: dict[str, tuple[int, str]] = {
-    "many_clients": (3, ""),
-    "long_body": (4, ""),
-    "full_list": (6, ""),
-    "long_line": (2, ""),
-    "many_asks": (5, "asks"),
-    "many_children": (3, "asks"),
-    "long_answer": (7, "asks"),
-    "many_bindings": (4, "bindings"),
-    "many_confirmations": (6, "confirmations"),
-}
-
-# What the schedules of each stage are to reach, in the words of the model and of `reached`.
-GOALS: dict[str, str] = {
-    "": """request 11; request 17; request 18; request 19; request 22; request 23; request 25
-        add: replaced; lifetime ends; list: locked; client: bad length
-        frame in pieces; text garbled
-        cause: malformed Short; cause: malformed UnknownType; cause: malformed BadLength
-        cause: malformed Mismatch; cause: malformed Trailing; cause: locked
-        cause: unknown request; cause: unknown extension; cause: sign: not held
-        cause: constraints Short; cause: constraints Unknown; cause: constraints Twice
-        cause: constraints Reserved; cause: constraints FromUser; cause: constraints FromHalf
-        cause: constraints ToHalf; cause: constraints NoRules; cause: constraints Key Short
-        cause: add: list is full; cause: remove: not held; cause: lock: empty passphrase
-        cause: unlock: not locked; cause: unlock: another passphrase
-        limit: body of a client; limit: client; limit: client + 1; limit: list; limit: list + 1
-        line at later; line at again; line at earlier; line hold; line free; line take; line end
-        line empty; line comment; line join; line hear; refused long; refused word; refused number
-        refused hex; refused port; refused order""",
-    "life": """default lifetime 0; default lifetime 1; default lifetime 3
-        default lifetime 4294967295""",
-    "asks": """request 13; cause: helper lost; helper: REFUSED; helper: SIGNED; hello
-        answer: asker left; cause: asks; limit: asks; limit: asks + 1; limit: child
-        limit: child + 1; limit: body of a child; line started; line failed
-        hello: Short; hello: Kind; hello: TicketLength; hello: Trailing; hello: bad length
-        hello: no hello; hello: no such job; hello: another ticket
-        helper lost: Short; helper lost: Kind; helper lost: TicketLength; helper lost: Trailing
-        helper lost: bad length; helper lost: no answer; helper lost: not pending
-        helper lost: wrong kind; helper lost: ended; helper lost: start failed""",
-    "bindings": """request 27; helper: TRUE; helper: TRUE again; helper: FALSE
-        cause: bind: empty session; cause: bind: long session; cause: bind: bound for a login
-        cause: bind: another host key; cause: bind: full; limit: bindings; limit: bindings + 1
-        limit: session; limit: session + 1""",
-    "rules": """list: hidden; rules: permit; cause: add: not visible; cause: remove: not visible
-        cause: rules Unbound; cause: rules Hop; cause: rules OtherSession
-        cause: rules NoHostKey; cause: rules OtherHostKey; cause: rules NotUserAuth Short
-        cause: rules NotUserAuth EmptySession; cause: rules NotUserAuth NotRequest
-        cause: rules NotUserAuth Service; cause: rules NotUserAuth Method
-        cause: rules NotUserAuth NoSignatureFlag; cause: rules NotUserAuth OtherKey
-        cause: rules NotUserAuth Algorithm; cause: rules NotUserAuth HostKey Short
-        cause: rules NotUserAuth Trailing""",
-    "confirmations": """confirmation: granted; confirmation: asker left; cause: confirmations
-        limit: confirmations; limit: confirmations + 1; cause: granted: locked
-        cause: granted: not held; cause: granted: rules Hop; cause: granted: asks
-        cause: confirmation: not granted: DENIED; cause: confirmation: not granted: GRANTED
-        cause: confirmation: ended; cause: confirmation: start failed
-        cause: confirmation: bad length; cause: confirmation: Short; cause: confirmation: Kind
-        cause: confirmation: Trailing; cause: confirmation: TicketLength""",
+LONG_MOVES: dict[str, int] = {
+    "many_clients": 3,
+    "long_body": 4,
+    "full_list": 6,
+    "long_line": 2,
+    "many_asks": 5,
+    "many_children": 3,
+    "long_answer": 7,
+    "many_bindings": 4,
+    "many_confirmations": 6,
 }
 
-
-def goals(stages: Iterable[str]) -> list[str]:
-    texts = [GOALS[stage].replace("\n", ";") for stage in ["", *stages]]
-    return [name.strip() for name in ";".join(texts).split(";")]
+# What the schedules are to reach, in the words of the model and of `reached`.
+GOALS = [
+    goal.strip()
+    for part in (
+        # requests, causes, limits and lines
+        """request 11; request 17; request 18; request 19; request 22; request 23; request 25
+            add: replaced; lifetime ends; list: locked; client: bad length
+            frame in pieces; text garbled
+            cause: malformed Short; cause: malformed UnknownType; cause: malformed BadLength
+            cause: malformed Mismatch; cause: malformed Trailing; cause: locked
+            cause: unknown request; cause: unknown extension; cause: sign: not held
+            cause: constraints Short; cause: constraints Unknown; cause: constraints Twice
+            cause: constraints Reserved; cause: constraints FromUser; cause: constraints FromHalf
+            cause: constraints ToHalf; cause: constraints NoRules; cause: constraints Key Short
+            cause: add: list is full; cause: remove: not held; cause: lock: empty passphrase
+            cause: unlock: not locked; cause: unlock: another passphrase
+            limit: body of a client; limit: client; limit: client + 1; limit: list; limit: list + 1
+            line at later; line at again; line at earlier; line hold; line free; line take; line end
+            line empty; line comment; line join; line hear; refused long; refused word; refused number
+            refused hex; refused port; refused order""",
+        # default lifetimes
+        """default lifetime 0; default lifetime 1; default lifetime 3
+            default lifetime 4294967295""",
+        # the helper
+        """request 13; cause: helper lost; helper: REFUSED; helper: SIGNED; hello
+            answer: asker left; cause: asks; limit: asks; limit: asks + 1; limit: child
+            limit: child + 1; limit: body of a child; line started; line failed
+            hello: Short; hello: Kind; hello: TicketLength; hello: Trailing; hello: bad length
+            hello: no hello; hello: no such job; hello: another ticket
+            helper lost: Short; helper lost: Kind; helper lost: TicketLength; helper lost: Trailing
+            helper lost: bad length; helper lost: no answer; helper lost: not pending
+            helper lost: wrong kind; helper lost: ended; helper lost: start failed""",
+        # bindings
+        """request 27; helper: TRUE; helper: TRUE again; helper: FALSE
+            cause: bind: empty session; cause: bind: long session; cause: bind: bound for a login
+            cause: bind: another host key; cause: bind: full; limit: bindings; limit: bindings + 1
+            limit: session; limit: session + 1""",
+        # destination constraints
+        """list: hidden; rules: permit; cause: add: not visible; cause: remove: not visible
+            cause: rules Unbound; cause: rules Hop; cause: rules OtherSession
+            cause: rules NoHostKey; cause: rules OtherHostKey; cause: rules NotUserAuth Short
+            cause: rules NotUserAuth EmptySession; cause: rules NotUserAuth NotRequest
+            cause: rules NotUserAuth Service; cause: rules NotUserAuth Method
+            cause: rules NotUserAuth NoSignatureFlag; cause: rules NotUserAuth OtherKey
+            cause: rules NotUserAuth Algorithm; cause: rules NotUserAuth HostKey Short
+            cause: rules NotUserAuth Trailing""",
+        # confirmations
+        """confirmation: granted; confirmation: asker left; cause: confirmations
+            limit: confirmations; limit: confirmations + 1; cause: granted: locked
+            cause: granted: not held; cause: granted: rules Hop; cause: granted: asks
+            cause: confirmation: not granted: DENIED; cause: confirmation: not granted: GRANTED
+            cause: confirmation: ended; cause: confirmation: start failed
+            cause: confirmation: bad length; cause: confirmation: Short; cause: confirmation: Kind
+            cause: confirmation: Trailing; cause: confirmation: TicketLength""",
+    )
+    for goal in part.replace("\n", ";").split(";")
+]

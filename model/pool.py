@@ -168,21 +168,21 @@ def faulty_restrict(random: Random) -> bytes:
     return random.choice(faulty)
 
 
-def terms(random: Random, rules: float) -> bytes:
-    """Constraints, in any order, sometimes faulty, and with rules so often."""
+def terms(random: Random) -> bytes:
+    """Constraints, in any order, sometimes faulty."""
     parts = []
     if random.random() < 0.5:
         life = random.choice([0, 1, 2, 3, 5, 10, 100, 2**32 - 1])
         parts.append(b"\x01" + uint32(life))
     if random.random() < 0.3:
         parts.append(b"\x02")
-    if random.random() < rules:
+    if random.random() < 0.4:
         hosts = random.choice([HOSTS, HOSTS, FALSE_HOSTS])
         route = random.sample(hosts, random.randrange(1, 4))
         parts.append(restrict(*route_rules(random, route)))
     if random.random() < 0.15:
         parts.append(random.choice([b"\x03", b"\x01\x00", b"\x02", b"\x00", b"\x01" + uint32(7)]))
-    if random.random() < 0.05 + rules / 4:
+    if random.random() < 0.15:
         parts.append(faulty_restrict(random))
     random.shuffle(parts)
     return b"".join(parts)

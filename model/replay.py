@@ -1,7 +1,6 @@
 """The run of a schedule (docs/PROTOCOL.md, "Schedules" and "Output")."""
 
 import re
-from collections.abc import Iterable
 
 from .agent import Agent
 from .wire import Fault, demand
@@ -11,7 +10,7 @@ LONGEST_LINE, LONGEST_SCHEDULE = 65536, 268435456
 # The fields behind a line's first word.
 LINES = {b"at": ("number", "number"), b"hear": ("number", "hex"), b"end": ("number",)}
 LINES |= {b"hold": ("number",), b"free": ("number",), b"take": ("number", "count")}
-CHILD_LINES = {b"started": ("number", "ticket"), b"failed": ("number",)}
+LINES |= {b"started": ("number", "ticket"), b"failed": ("number",)}
 
 
 def value(kind: str, text: bytes) -> int | bytes:
@@ -26,9 +25,8 @@ def value(kind: str, text: bytes) -> int | bytes:
 
 
 class Run:
-    def __init__(self, stages: Iterable[str] = (), default_life: int | None = None) -> None:
-        self.agent = Agent(stages, default_life)
-        self.children = "asks" in self.agent.stages
+    def __init__(self, default_life: int | None = None) -> None:
+        self.agent = Agent(default_life)
         self.moment = (0, 0)
         self.held: set[int] = set()
         self.known_starts: set[int] = set()
@@ -37,9 +35,9 @@ class Run:
 
     def fields(self, line: bytes) -> tuple[bytes, list]:
         word, *texts = line.split(b" ")
-        if line == b"join client" or line == b"join child" and self.children:
+        if line in (b"join client", b"join child"):
             return word, [texts[0].decode()]
-        kinds = (LINES | CHILD_LINES if self.children else LINES).get(word)
+        kinds = LINES.get(word)
         demand(kinds is not None and len(texts) == len(kinds), "word")
         return word, [value(kind, text) for kind, text in zip(kinds, texts)]
 
@@ -110,10 +108,8 @@ class Run:
             closes = agent.closes
 
 
-def replay(
-    text: bytes, stages: Iterable[str] = (), default_life: int | None = None
-) -> tuple[bytes, int]:
+def replay(text: bytes, default_life: int | None = None) -> tuple[bytes, int]:
     """What a schedule prints, and the status."""
-    run = Run(stages, default_life)
+    run = Run(default_life)
     run.text(text)
     return run.output(), run.status

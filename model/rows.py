@@ -1,6 +1,6 @@
 """Literal schedules and what they print, by the documents alone and not by the model.
 
-Each row says which stages it needs. Bytes are put together as the documents describe them.
+Bytes are put together as the documents describe them.
 """
 
 from __future__ import annotations
@@ -11,7 +11,6 @@ from dataclasses import dataclass
 @dataclass
 class Row:
     name: str
-    needs: tuple[str, ...]
     schedule: bytes
     printed: bytes
     status: int
@@ -19,16 +18,10 @@ class Row:
 
 
 ROWS: list[Row] = []
-LIFE = ("life",)
-ASKS = ("asks",)
-BINDINGS = ("asks", "bindings")
-RULES = ("asks", "bindings", "rules")
-ALL = ("asks", "bindings", "rules", "confirmations")
 
 
 def row(
     name: str,
-    needs: tuple[str, ...],
     schedule: list[str],
     printed: list[str],
     life: int | None = None,
@@ -37,7 +30,7 @@ def row(
     refused = printed != [] and printed[-1].startswith("refused")
     output = printed if refused else [*printed, "end"]
     texts = ["".join(line + "\n" for line in lines).encode() for lines in (schedule, output)]
-    ROWS.append(Row(name, needs, texts[0], texts[1], int(refused), life))
+    ROWS.append(Row(name, texts[0], texts[1], int(refused), life))
 
 
 def u32(number: int) -> bytes:
@@ -108,44 +101,38 @@ def remove(blob: bytes) -> bytes:
 
 # Frames and lines
 
-row("empty schedule", (), [], [])
-row("comments, and a last line without LF", (), ["# at", "", "join client", "#"], [])
-row("list", (), ["join client", "hear 1 000000010b"], ["to 1 000000050c00000000"])
+row("empty schedule", [], [])
+row("comments, and a last line without LF", ["# at", "", "join client", "#"], [])
+row("list", ["join client", "hear 1 000000010b"], ["to 1 000000050c00000000"])
 row(
     "list in five pieces",
-    (),
     ["join client", "hear 1 00", "hear 1 00", "hear 1 00", "hear 1 01", "hear 1 0b"],
     ["to 1 000000050c00000000"],
 )
-row("length 0", (), ["join client", "hear 1 00000000"], ["close 1"])
+row("length 0", ["join client", "hear 1 00000000"], ["close 1"])
 row(
     "lengths 262144 and 262145",
-    (),
     ["join client", "hear 1 00040000", "join client", "hear 2 000400", "hear 2 01"],
     ["close 2"],
 )
 row(
     "a body of 262144 bytes",
-    (),
     ["join client", *hear(1, b"\xc8" * 262144), *hear(1, LIST)],
     [to(1, NO), to(1, NOTHING)],
 )
 row(
     "an unknown request",
-    (),
     ["join client", "hear 1 00000001c8", "hear 1 000000010b"],
     ["to 1 0000000105", "to 1 000000050c00000000"],
 )
-row("no such port", (), ["join client", "hear 7 00"], ["refused 2 port"])
+row("no such port", ["join client", "hear 7 00"], ["refused 2 port"])
 row(
     "a closed port",
-    (),
     ["join client", "end 1", "join client", "end 1"],
     ["close 1", "refused 4 port"],
 )
 row(
     "one request at a time, and taking in pieces",
-    (),
     [
         "join client",
         "join client",
@@ -160,26 +147,22 @@ row(
 )
 row(
     "more than is owed",
-    (),
     ["join client", "hold 1", *hear(1, LIST), "take 1 9", "take 1 1"],
     ["to 1 000000050c00000000", "refused 5 order"],
 )
-row("nothing is taken", (), ["join client", "take 1 0"], ["refused 2 number"])
+row("nothing is taken", ["join client", "take 1 0"], ["refused 2 number"])
 row(
     "hold and free behind a close",
-    (),
     ["join client", "join client", "end 2", "hold 1", "free 1", "", "#", *hear(1, LIST), "free 1"],
     ["close 2", to(1, NOTHING)],
 )
 row(
     "a bad length behind a request",
-    (),
     ["join client", "hold 1", "hear 1 000000010b00000000", "take 1 9", "hear 1 00"],
     ["to 1 000000050c00000000", "close 1", "refused 5 port"],
 )
 row(
     "a freed port takes, and then its next request's reply",
-    (),
     ["join client", "hold 1", *hear(1, LIST, ADD1), "free 1"],
     [to(1, NOTHING), to(1, OK)],
 )
@@ -205,17 +188,16 @@ for text, fault in [
     ("hold 2", "port"),
     ("free 0", "port"),
 ]:
-    row(f"the line {text!r}", (), ["join client", text], [f"refused 2 {fault}"])
-row("the greatest numbers", (), ["at 18446744073709551615 18446744073709551615"], [])
-row("a line of 65536 bytes", (), ["#" * 65536, "#" * 65537], ["refused 2 long"])
-row("a word of 65537 bytes", (), ["x" * 65536, "x"], ["refused 1 word"])
-row("a word too long", (), ["x" * 65537], ["refused 1 long"])
+    row(f"the line {text!r}", ["join client", text], [f"refused 2 {fault}"])
+row("the greatest numbers", ["at 18446744073709551615 18446744073709551615"], [])
+row("a line of 65536 bytes", ["#" * 65536, "#" * 65537], ["refused 2 long"])
+row("a word of 65537 bytes", ["x" * 65536, "x"], ["refused 1 word"])
+row("a word too long", ["x" * 65537], ["refused 1 long"])
 
 # Keys and the lock
 
 row(
     "a key is replaced in its place",
-    (),
     ["join client"]
     + hear(1, ADD1, LIST, b"\x11" + added(0x12, b"two"), ADD1B, LIST, remove(K1), ADD1, LIST),
     [to(1, OK), to(1, listing(ONE)), to(1, OK), to(1, OK)]
@@ -224,21 +206,18 @@ row(
 )
 row(
     "a lifetime, and a clock that falls",
-    (),
     ["join client", "at 5 0", *hear(1, TERMS1 + b"\x01" + u32(10)), "at 14 0", *hear(1, LIST)]
     + ["at 3 0", *hear(1, LIST), "at 15 0", *hear(1, LIST)],
     [to(1, OK), to(1, listing(ONE)), to(1, listing(ONE)), to(1, NOTHING)],
 )
 row(
     "a lifetime that begins while the clock is behind",
-    (),
     ["join client", "at 14 0", "at 3 0", *hear(1, TERMS1 + b"\x01" + u32(2)), "at 15 0"]
     + [*hear(1, LIST), "at 16 0", *hear(1, LIST)],
     [to(1, OK), to(1, listing(ONE)), to(1, NOTHING)],
 )
 row(
     "constraints that come twice, are unknown or are cut off",
-    (),
     ["join client", *hear(1, TERMS1 + b"\x01" + u32(9) + b"\x01" + u32(9), TERMS1 + b"\x02\x02")]
     + hear(1, TERMS1 + b"\x03", TERMS1 + b"\x00", TERMS1 + b"\x01\x00", TERMS1 + b"\xff")
     + hear(1, LIST, TERMS1 + b"\x02\x01" + u32(9), LIST),
@@ -246,25 +225,21 @@ row(
 )
 row(
     "a lifetime of 0",
-    (),
     ["join client", *hear(1, TERMS1 + b"\x01" + u32(0), LIST)],
     [to(1, OK), to(1, NOTHING)],
 )
 row(
     "a lifetime past the clock's end",
-    (),
     ["at 18446744073709551615 0", "join client", *hear(1, TERMS1 + b"\x01" + u32(1), LIST)],
     [to(1, OK), to(1, listing(ONE))],
 )
 row(
     "an addition without constraints has no lifetime",
-    (),
     ["join client", *hear(1, TERMS1 + b"\x01" + u32(1), TERMS1), "at 9 0", *hear(1, LIST)],
     [to(1, OK), to(1, OK), to(1, listing(ONE))],
 )
 row(
     "a default lifetime, and another one",
-    LIFE,
     ["join client", *hear(1, ADD1, b"\x19" + added(0x12, b"two") + b"\x01" + u32(9), LIST)]
     + ["at 5 0", *hear(1, LIST), "at 9 0", *hear(1, LIST)],
     [to(1, OK), to(1, OK), to(1, listing(ONE, (K2, b"two"))), to(1, listing((K2, b"two")))]
@@ -273,14 +248,12 @@ row(
 )
 row(
     "a default lifetime of 0 is none",
-    LIFE,
     ["join client", *hear(1, ADD1), "at 5 0", *hear(1, LIST)],
     [to(1, OK), to(1, listing(ONE))],
     life=0,
 )
 row(
     "the lock",
-    (),
     ["join client"]
     + hear(1, ADD1, lock(b"pw"), LIST, b"\x0d" + st(K1) + st(b"abc") + u32(0))
     + hear(1, unlock(b"no"), unlock(b"pw"), unlock(b"pw"), LIST),
@@ -289,7 +262,6 @@ row(
 )
 row(
     "an empty passphrase doesn't lock, and a second lock doesn't overwrite the first",
-    (),
     ["join client", *hear(1, ADD1, lock(b""), LIST, lock(b"a"), lock(b"b"), unlock(b"b"))]
     + hear(1, unlock(b"a"), unlock(b"")),
     [to(1, OK), to(1, NO), to(1, listing(ONE)), to(1, OK), to(1, NO), to(1, NO)]
@@ -297,46 +269,39 @@ row(
 )
 row(
     "a passphrase's beginning doesn't unlock, nor does a longer one",
-    (),
     ["join client", *hear(1, lock(b"ab"), unlock(b"a"), unlock(b"abc"), unlock(b"ab"))],
     [to(1, OK), to(1, NO), to(1, NO), to(1, OK)],
 )
 row(
     "what a locked agent refuses",
-    (),
     ["join client", *hear(1, ADD1, lock(b"a"), ADD1B, remove(K1), b"\x13", b"\x1b" + st(b"query"))]
     + hear(1, TERMS1 + b"\x03", b"\x0b\x00", b"\x09", unlock(b"a"), LIST),
     [to(1, OK), to(1, OK), *[to(1, NO)] * 7, to(1, OK), to(1, listing(ONE))],
 )
 row(
     "other extensions and requests",
-    (),
     ["join client", *hear(1, b"\x1b" + st(b"query"), b"\x1b" + st(b"x@example.com") + b"\x00")]
     + hear(1, b"\x1b" + u32(9), b"\x1b", b"\x01", b"\x09", b"\x14", b"\x15", b"\x1a", b"\x00"),
     [to(1, NO)] * 10,
 )
 row(
     "all keys are removed, and a later one is there",
-    (),
     ["join client", *hear(1, ADD1, b"\x11" + added(0x12), b"\x13", LIST, remove(K1), ADD1, LIST)],
     [*[to(1, OK)] * 3, to(1, NOTHING), to(1, NO), to(1, OK), to(1, listing(ONE))],
 )
 row(
     "bytes behind the last field",
-    (),
     ["join client", *hear(1, ADD1 + b"\x00", b"\x0b\x00", lock(b"a") + b"\x00", b"\x13\x00", LIST)],
     [*[to(1, NO)] * 4, to(1, NOTHING)],
 )
 E1 = st(b"ssh-ed25519") + st(b"\x31" * 32)
 row(
     "an ed25519 key",
-    (),
     ["join client", *hear(1, b"\x11" + E1 + st(b"\x32" * 64) + st(b"user@host"), LIST)],
     [to(1, OK), to(1, listing((E1, b"user@host")))],
 )
 row(
     "an RSA addition has n first, and its blob e",
-    (),
     [
         "join client",
         *hear(
@@ -354,7 +319,6 @@ row(
 )
 row(
     "a curve's name is that of the type",
-    (),
     ["join client"]
     + [
         line
@@ -368,7 +332,6 @@ row(
 BIG1, BIG2 = b"a" * 131000, b"b" * 130995
 row(
     "a list of 262144 bytes is full",
-    (),
     ["join client", *hear(1, b"\x11" + added(0x11, BIG1)), *hear(1, b"\x11" + added(0x12, BIG2))]
     + [*hear(1, b"\x11" + added(0x13), LIST), *hear(1, b"\x11" + added(0x12, BIG2 + b"b"), LIST)],
     [to(1, OK), to(1, OK), to(1, NO), to(1, listing((K1, BIG1), (K2, BIG2)))]
@@ -376,7 +339,6 @@ row(
 )
 row(
     "a key is replaced in a full list",
-    (),
     ["join client", *hear(1, b"\x11" + added(0x11, BIG1)), *hear(1, b"\x11" + added(0x12, BIG2))]
     + hear(1, b"\x11" + added(0x12, BIG2)),
     [to(1, OK), to(1, OK), to(1, OK)],
@@ -384,7 +346,6 @@ row(
 CERT = cert(2, st(b"*.example.org"))
 row(
     "a certificate of the type that is named, and of another",
-    (),
     ["join client"]
     + hear(1, b"\x11" + st(b"ssh-rsa-cert-v01@openssh.com") + st(CERT) + st(b"") * 5)
     + hear(1, b"\x11" + ED25519_CERT + st(CERT) + st(b"\x31" * 32) + st(b"\x32" * 64) + st(b"c"))
@@ -393,7 +354,6 @@ row(
 )
 row(
     "128 clients, one more, and one in a left one's place",
-    (),
     [*["join client"] * 129, *hear(128, LIST), "end 5", "join client", *hear(130, LIST)],
     ["close 129", to(128, NOTHING), "close 5", to(130, NOTHING)],
 )

@@ -2,7 +2,7 @@
 
 from __future__ import annotations
 
-from .rows import ADD1, ASKS, BINDINGS, H1, H2, K1, LIST, NO, OK, ONE, S1, hear, listing, lock
+from .rows import ADD1, H1, H2, K1, LIST, NO, OK, ONE, S1, hear, listing, lock
 from .rows import row, st, stand_in, to, u32, u64
 
 # A helper signs
@@ -32,7 +32,6 @@ def helper(port: int) -> list[str]:
 
 row(
     "a helper signs",
-    ASKS,
     ["join client", *hear(1, ADD1, sign(K1, b"abc")), *helper(2)]
     + ["hear 2 0000001065000000000000000100000003736967"],
     [to(1, OK), "start 1 helper", to(2, put1(1, b"abc")), "to 1 000000080e00000003736967"],
@@ -42,7 +41,6 @@ TWO += helper(3)
 TWO_PRINT = [to(1, OK), "start 1 helper", to(3, put1(1, b"abc"), put1(2, b"xyz"))]
 row(
     "answers go by their numbers, and one for a client that left is dropped",
-    ASKS,
     [*TWO, *hear(3, signed(2, b"s2")), *hear(3, signed(1, b"s1")), *hear(2, sign(K1, b"w"))]
     + ["end 2", *hear(3, signed(3, b"s3"))],
     [*TWO_PRINT, to(2, b"\x0e" + st(b"s2")), to(1, b"\x0e" + st(b"s1"))]
@@ -50,32 +48,27 @@ row(
 )
 row(
     "a helper is lost; the next one's asks go on in their numbers",
-    ASKS,
     [*TWO, "hear 3 0000001065", "end 3", *hear(1, sign(K1, b"q"))]
     + ["started 2 " + "00" * 16, "join child", *hear(4, hello(2))],
     [*TWO_PRINT, "close 3", to(1, NO), to(2, NO), "start 2 helper", to(4, put1(3, b"q"))],
 )
 row(
     "REFUSED is a failure, and a second answer loses the helper",
-    ASKS,
     [*TWO, *hear(3, b"\x66" + u64(1)), *hear(3, b"\x66" + u64(1))],
     [*TWO_PRINT, to(1, NO), "close 3", to(2, NO)],
 )
 row(
     "a signing isn't verified",
-    ASKS,
     [*TWO, *hear(3, b"\x67" + u64(1))],
     [*TWO_PRINT, "close 3", to(1, NO), to(2, NO)],
 )
 row(
     "a start fails",
-    ASKS,
     ["join client", *hear(1, ADD1, sign(K1, b"abc")), "failed 1", "failed 1"],
     [to(1, OK), "start 1 helper", to(1, NO), "refused 4 order"],
 )
 row(
     "a client that waits is heard later",
-    ASKS,
     ["join client", *hear(1, ADD1, sign(K1, b"abc"), LIST), *hear(1, LIST), *helper(2)]
     + hear(2, signed(1, b"s")),
     [to(1, OK), "start 1 helper", to(2, put1(1, b"abc")), to(1, b"\x0e" + st(b"s"))]
@@ -83,40 +76,34 @@ row(
 )
 row(
     "a start that failed takes its frames along",
-    ASKS,
     ["join client", *hear(1, ADD1, sign(K1, b"abc")), "failed 1", *hear(1, sign(K1, b"xyz"))]
     + ["started 2 " + "00" * 16, "join child", *hear(2, hello(2))],
     [to(1, OK), "start 1 helper", to(1, NO), "start 2 helper", to(2, put1(2, b"xyz"))],
 )
 row(
     "a second hello for a job",
-    ASKS,
     [*TWO, "join child", *hear(4, hello(1)), *hear(3, signed(1, b"s"))],
     [*TWO_PRINT, "close 4", to(1, b"\x0e" + st(b"s"))],
 )
 row(
     "a signature as long as it may be, and one that is longer",
-    ASKS,
     [*TWO, *hear(3, signed(1, b"s" * 262131)), "hear 3 00040001"],
     [*TWO_PRINT, to(1, b"\x0e" + st(b"s" * 262131)), "close 3", to(2, NO)],
 )
 row(
     "no hello, another ticket, and another job close a child",
-    ASKS,
     ["join client", *hear(1, ADD1, sign(K1, b"abc")), "started 1 " + "07" * 16, *["join child"] * 4]
     + [*hear(2, signed(1, b"s")), *hear(3, hello(1)), *hear(4, hello(2)), "hear 5 00000000"],
     [to(1, OK), "start 1 helper", "close 2", "close 3", "close 4", "close 5"],
 )
 row(
     "an answer behind the hello, whose frame is written all the same",
-    ASKS,
     ["join client", *hear(1, ADD1, sign(K1, b"abc")), "started 1 " + "00" * 16, "join child"]
     + hear(2, hello(1), signed(1, b"s")),
     [to(1, OK), "start 1 helper", to(1, b"\x0e" + st(b"s")), to(2, put1(1, b"abc"))],
 )
 row(
     "what is asked stays asked when the key is removed and the agent is locked",
-    ASKS,
     ["join client", "join client", *hear(1, ADD1, sign(K1, b"abc")), *hear(2, b"\x13", lock(b"a"))]
     + [*helper(3), *hear(3, signed(1, b"s"))],
     [to(1, OK), "start 1 helper", to(2, OK), to(2, OK), to(3, put1(1, b"abc"))]
@@ -127,7 +114,6 @@ LEAVING = [
 ]
 row(
     "256 asks are unanswered, and one more",
-    ASKS,
     ["join client", *hear(1, ADD1), *LEAVING, *hear(1, sign(K1, b""))]
     + ["join client", *hear(257, sign(K1, b""), LIST)],
     [to(1, OK), "start 1 helper", *[f"close {n}" for n in range(2, 257)]]
@@ -135,13 +121,11 @@ row(
 )
 row(
     "a child that said hello isn't among the 32",
-    ASKS,
     ["join client", *hear(1, ADD1, sign(K1, b"abc")), *helper(2), *["join child"] * 33],
     [to(1, OK), "start 1 helper", to(2, put1(1, b"abc")), "close 35"],
 )
 row(
     "32 children without a hello, and one more",
-    ASKS,
     [*["join child"] * 33, "end 3", "join child"],
     ["close 33", "close 3"],
 )
@@ -183,7 +167,6 @@ FIFTEEN = [(H1, bytes([n]) * 32, 1) for n in range(15)]
 bound = chain(1, 2, 2, (H1, S1, 1), (H1, S1, 1), *FIFTEEN)
 row(
     "a session again, another host for it, 16 bindings, and one more",
-    BINDINGS,
     [*START, *bound[0], *hear(1, bind(H2, S1, 1)), *hear(1, bind(H1, b"new", 0))]
     + [*hear(1, bind(H1, S1, 1)), *hear(2, true(19))],
     [*START_PRINT, *bound[1], to(1, NO), to(1, NO), to(2, verify(19, H1, S1)), to(1, OK)],
@@ -191,14 +174,12 @@ row(
 SESSIONS = chain(1, 2, 2, (H1, b"s" * 128, 1), (H1, b"s" * 127 + b"t", 0))
 row(
     "sessions of 0, 128 and 129 bytes, and a binding behind a login's",
-    BINDINGS,
     [*START, *hear(1, bind(H1, b"", 1), bind(H1, b"s" * 129, 1)), *SESSIONS[0]]
     + hear(1, bind(H1, b"s" * 128, 1)),
     [*START_PRINT, to(1, NO), to(1, NO), *SESSIONS[1], to(1, NO)],
 )
 row(
     "FALSE binds nothing, and a host key has to be readable",
-    BINDINGS,
     [*START, *hear(1, bind(H1, S1, 0)), *hear(2, b"\x68" + u64(2)), *hear(1, bind(H1[:-1], S1, 0))]
     + [*hear(1, bind(H2, S1, 0)), *hear(2, true(3))],
     [*START_PRINT, to(2, verify(2, H1, S1)), to(1, NO), to(1, NO), to(2, verify(3, H2, S1))]
@@ -206,7 +187,6 @@ row(
 )
 row(
     "a client that leaves while its binding is verified",
-    BINDINGS,
     ["join client", *hear(1, bind(H1, S1, 1)), *helper(2), "end 1", *hear(2, true(1))]
     + ["join client", *hear(3, LIST, bind(H1, S1, 0)), *hear(2, true(2))],
     ["start 1 helper", to(2, verify(1, H1, S1)), "close 1", to(3, listing())]
@@ -214,7 +194,6 @@ row(
 )
 row(
     "a helper that is lost before it verified; the next one is asked anew",
-    BINDINGS,
     ["join client", *hear(1, bind(H1, S1, 0)), *helper(2), "end 2", *hear(1, bind(H1, S1, 0))]
     + ["started 2 " + "00" * 16, "join child", *hear(3, hello(2)), *hear(3, true(2))],
     ["start 1 helper", to(2, verify(1, H1, S1)), "close 2", to(1, NO), "start 2 helper"]

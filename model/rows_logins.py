@@ -11,7 +11,7 @@ import re
 from dataclasses import dataclass
 from pathlib import Path
 
-from .rows import LIST, NO, NOTHING, OK, RULES, hear, listing, row, st, to, u32, u64
+from .rows import LIST, NO, NOTHING, OK, hear, listing, row, st, to, u32, u64
 from .rows_children import chain, hello, sign, signed
 from .rows_runs import EVERY_ROW as EARLIER
 
@@ -132,6 +132,6 @@ for source in sorted(RECORDED.glob("*.rt")):
     for rules in way.rules:
         login = Login(way, rules)
         login.hosts()
-        row(f"{way.name}: {rules.words}", RULES, login.lines, login.printed)
+        row(f"{way.name}: {rules.words}", login.lines, login.printed)
 
 EVERY_ROW = EARLIER  # with those of the files that this one stands on

@@ -5,8 +5,8 @@ from __future__ import annotations
 import base64
 import hashlib
 
-from .rows import ADD1, ALL, CERT, E1, ED25519_CERT, H1, H2, K1, LIST, NO, NOTHING, OK, ONE, ROWS
-from .rows import RULES, S1, S2, T, TERMS1, cert, hear, listing, lock, remove, row, st, to, u32
+from .rows import ADD1, CERT, E1, ED25519_CERT, H1, H2, K1, LIST, NO, NOTHING, OK, ONE, ROWS
+from .rows import S1, S2, T, TERMS1, cert, hear, listing, lock, remove, row, st, to, u32
 from .rows import u64, unlock
 from .rows_children import sign, hello, signed, put1, helper, bind, verify, true, chain
 
@@ -79,7 +79,6 @@ def first_bind(key: bytes, session: bytes, onward: int) -> tuple[list[str], list
 TO = hop(b"", b"h", (H1, 0))
 row(
     "constraints that aren't rules",
-    RULES,
     ["join client"]
     + [
         line
@@ -103,14 +102,12 @@ row(
 way = first_bind(H2, S1, 0)
 row(
     "a rule from another host isn't for the way from here",
-    RULES,
     ["join client", *hear(1, ruled(RULE_TWO[1])), *way[0], *hear(1, LIST)],
     [to(1, OK), *way[1], to(1, NOTHING)],
 )
 onward = first_bind(H1, S1, 1)
 row(
     "a login where the connection is only forwarded",
-    RULES,
     ["join client", *hear(1, ruled(*RULE_TWO)), *onward[0], *hear(1, LIST)]
     + hear(1, sign(K1, bound_login(S1, b"u", H1))),
     [to(1, OK), *onward[1], to(1, listing(ONE)), to(1, NO)],
@@ -119,7 +116,6 @@ one = first_bind(H1, S1, 0)
 some = asked(1, 2, 2, bound_login(S1, b"perseus", H1))
 row(
     "a user as a pattern, and logins that aren't well made",
-    RULES,
     ["join client", *hear(1, ruled(rule(ORIGIN, hop(b"per*", b"cetus", (H1, 0))))), *one[0]]
     + some[0]
     + hear(1, sign(K1, bound_login(S1, b"xper", H1)), sign(K1, b"\0" * 4 + b"\x32"))
@@ -141,7 +137,6 @@ def rsa_login(algorithm: bytes) -> bytes:
 good = rsa_login(b"rsa-sha2-256-cert-v01@openssh.com")
 row(
     "the algorithms of an RSA certificate",
-    RULES,
     ["join client", *hear(1, b"\x19" + RSA_ADDED + st(b"") + restrict(RULE_TWO[0])), *one[0]]
     + [*hear(1, sign(RSA_KEY, rsa_login(b"rsa-sha2-256")), sign(RSA_KEY, rsa_login(b"ssh-rsa")))]
     + hear(1, sign(RSA_KEY, good)),
@@ -151,7 +146,6 @@ row(
 perseus = asked(1, 2, 2, bound_login(S1, b"perseus", H1))
 row(
     "a rule for one user at one host",
-    RULES,
     ["join client", *hear(1, ruled(RULE_USER), sign(K1, b"x")), *one[0], *perseus[0]]
     + hear(1, sign(K1, bound_login(S1, b"root", H1)), sign(K1, bound_login(S2, b"perseus", H1)))
     + hear(1, sign(K1, bound_login(S1, b"perseus", H2)), sign(K1, b"x"), LIST),
@@ -162,7 +156,6 @@ last = chain(1, 2, 2, (H2, S2, 0))
 through = asked(1, 2, 3, bound_login(S2, b"u", H2))
 row(
     "over a host to the next",
-    RULES,
     ["join client", *hear(1, ruled(*RULE_TWO)), *over[0], *last[0]]
     + hear(1, sign(K1, plain_login(S2, b"u")), sign(K1, bound_login(S1, b"u", H2)))
     + through[0],
@@ -170,21 +163,18 @@ row(
 )
 row(
     "a host that leads nowhere hides the key",
-    RULES,
     ["join client", *hear(1, ruled(RULE_USER)), *over[0], *hear(1, LIST, remove(K1), ADD1)]
     + ["join client", *hear(3, LIST)],
     [to(1, OK), *over[1], to(1, NOTHING), to(1, NO), to(1, NO), to(3, listing(ONE))],
 )
 row(
     "a binding that failed hides the key, and one at a locked agent doesn't",
-    RULES,
     ["join client", *hear(1, ruled(RULE_USER), lock(b"a"), bind(H1, S1, 0), unlock(b"a"), LIST)]
     + hear(1, b"\x1b" + st(b"session-bind@openssh.com"), LIST),
     [to(1, OK), to(1, OK), to(1, NO), to(1, OK), to(1, listing(ONE)), to(1, NO), to(1, NOTHING)],
 )
 row(
     "what is hidden is removed with all others",
-    RULES,
     ["join client", "join client", *hear(1, ruled(RULE_USER))]
     + hear(1, b"\x1b" + st(b"session-bind@openssh.com"), LIST, b"\x13")
     + hear(2, LIST),
@@ -193,7 +183,6 @@ row(
 late = asked(1, 2, 2, bound_login(S1, b"perseus", H1))
 row(
     "a binding that is verified while the agent is locked is taken",
-    RULES,
     ["join client", *hear(1, ruled(RULE_USER), bind(H1, S1, 0)), *helper(2), "join client"]
     + [*hear(3, lock(b"a")), *hear(2, true(1)), *hear(1, LIST), *hear(3, unlock(b"a"))]
     + [*hear(1, LIST), *late[0]],
@@ -202,7 +191,6 @@ row(
 )
 row(
     "a binding that was never verified hides the key",
-    RULES,
     ["join client", *hear(1, ruled(RULE_USER), bind(H1, S1, 0)), *helper(2), "end 2"]
     + hear(1, LIST),
     [to(1, OK), "start 1 helper", to(2, verify(1, H1, S1)), "close 2", to(1, NO), to(1, NOTHING)],
@@ -211,7 +199,6 @@ away = chain(3, 2, 2, (H2, S2, 0))
 here = asked(1, 2, 3, bound_login(S1, b"u", H1))
 row(
     "two connections that are bound to different hosts",
-    RULES,
     ["join client", *hear(1, ruled(*RULE_TWO)), *one[0], "join client", *hear(3, LIST), *away[0]]
     + [*hear(3, LIST, sign(K1, bound_login(S2, b"u", H2)), remove(K1)), *hear(1, LIST), *here[0]],
     [to(1, OK), *one[1], to(3, listing(ONE)), *away[1], to(3, NOTHING), to(3, NO), to(3, NO)]
@@ -241,7 +228,6 @@ for what, host_key, entry, fits in [
     bound = first_bind(host_key, S1, 0)
     row(
         f"a rule's key is {what}",
-        RULES,
         ["at 0 150", "join client"]
         + hear(1, ruled(rule(ORIGIN, hop(b"", b"web.example.org", entry))))
         + [*bound[0], *hear(1, LIST)],
@@ -252,7 +238,6 @@ inside = asked(1, 2, 2, bound_login(S1, b"u", CERT))
 again = asked(1, 2, 3, bound_login(S1, b"u", CERT))
 row(
     "a host certificate's time is the wall clock's, which may fall",
-    RULES,
     ["join client", *hear(1, ruled(RULE_CA)), *web[0], "at 0 199", *inside[0], "at 0 200"]
     + [*hear(1, sign(K1, bound_login(S1, b"u", CERT)), LIST), "at 0 100", *again[0], "at 0 99"]
     + hear(1, LIST),
@@ -273,31 +258,26 @@ RAISED = ["join client", *hear(1, TERMS1 + b"\x02", sign(K1, b"abc")), *helper(2
 RAISED_PRINT = [to(1, OK), "start 1 confirm", to(2, confirm(1))]
 row(
     "a grant is for the addition that was asked for",
-    ALL,
     [*RAISED, *hear(3, remove(K1), ADD1), GRANT1],
     [*RAISED_PRINT, to(3, OK), to(3, OK), "close 2", to(1, NO)],
 )
 row(
     "no number is given twice, also behind a removal of all",
-    ALL,
     [*RAISED, *hear(3, b"\x13", TERMS1 + b"\x02"), GRANT1],
     [*RAISED_PRINT, to(3, OK), to(3, OK), "close 2", to(1, NO)],
 )
 row(
     "a grant asks the helper",
-    ALL,
     [*RAISED, GRANT1, "started 2 " + "00" * 16, "join child", *hear(4, hello(2))],
     [*RAISED_PRINT, "start 2 helper", "close 2", to(4, put1(1, b"abc"))],
 )
 row(
     "a grant to a locked agent",
-    ALL,
     [*RAISED, *hear(3, lock(b"a")), GRANT1],
     [*RAISED_PRINT, to(3, OK), "close 2", to(1, NO)],
 )
 row(
     "a prompt shows 256 bytes that can be printed, and the fingerprint of the plain key",
-    ALL,
     [
         "join client",
         *hear(
@@ -319,7 +299,6 @@ looking = first_bind(CERT, S1, 0)
 answered = ["started 2 " + "00" * 16, "join child", *hear(3, hello(2))]
 row(
     "a grant behind a certificate's time",
-    ALL,
     ["at 0 150", "join client", *hear(1, ruled(RULE_CA) + b"\x02"), *looking[0]]
     + [*hear(1, sign(K1, plain_login(S1, b"u"))), *answered, "at 0 200"]
     + ["hear 3 00000009690000000000000002"],
@@ -327,32 +306,27 @@ row(
 )
 row(
     "a start that is too late",
-    ALL,
     ["join client", *hear(1, TERMS1 + b"\x02", sign(K1, b"abc")), "end 1", *helper(2)],
     [to(1, OK), "start 1 confirm", "close 1", "close 2"],
 )
 row(
     "denied",
-    ALL,
     [*RAISED, "hear 2 000000096a0000000000000001", *hear(1, LIST)],
     [*RAISED_PRINT, "close 2", to(1, NO), to(1, listing(ONE))],
 )
 row(
     "another job's grant is none",
-    ALL,
     [*RAISED, "hear 2 00000009690000000000000002"],
     [*RAISED_PRINT, "close 2", to(1, NO)],
 )
 row(
     "a client that leaves takes its confirmation away",
-    ALL,
     [*RAISED, "end 1"],
     [*RAISED_PRINT, "close 1", "close 2"],
 )
 SIXTEEN = [line for n in range(1, 18) for line in ("join client", *hear(n, sign(K1, b"abc")))]
 row(
     "16 confirmations, and one more",
-    ALL,
     ["join client", *hear(1, TERMS1 + b"\x02"), *SIXTEEN[1:], "end 3", *hear(17, sign(K1, b""))],
     [to(1, OK), *[f"start {n} confirm" for n in range(1, 17)], to(17, NO), "close 3"]
     + ["start 17 confirm"],

@@ -2,7 +2,7 @@
 
 from __future__ import annotations
 
-from .rows import ALL, ASKS, K1, LIST, NO, NOTHING, OK, ONE, RULES, hear, listing, row, to
+from .rows import K1, LIST, NO, NOTHING, OK, ONE, hear, listing, row, to
 from .rows_children import hello, put1
 from .rows_rules import EVERY_ROW as EARLIER
 from .rows_rules import GRANT1, ORIGIN, RAISED, RAISED_PRINT, hop, rule, ruled
@@ -100,26 +100,23 @@ for name, schedule, printed in [
     ("a moment of three numbers", ["at 0 1 2"], ["refused 1 word"]),
     ("a moment whose second number is empty", ["at 0 "], ["refused 1 number"]),
 ]:
-    row(name, (), schedule, printed)
+    row(name, schedule, printed)
 
 # Requests, and child processes
 
-row("a start fails that nobody asked for", ASKS, ["join child", "failed 1"], ["refused 2 order"])
+row("a start fails that nobody asked for", ["join child", "failed 1"], ["refused 2 order"])
 row(
     "an empty agent removes all, a request that is cut off behind its number, and the number 255",
-    (),
     ["join client", *hear(1, b"\x13", b"\x0d", b"\xff", LIST)],
     [to(1, OK), to(1, NO), to(1, NO), EMPTY],
 )
 row(
     "a key for one destination is listed where nothing is bound",
-    RULES,
     ["join client", *hear(1, ruled(rule(ORIGIN, hop(b"", b"h", (K1, 0)))), LIST)],
     [to(1, OK), to(1, listing(ONE))],
 )
 row(
     "a grant in two pieces asks the helper",
-    ALL,
     [*RAISED, GRANT1[:19], "hear 2 " + GRANT1[19:], "started 2 " + "00" * 16, "join child"]
     + hear(4, hello(2)),
     [*RAISED_PRINT, "start 2 helper", "close 2", to(4, put1(1, b"abc"))],

@@ -20,13 +20,11 @@ class Over(Exception):
 
 
 class Writer:
-    def __init__(self, seed: str, stages: Iterable[str] = ()) -> None:
+    def __init__(self, seed: str) -> None:
         self.random = random = Random(seed)
-        lives = [None] * 8 + [0, 1, 3, 2**32 - 1] if "life" in stages else [None]
-        self.life = random.choice(lives)
-        self.run = Run(stages, self.life)
+        self.life = random.choice([None] * 8 + [0, 1, 3, 2**32 - 1])
+        self.run = Run(self.life)
         self.agent = self.run.agent
-        self.stages = self.agent.stages
         self.lines: list[bytes] = []
         self.unsent: dict[int, bytes] = {}  # the rest of a frame that was cut
         self.keys = random.sample(pool.KEYS, 3) + pool.KEYS[:2]
@@ -44,13 +42,9 @@ class Writer:
     def pick(self, choices: Iterable) -> object:
         return self.random.choice(list(choices))
 
-    def one_of(self, moves: dict[str, tuple[int, str]]) -> None:
-        known = {
-            name: weight
-            for name, (weight, stage) in moves.items()
-            if not stage or stage in self.stages
-        }
-        name = self.random.choices(list(known), list(known.values()))[0]
+    def one_of(self, moves: dict[str, int]) -> None:
+        """Makes a move, of which each has its weight."""
+        name = self.random.choices(list(moves), list(moves.values()))[0]
         getattr(self, name)()
 
     def say(self, line: str | bytes) -> None:
@@ -112,7 +106,6 @@ class Writer:
         """A request, and sometimes what is none."""
         random = self.random
         key = self.pick(self.keys)
-        rules = 0.4 if "rules" in self.stages else 0.1
         kinds: dict[str, float] = {
             "list": 4,
             "add": 4,
@@ -127,7 +120,7 @@ class Writer:
             "other": 0.5,
             "faulty": 1.2,
             "garbled": 1.5,
-            "login": 0.4 if rules < 0.4 else 2,
+            "login": 2,
         }
         if self.agent.passphrase is not None:
             kinds |= {"unlock": 6}
@@ -139,7 +132,7 @@ class Writer:
         if kind == "add":
             return b"\x11" + key.added + string(comment)
         if kind == "terms":
-            return b"\x19" + key.added + string(comment) + pool.terms(random, rules)
+            return b"\x19" + key.added + string(comment) + pool.terms(random)
         if kind == "remove":
             return b"\x12" + string(key.blob)
         if kind == "remove all":

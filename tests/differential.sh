@@ -1,7 +1,6 @@
 #!/usr/bin/env bash
 # Random schedules through the built agent and the model of model/, byte for byte, with status.
-#   tests/differential.sh N [SEED] [--life] [--asks] [--bindings] [--rules] [--confirmations]
-#       the flags tell what the agent does; without them it does all of that
+#   tests/differential.sh N [SEED]
 #   tests/differential.sh --wrong N [SEED]    tries the wrong models of model/wrong.txt against the right one
 #   tests/differential.sh --tools N [SEED]    random words, files and peers of the built helpers and tool
 set -u

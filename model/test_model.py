@@ -1,0 +1,70 @@
+"""The model alone, without a built program: python3 -m unittest model.test_model, from the top."""
+
+import unittest
+
+from .differential import read_wrong
+from .generate import Schedule
+from .replay import replay
+from .rows_logins import EVERY_ROW
+from .wire import Fault, matches, string, take_frame, uint32, uint64
+
+
+class Rows(unittest.TestCase):
+    """Literal schedules, put together by the documents, print what the documents say."""
+
+    def test_each_row(self):
+        names = [row.name for row in EVERY_ROW]
+        self.assertEqual(len(names), len(set(names)))
+        for row in EVERY_ROW:
+            with self.subTest(row.name):
+                self.assertEqual(replay(row.schedule, row.life), (row.printed, row.status))
+
+
+class Schedules(unittest.TestCase):
+    """What is written at random."""
+
+    def test_a_seed_gives_the_same_schedule_again(self):
+        for seed in map(str, range(20)):
+            self.assertEqual(Schedule(seed).case(), Schedule(seed).case())
+
+    def test_what_is_expected_is_what_the_model_prints(self):
+        for seed in map(str, range(20)):
+            text, life, wanted = Schedule(seed).case()
+            self.assertEqual(replay(text, life), wanted)
+
+
+class WrongModels(unittest.TestCase):
+    def test_each_changes_a_line_that_stands_once(self):
+        edits = read_wrong()
+        self.assertTrue(edits)
+        for edit in edits:
+            self.assertNotEqual(edit["old"], edit["new"], edit["wrong"])
+
+
+class Wire(unittest.TestCase):
+    """RFC 4251, section 5."""
+
+    def test_numbers_and_strings(self):
+        self.assertEqual(uint32(699921578), bytes.fromhex("29b7f4aa"))
+        self.assertEqual(uint64(1), bytes(7) + b"\1")
+        self.assertEqual(string(b"testing"), b"\0\0\0\7testing")
+
+    def test_a_frame_is_taken_where_it_is_whole(self):
+        frame = string(b"\x0b")
+        heard = bytearray(frame + b"rest")
+        self.assertEqual(take_frame(heard, 10), b"\x0b")
+        self.assertEqual(heard, b"rest")
+        for length in range(len(frame)):
+            self.assertIsNone(take_frame(bytearray(frame[:length]), 10))
+
+    def test_a_frame_of_a_bad_length_is_a_fault(self):
+        for length in (0, 11):
+            self.assertRaises(Fault, take_frame, bytearray(uint32(length)), 10)
+
+    def test_patterns(self):
+        self.assertTrue(matches(b"a.b.example.org", b"*.example.?rg"))
+        self.assertFalse(matches(b"example.org", b"*.example.org"))
+
+
+if __name__ == "__main__":
+    unittest.main()
