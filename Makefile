@@ -1,6 +1,6 @@
 # make            proves each crate, a line for each, and builds the programs into bin/, the helper too where it can
-# make demo       runs the agent on a schedule of examples/, built without proofs where it isn't proved yet
-# make check      proves and tests everything: the gate
+# make demo       shows the agent at work with OpenSSH's tools, built without proofs where it isn't proved yet
+# make check      proves and tests everything: the gate, .ci/run
 # make bench      measures, beside other programs of the same machine
 # make helper     builds the helper that signs, which isn't proved, or says which packages it wants
 # make install    copies what was built to $(DESTDIR)$(PREFIX), with manuals, completions and a systemd unit
@@ -41,7 +41,7 @@ demo:
 	@RT='$(RT)' scripts/demo
 
 check:
-	$(RT) ci
+	@RT='$(RT)' .ci/run
 
 bench: $(PROGRAMS:%=bin/%)
 	bench/run
