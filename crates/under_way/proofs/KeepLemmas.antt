@@ -18,7 +18,7 @@ use Rattle.agent_model.specs.Errands.{job_of}
 use Rattle.wire_text.specs.Bounds.{longest_body}
 use Rattle.agent_model.specs.State.{StartedJob, UnderWay, find_to_start}
 use Rattle.agent_model.proofs.JobLemmas.{in-by_port, in-found, linked_port}
-use Rattle.under_way.specs.Parts.{AreKept, FitsStarted, HasFailed, IsAwaited, IsFor, IsKept, IsShortIn, confirmer_told, helpers, helpers_coming, is_helper, jobs_of, told_by, told_if}
+use Rattle.under_way.specs.Parts.{AreKept, FitsStarted, HasFailed, IsAwaited, IsFor, IsKept, IsShortIn, confirmer_told, helpers, helpers_coming, is_helper, jobs_of, the_job, told_by, told_if}
 use Rattle.under_way.proofs.KeptLemmas.{given_at, helpers-push, helpers-remove, kept-changed, kept-confirm, kept-helper, kept-left, kept-linked, kept-lost, kept-moved, kept-named, linked_not_begun, linked_not_due, none_by, pushed-jobs, remove-none, removed-jobs, short-change, short-push, short-remove, short_at, started-jobs, started-none}
 
 -- ---- the helper's job
@@ -96,7 +96,7 @@ keeps-moved u number job ticket kept found wanted =
 -- what is found among the started jobs
 job_found : (number : ℕ) (started : List StartedJob) (one : StartedJob) → find_started number started ≡ Some one →
     find_to_start number (jobs_of started) ≡ Some one.job
-job_found number started one found = started-jobs number started ∙ ap (option_map (λ (s : StartedJob). s.job)) found
+job_found number started one found = started-jobs number started ∙ ap (option_map the_job) found
 
 -- what a started job is for
 pub is_for : (u : UnderWay) (number : ℕ) (one : StartedJob) → IsKept u → find_started number u.started ≡ Some one →

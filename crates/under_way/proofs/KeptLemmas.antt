@@ -1,8 +1,11 @@
 -- Jobs to start and started jobs: their numbers, and the confirmations that they are for.
 use Rattle.std.proofs.Common.{◌≡◌, ℕ, ◌+◌, ◌<◌, ◌≤◌, Bool, true, false, cond, eqb, List, [], ◌∷◌, ◌++◌, length, Option, Some, None, refl, sym, ap, ◌∙◌, subst, arith}
 use Rattle.std.specs.Option.{option_map}
-use Rattle.std.proofs.lemmas.Bool.{eqb-true, eq-eqb, false_from_ne_true}
+use Rattle.std.proofs.lemmas.Bool.{eqb-false, eqb-true, eq-eqb, false_from_ne_true}
 use Rattle.std.proofs.lemmas.Option.{none-some, same_Some}
+use Rattle.lists.specs.Firsts.{IsOnly}
+use Rattle.lists.specs.Keyed.{has_key}
+use Rattle.lists.proofs.FirstLemmas.{find-map, find-push_other, find-remove_none, find-removed, remove-map, removed_nowhere, some_or_later}
 use Rattle.world_ports.specs.declared.Job.{Job}
 use Rattle.world_ports.specs.declared.JobKind.{JobKind}
 use Rattle.world_ports.specs.declared.JobKind.TheVariants as kinds
@@ -10,12 +13,12 @@ use Rattle.confirm_desk.specs.Confirmations.{Confirmation, change_job, find_job,
 use Rattle.agent_model.specs.Asking.{JobsRise}
 use Rattle.wire_text.specs.Bounds.{longest_body}
 use Rattle.agent_model.specs.Children.{remove_to_start}
-use Rattle.agent_model.specs.Consents.{find_started, remove_started}
-use Rattle.agent_model.specs.State.{StartedJob, find_to_start}
-use Rattle.agent_model.proofs.JobLemmas.{find_job-push, find_job-remove, jobs-change, jobs-higher, jobs-push, jobs-remove, job_within}
+use Rattle.agent_model.specs.Consents.{find_started, remove_started, started_number}
+use Rattle.agent_model.specs.State.{StartedJob, find_to_start, job_number}
+use Rattle.agent_model.proofs.JobLemmas.{change-apart, find_job-push, find_job-remove, jobs-change, jobs-higher, jobs-push, jobs-remove, job_within}
 use Rattle.under_way.specs.Jobs.{all_started}
 use Rattle.under_way.specs.declared.jobs.Started.{Started}
-use Rattle.under_way.specs.Parts.{AreGiven, AreKept, AreShort, FitsStarted, FitsToStart, IsUnlinked, helpers, is_helper, jobs_of}
+use Rattle.under_way.specs.Parts.{AreGiven, AreKept, AreShort, FitsStarted, FitsToStart, IsUnlinked, helpers, is_helper, jobs_of, the_job}
 
 -- ---- numbers
 
@@ -30,36 +33,18 @@ differs_below a b below = false_from_ne_true (eqb a b) (λ e. let same = eqb-tru
 
 -- ---- which job has a number
 
-not_first : {A : Type 0} (here : Bool) (one : A) (found : Option A) → cond here (Some one) found ≡ None → (here ≡ false) × (found ≡ None)
-not_first true one found none = absurd cc
-not_first false one found none = (refl, none)
-
 -- one less brings none
-none_of : (number : ℕ) (here : Bool) (job : Job) (jobs left : List Job) → eqb job.number number ≡ false → find_to_start number jobs ≡ None →
-    find_to_start number left ≡ None → find_to_start number (cond here jobs (job ∷ left)) ≡ None
-none_of number true job jobs left first behind later = behind
-none_of number false job jobs left first behind later = rw first later
-
 pub none-remove : (number other : ℕ) (jobs : List Job) → find_to_start number jobs ≡ None → find_to_start number (remove_to_start other jobs) ≡ None
-none-remove number other [] none = refl
-none-remove number other (job ∷ jobs) none =
-    let both = not_first (eqb job.number number) job (find_to_start number jobs) none in
-    none_of number (eqb job.number other) job jobs (remove_to_start other jobs) both.0 both.1 (none-remove number other jobs both.1)
+none-remove number other jobs none = find-remove_none (has_key job_number number) (has_key job_number other) jobs none
 
 -- nor does one more of another number
 pub none-push : (number : ℕ) (jobs : List Job) (last : Job) → eqb last.number number ≡ false → find_to_start number jobs ≡ None →
     find_to_start number (jobs ++ last ∷ []) ≡ None
-none-push number [] last other none = rw other refl
-none-push number (job ∷ jobs) last other none =
-    let both = not_first (eqb job.number number) job (find_to_start number jobs) none in
-    rw both.0 (none-push number jobs last other both.1)
+none-push number jobs last other none = find-push_other (has_key job_number number) jobs last other ∙ none
 
 -- what isn't there isn't removed
 pub remove-none : (number : ℕ) (jobs : List Job) → find_to_start number jobs ≡ None → remove_to_start number jobs ≡ jobs
-remove-none number [] none = refl
-remove-none number (job ∷ jobs) none =
-    let both = not_first (eqb job.number number) job (find_to_start number jobs) none in
-    rw both.0 (ap (λ (left : List Job). job ∷ left) (remove-none number jobs both.1))
+remove-none number jobs none = removed_nowhere (has_key job_number number) jobs none
 
 -- by whether there is one
 pub none_by : {A : Type 0} (found : Option A) → ((one : A) → found ≡ Some one → ⊥) → found ≡ None
@@ -68,23 +53,11 @@ none_by (Some one) never = absurd (never one refl)
 
 -- ---- started jobs
 
-pub started-jobs : (number : ℕ) (started : List StartedJob) → find_to_start number (jobs_of started) ≡ option_map (λ (one : StartedJob). one.job) (find_started number started)
-started-jobs number [] = refl
-started-jobs number (one ∷ others) = by (eqb one.job.number number) (started-jobs number others)
-  where
-    by : (here : Bool) → find_to_start number (jobs_of others) ≡ option_map (λ (one : StartedJob). one.job) (find_started number others) →
-        cond here (Some one.job) (find_to_start number (jobs_of others)) ≡ option_map (λ (one : StartedJob). one.job) (cond here (Some one) (find_started number others))
-    by true later = refl
-    by false later = later
+pub started-jobs : (number : ℕ) (started : List StartedJob) → find_to_start number (jobs_of started) ≡ option_map the_job (find_started number started)
+started-jobs number started = find-map the_job (has_key job_number number) (has_key started_number number) (λ _. refl) started
 
 pub removed-jobs : (number : ℕ) (started : List StartedJob) → jobs_of (remove_started number started) ≡ remove_to_start number (jobs_of started)
-removed-jobs number [] = refl
-removed-jobs number (one ∷ others) = by (eqb one.job.number number) (removed-jobs number others)
-  where
-    by : (here : Bool) → jobs_of (remove_started number others) ≡ remove_to_start number (jobs_of others) →
-        jobs_of (cond here others (one ∷ remove_started number others)) ≡ cond here (jobs_of others) (one.job ∷ remove_to_start number (jobs_of others))
-    by true later = refl
-    by false later = ap (λ (left : List Job). one.job ∷ left) later
+removed-jobs number started = sym (remove-map the_job (has_key job_number number) (has_key started_number number) (λ _. refl) started)
 
 pub pushed-jobs : (started more : List StartedJob) → jobs_of (started ++ more) ≡ jobs_of started ++ jobs_of more
 pushed-jobs [] more = refl
@@ -142,22 +115,24 @@ given-remove Fits last number desk (job ∷ jobs) given = by (eqb job.number num
     by true later = given.3
     by false later = (given.0, none-remove job.number number jobs given.1, given.2, later)
 
--- what was removed is there no more
+-- each has a number of its own, so what was removed is there no more
+given-only : (Fits : JobKind → Option Confirmation → Type 0) (last number : ℕ) (desk : List Confirmation) (jobs : List Job) → AreGiven Fits last desk jobs →
+    IsOnly (has_key job_number number) jobs
+given-only Fits last number desk [] given = tt
+given-only Fits last number desk (job ∷ jobs) given = (
+  λ is. ap (λ (n : ℕ). find_to_start n jobs) (sym (eqb-true job.number number is)) ∙ given.1,
+  given-only Fits last number desk jobs given.3,
+)
+
 pub given-gone : (Fits : JobKind → Option Confirmation → Type 0) (last number : ℕ) (desk : List Confirmation) (jobs : List Job) → AreGiven Fits last desk jobs →
     find_to_start number (remove_to_start number jobs) ≡ None
-given-gone Fits last number desk [] given = refl
-given-gone Fits last number desk (job ∷ jobs) given = by (eqb job.number number) refl (given-gone Fits last number desk jobs given.3)
-  where
-    by : (here : Bool) → eqb job.number number ≡ here → find_to_start number (remove_to_start number jobs) ≡ None →
-        find_to_start number (cond here jobs (job ∷ remove_to_start number jobs)) ≡ None
-    by true is later = ap (λ (n : ℕ). find_to_start n jobs) (sym (eqb-true job.number number is)) ∙ given.1
-    by false is later = rw is later
+given-gone Fits last number desk jobs given = find-removed (has_key job_number number) jobs (given-only Fits last number desk jobs given)
 
 pub given-push : (Fits : JobKind → Option Confirmation → Type 0) (last : ℕ) (desk : List Confirmation) (jobs : List Job) (new : Job) → AreGiven Fits last desk jobs →
     new.number ≤ last → find_to_start new.number jobs ≡ None → Fits new.kind (find_job new.number desk) → AreGiven Fits last desk (jobs ++ new ∷ [])
 given-push Fits last desk [] new given below none fits = (below, refl, fits, tt)
 given-push Fits last desk (job ∷ jobs) new given below none fits =
-    let both = not_first (eqb job.number new.number) job (find_to_start new.number jobs) none in (
+    let both = some_or_later (eqb job.number new.number) job (find_to_start new.number jobs) none in (
       given.0,
       none-push job.number jobs new (differs_back job.number new.number both.0) given.1,
       given.2,
@@ -171,7 +146,7 @@ pub given-others : (Fits : JobKind → Option Confirmation → Type 0) (number l
     AreGiven Fits last desk jobs → AreGiven Fits more other jobs
 given-others Fits number last more desk other [] up none keeps given = tt
 given-others Fits number last more desk other (job ∷ jobs) up none keeps given =
-    let both = not_first (eqb job.number number) job (find_to_start number jobs) none in (
+    let both = some_or_later (eqb job.number number) job (find_to_start number jobs) none in (
       omega (arith, given.0, up),
       given.1,
       keeps job.number job.kind both.0 given.0 given.2,
@@ -181,19 +156,9 @@ given-others Fits number last more desk other (job ∷ jobs) up none keeps given
 -- ---- confirmations
 
 -- a change under one job leaves the others
-by_change : (number job : ℕ) (f : Confirmation → Confirmation) (here : Bool) (one : Confirmation) (others rest : List Confirmation) → eqb one.job job ≡ here →
-    eqb number job ≡ false → ((c : Confirmation) → (f c).job ≡ c.job) → find_job number rest ≡ find_job number others →
-    find_job number (cond here (f one ∷ others) (one ∷ rest)) ≡ cond (eqb one.job number) (Some one) (find_job number others)
-by_change number job f true one others rest is other keeps later =
-    let not_it : eqb one.job number ≡ false = ap (λ (n : ℕ). eqb n number) (eqb-true one.job job is) ∙ differs_back number job other in
-    rw (keeps one, not_it) refl
-by_change number job f false one others rest is other keeps later = ap (cond (eqb one.job number) (Some one)) later
-
 pub find_job-other : (number job : ℕ) (f : Confirmation → Confirmation) (desk : List Confirmation) → eqb number job ≡ false → ((c : Confirmation) → (f c).job ≡ c.job) →
     find_job number (change_job job f desk) ≡ find_job number desk
-find_job-other number job f [] other keeps = refl
-find_job-other number job f (one ∷ others) other keeps =
-    by_change number job f (eqb one.job job) one others (change_job job f others) refl other keeps (find_job-other number job f others other keeps)
+find_job-other number job f desk other keeps = change-apart number job f desk keeps (eqb-false number job other)
 
 -- one that is linked has no job to start and none that was started
 unfit_to_start : (kind : JobKind) (one : Confirmation) (port : ℕ) → one.port ≡ Some port → FitsToStart kind (Some one) → ⊥
@@ -220,10 +185,7 @@ linked_not_begun last job port desk jobs one given found at =
 
 -- what isn't there isn't taken out
 pub started-none : (number : ℕ) (started : List StartedJob) → find_started number started ≡ None → remove_started number started ≡ started
-started-none number [] none = refl
-started-none number (one ∷ others) none =
-    let both = not_first (eqb one.job.number number) one (find_started number others) none in
-    rw both.0 (ap (λ (left : List StartedJob). one ∷ left) (started-none number others both.1))
+started-none number started none = removed_nowhere (has_key started_number number) started none
 
 pub not_begun : (number : ℕ) (started : List Started) → find_started number (all_started started) ≡ None →
     remove_started number (all_started started) ≡ all_started started

@@ -15,6 +15,10 @@ started_job one = record { job = one.job; ticket = one.ticket }
 abbrev pub all_started : List Started → List StartedJob
 all_started started = map started_job started
 
+-- the number of a started job
+abbrev pub begun_number : Started → ℕ
+begun_number one = one.job.number
+
 -- the first job of this number stands there
 pub record IsJobAt (number : ℕ) (jobs : List Job) (place : ℕ) : Type 0 where
   pub within : place < length jobs

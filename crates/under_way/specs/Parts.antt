@@ -1,5 +1,5 @@
 -- What is under way, from its parts in storage (ours).
-use Rattle.std.specs.Prelude.{◌≡◌, ℕ, ◌+◌, ◌≤◌, List, [], ◌∷◌, length, Option, Some, None}
+use Rattle.std.specs.Prelude.{◌≡◌, ℕ, ◌+◌, ◌≤◌, List, [], ◌∷◌, length, map, Option, Some, None}
 use Rattle.world_ports.specs.declared.Job.{Job}
 use Rattle.world_ports.specs.declared.JobKind.{JobKind}
 use Rattle.world_ports.specs.declared.JobKind.TheVariants as kinds
@@ -34,10 +34,13 @@ under_way_of link to_start started verifications confirmations last_job = record
 
 -- ---- the jobs
 
+-- the job of one that was started
+abbrev pub the_job : StartedJob → Job
+the_job one = one.job
+
 -- the jobs of those that were started
 abbrev pub jobs_of : List StartedJob → List Job
-jobs_of [] = []
-jobs_of (one ∷ others) = one.job ∷ jobs_of others
+jobs_of started = map the_job started
 
 -- no child process came for it yet, where there is one
 abbrev pub IsUnlinked : Option Confirmation → Type 0

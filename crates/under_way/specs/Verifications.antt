@@ -18,6 +18,10 @@ verification_of one = record {
 abbrev pub all_verifications : List Verification → List Noted
 all_verifications verifications = map verification_of verifications
 
+-- the ask of a verification
+abbrev pub asked_by : Verification → ℕ
+asked_by one = one.ask
+
 -- the verification that this ask is for stands there
 pub record IsVerificationAt (ask : ℕ) (verifications : List Verification) (place : ℕ) : Type 0 where
   pub within : place < length verifications

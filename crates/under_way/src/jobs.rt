@@ -1,12 +1,11 @@
 //! Jobs by their numbers.
 
-ghost use Rattle.std.specs.Prelude.{◌≡◌, ◌↔◌, ◌≤◌, ◌==◌, IsSome, IsTrue, None, MatchOption, length, vec_capacity};
+ghost use Rattle.std.specs.Prelude.{◌≡◌, ◌↔◌, ◌≤◌, IsSome, IsTrue, None, MatchOption, length, vec_capacity};
 ghost use Rattle.std.specs.List.{position};
-ghost use Rattle.world_ports.specs.declared.Job.{Job as AJob};
+ghost use Rattle.lists.specs.Keyed.{has_key};
 ghost use Rattle.agent_model.specs.Consents.{find_started, remove_started};
-ghost use Rattle.agent_model.specs.State.{find_to_start};
-ghost use Rattle.under_way.specs.Jobs.{IsJobAt, IsStartedAt, all_started};
-ghost use Rattle.under_way.specs.declared.jobs.Started.{Started as AStarted};
+ghost use Rattle.agent_model.specs.State.{find_to_start, job_number};
+ghost use Rattle.under_way.specs.Jobs.{IsJobAt, IsStartedAt, all_started, begun_number};
 
 use world_ports::Job;
 
@@ -26,7 +25,7 @@ pub fn place_of(jobs: &[Job], number: u64) -> Option<usize>
 }
 
 fn first_of(jobs: &[Job], number: u64) -> Option<usize>
-    ensures { result ≡ position (λ (job : AJob). job.number == number) jobs.now }
+    ensures { result ≡ position (has_key job_number number) jobs.now }
 {
     jobs.iter().position(|job| job.number == number)
 }
@@ -51,7 +50,7 @@ pub fn place_of_started(started: &[Started], number: u64) -> Option<usize>
 }
 
 fn first_of_started(started: &[Started], number: u64) -> Option<usize>
-    ensures { result ≡ position (λ (one : AStarted). one.job.number == number) started.now }
+    ensures { result ≡ position (has_key begun_number number) started.now }
 {
     started.iter().position(|one| one.job.number == number)
 }

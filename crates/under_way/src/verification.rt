@@ -1,9 +1,9 @@
 //! What the helper is asked to verify.
 
-ghost use Rattle.std.specs.Prelude.{◌≡◌, ◌==◌, MatchOption};
+ghost use Rattle.std.specs.Prelude.{◌≡◌, MatchOption};
 ghost use Rattle.std.specs.List.{position};
-ghost use Rattle.under_way.specs.Verifications.{IsForNone, IsVerificationAt};
-ghost use Rattle.under_way.specs.declared.verification.Verification.{Verification as AVerification};
+ghost use Rattle.lists.specs.Keyed.{has_key};
+ghost use Rattle.under_way.specs.Verifications.{IsForNone, IsVerificationAt, asked_by};
 
 use plain_lists::Bytes;
 
@@ -31,7 +31,7 @@ pub fn place_of_verification(verifications: &[Verification], ask: u64) -> Option
 }
 
 fn first_of_verifications(verifications: &[Verification], ask: u64) -> Option<usize>
-    ensures { result ≡ position (λ (one : AVerification). one.ask == ask) verifications.now }
+    ensures { result ≡ position (has_key asked_by ask) verifications.now }
 {
     verifications.iter().position(|one| one.ask == ask)
 }
