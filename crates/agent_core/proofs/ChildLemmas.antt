@@ -18,6 +18,7 @@ use Rattle.agent_model.specs.Consents.{confirmer_heard, find_started, remove_sta
 use Rattle.agent_model.specs.KeyStates.{KeyState}
 use Rattle.agent_model.specs.State.{Port, StartedJob, State, UnderWay, change_port, find_port}
 use Rattle.agent_model.proofs.PortsLemmas.{find_port-change_port}
+use Rattle.agent_model.proofs.TieLemmas.{IsOf, apart, found_after, here}
 use Rattle.under_way.specs.Parts.{IsAwaited, IsFor}
 use Rattle.agent_core.specs.Confirmers.{IsHeldFor}
 use Rattle.agent_core.specs.Parts.{after, state_of}
@@ -95,25 +96,11 @@ linked_there job number (other ∷ confirmations) one found free =
 
 -- a change that leaves what a port is owed
 found_before : (number at : ℕ) (f : Port → Port) (ports : List Port) (port : Port) → ((p : Port) → (f p).number ≡ p.number) → ((p : Port) → (f p).owed ≡ p.owed) → find_port number (change_port at f ports) ≡ Some port → (was : Port) × (find_port number ports ≡ Some was) × (port.owed ≡ was.owed)
-found_before number at f [] port same owed found = absurd (cc)
-found_before number at f (other ∷ ports) port same owed found =
-    by_tests (found_before number at f ports port same owed) (at == other.number) (number == other.number) refl found
+found_before number at f ports port same owed found = by_port (found_after number at f ports port same found)
   where
-    by_tests : (find_port number (change_port at f ports) ≡ Some port → (was : Port) × (find_port number ports ≡ Some was) × (port.owed ≡ was.owed)) → (changes here : Bool) → (number == other.number) ≡ here → find_port number (if changes then f other ∷ ports else other ∷ change_port at f ports) ≡ Some port → (was : Port) × ((if here then Some other else find_port number ports) ≡ Some was) × (port.owed ≡ was.owed)
-    by_tests rest true true is there =
-        let here : (number == (f other).number) ≡ true = ap (λ n. number == n) (same other) ∙ is in
-        let head : Some (f other) ≡ Some port = ap (λ b. if b then Some (f other) else find_port number ports) (sym here) ∙ there in
-        let changed : f other ≡ port = cc in
-        (other, refl, ap (λ (p : Port). p.owed) (sym changed) ∙ owed other)
-    by_tests rest true false is there =
-        let apart : (number == (f other).number) ≡ false = ap (λ n. number == n) (same other) ∙ is in
-        (port, ap (λ b. if b then Some (f other) else find_port number ports) (sym apart) ∙ there, refl)
-    by_tests rest false true is there =
-        let head : Some other ≡ Some port = ap (λ b. if b then Some other else find_port number (change_port at f ports)) (sym is) ∙ there in
-        let it : other ≡ port = cc in
-        (other, refl, ap (λ (p : Port). p.owed) (sym it))
-    by_tests rest false false is there =
-        rest (ap (λ b. if b then Some other else find_port number (change_port at f ports)) (sym is) ∙ there)
+    by_port : IsOf number at f ports port → (was : Port) × (find_port number ports ≡ Some was) × (port.owed ≡ was.owed)
+    by_port (here old is was changed) = (old, was, ap (λ (p : Port). p.owed) changed ∙ owed old)
+    by_port (apart other was) = (port, was, refl)
 
 -- leaves whoever waits for consent open, and owed nothing
 pub held-changed : (at : ℕ) (f : Port → Port) (ports : List Port) (one other : Confirmation) → ((p : Port) → (f p).number ≡ p.number) → ((p : Port) → (f p).owed ≡ p.owed) → other.asker ≡ one.asker → IsHeldFor one ports → IsHeldFor other (change_port at f ports)

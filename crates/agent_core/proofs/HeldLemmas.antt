@@ -13,9 +13,9 @@ use Rattle.wire_text.specs.Wire.{string, uint32}
 use Rattle.wire_text.proofs.WireLemmas.{length-string}
 use Rattle.identity_table.specs.Identities.{HeldKey}
 use Rattle.std.specs.Str.{bytes_eq}
-use Rattle.identity_table.specs.Identities.{AreShort, answer_len, entries_len, find_identity, longest_private, remove_identity}
+use Rattle.lists.proofs.FirstLemmas.{removed_nowhere}
+use Rattle.identity_table.specs.Identities.{AreShort, answer_len, entries_len, find_identity, has_blob, longest_private, remove_identity}
 use Rattle.identity_table.proofs.FindLemmas.{found_has}
-use Rattle.identity_table.proofs.PlaceLemmas.{remove_identity-none}
 use Rattle.agent_model.specs.Dispatch.{Asker, add_by, add_seen, remove_by, remove_seen, sees, serve, with_identities}
 use Rattle.agent_model.specs.State.{UnderWay}
 use Rattle.agent_msg.specs.Replies.{entry, entries_length, identities_length}
@@ -48,9 +48,14 @@ by_seen : (seen : Bool) (blob : List ℕ) (held : KeyState) (under_way : UnderWa
 by_seen true blob held under_way shown = refl
 by_seen false blob held under_way shown = absurd (cc)
 
+-- where none has the blob, none is removed
+none_removed : (blob : List ℕ) (keys : List HeldKey) → find_identity blob keys ≡ None → remove_identity blob keys ≡ keys
+unfolding find_identity remove_identity
+none_removed blob keys none = removed_nowhere (has_blob blob) keys none
+
 pub removed-keys : (found : Option HeldKey) (asker : Asker) (blob : List ℕ) (held : KeyState) (under_way : UnderWay) → find_identity blob held.table.identities ≡ found → hides found asker ≡ false → with_identities (remove_identity blob held.table.identities) held ≡ (remove_by found asker blob held under_way).held
 removed-keys None asker blob held under_way absent shown =
-    ap (λ (identities : List HeldKey). with_identities identities held) (remove_identity-none blob held.table.identities absent)
+    ap (λ (identities : List HeldKey). with_identities identities held) (none_removed blob held.table.identities absent)
 removed-keys (Some key) asker blob held under_way found shown = by_seen (sees asker key) blob held under_way shown
 
 by_seen-status : (seen : Bool) (blob : List ℕ) (held : KeyState) (under_way : UnderWay) → IsStatus seen (remove_seen seen blob held under_way).work under_way

@@ -1,6 +1,8 @@
 -- What the helper's answers and its loss are to the agent's parts.
 use Rattle.std.proofs.Common.{◌≡◌, ◌↔◌, IsTrue, ℕ, ◌+◌, ◌<◌, drop, get_or, length, subst, List, [], ◌∷◌, refl, ap, sym, ◌∙◌, Option, Some, None, IsSome, is_some, Bool, false, true, if◌then◌else◌, ◌==◌}
 use Rattle.std.proofs.lemmas.List.{drop_more}
+use Rattle.lists.specs.Keyed.{has_key}
+use Rattle.lists.proofs.FirstLemmas.{changed_nowhere, removed_nowhere}
 use Rattle.helper_link.specs.HelperLink.{HelperLink, IsStarting, askers, lost}
 use Rattle.helper_link.specs.declared.ask.Ask.{Ask}
 use Rattle.helper_link.specs.Telling.{Telling, telling}
@@ -13,7 +15,7 @@ use Rattle.helper_link.specs.declared.state.LinkState.TheVariants as states
 use Rattle.agent_model.specs.Actions.{Outcome, Stepped, closing}
 use Rattle.agent_model.specs.Answers.{Answering, answer_all, answer_by, answer_true, answers_in, close_helper, find_verification, helper_closes, helper_heard, lose, lose_if, remove_verification, tell_each, with_answers}
 use Rattle.agent_model.specs.KeyStates.{KeyState}
-use Rattle.agent_model.specs.State.{Port, State, UnderWay, Verification, change_port, find_port, numbers, remove_port}
+use Rattle.agent_model.specs.State.{Port, State, UnderWay, Verification, change_port, find_port, numbers, remove_port, number_of}
 use Rattle.agent_model.specs.Verdicts.{HelperLost, Refuses, Verdict, tell}
 use Rattle.agent_model.specs.Children.{closed, shut_then}
 use Rattle.agent_model.specs.NumberLists.{put_all}
@@ -98,20 +100,10 @@ numbers-tell_each verdict (asker ∷ askers) ports =
 
 -- nothing changes where the port isn't open
 pub change_port-absent : (number : ℕ) (f : Port → Port) (ports : List Port) → find_port number ports ≡ None → change_port number f ports ≡ ports
-change_port-absent number f [] absent = refl
-change_port-absent number f (port ∷ ports) absent = by_test (number == port.number) absent (change_port-absent number f ports)
-  where
-    by_test : (same : Bool) → (if same then Some port else find_port number ports) ≡ None → (find_port number ports ≡ None → change_port number f ports ≡ ports) → (if same then f port ∷ ports else port ∷ change_port number f ports) ≡ port ∷ ports
-    by_test true is rest = absurd (cc)
-    by_test false is rest = ap (λ (ps : List Port). port ∷ ps) (rest is)
+change_port-absent number f ports absent = changed_nowhere (has_key number_of number) f ports absent
 
 pub remove_port-absent : (number : ℕ) (ports : List Port) → find_port number ports ≡ None → remove_port number ports ≡ ports
-remove_port-absent number [] absent = refl
-remove_port-absent number (port ∷ ports) absent = by_test (number == port.number) absent (remove_port-absent number ports)
-  where
-    by_test : (same : Bool) → (if same then Some port else find_port number ports) ≡ None → (find_port number ports ≡ None → remove_port number ports ≡ ports) → (if same then ports else port ∷ remove_port number ports) ≡ port ∷ ports
-    by_test true is rest = absurd (cc)
-    by_test false is rest = ap (λ (ps : List Port). port ∷ ps) (rest is)
+remove_port-absent number ports absent = removed_nowhere (has_key number_of number) ports absent
 
 -- ---- ports that are closed
 
@@ -233,9 +225,9 @@ lose-closed number last state linked rising =
 pub open-change_port : (number other : ℕ) (f : Port → Port) (ports : List Port) → ((p : Port) → (f p).number ≡ p.number) → IsSome (find_port number ports) → IsSome (find_port number (change_port other f ports))
 open-change_port number other f [] keeps some = absurd (cc)
 open-change_port number other f (port ∷ ports) keeps some =
-    by_tests (open-change_port number other f ports keeps) (other == port.number) (number == port.number) refl some
+    by_tests (open-change_port number other f ports keeps) (port.number == other) (port.number == number) refl some
   where
-    by_tests : (IsSome (find_port number ports) → IsSome (find_port number (change_port other f ports))) → (changed same : Bool) → (number == port.number) ≡ same → IsSome (if same then Some port else find_port number ports) → IsSome (find_port number (if changed then f port ∷ ports else port ∷ change_port other f ports))
+    by_tests : (IsSome (find_port number ports) → IsSome (find_port number (change_port other f ports))) → (changed same : Bool) → (port.number == number) ≡ same → IsSome (if same then Some port else find_port number ports) → IsSome (find_port number (if changed then f port ∷ ports else port ∷ change_port other f ports))
     by_tests rest true true is some = rw (keeps port, is) refl
     by_tests rest true false is some = rw (keeps port, is) some
     by_tests rest false true is some = rw is refl

@@ -32,7 +32,7 @@ rising-hushed low high (port ∷ ports) rising = (rising.0, rising-hushed port.n
 
 find_port-hushed : (number : ℕ) (ports : List Port) → find_port number (hushed ports) ≡ option_map hush (find_port number ports)
 find_port-hushed number [] = refl
-find_port-hushed number (port ∷ ports) = by_test (number == port.number) (find_port-hushed number ports)
+find_port-hushed number (port ∷ ports) = by_test (port.number == number) (find_port-hushed number ports)
   where
     by_test : (same : Bool) → find_port number (hushed ports) ≡ option_map hush (find_port number ports)
         → (if same then Some (hush port) else find_port number (hushed ports)) ≡ option_map hush (if same then Some port else find_port number ports)

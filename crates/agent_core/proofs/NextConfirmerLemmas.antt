@@ -25,14 +25,14 @@ IsOwed after ports going n =
 found_behind : (n : ℕ) (first port : Port) (ports : List Port) (high : ℕ) → IsRising first.number high ports → find_port n ports ≡ Some port → find_port n (first ∷ ports) ≡ Some port
 found_behind n first port ports high rising found =
     let above : first.number < n = found_above n first.number high ports port rising found in
-    let test : (n == first.number) ≡ false = grind (arith, nat_tests) in
+    let test : (first.number == n) ≡ false = grind (arith, nat_tests) in
     ap (λ (b : Bool). if b then Some first else find_port n ports) test ∙ found
 
 -- one that is found is the first, or behind it
 found_first : (n : ℕ) (first port : Port) (ports : List Port) → find_port n (first ∷ ports) ≡ Some port → ((n ≡ first.number) × (first ≡ port)) ⊎ (find_port n ports ≡ Some port)
-found_first n first port ports found = by_test (n == first.number) refl found
+found_first n first port ports found = by_test (first.number == n) refl found
   where
-    by_test : (test : Bool) → (n == first.number) ≡ test → (if test then Some first else find_port n ports) ≡ Some port → ((n ≡ first.number) × (first ≡ port)) ⊎ (find_port n ports ≡ Some port)
+    by_test : (test : Bool) → (first.number == n) ≡ test → (if test then Some first else find_port n ports) ≡ Some port → ((n ≡ first.number) × (first ≡ port)) ⊎ (find_port n ports ≡ Some port)
     by_test true is there = inl (grind (arith, nat_tests), cc)
     by_test false is there = inr there
 

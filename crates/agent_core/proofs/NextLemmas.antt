@@ -96,9 +96,9 @@ none_open (states.Linked number) owed = refl
 behind_client : (low high : ℕ) (state : LinkState) (owed : List ℕ) (port : Port) (ports : List Port) → port.door ≡ Clients → IsRising port.number high ports → owed_helper_by state owed (port ∷ ports) ≡ owed_helper_by state owed ports
 behind_client low high states.None owed port ports client rising = refl
 behind_client low high (states.Starting job) owed port ports client rising = refl
-behind_client low high (states.Linked number) owed port ports client rising = by_test (number == port.number) refl
+behind_client low high (states.Linked number) owed port ports client rising = by_test (port.number == number) refl
   where
-    by_test : (same : Bool) → (number == port.number) ≡ same → helper_owed (door_by (if same then Some port else find_port number ports)) number owed ≡ helper_owed (door_by (find_port number ports)) number owed
+    by_test : (same : Bool) → (port.number == number) ≡ same → helper_owed (door_by (if same then Some port else find_port number ports)) number owed ≡ helper_owed (door_by (find_port number ports)) number owed
     by_test true is =
         ap (λ d. helper_owed (Some d) number owed) client
         ∙ ap (λ f. helper_owed (door_by f) number owed) (sym (find_port-below number port.number high ports (grind (arith, nat_tests)) rising))
@@ -109,7 +109,9 @@ behind_other : (state : LinkState) (owed : List ℕ) (port : Port) (ports : List
 behind_other states.None owed port ports is = refl
 behind_other (states.Starting job) owed port ports is = refl
 behind_other (states.Linked number) owed port ports is =
-    ap (λ (same : Bool). helper_owed (door_by (if same then Some port else find_port number ports)) number owed) is
+    let not_it : (number == port.number) ≡ false = is in
+    let turned : (port.number == number) ≡ false = grind (arith, nat_tests) in
+    ap (λ (same : Bool). helper_owed (door_by (if same then Some port else find_port number ports)) number owed) turned
 
 -- the helper itself
 helper_here : (high : ℕ) (state : LinkState) (owed : List ℕ) (port : Port) (ports : List Port) → port.door ≡ Children → state ≡ states.Linked port.number → IsRising port.number high ports → (owed_helper_by state owed (port ∷ ports) ≡ (if is_some_bytes owed then Some port.number else None)) × (owed_helper_by state owed ports ≡ None) × (sendable state owed ≡ owed)

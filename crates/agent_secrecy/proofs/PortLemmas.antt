@@ -18,7 +18,7 @@ use Rattle.agent_secrecy.specs.Hiding.{hide_heard, hide_port, hide_ports, hide_u
 module _ (heard : ℕ → List ℕ → List ℕ) where
   pub find_port-hidden : (number : ℕ) (ports : List Port) → find_port number (hide_ports heard ports) ≡ option_map (hide_port heard) (find_port number ports)
   find_port-hidden number [] = refl
-  find_port-hidden number (port ∷ ports) = by_test (number == port.number) (find_port-hidden number ports)
+  find_port-hidden number (port ∷ ports) = by_test (port.number == number) (find_port-hidden number ports)
     where
       by_test : (same : Bool) → find_port number (hide_ports heard ports) ≡ option_map (hide_port heard) (find_port number ports) → cond same (Some (hide_port heard port)) (find_port number (hide_ports heard ports)) ≡ option_map (hide_port heard) (cond same (Some port) (find_port number ports))
       by_test true rest = refl
@@ -27,7 +27,7 @@ module _ (heard : ℕ → List ℕ → List ℕ) where
   -- one port changed
   pub change_port-hidden : (number : ℕ) (f g : Port → Port) (ports : List Port) → ((port : Port) → find_port number ports ≡ Some port → g (hide_port heard port) ≡ hide_port heard (f port)) → change_port number g (hide_ports heard ports) ≡ hide_ports heard (change_port number f ports)
   change_port-hidden number f g [] same = refl
-  change_port-hidden number f g (port ∷ ports) same = by_test (number == port.number) same (change_port-hidden number f g ports)
+  change_port-hidden number f g (port ∷ ports) same = by_test (port.number == number) same (change_port-hidden number f g ports)
     where
       by_test : (is : Bool) → ((p : Port) → cond is (Some port) (find_port number ports) ≡ Some p → g (hide_port heard p) ≡ hide_port heard (f p)) → (((p : Port) → find_port number ports ≡ Some p → g (hide_port heard p) ≡ hide_port heard (f p)) → change_port number g (hide_ports heard ports) ≡ hide_ports heard (change_port number f ports)) → cond is (g (hide_port heard port) ∷ hide_ports heard ports) (hide_port heard port ∷ change_port number g (hide_ports heard ports)) ≡ hide_ports heard (cond is (f port ∷ ports) (port ∷ change_port number f ports))
       by_test true here later = ap (λ p. p ∷ hide_ports heard ports) (here port refl)
@@ -35,7 +35,7 @@ module _ (heard : ℕ → List ℕ → List ℕ) where
 
   pub remove_port-hidden : (number : ℕ) (ports : List Port) → remove_port number (hide_ports heard ports) ≡ hide_ports heard (remove_port number ports)
   remove_port-hidden number [] = refl
-  remove_port-hidden number (port ∷ ports) = by_test (number == port.number) (remove_port-hidden number ports)
+  remove_port-hidden number (port ∷ ports) = by_test (port.number == number) (remove_port-hidden number ports)
     where
       by_test : (is : Bool) → remove_port number (hide_ports heard ports) ≡ hide_ports heard (remove_port number ports) → cond is (hide_ports heard ports) (hide_port heard port ∷ remove_port number (hide_ports heard ports)) ≡ hide_ports heard (cond is ports (port ∷ remove_port number ports))
       by_test true rest = refl

@@ -1,5 +1,5 @@
 -- What a binary search by number answers in a list whose numbers rise, and the numbers alone.
-use Rattle.std.proofs.Common.{◌≡◌, ◌≢◌, ℕ, zero, suc, ◌<◌, List, [], ◌∷◌, length, get_or, map, refl, arith, sym, None, Result, Ok, Err, MatchOption, inl, inr}
+use Rattle.std.proofs.Common.{◌≡◌, ◌≢◌, ℕ, Bool, false, zero, suc, ◌<◌, List, [], ◌∷◌, length, get_or, map, refl, arith, sym, None, Result, Ok, Err, MatchOption, inl, inr}
 use Rattle.std.proofs.lemmas.Bool.{cases_lt, eq-eqb}
 use Rattle.std.proofs.lemmas.Bool.Decides.{nat_tests}
 use Rattle.std.proofs.lemmas.Cmp.{ranked}
@@ -10,6 +10,7 @@ use Rattle.std.specs.Result.{result_ok}
 use Rattle.lists.specs.Firsts.{IsFirst}
 use Rattle.lists.specs.Keyed.{RiseBy, find_by, has_key}
 use Rattle.lists.specs.Rising.{IsRisingNumbers}
+use Rattle.lists.proofs.FirstLemmas.{later}
 use Rattle.lists.proofs.KeyedLemmas.{differ}
 
 module _ {A : Type 0} (key : A → ℕ) where
@@ -85,3 +86,35 @@ module _ {A : Type 0} (key : A → ℕ) where
         | inr behind ↦ (let greater : number < key (get_or all k other) =
             ranked _ number _ (sym (parted.1 k other behind inside)) in omega (arith, greater, same))
       ])
+
+-- ---- of other elements that are seen as these
+
+-- numbers that rise among what is seen rise among what is kept
+pub rise-seen : {A B : Type 0} (see : A → B) (key : B → ℕ) (low high : ℕ) (all : List A) →
+    RiseBy key low (map see all) high → RiseBy (λ one. key (see one)) low all high
+rise-seen see key low high [] rise = rise
+rise-seen see key low high (one ∷ all) rise =
+    (rise.0, rise-seen see key (key (see one)) high all rise.1)
+
+-- and the first of the kept is that of the seen
+pub first-seen : {A B : Type 0} (see : A → B) (test : B → Bool) (all : List A) (place : ℕ) →
+    IsFirst (λ one. test (see one)) all place → IsFirst test (map see all) place
+first-seen see test [] place at = absurd (omega (arith, at.within))
+first-seen see test (one ∷ all) zero at = record {
+  within = omega arith;
+  there = λ other. at.there one;
+  before = λ k other earlier. absurd (omega (arith, earlier));
+}
+first-seen see test (one ∷ all) (suc place) at =
+    let behind : IsFirst test (map see all) place =
+    first-seen see test all place (later (λ any. test (see any)) one all place at) in
+    record {
+      within = omega (arith, behind.within);
+      there = behind.there;
+      before = before behind.before;
+    }
+  where
+    before : ((k : ℕ) (other : _) → k < place → test (get_or (map see all) k other) ≡ false) →
+        (k : ℕ) (other : _) → k < suc place → test (get_or (see one ∷ map see all) k other) ≡ false
+    before rest zero other earlier = at.before 0 one (omega arith)
+    before rest (suc k) other earlier = rest k other (omega (arith, earlier))

@@ -22,7 +22,7 @@ passes test None = false
 passes test (Some port) = test port
 
 none_by : (here above owes : Bool) (test : Port → Bool) (after port : ℕ) (first : Port) (ports : List Port)
-    → (port == first.number) ≡ here → nat_lt after first.number ≡ above → test first ≡ owes → after < port
+    → (first.number == port) ≡ here → nat_lt after first.number ≡ above → test first ≡ owes → after < port
     → (if above && owes then Some first.number else next_by test after ports) ≡ None
     → (next_by test after ports ≡ None → passes test (find_port port ports) ≡ false)
     → passes test (if here then Some first else find_port port ports) ≡ false
@@ -37,7 +37,7 @@ pub none_beyond : (test : Port → Bool) (after port : ℕ) (ports : List Port) 
     → next_by test after ports ≡ None → passes test (find_port port ports) ≡ false
 none_beyond test after port [] beyond none = refl
 none_beyond test after port (first ∷ ports) beyond none =
-    none_by (port == first.number) (nat_lt after first.number) (test first) test after port first ports refl refl refl beyond none
+    none_by (first.number == port) (nat_lt after first.number) (test first) test after port first ports refl refl refl beyond none
     (none_beyond test after port ports beyond)
 
 -- the next one is above both bounds, no higher than the last, and passes, and none between does
@@ -49,14 +49,14 @@ pub record IsNextBy (test : Port → Bool) (low high after next : ℕ) (ports : 
   pub between : (port : ℕ) → after < port → port < next → passes test (find_port port ports) ≡ false
 
 between_here : (here : Bool) (test : Port → Bool) (high port : ℕ) (first : Port) (ports : List Port)
-    → (port == first.number) ≡ here → port < first.number → IsRising first.number high ports
+    → (first.number == port) ≡ here → port < first.number → IsRising first.number high ports
     → passes test (if here then Some first else find_port port ports) ≡ false
 between_here true test high port first ports same less rising = absurd (grind (arith, nat_tests))
 between_here false test high port first ports same less rising =
     ap (passes test) (find_port-below port first.number high ports (omega (arith, less)) rising)
 
 between_later : (here above owes : Bool) (test : Port → Bool) (after port : ℕ) (first : Port) (ports : List Port)
-    → (port == first.number) ≡ here → nat_lt after first.number ≡ above → test first ≡ owes
+    → (first.number == port) ≡ here → nat_lt after first.number ≡ above → test first ≡ owes
     → (above && owes) ≡ false → after < port → passes test (find_port port ports) ≡ false
     → passes test (if here then Some first else find_port port ports) ≡ false
 between_later here true true test after port first ports same over is not beyond rest = absurd (cc)
@@ -72,25 +72,25 @@ some_by : (found_here : Bool) (test : Port → Bool) (low high after next : ℕ)
 some_by true test low high after next first ports is lower rising found rest =
     let same : first.number ≡ next = cc in
     let both = and_both (nat_lt after first.number) (test first) is in
-    let own : (next == first.number) ≡ true = grind (arith, nat_tests) in
+    let own : (first.number == next) ≡ true = grind (arith, nat_tests) in
     record {
       lower = omega (arith, same, lower);
       most = omega (arith, same, rising_bound first.number high ports rising);
       above = let less : nat_lt after first.number ≡ true = both.0 in grind (arith, nat_tests);
       owes = ap (λ (b : Bool). passes test (if b then Some first else find_port next ports)) own ∙ both.1;
-      between = λ port beyond less. between_here (port == first.number) test high port first ports refl (omega (arith, same, less)) rising;
+      between = λ port beyond less. between_here (first.number == port) test high port first ports refl (omega (arith, same, less)) rising;
     }
 some_by false test low high after next first ports is lower rising found rest =
     let later = rest found in
     let lower_than : first.number < next = later.lower in
-    let other : (next == first.number) ≡ false = grind (arith, nat_tests) in
+    let other : (first.number == next) ≡ false = grind (arith, nat_tests) in
     record {
       lower = omega (arith, lower, lower_than);
       above = later.above;
       most = later.most;
       owes = ap (λ (b : Bool). passes test (if b then Some first else find_port next ports)) other ∙ later.owes;
       between = λ port beyond less.
-          between_later (port == first.number) (nat_lt after first.number) (test first)
+          between_later (first.number == port) (nat_lt after first.number) (test first)
           test after port first ports refl refl refl is beyond (later.between port beyond less);
     }
 

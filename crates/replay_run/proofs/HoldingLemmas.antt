@@ -210,7 +210,7 @@ unowed true true false none above loose = absurd (cc)
 unowed false true c none above loose = absurd (cc)
 
 -- by whether it is the first
-nothing_by : (u : UnderWay) (number : ℕ) (held : List ℕ) (first : Port) (ports : List Port) (test : Bool) → (number == first.number) ≡ test
+nothing_by : (u : UnderWay) (number : ℕ) (held : List ℕ) (first : Port) (ports : List Port) (test : Bool) → (first.number == number) ≡ test
     → 0 < first.number → (nat_lt 0 first.number && is_due u held first) ≡ false → is_held number held ≡ false
     → owed_by (find_port number ports) u ≡ [] → owed_by (if test then Some first else find_port number ports) u ≡ []
 nothing_by u number held first ports true is above none loose later =
@@ -225,5 +225,5 @@ pub nothing_unheld : (u : UnderWay) (low high number : ℕ) (held : List ℕ) (p
 nothing_unheld u low high number held [] rising none loose = refl
 nothing_unheld u low high number held (first ∷ ports) rising none loose =
     let parts = none_of (nat_lt 0 first.number && is_due u held first) first.number (next_unheld u 0 held ports) none in
-    nothing_by u number held first ports (number == first.number) refl (omega (arith, rising.0)) parts.0 loose
+    nothing_by u number held first ports (first.number == number) refl (omega (arith, rising.0)) parts.0 loose
     (nothing_unheld u first.number high number held ports rising.1 parts.1 loose)
