@@ -6,9 +6,7 @@
 set -u
 cd "$(dirname "$0")/.." || exit 2
 export PYTHONDONTWRITEBYTECODE=1
-built() {
-    [ ! -e "crates/$1/src/main.rt" ] || make --no-print-directory "bin/$1" > /dev/null
-}
+built() { make --no-print-directory "bin/$1" > /dev/null; }
 case ${1-} in
     --wrong) ;;
     --tools)
