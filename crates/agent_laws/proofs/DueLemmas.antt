@@ -25,10 +25,10 @@ use Rattle.agent_laws.specs.Past.{PastAddition, done_of_request, held_by}
 use Rattle.agent_laws.proofs.HoldsLemmas.{Facts, Holds, facts_after, key_of}
 
 -- what comes of a request behind which this is due: it is put to the helper, or the user is asked, or neither
-pub data Acts (due : Option Claim) (asker : Asker) (held : KeyState) (under_way : UnderWay) : Work → Type 0 where
-  silent : (verdict : Verdict) → due ≡ None → Acts due asker held under_way (settles verdict under_way)
-  asks : (errand : Errand) → IsDue (purpose_of errand) asker.port due → Acts due asker held under_way (put_unless None errand asker.port under_way)
-  raises_it : (key : HeldKey) (signing : Signing) → find_identity signing.blob held.table.identities ≡ Some key → due ≡ None → Acts due asker held under_way (raise_unless None key signing asker.port under_way)
+pub data Acts (N : Type 0) (due : Option Claim) (asker : Asker) (held : KeyState) (under_way : UnderWay) : Work → Type 0 where
+  silent : (verdict : Verdict) → (N → due ≡ None) → Acts N due asker held under_way (settles verdict under_way)
+  asks : (errand : Errand) → IsDue (purpose_of errand) asker.port due → Acts N due asker held under_way (put_unless None errand asker.port under_way)
+  raises_it : (key : HeldKey) (signing : Signing) → find_identity signing.blob held.table.identities ≡ Some key → (N → due ≡ None) → Acts N due asker held under_way (raise_unless None key signing asker.port under_way)
 
 -- the claim, where it is met by what the past tells
 abbrev pub met_with : Option Claim → Option ℕ → ℕ → ℕ → Facts → (ℕ → List Binding) → List ℕ → Option Claim
@@ -127,64 +127,64 @@ module _ (life : Option ℕ) (asker : Asker) (facts : Facts) (held : KeyState) (
         let key : HeldKey = usable.permitted.key in
         not_due (by_made key (made key usable.permitted.found) ∙ first_fails (not key.confirm) (permits key) few (not facts.locked) (ap not usable.confirm))
 
-    refused-not : under_way.link.last < 2 ^ 64 - 1 → under_way.last_job < 2 ^ 64 - 1 → (cause : Cause) → IsRefusedFor cause signing asker held under_way → due ≡ None
-    refused-not left jobs Locked why = not_due (locked_fails held_now (holds.locked ∙ why))
-    refused-not left jobs NotHeld why = not_due (by_none held_now refl (sym why.1 ∙ told))
+    refused-not : {N : Type 0} → (N → under_way.link.last < 2 ^ 64 - 1) → (N → under_way.last_job < 2 ^ 64 - 1) → (cause : Cause) → IsRefusedFor cause signing asker held under_way → N → due ≡ None
+    refused-not left jobs Locked why n = not_due (locked_fails held_now (holds.locked ∙ why))
+    refused-not left jobs NotHeld why n = not_due (by_none held_now refl (sym why.1 ∙ told))
       where
         by_none : (now : Option PastAddition) → held_now ≡ now → None ≡ option_map (key_of life) now → is_due held_now ≡ false
         by_none None is none = ap is_due is
         by_none (Some past) is none = absurd (cc)
-    refused-not left jobs (DestinationDenied denial) why =
+    refused-not left jobs (DestinationDenied denial) why n =
         not_due (by_made why.key (made why.key why.found) ∙ second_fails (not why.key.confirm) (permits why.key) few (not facts.locked) (ap is_permitted why.judged))
-    refused-not left jobs TooManyConfirmations why = consent_first why.0
-    refused-not left jobs TooManyAsks why =
+    refused-not left jobs TooManyConfirmations why n = consent_first why.0
+    refused-not left jobs TooManyAsks why n =
         let key : HeldKey = why.0.permitted.key in
         let many : few ≡ false = ap (λ n. nat_lt n 256) open_count ∙ grind (arith, nat_tests, why.1) in
         not_due (by_made key (made key why.0.permitted.found)
         ∙ third_fails (not key.confirm) (permits key) few (not facts.locked) many)
-    refused-not left jobs AsksSpent why = absurd (omega (arith, left, why.2))
-    refused-not left jobs JobsSpent (inl why) = absurd (omega (arith, jobs, why.4))
-    refused-not left jobs JobsSpent (inr why) = absurd (omega (arith, jobs, why.2))
-    refused-not left jobs other why = absurd why
+    refused-not left jobs AsksSpent why n = absurd (omega (arith, left n, why.2))
+    refused-not left jobs JobsSpent (inl why) n = absurd (omega (arith, jobs n, why.4))
+    refused-not left jobs JobsSpent (inr why) n = absurd (omega (arith, jobs n, why.2))
+    refused-not left jobs other why n = absurd why
 
-    acts-sign : under_way.link.last < 2 ^ 64 - 1 → under_way.last_job < 2 ^ 64 - 1 → {work : Work} → Comes signing asker held under_way work → Acts due asker held under_way work
+    acts-sign : {N : Type 0} → (N → under_way.link.last < 2 ^ 64 - 1) → (N → under_way.last_job < 2 ^ 64 - 1) → {work : Work} → Comes signing asker held under_way work → Acts N due asker held under_way work
     acts-sign left jobs (refused cause why) = silent (Refuses cause) (refused-not left jobs cause why)
-    acts-sign left jobs (raises usable room) = raises_it usable.permitted.key signing usable.permitted.found (consent_first usable)
+    acts-sign left jobs (raises usable room) = raises_it usable.permitted.key signing usable.permitted.found (λ n. consent_first usable)
     acts-sign left jobs (put usable room) =
         asks (Signs usable.permitted.key signing) (subst (λ d. IsSomeAnd d (λ one. (one.port ≡ asker.port) × (one.signing ≡ signing))) (sym (usable-due usable room)) (refl, refl))
 
   -- ---- the other requests
 
-  abbrev Quiet : Work → Type 0
-  Quiet work = Acts None asker held under_way work
+  abbrev Quiet : Type 0 → Work → Type 0
+  Quiet N work = Acts N None asker held under_way work
 
-  quiet-served : (read : Result ClientRequest MsgFault) →
+  quiet-served : {N : Type 0} (read : Result ClientRequest MsgFault) →
       ((signing : Signing) → read ≡ Ok (Sign signing) → ⊥) → {served : Served} →
-      Serves read asker held under_way served → Quiet served.work
-  quiet-served read other (denies cause) = silent (Refuses cause) refl
-  quiet-served read other (lists identities is) = silent (Replies (Identities identities)) refl
-  quiet-served read other (adds addition is) = silent (Replies Success) refl
-  quiet-served read other (removes blob is) = silent (Replies Success) refl
-  quiet-served read other (empties is) = silent (Replies Success) refl
-  quiet-served read other (locks passphrase is) = silent (Replies Success) refl
-  quiet-served read other (unlocks passphrase is) = silent (Replies Success) refl
+      Serves read asker held under_way served → Quiet N served.work
+  quiet-served read other (denies cause) = silent (Refuses cause) (λ n. refl)
+  quiet-served read other (lists identities is) = silent (Replies (Identities identities)) (λ n. refl)
+  quiet-served read other (adds addition is) = silent (Replies Success) (λ n. refl)
+  quiet-served read other (removes blob is) = silent (Replies Success) (λ n. refl)
+  quiet-served read other (empties is) = silent (Replies Success) (λ n. refl)
+  quiet-served read other (locks passphrase is) = silent (Replies Success) (λ n. refl)
+  quiet-served read other (unlocks passphrase is) = silent (Replies Success) (λ n. refl)
   quiet-served read other (signs signing key is found confirm free) = absurd (other signing is)
   quiet-served read other (confirms signing key is found free) = absurd (other signing is)
   quiet-served read other (verifies bind is_new is stands free) = asks (Verifies bind is_new) refl
 
-  quiet-any : (read : Result ClientRequest MsgFault) →
+  quiet-any : {N : Type 0} (read : Result ClientRequest MsgFault) →
       ((signing : Signing) → read ≡ Ok (Sign signing) → ⊥) →
-      Quiet (serve read asker held under_way).work
+      Quiet N (serve read asker held under_way).work
   quiet-any read other = quiet-served read other (serves-any read asker held under_way)
 
   -- what is due behind a request
   abbrev pub due_read : Result ClientRequest MsgFault → Verdict → Option Claim
   due_read read verdict = met_with (claim_of_request read asker.port) life asker.mono asker.wall (facts_after (done_of_request read verdict) asker.mono facts) (λ port. asker.chain) opens
 
-  module _ (left : under_way.link.last < 2 ^ 64 - 1) (jobs : under_way.last_job < 2 ^ 64 - 1) where
+  module _ {N : Type 0} (left : N → under_way.link.last < 2 ^ 64 - 1) (jobs : N → under_way.last_job < 2 ^ 64 - 1) where
     -- whatever is asked, what it puts to the helper is what is due behind it
-    pub acts-served : (read : Result ClientRequest MsgFault) → Acts (due_read read (serve read asker held under_way).work.verdict) asker held under_way (serve read asker held under_way).work
-    acts-served (Err fault) = silent (Refuses (unread fault held.lock)) refl
+    pub acts-served : (read : Result ClientRequest MsgFault) → Acts N (due_read read (serve read asker held under_way).work.verdict) asker held under_way (serve read asker held under_way).work
+    acts-served (Err fault) = silent (Refuses (unread fault held.lock)) (λ n. refl)
     acts-served (Ok ListIdentities) = quiet-any (Ok ListIdentities) (λ signing is. absurd (cc))
     acts-served (Ok (Sign signing)) = acts-sign signing left jobs (comes-of signing asker held under_way)
     acts-served (Ok (Add addition)) = quiet-any (Ok (Add addition)) (λ signing is. absurd (cc))

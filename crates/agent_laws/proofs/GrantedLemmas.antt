@@ -38,7 +38,7 @@ use Rattle.agent_laws.proofs.StepLemmas.{Agrees, Goes, Opened, due_as, numbers-a
 not_over : (over job : ℕ) → over ≢ job → (over == job) ≡ false
 not_over over job other = grind (arith, nat_tests)
 
-pub over-agrees : (life : Option ℕ) (past : List Stamped) (confirmation : Confirmation) (state : State) → JobsRise 0 state.under_way.confirmations state.under_way.last_job → Opened life past state → Agrees life state.moment.mono (stamp state.moment (Over confirmation.job) ∷ past) state.held state.under_way.link.asks (remove_job confirmation.job state.under_way.confirmations)
+pub over-agrees : {N : Type 0} (life : Option ℕ) (past : List Stamped) (confirmation : Confirmation) (state : State) → JobsRise 0 state.under_way.confirmations state.under_way.last_job → Opened N life past state → Agrees N life state.moment.mono (stamp state.moment (Over confirmation.job) ∷ past) state.held state.under_way.link.asks (remove_job confirmation.job state.under_way.confirmations)
 over-agrees life past confirmation state order opened =
     let holds = opened.agrees.holds in
     record {
@@ -46,7 +46,7 @@ over-agrees life past confirmation state order opened =
       opens = opened.agrees.opens;
       raised = all_raised-over past _ state.held confirmation.job 0 state.under_way.last_job state.under_way.confirmations order
           (λ job other. ap (λ b. if b then None else raised_at job past) (not_over confirmation.job job other)) opened.agrees.raised;
-      idle = refl;
+      idle = λ n. refl;
     }
 
 -- ---- consent
@@ -156,15 +156,15 @@ module _ (life : Option ℕ) (second wall : ℕ) (facts : Facts) (held : KeyStat
       ap (λ b. if b then Some claim else None) (true_or_not (is_due held_now) (λ met. let may = due-grantable held_now refl met in never may.0 may.1))
 
   -- where an ask can't be put it is for want of room alone
-  full-not : under_way.link.last < 2 ^ 64 - 1 → under_way.last_job < 2 ^ 64 - 1 → (key : HeldKey) → IsGrantable key chain confirmation.addition confirmation.message wall held → {cause : Cause} → RoomFor under_way (Some cause) → due ≡ None
-  full-not left jobs key may (full more) =
+  full-not : {N : Type 0} → (N → under_way.link.last < 2 ^ 64 - 1) → (N → under_way.last_job < 2 ^ 64 - 1) → (key : HeldKey) → IsGrantable key chain confirmation.addition confirmation.message wall held → {cause : Cause} → RoomFor under_way (Some cause) → N → due ≡ None
+  full-not left jobs key may (full more) n =
       let by = made key may.found in
       let many : few ≡ false = ap (λ n. nat_lt n 256) open_count ∙ grind (arith, nat_tests, more) in
       ap (λ b. if b then Some claim else None) (by_made key by ∙ third_fails (by.past.number == raising.addition) (permits key) few (not facts.locked) many)
-  full-not left jobs key may (no_ask few_asks spent) = absurd (omega (arith, left, spent))
-  full-not left jobs key may (no_job few_asks numbers none spent) = absurd (omega (arith, jobs, spent))
+  full-not left jobs key may (no_ask few_asks spent) n = absurd (omega (arith, left n, spent))
+  full-not left jobs key may (no_job few_asks numbers none spent) n = absurd (omega (arith, jobs n, spent))
 
-module _ (life : Option ℕ) (past : List Stamped) (confirmation : Confirmation) (port : Port) (state : State) (order : JobsRise 0 state.under_way.confirmations state.under_way.last_job) (there : IsIn confirmation state.under_way.confirmations) (found : find_port confirmation.asker state.ports ≡ Some port) (opened : Opened life past state) where
+module _ {N : Type 0} (life : Option ℕ) (past : List Stamped) (confirmation : Confirmation) (port : Port) (state : State) (order : JobsRise 0 state.under_way.confirmations state.under_way.last_job) (there : IsIn confirmation state.under_way.confirmations) (found : find_port confirmation.asker state.ports ≡ Some port) (opened : Opened N life past state) where
   abbrev left_over : UnderWay
   left_over = without_confirmation confirmation.job state.under_way
 
@@ -196,10 +196,10 @@ module _ (life : Option ℕ) (past : List Stamped) (confirmation : Confirmation)
       (λ job other. ap (λ b. if b then None else raised_at job past) (not_over confirmation.job job other)) opened.agrees.raised
 
   -- nothing is put, as nothing is due
-  goes-refused : (cause : Cause) → due_now ≡ None → Goes life past state (grant_concluded (settles (Refuses cause) left_over) confirmation state)
+  goes-refused : (cause : Cause) → (N → due_now ≡ None) → Goes N life past state (grant_concluded (settles (Refuses cause) left_over) confirmation state)
   goes-refused cause none = record {
-    lawful = (opened.agrees.idle, due_behind ∙ none);
-    agrees = record { holds = holds_behind; opens = opened.agrees.opens; raised = raised_behind; idle = due_behind ∙ none };
+    lawful = (opened.agrees.idle, λ n. due_behind ∙ none n);
+    agrees = record { holds = holds_behind; opens = opened.agrees.opens; raised = raised_behind; idle = λ n. due_behind ∙ none n };
     moment = refl;
   }
 
@@ -214,24 +214,24 @@ module _ (life : Option ℕ) (past : List Stamped) (confirmation : Confirmation)
   few_asks : RoomFor left_over None → length state.under_way.link.asks < 256
   few_asks (free room) = room.few
 
-  goes-put : (key : HeldKey) → IsGrantable key port.chain confirmation.addition confirmation.message state.moment.wall state.held → length state.under_way.link.asks < 256 → Goes life past state (grant_concluded (put_unless None (Signs key (signing_of key confirmation)) confirmation.asker left_over) confirmation state)
+  goes-put : (key : HeldKey) → IsGrantable key port.chain confirmation.addition confirmation.message state.moment.wall state.held → length state.under_way.link.asks < 256 → Goes N life past state (grant_concluded (put_unless None (Signs key (signing_of key confirmation)) confirmation.asker left_over) confirmation state)
   goes-put key may room =
       let is = grantable-due life state.moment.mono state.moment.wall (facts_of past) state.held left_over (open_asks past) port.chain confirmation opened.agrees.holds opened.fresh opened.agrees.opens raised.raising raised.addition raised.message raised.flags raised.blob key may room in
       let holds = holds_behind in
       record {
-        lawful = (opened.agrees.idle, (subst (λ d. IsSomeAnd d (λ one. (one.port ≡ confirmation.asker) × (one.signing ≡ signing_of key confirmation))) (sym (due_behind ∙ is)) (raised.port, same_signing key (raised.blob key may.found)), refl));
+        lawful = (opened.agrees.idle, (subst (λ d. IsSomeAnd d (λ one. (one.port ≡ confirmation.asker) × (one.signing ≡ signing_of key confirmation))) (sym (due_behind ∙ is)) (raised.port, same_signing key (raised.blob key may.found)), λ n. refl));
         agrees = record {
           holds = record { locked = holds.locked; count = holds.count; default = holds.default; own = holds.own; numbers = holds.numbers; found = holds.found };
           opens = ap (λ all. all ++ (state.under_way.link.last + 1) ∷ []) opened.agrees.opens ∙ sym (numbers-append state.under_way.link.asks _);
           raised = all_raised-more behind _ state.held _ (λ job. refl) raised_behind;
-          idle = refl;
+          idle = λ n. refl;
         };
         moment = refl;
       }
 
-  pub goes-granted : {work : Work} → IsGranted port.chain confirmation state.moment.wall state.held left_over work → Goes life past state (grant_concluded work confirmation state)
+  pub goes-granted : {work : Work} → IsGranted port.chain confirmation state.moment.wall state.held left_over work → Goes N life past state (grant_concluded work confirmation state)
   goes-granted (disallowed never) =
-      goes-refused NoLongerAllowed (never-due life state.moment.mono state.moment.wall (facts_of past) state.held left_over (open_asks past) port.chain confirmation opened.agrees.holds opened.fresh opened.agrees.opens raised.raising raised.addition raised.message raised.flags raised.blob never)
+      goes-refused NoLongerAllowed (λ n. never-due life state.moment.mono state.moment.wall (facts_of past) state.held left_over (open_asks past) port.chain confirmation opened.agrees.holds opened.fresh opened.agrees.opens raised.raising raised.addition raised.message raised.flags raised.blob never)
   goes-granted (unasked cause key may fault) =
       goes-refused cause (full-not life state.moment.mono state.moment.wall (facts_of past) state.held left_over (open_asks past) port.chain confirmation opened.agrees.holds opened.fresh opened.agrees.opens raised.raising raised.addition raised.message raised.flags raised.blob opened.left opened.jobs key may (subst (RoomFor left_over) fault (room-of left_over)))
   goes-granted (allowed key may unspent) = goes-put key may (few_asks (subst (RoomFor left_over) unspent (room-of left_over)))

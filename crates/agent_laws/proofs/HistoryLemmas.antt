@@ -19,16 +19,16 @@ use Rattle.agent_model.proofs.MakeLemmas.{by_event}
 use Rattle.agent_model.proofs.NumberLemmas.{run-grows}
 use Rattle.agent_model.proofs.RunLemmas.{step-rises, step-unused}
 use Rattle.agent_laws.specs.Dues.{proved_of}
-use Rattle.agent_laws.specs.History.{HasNumbers, IsLawful, onto}
+use Rattle.agent_laws.specs.History.{ArePutWhereDue, HasNumbers, IsLawful, onto}
 use Rattle.agent_laws.proofs.HoldsLemmas.{fresh-expired, holds-expired, holds-first, numbers-expired}
 use Rattle.agent_laws.proofs.RaisedLemmas.{all_raised-kept}
 use Rattle.agent_laws.proofs.MadeLemmas.{goes-makes}
-use Rattle.agent_laws.proofs.PastLemmas.{lawful-append, stamp, stamps}
+use Rattle.agent_laws.proofs.PastLemmas.{LawfulIf, lawful-append, lawful-if, only-if, stamp, stamps}
 use Rattle.agent_laws.proofs.StepLemmas.{Agrees, Goes, Opened}
 
 -- the past tells what a state holds, what its connections are bound to, and nothing of ports that haven't joined
-pub record Tells (life : Option ℕ) (past : List Stamped) (state : State) : Type 0 where
-  pub agrees : Agrees life state.moment.mono past state.held state.under_way.link.asks state.under_way.confirmations
+pub record Tells (N : Type 0) (life : Option ℕ) (past : List Stamped) (state : State) : Type 0 where
+  pub agrees : Agrees N life state.moment.mono past state.held state.under_way.link.asks state.under_way.confirmations
   pub chains : (number : ℕ) (port : Port) → find_port number state.ports ≡ Some port → proved_of number past ≡ port.chain
   pub unborn : (number : ℕ) → state.last_port < number → proved_of number past ≡ []
 
@@ -45,14 +45,14 @@ proved-onto : (number : ℕ) (moment : Moment) (past : List Stamped) (actions : 
 proved-onto number moment past [] = refl
 proved-onto number moment past (action ∷ later) = proved-onto number moment (stamp moment action ∷ past) later
 
-module _ (life : Option ℕ) (past : List Stamped) (state : State) (moment : Moment) (event : Happening) (tied : IsTied state) (judged : IsJudged state) (tells : Tells life past state) (numbers : HasNumbers state) where
+module _ {N : Type 0} (life : Option ℕ) (past : List Stamped) (state : State) (moment : Moment) (event : Happening) (tied : IsTied state) (judged : IsJudged state) (tells : Tells N life past state) (numbers : N → HasNumbers state) where
   abbrev opened : State
   opened = at_moment moment state
 
   abbrev after : Outcome
   after = step state moment event
 
-  is_opened : Opened life past opened
+  is_opened : Opened N life past opened
   is_opened = record {
     agrees = record {
       holds = holds-expired life state.moment.mono opened.moment.mono _ state.held (le-max_left state.moment.mono moment.mono) tells.agrees.holds;
@@ -62,16 +62,16 @@ module _ (life : Option ℕ) (past : List Stamped) (state : State) (moment : Mom
     };
     fresh = λ blob. fresh-expired opened.moment.mono state.held blob tells.agrees.holds.own;
     chains = tells.chains;
-    left = numbers.asks;
-    jobs = numbers.jobs;
+    left = λ n. (numbers n).asks;
+    jobs = λ n. (numbers n).jobs;
   }
 
-  goes-joined : (door : Door) → Goes life past opened (join door opened)
+  goes-joined : (door : Door) → Goes N life past opened (join door opened)
   goes-joined door = record { lawful = is_opened.agrees.idle; agrees = is_opened.agrees; moment = refl }
 
-  goes : Goes life past opened after
+  goes : Goes N life past opened after
   goes =
-      let made = by_event (Goes life past opened) event opened goes-joined (λ outcome makes. goes-makes life past makes (tied-opened moment state tied) is_opened) in
+      let made = by_event (Goes N life past opened) event opened goes-joined (λ outcome makes. goes-makes life past makes (tied-opened moment state tied) is_opened) in
       record { lawful = made.lawful; agrees = made.agrees; moment = made.moment }
 
   abbrev told_then : List Stamped
@@ -108,38 +108,48 @@ module _ (life : Option ℕ) (past : List Stamped) (state : State) (moment : Mom
   same_stamps : stamped after ≡ stamps opened.moment after.actions
   same_stamps = ap (λ m. stamps m after.actions) goes.moment
 
-  step-lawful : IsLawful life past (stamped after)
-  step-lawful = subst (IsLawful life past) (sym same_stamps) goes.lawful
+  step-lawful : LawfulIf N life past (stamped after)
+  step-lawful = subst (LawfulIf N life past) (sym same_stamps) goes.lawful
 
-  step-tells : Tells life (onto past (stamped after)) after.state
-  step-tells = subst (λ all. Tells life (onto past all) after.state) (sym same_stamps) record {
-    agrees = subst (λ (m : Moment). Agrees life m.mono told_then after.state.held after.state.under_way.link.asks after.state.under_way.confirmations) (sym goes.moment) goes.agrees;
+  step-tells : Tells N life (onto past (stamped after)) after.state
+  step-tells = subst (λ all. Tells N life (onto past all) after.state) (sym same_stamps) record {
+    agrees = subst (λ (m : Moment). Agrees N life m.mono told_then after.state.held after.state.under_way.link.asks after.state.under_way.confirmations) (sym goes.moment) goes.agrees;
     chains = chain_then;
     unborn = unborn_then;
   }
 
 -- ---- runs
 
-run-lawful : (life : Option ℕ) (past : List Stamped) (state : State) (events : List Timed) → IsTied state → IsJudged state → Tells life past state → HasNumbers (run state events) → IsLawful life past (history state events)
+run-lawful : {N : Type 0} (life : Option ℕ) (past : List Stamped) (state : State) (events : List Timed) → IsTied state → IsJudged state → Tells N life past state → (N → HasNumbers (run state events)) → LawfulIf N life past (history state events)
 run-lawful life past state [] tied judged tells numbers = tells.agrees.idle
-run-lawful life past state (timed ∷ later) tied judged tells numbers =
-    lawful-append life past (stamped after) (history after.state later) (step-lawful life past state timed.moment timed.event tied judged tells now)
+run-lawful {N = N} life past state (timed ∷ later) tied judged tells numbers =
+    lawful-append N life past (stamped after) (history after.state later) (step-lawful life past state timed.moment timed.event tied judged tells now)
     (run-lawful life (onto past (stamped after)) after.state later (step-fated state timed.moment timed.event tied).tied (step-judged state timed.moment timed.event tied judged).judged
     (step-tells life past state timed.moment timed.event tied judged tells now) numbers)
   where
     after : Outcome
     after = step state timed.moment timed.event
 
-    now : HasNumbers state
-    now =
+    now : N → HasNumbers state
+    now n =
         let grown = run-grows state (timed ∷ later) in
-        record { asks = omega (arith, grown.asks, numbers.asks); jobs = omega (arith, grown.jobs, numbers.jobs) }
+        record { asks = omega (arith, grown.asks, (numbers n).asks); jobs = omega (arith, grown.jobs, (numbers n).jobs) }
 
-pub first-lawful : (life : Option ℕ) (events : List Timed) → HasNumbers (run (first_state life) events) → IsLawful life [] (history (first_state life) events)
-first-lawful life events numbers =
+first-if : (N : Type 0) (life : Option ℕ) (events : List Timed) → (N → HasNumbers (run (first_state life) events)) → LawfulIf N life [] (history (first_state life) events)
+first-if N life events numbers =
     run-lawful life [] (first_state life) events (first-tied life) (first-judged life)
     record {
-      agrees = record { holds = holds-first life; opens = refl; raised = λ job one found. absurd (cc); idle = refl };
+      agrees = record { holds = holds-first life; opens = refl; raised = λ job one found. absurd (cc); idle = λ n. refl };
       chains = λ number port found. absurd (cc);
       unborn = λ number above. refl;
     } numbers
+
+-- where numbers are left, and in any case
+pub first-lawful : (life : Option ℕ) (events : List Timed) → HasNumbers (run (first_state life) events) → IsLawful life [] (history (first_state life) events)
+first-lawful life events numbers =
+    lawful-if life [] (history (first_state life) events) numbers
+    (first-if (HasNumbers (run (first_state life) events)) life events (λ n. n))
+
+pub first-only : (life : Option ℕ) (events : List Timed) → ArePutWhereDue life [] (history (first_state life) events)
+first-only life events =
+    only-if ⊥ life [] (history (first_state life) events) (first-if ⊥ life events (λ n. absurd n))

@@ -24,9 +24,9 @@ use Rattle.agent_model.proofs.GrantLemmas.{grant-ends}
 use Rattle.agent_laws.proofs.GrantedLemmas.{goes-granted, over-agrees}
 use Rattle.agent_laws.proofs.RaisedLemmas.{all_raised-more}
 use Rattle.agent_laws.specs.Dues.{without_number}
-use Rattle.agent_laws.specs.History.{IsLawful, onto}
+use Rattle.agent_laws.specs.History.{onto}
 use Rattle.agent_laws.proofs.HoldsLemmas.{Holds, facts_of}
-use Rattle.agent_laws.proofs.PastLemmas.{lawful-append, onto-append, stamp, stamps, stamps-append}
+use Rattle.agent_laws.proofs.PastLemmas.{LawfulIf, lawful-append, onto-append, stamp, stamps, stamps-append}
 use Rattle.agent_laws.proofs.StepLemmas.{Agrees, Goes, Opened, calm-quiet, keeps-calm, numbers_of, opened-quiet, served-agrees, served-lawful}
 
 -- the numbers of the asks that are left
@@ -39,75 +39,75 @@ numbers-removed number (one ∷ pending) = by_test (one.number == number) (numbe
     by_test false rest = ap (λ numbers. one.number ∷ numbers) rest
 
 -- more is done, and agrees
-agrees-more : (life : Option ℕ) (moment : Moment) (past : List Stamped) (some more : List Action) (held : KeyState) (pending : List Ask) (confirmations : List Confirmation) → Agrees life moment.mono (onto (onto past (stamps moment some)) (stamps moment more)) held pending confirmations → Agrees life moment.mono (onto past (stamps moment (some ++ more))) held pending confirmations
-agrees-more life moment past some more held pending confirmations agrees =
-    subst (λ whole. Agrees life moment.mono whole held pending confirmations)
+agrees-more : {N : Type 0} (life : Option ℕ) (moment : Moment) (past : List Stamped) (some more : List Action) (held : KeyState) (pending : List Ask) (confirmations : List Confirmation) → Agrees N life moment.mono (onto (onto past (stamps moment some)) (stamps moment more)) held pending confirmations → Agrees N life moment.mono (onto past (stamps moment (some ++ more))) held pending confirmations
+agrees-more {N = N} life moment past some more held pending confirmations agrees =
+    subst (λ whole. Agrees N life moment.mono whole held pending confirmations)
     (sym (ap (onto past) (stamps-append moment some more) ∙ onto-append past (stamps moment some) (stamps moment more))) agrees
 
-lawful-more : (life : Option ℕ) (moment : Moment) (past : List Stamped) (some more : List Action) → IsLawful life past (stamps moment some) → IsLawful life (onto past (stamps moment some)) (stamps moment more) → IsLawful life past (stamps moment (some ++ more))
-lawful-more life moment past some more first_is later_is =
-    subst (IsLawful life past) (sym (stamps-append moment some more)) (lawful-append life past (stamps moment some) (stamps moment more) first_is later_is)
+lawful-more : (N : Type 0) (life : Option ℕ) (moment : Moment) (past : List Stamped) (some more : List Action) → LawfulIf N life past (stamps moment some) → LawfulIf N life (onto past (stamps moment some)) (stamps moment more) → LawfulIf N life past (stamps moment (some ++ more))
+lawful-more N life moment past some more first_is later_is =
+    subst (LawfulIf N life past) (sym (stamps-append moment some more)) (lawful-append N life past (stamps moment some) (stamps moment more) first_is later_is)
 
 -- what holds holds behind an answer, and behind a binding that was proved
-module _ (life : Option ℕ) (moment : Moment) (held : KeyState) (one : Settled) (past : List Stamped) (pending : List Ask) (confirmations : List Confirmation) (agrees : Agrees life moment.mono past held pending confirmations) where
+module _ {N : Type 0} (life : Option ℕ) (moment : Moment) (held : KeyState) (one : Settled) (past : List Stamped) (pending : List Ask) (confirmations : List Confirmation) (agrees : Agrees N life moment.mono past held pending confirmations) where
   abbrev holds : Holds life moment.mono (facts_of past) held
   holds = agrees.holds
 
-  answered-agrees : Agrees life moment.mono (stamp moment (Answered one) ∷ past) held (remove_ask one.ask pending) confirmations
+  answered-agrees : Agrees N life moment.mono (stamp moment (Answered one) ∷ past) held (remove_ask one.ask pending) confirmations
   answered-agrees = record {
     holds = record { locked = holds.locked; count = holds.count; default = holds.default; own = holds.own; numbers = holds.numbers; found = holds.found };
     opens = ap (without_number one.ask) agrees.opens ∙ numbers-removed one.ask pending;
     raised = all_raised-more past _ held confirmations (λ job. refl) agrees.raised;
-    idle = refl;
+    idle = λ n. refl;
   }
 
-  proved-agrees : (found : Option Port) (verification : Verification) → Agrees life moment.mono (onto past (stamps moment (Answered one ∷ proved_at found verification))) held (remove_ask one.ask pending) confirmations
+  proved-agrees : (found : Option Port) (verification : Verification) → Agrees N life moment.mono (onto past (stamps moment (Answered one ∷ proved_at found verification))) held (remove_ask one.ask pending) confirmations
   proved-agrees None verification = answered-agrees
   proved-agrees (Some port) verification = record {
     holds = record { locked = holds.locked; count = holds.count; default = holds.default; own = holds.own; numbers = holds.numbers; found = holds.found };
     opens = answered-agrees.opens;
     raised = all_raised-more past _ held confirmations (λ job. refl) agrees.raised;
-    idle = refl;
+    idle = λ n. refl;
   }
 
-  proved-lawful : (found : Option Port) (verification : Verification) → IsLawful life past (stamps moment (Answered one ∷ proved_at found verification))
-  proved-lawful None verification = (agrees.idle, refl)
-  proved-lawful (Some port) verification = (agrees.idle, (refl, refl))
+  proved-lawful : (found : Option Port) (verification : Verification) → LawfulIf N life past (stamps moment (Answered one ∷ proved_at found verification))
+  proved-lawful None verification = (agrees.idle, λ n. refl)
+  proved-lawful (Some port) verification = (agrees.idle, (λ n. refl, λ n. refl))
 
-  lost-agrees : Agrees life moment.mono (stamp moment Lost ∷ past) held [] confirmations
+  lost-agrees : Agrees N life moment.mono (stamp moment Lost ∷ past) held [] confirmations
   lost-agrees = record {
     holds = record { locked = holds.locked; count = holds.count; default = holds.default; own = holds.own; numbers = holds.numbers; found = holds.found };
     opens = refl;
     raised = all_raised-more past _ held confirmations (λ job. refl) agrees.raised;
-    idle = refl;
+    idle = λ n. refl;
   }
 
 -- ---- answers, one after another
 
-pub record Told (life : Option ℕ) (moment : Moment) (held : KeyState) (past : List Stamped) (answering : Answering) (pending : List Ask) (confirmations : List Confirmation) : Type 0 where
-  pub lawful : IsLawful life past (stamps moment answering.actions)
-  pub agrees : Agrees life moment.mono (onto past (stamps moment answering.actions)) held pending confirmations
+pub record Told (N : Type 0) (life : Option ℕ) (moment : Moment) (held : KeyState) (past : List Stamped) (answering : Answering) (pending : List Ask) (confirmations : List Confirmation) : Type 0 where
+  pub lawful : LawfulIf N life past (stamps moment answering.actions)
+  pub agrees : Agrees N life moment.mono (onto past (stamps moment answering.actions)) held pending confirmations
 
-module _ (life : Option ℕ) (moment : Moment) (held : KeyState) (past : List Stamped) (confirmations : List Confirmation) where
-  told-is : (one : Settled) (before : Answering) (pending : List Ask) {after : Answering} → AnswerIs one before after → Told life moment held past before pending confirmations → Told life moment held past after (remove_ask one.ask pending) confirmations
+module _ {N : Type 0} (life : Option ℕ) (moment : Moment) (held : KeyState) (past : List Stamped) (confirmations : List Confirmation) where
+  told-is : (one : Settled) (before : Answering) (pending : List Ask) {after : Answering} → AnswerIs one before after → Told N life moment held past before pending confirmations → Told N life moment held past after (remove_ask one.ask pending) confirmations
   told-is one before pending (told_so verdict) told = record {
-    lawful = lawful-more life moment past before.actions (Answered one ∷ []) told.lawful (told.agrees.idle, refl);
+    lawful = lawful-more N life moment past before.actions (Answered one ∷ []) told.lawful (told.agrees.idle, λ n. refl);
     agrees = agrees-more life moment past before.actions (Answered one ∷ []) held (remove_ask one.ask pending) confirmations (answered-agrees life moment held one (onto past (stamps moment before.actions)) pending confirmations told.agrees);
   }
   told-is one before pending (proves verification noted) told =
       let found : Option Port = find_port one.asker before.ports in
       record {
-        lawful = lawful-more life moment past before.actions (Answered one ∷ proved_at found verification) told.lawful (proved-lawful life moment held one (onto past (stamps moment before.actions)) pending confirmations told.agrees found verification);
+        lawful = lawful-more N life moment past before.actions (Answered one ∷ proved_at found verification) told.lawful (proved-lawful life moment held one (onto past (stamps moment before.actions)) pending confirmations told.agrees found verification);
         agrees = agrees-more life moment past before.actions (Answered one ∷ proved_at found verification) held (remove_ask one.ask pending) confirmations (proved-agrees life moment held one (onto past (stamps moment before.actions)) pending confirmations told.agrees found verification);
       }
 
-  told-all : (settled : List Settled) (before : Answering) (pending left : List Ask) → LeadTo settled pending left → Told life moment held past before pending confirmations → Told life moment held past (answer_all settled before) left confirmations
-  told-all [] before pending left leads told = subst (λ all. Told life moment held past before all confirmations) (sym leads) told
+  told-all : (settled : List Settled) (before : Answering) (pending left : List Ask) → LeadTo settled pending left → Told N life moment held past before pending confirmations → Told N life moment held past (answer_all settled before) left confirmations
+  told-all [] before pending left leads told = subst (λ all. Told N life moment held past before all confirmations) (sym leads) told
   told-all (one ∷ later) before pending left leads told =
       told-all later (answer_by one.answer one before) (remove_ask one.ask pending) left leads.1 (told-is one before pending (answer_is one.answer one before) told)
 
 -- a piece of the helper's stream, with its fault
-module _ (life : Option ℕ) (past : List Stamped) (piece : List ℕ) (state : State) (opened : Opened life past state) where
+module _ {N : Type 0} (life : Option ℕ) (past : List Stamped) (piece : List ℕ) (state : State) (opened : Opened N life past state) where
   abbrev read : Telling
   read = telling piece state.under_way.link
 
@@ -117,42 +117,42 @@ module _ (life : Option ℕ) (past : List Stamped) (piece : List ℕ) (state : S
   abbrev after : Answering
   after = answer_all read.settled before
 
-  told : Told life state.moment state.held past after read.link.asks state.under_way.confirmations
+  told : Told N life state.moment state.held past after read.link.asks state.under_way.confirmations
   told = told-all life state.moment state.held past state.under_way.confirmations read.settled before state.under_way.link.asks read.link.asks
       (settling_leads (state.under_way.link.heard ++ piece) state.under_way.link.asks) record { lawful = opened.agrees.idle; agrees = opened.agrees }
 
   nobody : Settled
   nobody = record { ask = 0; asker = 0; answer = answer.Refused }
 
-  goes-fault : (fault : Option LinkFault) → Goes life past state (and_then (acted after.actions (with_answers read.link after state)) (lose_if fault))
+  goes-fault : (fault : Option LinkFault) → Goes N life past state (and_then (acted after.actions (with_answers read.link after state)) (lose_if fault))
   goes-fault None = record {
-    lawful = lawful-more life state.moment past after.actions [] told.lawful told.agrees.idle;
+    lawful = lawful-more N life state.moment past after.actions [] told.lawful told.agrees.idle;
     agrees = agrees-more life state.moment past after.actions [] state.held read.link.asks state.under_way.confirmations told.agrees;
     moment = refl;
   }
   goes-fault (Some fault) = record {
-    lawful = lawful-more life state.moment past after.actions (Lost ∷ []) told.lawful (told.agrees.idle, refl);
+    lawful = lawful-more N life state.moment past after.actions (Lost ∷ []) told.lawful (told.agrees.idle, λ n. refl);
     agrees = agrees-more life state.moment past after.actions (Lost ∷ []) state.held [] state.under_way.confirmations (lost-agrees life state.moment state.held nobody (onto past (stamps state.moment after.actions)) read.link.asks state.under_way.confirmations told.agrees);
     moment = refl;
   }
 
-  nobody_lost : Goes life past state (lose state)
+  nobody_lost : Goes N life past state (lose state)
   nobody_lost = record {
-    lawful = (opened.agrees.idle, refl);
+    lawful = (opened.agrees.idle, λ n. refl);
     agrees = lost-agrees life state.moment state.held nobody past state.under_way.link.asks state.under_way.confirmations opened.agrees;
     moment = refl;
   }
 
 -- ---- events
 
-pub goes-makes : {event : Happening} {old : State} {outcome : Outcome} (life : Option ℕ) (past : List Stamped) → Makes event old outcome → IsTied old → Opened life past old → Goes life past old outcome
+pub goes-makes : {N : Type 0} {event : Happening} {old : State} {outcome : Outcome} (life : Option ℕ) (past : List Stamped) → Makes event old outcome → IsTied old → Opened N life past old → Goes N life past old outcome
 goes-makes life past (stays state) tied opened = record { lawful = opened.agrees.idle; agrees = opened.agrees; moment = refl }
-goes-makes {old = old} life past (first {mid = mid} {outcome = outcome} quiet rest) tied opened =
+goes-makes {N = N} {old = old} life past (first {mid = mid} {outcome = outcome} quiet rest) tied opened =
     let calm = calm-quiet quiet in
     let later = goes-makes life past rest (tied-quiet quiet tied) (opened-quiet life past old mid calm (keeps-calm quiet tied.rising) opened) in
     record {
-      lawful = subst (λ m. IsLawful life past (stamps m outcome.actions)) calm.moment later.lawful;
-      agrees = subst (λ m. Agrees life m.mono (onto past (stamps m outcome.actions)) outcome.state.held outcome.state.under_way.link.asks outcome.state.under_way.confirmations) calm.moment later.agrees;
+      lawful = subst (λ m. LawfulIf N life past (stamps m outcome.actions)) calm.moment later.lawful;
+      agrees = subst (λ m. Agrees N life m.mono (onto past (stamps m outcome.actions)) outcome.state.held outcome.state.under_way.link.asks outcome.state.under_way.confirmations) calm.moment later.agrees;
       moment = later.moment ∙ calm.moment;
     }
 goes-makes life past (serves body_len port state found door nothing owed) tied opened = record {
@@ -163,7 +163,7 @@ goes-makes life past (serves body_len port state found door nothing owed) tied o
 goes-makes life past (tells piece state) tied opened = goes-fault life past piece state opened (telling piece state.under_way.link).fault
 goes-makes life past (loses state) tied opened = nobody_lost life past [] state opened
 goes-makes life past (overs confirmation state there) tied opened = record {
-  lawful = (opened.agrees.idle, refl);
+  lawful = (opened.agrees.idle, λ n. refl);
   agrees = over-agrees life past confirmation state tied.raised.order opened;
   moment = refl;
 }

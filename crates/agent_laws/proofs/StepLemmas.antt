@@ -26,12 +26,12 @@ use Rattle.agent_model.proofs.JudgeLemmas.{keeps-changed, keeps-removed, keeps-s
 use Rattle.agent_model.proofs.JudgedLemmas.{Keeps}
 use Rattle.agent_model.proofs.MakeLemmas.{Quiet, alters, closes, goes_on, links, names}
 use Rattle.agent_laws.specs.Dues.{Claim, claim_of_request, due_signing, met_by, open_asks, proved_of}
-use Rattle.agent_laws.specs.History.{IsDue, IsLawful, onto}
+use Rattle.agent_laws.specs.History.{IsDue, onto}
 use Rattle.agent_laws.specs.Past.{done_of_request}
 use Rattle.agent_laws.proofs.DueLemmas.{Acts, acts-served, asks, due_read, met_with, raises_it, silent}
 use Rattle.agent_laws.proofs.HoldsLemmas.{Facts, Holds, HoldsAfter, NumbersKept, facts_after, facts_of, holds-served}
 use Rattle.agent_laws.proofs.RaisedLemmas.{AllRaised, Stays, as_it_is, lightly, stays-kept, all_raised-kept, all_raised-more, all_raised-push, all_raised-same}
-use Rattle.agent_laws.proofs.PastLemmas.{nothing_due, stamp, stamps}
+use Rattle.agent_laws.proofs.PastLemmas.{LawfulIf, nothing_due, stamp, stamps}
 
 abbrev pub numbers_of : List Ask → List ℕ
 numbers_of all = map (λ (one : Ask). one.number) all
@@ -39,24 +39,24 @@ numbers_of all = map (λ (one : Ask). one.number) all
 -- ---- what agrees
 
 -- the past tells what is held, which asks are unanswered and what waits for the user, and nothing is due behind it
-pub record Agrees (life : Option ℕ) (second : ℕ) (past : List Stamped) (held : KeyState) (pending : List Ask) (confirmations : List Confirmation) : Type 0 where
+pub record Agrees (N : Type 0) (life : Option ℕ) (second : ℕ) (past : List Stamped) (held : KeyState) (pending : List Ask) (confirmations : List Confirmation) : Type 0 where
   pub holds : Holds life second (facts_of past) held
   pub opens : open_asks past ≡ numbers_of pending
   pub raised : AllRaised past held confirmations
-  pub idle : due_signing life past ≡ None
+  pub idle : N → due_signing life past ≡ None
 
 -- the same of a state as an event begins: those that are held are alive, and numbers are left
-pub record Opened (life : Option ℕ) (past : List Stamped) (state : State) : Type 0 where
-  pub agrees : Agrees life state.moment.mono past state.held state.under_way.link.asks state.under_way.confirmations
+pub record Opened (N : Type 0) (life : Option ℕ) (past : List Stamped) (state : State) : Type 0 where
+  pub agrees : Agrees N life state.moment.mono past state.held state.under_way.link.asks state.under_way.confirmations
   pub fresh : (blob : List ℕ) → if_alive state.moment.mono (find_identity blob state.held.table.identities) ≡ find_identity blob state.held.table.identities
   pub chains : (number : ℕ) (port : Port) → find_port number state.ports ≡ Some port → proved_of number past ≡ port.chain
-  pub left : state.under_way.link.last < 2 ^ 64 - 1
-  pub jobs : state.under_way.last_job < 2 ^ 64 - 1
+  pub left : N → state.under_way.link.last < 2 ^ 64 - 1
+  pub jobs : N → state.under_way.last_job < 2 ^ 64 - 1
 
 -- what is done stands where it may, and agrees with what it leaves
-pub record Goes (life : Option ℕ) (past : List Stamped) (old : State) (outcome : Outcome) : Type 0 where
-  pub lawful : IsLawful life past (stamps old.moment outcome.actions)
-  pub agrees : Agrees life old.moment.mono (onto past (stamps old.moment outcome.actions)) outcome.state.held outcome.state.under_way.link.asks outcome.state.under_way.confirmations
+pub record Goes (N : Type 0) (life : Option ℕ) (past : List Stamped) (old : State) (outcome : Outcome) : Type 0 where
+  pub lawful : LawfulIf N life past (stamps old.moment outcome.actions)
+  pub agrees : Agrees N life old.moment.mono (onto past (stamps old.moment outcome.actions)) outcome.state.held outcome.state.under_way.link.asks outcome.state.under_way.confirmations
   pub moment : outcome.state.moment ≡ old.moment
 
 -- ---- quiet changes
@@ -89,7 +89,7 @@ keeps-calm {old = old} (goes_on new same) rising = record { ports = keeps-same o
 keeps-calm {old = old} (names job number port found door free) rising = record { ports = keeps-changed number unheard old.ports (λ p. refl) (λ p. refl); asks = refl; last = refl; verifications = refl }
 keeps-calm {old = old} (links job number port found door free other) rising = record { ports = keeps-changed number unheard old.ports (λ p. refl) (λ p. refl); asks = refl; last = refl; verifications = refl }
 
-pub opened-quiet : (life : Option ℕ) (past : List Stamped) (old new : State) → Calm old new → Keeps old new → Opened life past old → Opened life past new
+pub opened-quiet : {N : Type 0} (life : Option ℕ) (past : List Stamped) (old new : State) → Calm old new → Keeps old new → Opened N life past old → Opened N life past new
 opened-quiet life past old new calm keeps opened = record {
   agrees = record {
     holds = rw (calm.held, calm.moment) opened.agrees.holds;
@@ -132,22 +132,22 @@ numbers-append (one ∷ some) more = ap (λ rest. one.number ∷ rest) (numbers-
 
 -- what is done behind it stands there, and agrees
 module _ (life : Option ℕ) (moment : Moment) (asker : Asker) (held after : KeyState) (under_way : UnderWay) (past : List Stamped) (due : Option Claim) (is : due_signing life past ≡ due) where
-  lawful-acts : {work : Work} → Acts due asker held under_way work → IsLawful life past (stamps moment work.actions)
-  lawful-acts (silent verdict none) = is ∙ none
-  lawful-acts (asks errand may) = (subst (IsDue (purpose_of errand) asker.port) (sym is) may, refl)
-  lawful-acts (raises_it key signing found none) = (is ∙ none, refl)
+  lawful-acts : {N : Type 0} {work : Work} → Acts N due asker held under_way work → LawfulIf N life past (stamps moment work.actions)
+  lawful-acts (silent verdict none) = λ n. is ∙ none n
+  lawful-acts (asks errand may) = (subst (IsDue (purpose_of errand) asker.port) (sym is) may, λ n. refl)
+  lawful-acts (raises_it key signing found none) = (λ n. is ∙ none n, λ n. refl)
 
-  holds-acts : {work : Work} → Acts due asker held under_way work → Holds life moment.mono (facts_of past) after → Holds life moment.mono (facts_of (onto past (stamps moment work.actions))) after
+  holds-acts : {N : Type 0} {work : Work} → Acts N due asker held under_way work → Holds life moment.mono (facts_of past) after → Holds life moment.mono (facts_of (onto past (stamps moment work.actions))) after
   holds-acts (silent verdict none) holds = holds
   holds-acts (asks errand may) holds = record { locked = holds.locked; count = holds.count; default = holds.default; own = holds.own; numbers = holds.numbers; found = holds.found }
   holds-acts (raises_it key signing found none) holds = record { locked = holds.locked; count = holds.count; default = holds.default; own = holds.own; numbers = holds.numbers; found = holds.found }
 
-  opens-acts : {work : Work} → Acts due asker held under_way work → open_asks past ≡ numbers_of under_way.link.asks → open_asks (onto past (stamps moment work.actions)) ≡ numbers_of work.under_way.link.asks
+  opens-acts : {N : Type 0} {work : Work} → Acts N due asker held under_way work → open_asks past ≡ numbers_of under_way.link.asks → open_asks (onto past (stamps moment work.actions)) ≡ numbers_of work.under_way.link.asks
   opens-acts (silent verdict none) same = same
   opens-acts (asks errand may) same = ap (λ all. all ++ (under_way.link.last + 1) ∷ []) same ∙ sym (numbers-append under_way.link.asks _)
   opens-acts (raises_it key signing found none) same = same
 
-  raised-acts : {work : Work} → Acts due asker held under_way work → JobsRise 0 under_way.confirmations under_way.last_job → HaveOwnNumbers held.table.last held.table.identities → NumbersKept held after → AllRaised past held under_way.confirmations → AllRaised (onto past (stamps moment work.actions)) after work.under_way.confirmations
+  raised-acts : {N : Type 0} {work : Work} → Acts N due asker held under_way work → JobsRise 0 under_way.confirmations under_way.last_job → HaveOwnNumbers held.table.last held.table.identities → NumbersKept held after → AllRaised past held under_way.confirmations → AllRaised (onto past (stamps moment work.actions)) after work.under_way.confirmations
   raised-acts (silent verdict none) order numbers kept all = all_raised-kept past held after under_way.confirmations kept all
   raised-acts (asks errand may) order numbers kept all =
       all_raised-more past _ after under_way.confirmations (λ job. refl) (all_raised-kept past held after under_way.confirmations kept all)
@@ -155,7 +155,7 @@ module _ (life : Option ℕ) (moment : Moment) (asker : Asker) (held after : Key
       all_raised-kept _ held after _ kept
       (all_raised-push moment past held asker.port key signing (prompt_for key.comment key.blob) under_way.last_job under_way.confirmations order numbers found all)
 
-module _ (life : Option ℕ) (past : List Stamped) (body_len : ℕ) (port : Port) (state : State) (found : find_port port.number state.ports ≡ Some port) (order : JobsRise 0 state.under_way.confirmations state.under_way.last_job) (opened : Opened life past state) where
+module _ {N : Type 0} (life : Option ℕ) (past : List Stamped) (body_len : ℕ) (port : Port) (state : State) (found : find_port port.number state.ports ≡ Some port) (order : JobsRise 0 state.under_way.confirmations state.under_way.last_job) (opened : Opened N life past state) where
   abbrev body : List ℕ
   body = front_body body_len port.heard
 
@@ -171,20 +171,20 @@ module _ (life : Option ℕ) (past : List Stamped) (body_len : ℕ) (port : Port
   abbrev behind : List Stamped
   behind = stamp state.moment request ∷ past
 
-  acts : Acts (due_read life asker (facts_of past) state.held state.under_way (open_asks past) opened.agrees.holds opened.fresh opened.agrees.opens (agent_request_of body) served.work.verdict) asker state.held state.under_way served.work
+  acts : Acts N (due_read life asker (facts_of past) state.held state.under_way (open_asks past) opened.agrees.holds opened.fresh opened.agrees.opens (agent_request_of body) served.work.verdict) asker state.held state.under_way served.work
   acts = acts-served life asker (facts_of past) state.held state.under_way (open_asks past) opened.agrees.holds opened.fresh opened.agrees.opens opened.left opened.jobs (agent_request_of body)
 
   due_behind : due_signing life behind ≡ due_read life asker (facts_of past) state.held state.under_way (open_asks past) opened.agrees.holds opened.fresh opened.agrees.opens (agent_request_of body) served.work.verdict
   due_behind = due_as (claim_of_request (agent_request_of body) port.number) life state.moment behind
       ∙ due_of_read life port.number state.moment.mono state.moment.wall (facts_after (done_of_request (agent_request_of body) served.work.verdict) state.moment.mono (facts_of past)) past port.chain (open_asks past) (agent_request_of body) (opened.chains port.number port found)
 
-  lawful_behind : IsLawful life behind (stamps state.moment served.work.actions)
+  lawful_behind : LawfulIf N life behind (stamps state.moment served.work.actions)
   lawful_behind = lawful-acts life state.moment asker state.held served.held state.under_way behind _ due_behind acts
 
   done : HoldsAfter life asker (facts_of past) state.held (done_of_request (agent_request_of body) served.work.verdict) served.held
   done = holds-served life asker (facts_of past) state.held state.under_way opened.agrees.holds (agent_request_of body)
 
-  pub served-agrees : Agrees life state.moment.mono (onto behind (stamps state.moment served.work.actions)) served.held served.work.under_way.link.asks served.work.under_way.confirmations
+  pub served-agrees : Agrees N life state.moment.mono (onto behind (stamps state.moment served.work.actions)) served.held served.work.under_way.link.asks served.work.under_way.confirmations
   served-agrees = record {
     holds = holds-acts life state.moment asker state.held served.held state.under_way behind _ due_behind acts done.holds;
     opens = opens-acts life state.moment asker state.held served.held state.under_way behind _ due_behind acts opened.agrees.opens;
@@ -192,5 +192,5 @@ module _ (life : Option ℕ) (past : List Stamped) (body_len : ℕ) (port : Port
     idle = nothing_due life behind (stamps state.moment served.work.actions) lawful_behind;
   }
 
-  pub served-lawful : IsLawful life past (stamps state.moment (request ∷ served.work.actions))
+  pub served-lawful : LawfulIf N life past (stamps state.moment (request ∷ served.work.actions))
   served-lawful = (opened.agrees.idle, lawful_behind)

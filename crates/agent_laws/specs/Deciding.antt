@@ -39,7 +39,8 @@ stands_at Lost due = is_none_due due
 
 abbrev pub is_lawful : Option ℕ → List Stamped → List Stamped → Bool
 is_lawful life past [] = is_none_due (due_signing life past)
-is_lawful life past (one ∷ later) = stands_at one.action (due_signing life past) && is_lawful life (one ∷ past) later
+is_lawful life past (one ∷ later) =
+    stands_at one.action (due_signing life past) && is_lawful life (one ∷ past) later
 
 -- ---- runs
 
@@ -52,7 +53,8 @@ at_wall wall event = record { moment = record { mono = 0; wall = wall }; event =
 
 -- these events, all at second 0, and then these
 abbrev pub lawful_then : List Happening → List Timed → Bool
-lawful_then events later = is_lawful None [] (history (first_state None) (map (at 0) events ++ later))
+lawful_then events later =
+    is_lawful None [] (history (first_state None) (map (at 0) events ++ later))
 
 abbrev pub lawful : List Happening → Bool
 lawful events = lawful_then events []
@@ -63,15 +65,20 @@ granted job = 0 ∷ 0 ∷ 0 ∷ 9 ∷ 105 ∷ number job
 
 -- the client of port 1 waits for the user, who is asked by the child process at port 2
 abbrev pub asking : List Happening → List Happening
-asking events = Joined Clients ∷ Heard 1 (add_asking 17) ∷ Took 1 5 ∷ Heard 1 (sign 17) ∷ Started 1 (ticket 9)
+asking events =
+    Joined Clients ∷ Heard 1 (add_asking 17) ∷ Took 1 5 ∷ Heard 1 (sign 17) ∷ Started 1 (ticket 9)
     ∷ Joined Children ∷ Heard 2 (hello 1 9) ∷ events
 
--- the client of port 1 asked to bind its connection, under a key with constraints, and this is answered
+-- the client of port 1 asked to bind its connection, under a key with constraints, and this is
+-- answered
 abbrev pub binding : List ℕ → List Happening → List Happening
-binding answer events = Joined Clients ∷ Heard 1 (add_only_to 17) ∷ Took 1 5 ∷ Heard 1 (bind 161 193 0)
-    ∷ Started 1 (ticket 9) ∷ Joined Children ∷ Heard 2 (hello 1 9) ∷ Took 2 111 ∷ Heard 2 answer ∷ Took 1 5 ∷ events
+binding answer events =
+    Joined Clients ∷ Heard 1 (add_only_to 17) ∷ Took 1 5 ∷ Heard 1 (bind 161 193 0)
+    ∷ Started 1 (ticket 9) ∷ Joined Children ∷ Heard 2 (hello 1 9) ∷ Took 2 111 ∷ Heard 2 answer
+    ∷ Took 1 5 ∷ events
 
 -- the same of a key and a host with a certificate
 abbrev pub certified : List Happening
-certified = Joined Clients ∷ Heard 1 add_certified ∷ Took 1 5 ∷ Heard 1 bind_certified ∷ Started 1 (ticket 9)
+certified = Joined Clients ∷ Heard 1 add_certified ∷ Took 1 5 ∷ Heard 1 bind_certified
+    ∷ Started 1 (ticket 9)
     ∷ Joined Children ∷ Heard 2 (hello 1 9) ∷ Heard 2 (right 1) ∷ Took 1 5 ∷ []

@@ -1,5 +1,5 @@
--- Which signature is to be put to the helper, by the actions so far: searches in the past, the newest action first
--- (ours).
+-- Which signature is to be put to the helper, by the actions so far: searches in the past, the
+-- newest action first (ours).
 use Rattle.std.specs.Prelude.{ℕ, Bool, true, false, List, [], ◌∷◌, ◌++◌, length, Option, Some, None, Result, Ok, Err, nat_lt, ◌==◌, ◌&&◌, not, if◌then◌else◌}
 use Rattle.world_ports.specs.declared.Moment.{Moment}
 use Rattle.agent_msg.specs.declared.fault.MsgFault.{MsgFault}
@@ -24,7 +24,8 @@ proved_of port (one ∷ before) = bound_by port one.action (proved_of port befor
 -- without the first such number
 abbrev pub without_number : ℕ → List ℕ → List ℕ
 without_number number [] = []
-without_number number (other ∷ others) = if other == number then others else other ∷ without_number number others
+without_number number (other ∷ others) =
+    if other == number then others else other ∷ without_number number others
 
 -- an action's part in the open asks
 abbrev pub open_by : Action → List ℕ → List ℕ
@@ -59,7 +60,12 @@ pub record Claim : Type 0 where
 abbrev pub claim_of_request : Result ClientRequest MsgFault → ℕ → Option Claim
 claim_of_request (Err fault) port = None
 claim_of_request (Ok ListIdentities) port = None
-claim_of_request (Ok (Sign signing)) port = Some (record { port = port; addition = None; signing = signing })
+claim_of_request (Ok (Sign signing)) port = Some (record {
+  port = port;
+  addition = None;
+  signing
+      = signing;
+})
 claim_of_request (Ok (Add addition)) port = None
 claim_of_request (Ok (Remove blob)) port = None
 claim_of_request (Ok RemoveAll) port = None
@@ -73,11 +79,17 @@ claim_of_request (Ok (Unsupported number)) port = None
 abbrev pub claim_of_raising : Option Raising → Option Claim
 claim_of_raising None = None
 claim_of_raising (Some raising) =
-    Some (record { port = raising.port; addition = Some raising.addition; signing = raising.signing })
+    Some (record {
+      port = raising.port;
+      addition = Some raising.addition;
+      signing
+          = raising.signing;
+    })
 
 -- what an action claims
 abbrev pub claim_of : Action → List Stamped → Option Claim
-claim_of (Requested requesting) before = claim_of_request (agent_request_of requesting.body) requesting.port
+claim_of (Requested requesting) before =
+    claim_of_request (agent_request_of requesting.body) requesting.port
 claim_of (Asked asking) before = None
 claim_of (Answered settled) before = None
 claim_of (Proved proving) before = None
@@ -98,24 +110,26 @@ abbrev pub is_permitted : Option Denial → Bool
 is_permitted None = true
 is_permitted (Some denial) = false
 
--- the key is held and used so, its destination constraints permit it, fewer than 256 asks are open, and the agent isn't
--- locked
+-- the key is held and used so, its destination constraints permit it, fewer than 256 asks are open,
+-- and the agent isn't locked
 abbrev pub is_met : Option PastAddition → Claim → List Binding → ℕ → List ℕ → Bool → Bool
 is_met None claim chain wall asks locked = false
 is_met (Some past) claim chain wall asks locked = is_consented claim.addition past
-    && (is_permitted (denial_under past.addition.terms.rules claim.signing.blob chain claim.signing.message wall)
+    && (is_permitted (denial_under past.addition.terms.rules claim.signing.blob
+    chain claim.signing.message wall)
     && (nat_lt (length asks) 256 && not locked))
 
 -- the claim, where it is met at this moment
 abbrev pub met_by : Option Claim → Option ℕ → Moment → List Stamped → Option Claim
 met_by None life moment past = None
 met_by (Some claim) life moment past =
-    if is_met (held_by (last_addition claim.signing.blob past) life moment.mono) claim (proved_of claim.port past)
+    if is_met (held_by (last_addition claim.signing.blob past) life moment.mono) claim
+    (proved_of claim.port past)
     moment.wall (open_asks past) (was_locked past)
     then Some claim else None
 
--- the signature that is to be put to the helper directly behind the newest action, if any, where additions without a
--- lifetime live for so long
+-- the signature that is to be put to the helper directly behind the newest action, if any, where
+-- additions without a lifetime live for so long
 abbrev pub due_signing : Option ℕ → List Stamped → Option Claim
 due_signing life [] = None
 due_signing life (one ∷ before) = met_by (claim_of one.action before) life one.moment (one ∷ before)

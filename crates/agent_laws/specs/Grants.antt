@@ -1,4 +1,5 @@
--- What the actions so far tell of a confirmation, without a state, and why a signature is put to the helper (ours).
+-- What the actions so far tell of a confirmation, without a state, and why a signature is put to
+-- the helper (ours).
 use Rattle.std.specs.Prelude.{◌≡◌, ℕ, List, [], ◌∷◌, Option, Some, None, Ok, false, ◌==◌, if◌then◌else◌}
 use Rattle.std.specs.List.{sum_by}
 use Rattle.std.specs.Option.{option_map}
@@ -13,7 +14,8 @@ use Rattle.agent_model.specs.State.{Port, State, find_port}
 
 -- ---- what is waited for
 
--- what an action leaves of the confirmation of this job: what was raised, until the user agrees or it ends otherwise
+-- what an action leaves of the confirmation of this job: what was raised, until the user agrees or
+-- it ends otherwise
 abbrev pub pending_by : ℕ → Action → Option Raising → Option Raising
 pending_by job (Requested requesting) before = before
 pending_by job (Asked asking) before = before
@@ -53,7 +55,8 @@ wanted raising = record {
 
 -- as it waits
 abbrev pub wanted_of : Confirmation → Wanted
-wanted_of one = record { port = one.asker; addition = one.addition; message = one.message; flags = one.flags }
+wanted_of one =
+    record { port = one.asker; addition = one.addition; message = one.message; flags = one.flags }
 
 -- that of this job
 abbrev pub noted : ℕ → List Confirmation → Option Wanted
@@ -99,9 +102,18 @@ pub record HaveOwnParts (table : TableState) : Type 0 where
 
 -- ---- why a signature is put to the helper
 
--- an ask for this signature follows, in an event with these actions that came in this state: the client asked for it
--- in this very event, with a key that doesn't ask for confirmation; or the user agreed in this event to what the client
--- asked for under a job that was waited for until then, and that very addition may be used by now
-pub data IsPut (asking : Asking) (signing : Signing) (waiting : ℕ → Option Raising) (state : State) (actions : List Action) : Type 0 where
-  at_once : (requesting : Requesting) (key : HeldKey) → IsAmong (Requested requesting) actions → requesting.port ≡ asking.port → agent_request_of requesting.body ≡ Ok (Sign signing) → find_identity signing.blob state.held.table.identities ≡ Some key → key.confirm ≡ false → IsPut asking signing waiting state actions
-  by_consent : (job : ℕ) (raising : Raising) (key : HeldKey) (port : Port) → IsAmong (Granted job) actions → waiting job ≡ Some raising → raising.port ≡ asking.port → raising.signing ≡ signing → find_port asking.port state.ports ≡ Some port → IsGrantable key port.chain raising.addition signing.message state.moment.wall state.held → IsPut asking signing waiting state actions
+-- an ask for this signature follows, in an event with these actions that came in this state: the
+-- client asked for it in this very event, with a key that doesn't ask for confirmation; or the user
+-- agreed in this event to what the client asked for under a job that was waited for until then, and
+-- that very addition may be used by now
+pub data IsPut (asking : Asking) (signing : Signing) (waiting : ℕ → Option Raising) (state : State)
+    (actions : List Action) : Type 0 where
+  at_once : (requesting : Requesting) (key : HeldKey) → IsAmong (Requested requesting) actions
+      → requesting.port ≡ asking.port → agent_request_of requesting.body ≡ Ok (Sign signing)
+      → find_identity signing.blob state.held.table.identities ≡ Some key → key.confirm ≡ false
+      → IsPut asking signing waiting state actions
+  by_consent : (job : ℕ) (raising : Raising) (key : HeldKey) (port : Port)
+      → IsAmong (Granted job) actions → waiting job ≡ Some raising → raising.port ≡ asking.port
+      → raising.signing ≡ signing → find_port asking.port state.ports ≡ Some port
+      → IsGrantable key port.chain raising.addition signing.message state.moment.wall state.held
+      → IsPut asking signing waiting state actions

@@ -16,7 +16,8 @@ use Rattle.agent_laws.specs.Dues.{Claim, due_signing, raised_at}
 
 -- a signature is put where it is due, and a verification where no signature is
 abbrev pub IsDue : Purpose → ℕ → Option Claim → Type 0
-IsDue (ForSignature signing) port due = IsSomeAnd due (λ claim. (claim.port ≡ port) × (claim.signing ≡ signing))
+IsDue (ForSignature signing) port due =
+    IsSomeAnd due (λ claim. (claim.port ≡ port) × (claim.signing ≡ signing))
 IsDue (ForBinding binding) port due = due ≡ None
 
 -- the action stands where this is due: nothing else comes between
@@ -30,11 +31,39 @@ StandsAt (Granted job) due = due ≡ None
 StandsAt (Over job) due = due ≡ None
 StandsAt Lost due = due ≡ None
 
--- each of these actions, the oldest first, stands where it may behind those of the past, the newest first, and nothing is
--- due behind the last
+-- each of these actions, the oldest first, stands where it may behind those of the past, the newest
+-- first, and nothing is due behind the last
 abbrev pub IsLawful : Option ℕ → List Stamped → List Stamped → Type 0
 IsLawful life past [] = due_signing life past ≡ None
-IsLawful life past (one ∷ later) = StandsAt one.action (due_signing life past) × IsLawful life (one ∷ past) later
+IsLawful life past (one ∷ later) =
+    StandsAt one.action (due_signing life past) × IsLawful life (one ∷ past) later
+
+-- ---- the same of the signatures that are put alone
+
+-- a signature is put where it is due
+abbrev pub IsPutWhereDue : Purpose → ℕ → Option Claim → Type 0
+IsPutWhereDue (ForSignature signing) port due =
+    IsSomeAnd due (λ claim. (claim.port ≡ port) × (claim.signing ≡ signing))
+IsPutWhereDue (ForBinding binding) port due = Unit {0}
+
+-- the same of any action
+abbrev pub StandsWhereDue : Action → Option Claim → Type 0
+StandsWhereDue (Requested requesting) due = Unit {0}
+StandsWhereDue (Asked asking) due = IsPutWhereDue asking.purpose asking.port due
+StandsWhereDue (Answered settled) due = Unit {0}
+StandsWhereDue (Proved proving) due = Unit {0}
+StandsWhereDue (Raised raising) due = Unit {0}
+StandsWhereDue (Granted job) due = Unit {0}
+StandsWhereDue (Over job) due = Unit {0}
+StandsWhereDue Lost due = Unit {0}
+
+-- of each of these, the oldest first, behind those of the past, the newest first
+abbrev pub ArePutWhereDue : Option ℕ → List Stamped → List Stamped → Type 0
+ArePutWhereDue life past [] = Unit {0}
+ArePutWhereDue life past (one ∷ later) =
+    StandsWhereDue one.action (due_signing life past) × ArePutWhereDue life (one ∷ past) later
+
+-- ---- the past
 
 -- these actions behind the past: the newest stands first
 abbrev pub onto : List Stamped → List Stamped → List Stamped
@@ -49,7 +78,8 @@ pub record HasNumbers (state : State) : Type 0 where
 -- ---- a signature that is put to the helper
 
 -- behind these actions a signature is put to the helper for the client of a port
-pub record IsPutBehind (before : List Stamped) (port : ℕ) (signing : Signing) (life : Option ℕ) (events : List Timed) : Type 0 where
+pub record IsPutBehind (before : List Stamped) (port : ℕ) (signing : Signing) (life : Option ℕ)
+    (events : List Timed) : Type 0 where
   pub one : Stamped
   pub later : List Stamped
   pub asking : Asking
@@ -67,14 +97,15 @@ NoneUnlocks (one ∷ later) = (done_of one.action ≢ DidUnlock) × NoneUnlocks 
 abbrev pub NoneAdds : List ℕ → List Stamped → Type 0
 NoneAdds blob [] = Unit {0}
 NoneAdds blob (one ∷ later) =
-    ((addition : Addition) → done_of one.action ≡ DidAdd addition → addition.key.blob ≢ blob) × NoneAdds blob later
+    ((addition : Addition) → done_of one.action ≡ DidAdd addition → addition.key.blob ≢ blob)
+    × NoneAdds blob later
 
 -- the action removed the key of this blob, or all
 abbrev pub Removes : List ℕ → Action → Type 0
 Removes blob action = (done_of action ≡ DidRemove blob) ⊎ (done_of action ≡ DidRemoveAll)
 
--- the newest action is the user's consent to this signature, for this port and under the addition of this number, which
--- was asked for before and was not over
+-- the newest action is the user's consent to this signature, for this port and under the addition
+-- of this number, which was asked for before and was not over
 pub record IsConsented (past : List Stamped) (port number : ℕ) (signing : Signing) : Type 0 where
   pub job : ℕ
   pub moment : Moment
@@ -86,8 +117,10 @@ pub record IsConsented (past : List Stamped) (port number : ℕ) (signing : Sign
   pub addition : raising.addition ≡ number
   pub what : raising.signing ≡ signing
 
--- the message is a login to the session of the one binding, and the constraint's hop is its host at this second
-pub record IsLoginTo (rule : Constraint) (chain : List Binding) (signing : Signing) (wall : ℕ) : Type 0 where
+-- the message is a login to the session of the one binding, and the constraint's hop is its host at
+-- this second
+pub record IsLoginTo (rule : Constraint) (chain : List Binding) (signing : Signing) (wall : ℕ)
+    : Type 0 where
   pub binding : Binding
   pub only : chain ≡ binding ∷ []
   pub login : Login

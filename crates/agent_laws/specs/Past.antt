@@ -1,5 +1,5 @@
--- What the actions so far tell of the lock and of the keys, without a state: searches in the past, the newest action
--- first (ours).
+-- What the actions so far tell of the lock and of the keys, without a state: searches in the past,
+-- the newest action first (ours).
 use Rattle.std.specs.Prelude.{ℕ, ◌+◌, Bool, true, false, List, [], ◌∷◌, Option, Some, None, Result, Ok, Err, if◌then◌else◌}
 use Rattle.std.specs.Str.{bytes_eq}
 use Rattle.agent_msg.specs.declared.fault.MsgFault.{MsgFault}
@@ -49,7 +49,8 @@ done_of_request (Ok (Unsupported number)) verdict = DidNothing
 
 -- what an action did to what is held
 abbrev pub done_of : Action → Done
-done_of (Requested requesting) = done_of_request (agent_request_of requesting.body) requesting.verdict
+done_of (Requested requesting) =
+    done_of_request (agent_request_of requesting.body) requesting.verdict
 done_of (Asked asking) = DidNothing
 done_of (Answered settled) = DidNothing
 done_of (Proved proving) = DidNothing
@@ -112,7 +113,8 @@ added_by DidUnlock blob second number before = before
 abbrev pub last_addition : List ℕ → List Stamped → Option PastAddition
 last_addition blob [] = None
 last_addition blob (one ∷ before) =
-    added_by (done_of one.action) blob one.moment.mono (addition_count before + 1) (last_addition blob before)
+    added_by (done_of one.action) blob one.moment.mono (addition_count before + 1)
+    (last_addition blob before)
 
 -- its lifetime has not run out at this second, where additions without one live for so long
 abbrev pub is_alive : Option ℕ → ℕ → PastAddition → Bool

@@ -18,7 +18,8 @@ use Rattle.agent_laws.specs.Past.{PastAddition, held_by, last_addition}
 abbrev pub at : ℕ → Action → Stamped
 at second action = record { moment = moment_at second; action = action }
 
--- the client of port 1 sent this message, and got this; it was answered SSH_AGENT_SUCCESS, or refused
+-- the client of port 1 sent this message, and got this; it was answered SSH_AGENT_SUCCESS, or
+-- refused
 abbrev pub got : Verdict → List ℕ → Action
 got verdict frame = Requested (record { port = 1; body = drop 4 frame; verdict = verdict })
 
@@ -49,15 +50,18 @@ abbrev pub proved : ℕ → ℕ → Stamped
 proved port session = at 0 (Proved (record { port = port; binding = host session }))
 
 abbrev pub raised : ℕ → ℕ → Stamped
-raised job number = at 0 (Raised (record { job = job; port = 1; addition = number; signing = signing 17 }))
+raised job number =
+    at 0 (Raised (record { job = job; port = 1; addition = number; signing = signing 17 }))
 
 -- the number of the addition that is held at a second
 abbrev pub number_at : ℕ → ℕ → List Stamped → Option ℕ
-number_at second tag past = option_map (λ (one : PastAddition). one.number) (held_by (last_addition (blob tag) past) None second)
+number_at second tag past = option_map (λ (one : PastAddition). one.number)
+    (held_by (last_addition (blob tag) past) None second)
 
 -- the past behind events at second 0, from the first state on
 abbrev pub past_of : List Happening → List Stamped
-past_of events = onto [] (history (first_state None) (map (λ event. let one : Timed = record { moment = moment_at 0; event = event } in one) events))
+past_of events = onto [] (history (first_state None)
+    (map (λ event. let one : Timed = record { moment = moment_at 0; event = event } in one) events))
 
 -- the claim of a request of port 1, and of a consent
 abbrev pub claim : ℕ → Option ℕ → Claim

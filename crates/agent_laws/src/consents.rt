@@ -1,4 +1,5 @@
-//! Laws of the user's consent over all events: each signature with a key that asks for confirmation has one of its own.
+//! Laws of the user's consent over all events: each signature with a key that asks for confirmation
+//! has one of its own.
 
 ghost use Rattle.std.specs.Prelude.{◌≡◌, ◌≤◌, ℕ, List, Option, None, Some, IsSome};
 ghost use Rattle.std.specs.Option.{option_map};
@@ -14,21 +15,23 @@ ghost use Rattle.agent_model.specs.Runs.{run};
 ghost use Rattle.agent_model.specs.State.{State, first_state};
 ghost use Rattle.agent_model.specs.Step.{at_moment, step};
 
-/// Over all events: each signature that is put to the helper was asked for in that very event, with a key that asks for
-/// no confirmation; or the user agreed in that event to this very request of this very client, of an addition that may
-/// be used by then. A confirmation is raised at most once under its job, and ends at most once: after it was granted, or
-/// ended otherwise, it is never granted again. What waits is what the actions so far tell.
+/// Over all events: each signature that is put to the helper was asked for in that very event, with
+/// a key that asks for no confirmation; or the user agreed in that event to this very request of
+/// this very client, of an addition that may be used by then. A confirmation is raised at most once
+/// under its job, and ends at most once: after it was granted, or ended otherwise, it is never
+/// granted again. What waits is what the actions so far tell.
 pub fn a_signature_has_a_consent_of_its_own()
-    ensures put { (life : Option ℕ) (events : List Timed) (moment : Moment) (event : Happening) (asking : Asking)
-        (signing : Signing) → asking.purpose ≡ ForSignature signing
+    ensures put { (life : Option ℕ) (events : List Timed) (moment : Moment) (event : Happening)
+        (asking : Asking) (signing : Signing) → asking.purpose ≡ ForSignature signing
         → IsAmong (Asked asking) (step (run (first_state life) events) moment event).actions
-        → IsPut asking signing (pending (actions_of (first_state life) events))
-        (at_moment moment (run (first_state life) events)) (step (run (first_state life) events) moment event).actions }
-    ensures granted { (life : Option ℕ) (events : List Timed) (moment : Moment) (event : Happening) (job : ℕ)
-        → IsAmong (Granted job) (step (run (first_state life) events) moment event).actions
-        → IsSome (pending (actions_of (first_state life) events) job) }
-    ensures over { (life : Option ℕ) (events : List Timed) (moment : Moment) (event : Happening) (job : ℕ)
-        → IsAmong (Over job) (step (run (first_state life) events) moment event).actions
+        → IsPut asking signing (pending (actions_of (first_state life) events)) (at_moment moment
+        (run (first_state life) events)) (step (run (first_state life) events) moment
+        event).actions }
+    ensures granted { (life : Option ℕ) (events : List Timed) (moment : Moment) (event : Happening)
+        (job : ℕ) → IsAmong (Granted job) (step (run (first_state life) events) moment
+        event).actions → IsSome (pending (actions_of (first_state life) events) job) }
+    ensures over { (life : Option ℕ) (events : List Timed) (moment : Moment) (event : Happening)
+        (job : ℕ) → IsAmong (Over job) (step (run (first_state life) events) moment event).actions
         → IsSome (pending (actions_of (first_state life) events) job) }
     ensures ended { (life : Option ℕ) (events : List Timed) (job : ℕ)
         → times_ended job (actions_of (first_state life) events) ≤ 1 }
@@ -39,8 +42,9 @@ pub fn a_signature_has_a_consent_of_its_own()
         ≡ option_map wanted (pending (actions_of (first_state life) events) job) }
 {}
 
-/// Over all events: no two identities have one number or one blob, and an addition that was replaced, removed or has run
-/// out is never found by its number again; so no consent that was asked for before leads to an ask.
+/// Over all events: no two identities have one number or one blob, and an addition that was
+/// replaced, removed or has run out is never found by its number again; so no consent that was
+/// asked for before leads to an ask.
 pub fn an_addition_that_left_is_never_used()
     ensures own { (life : Option ℕ) (events : List Timed)
         → HaveOwnParts (run (first_state life) events).held.table }
@@ -48,8 +52,9 @@ pub fn an_addition_that_left_is_never_used()
         → HaveOwnParts state.held.table → number ≤ state.held.table.last
         → find_number number (run state events).held.table.identities ≡ Some key
         → find_number number state.held.table.identities ≡ Some key }
-    ensures gone { (state : State) (events : List Timed) (number : ℕ) → HaveOwnParts state.held.table
-        → number ≤ state.held.table.last → find_number number state.held.table.identities ≡ None
+    ensures gone { (state : State) (events : List Timed) (number : ℕ)
+        → HaveOwnParts state.held.table → number ≤ state.held.table.last
+        → find_number number state.held.table.identities ≡ None
         → find_number number (run state events).held.table.identities ≡ None }
     ensures given { (life : Option ℕ) (events : List Timed) (job : ℕ) (raising : Raising)
         → pending (actions_of (first_state life) events) job ≡ Some raising

@@ -5,17 +5,21 @@ ghost use Rattle.agent_model.specs.Events.{Timed};
 ghost use Rattle.agent_model.specs.Runs as runs;
 ghost use Rattle.agent_model.specs.State.{first_state};
 ghost use Rattle.agent_laws.specs.Answered.{IsAnswered};
-ghost use Rattle.agent_laws.specs.History.{HasNumbers, IsLawful};
+ghost use Rattle.agent_laws.specs.History.{ArePutWhereDue, HasNumbers, IsLawful};
 
-/// Whatever happened, and while the numbers of asks and jobs are not spent: a signature is put to the helper directly
-/// behind a request or a consent exactly where what was done before says so, and nowhere else. It says so where, by the
-/// locks and unlocks that succeeded, the agent isn't locked; by the additions and removals that succeeded and by its
-/// lifetime, the key is held; its destination constraints permit the signature for the bindings that were proved on that
-/// connection; fewer than 256 asks are open; and either the key asks for no confirmation, or the user consented to this
-/// very request and addition.
+/// Whatever happened, a signature is put to the helper directly behind a request or a consent only
+/// where what was done before says so; and while the numbers of asks and jobs are not spent exactly
+/// there, and nowhere else. It says so where, by the locks and unlocks that succeeded, the agent isn't
+/// locked; by the additions and removals that succeeded and by its lifetime, the key is held; its
+/// destination constraints permit the signature for the bindings that were proved on that
+/// connection; fewer than 256 asks are open; and either the key asks for no confirmation, or the
+/// user consented to this very request and addition.
 pub fn history()
-    ensures lawful { (life : Option ℕ) (events : List Timed) → HasNumbers (runs.run (first_state life) events)
+    ensures lawful { (life : Option ℕ) (events : List Timed)
+        → HasNumbers (runs.run (first_state life) events)
         → IsLawful life [] (runs.history (first_state life) events) }
+    ensures only { (life : Option ℕ) (events : List Timed)
+        → ArePutWhereDue life [] (runs.history (first_state life) events) }
 {}
 
 /// Whatever happened, and while its port stays: a client that waits for an ask is owed nothing, and goes on waiting until

@@ -14,7 +14,8 @@ pub fn the_past_tells_of_keys()
     ensures locked { was_locked (did (lock (codes "pw")) ∷ []) ≡ true }
     ensures not_locked { was_locked (failed_to (lock (codes "pw")) ∷ []) ≡ false }
     ensures opened { was_locked (did (unlock (codes "pw")) ∷ did (lock (codes "pw")) ∷ []) ≡ false }
-    ensures not_opened { was_locked (failed_to (unlock (codes "no")) ∷ did (lock (codes "pw")) ∷ []) ≡ true }
+    ensures not_opened { was_locked (failed_to (unlock (codes "no")) ∷ did (lock (codes "pw")) ∷ [])
+        ≡ true }
     ensures count { addition_count (did (add 18) ∷ failed_to (add 17) ∷ did (add 17) ∷ []) ≡ 2 }
     ensures added { number_at 0 17 (did (add 17) ∷ []) ≡ Some 1 }
     ensures refused { number_at 0 17 (failed_to (add 17) ∷ []) ≡ None }
@@ -40,25 +41,31 @@ pub fn the_past_tells_of_what_is_open()
     ensures none_raised { raised_at 1 (raised 2 5 ∷ []) ≡ None }
     ensures over { raised_at 1 (at 0 (Over 1) ∷ raised 1 5 ∷ []) ≡ None }
     ensures granted { raised_at 1 (at 0 (Granted 1) ∷ raised 1 5 ∷ []) ≡ None }
-    ensures other_over { raised_at 2 (at 0 (Over 1) ∷ raised 2 5 ∷ []) ≡ raised_at 2 (raised 2 5 ∷ []) }
+    ensures other_over { raised_at 2 (at 0 (Over 1) ∷ raised 2 5 ∷ [])
+        ≡ raised_at 2 (raised 2 5 ∷ []) }
 {}
 
 /// Which signature is due, behind a request and behind a consent.
 pub fn what_is_due_is_what_was_asked()
-    ensures due { due_signing None (waits_for (sign 17) ∷ did (add 17) ∷ []) ≡ Some (claim 17 None) }
+    ensures due { due_signing None (waits_for (sign 17) ∷ did (add 17) ∷ [])
+        ≡ Some (claim 17 None) }
     ensures put { due_signing None (asked 1 ∷ waits_for (sign 17) ∷ did (add 17) ∷ []) ≡ None }
     ensures never { due_signing None (waits_for (sign 18) ∷ did (add 17) ∷ []) ≡ None }
-    ensures locked { due_signing None (waits_for (sign 17) ∷ did (lock (codes "pw")) ∷ did (add 17) ∷ []) ≡ None }
-    ensures removed { due_signing None (waits_for (sign 17) ∷ did (remove 17) ∷ did (add 17) ∷ []) ≡ None }
+    ensures locked { due_signing None (waits_for (sign 17) ∷ did (lock (codes "pw")) ∷ did (add 17)
+        ∷ []) ≡ None }
+    ensures removed { due_signing None (waits_for (sign 17) ∷ did (remove 17) ∷ did (add 17) ∷ [])
+        ≡ None }
     ensures unconfirmed { due_signing None (waits_for (sign 17) ∷ did (add_asking 17) ∷ []) ≡ None }
     ensures consented { due_signing None (at 0 (Granted 1) ∷ raised 1 1 ∷ did (add_asking 17) ∷ [])
         ≡ Some (claim 17 (Some 1)) }
-    ensures replaced { due_signing None (at 0 (Granted 1) ∷ did (add_asking 17) ∷ raised 1 1 ∷ did (add_asking 17) ∷ [])
-        ≡ None }
-    ensures over { due_signing None (at 0 (Granted 1) ∷ at 0 (Over 1) ∷ raised 1 1 ∷ did (add_asking 17) ∷ []) ≡ None }
-    ensures twice { due_signing None (at 0 (Granted 1) ∷ at 0 (Granted 1) ∷ raised 1 1 ∷ did (add_asking 17) ∷ [])
-        ≡ None }
+    ensures replaced { due_signing None (at 0 (Granted 1) ∷ did (add_asking 17) ∷ raised 1 1
+        ∷ did (add_asking 17) ∷ []) ≡ None }
+    ensures over { due_signing None (at 0 (Granted 1) ∷ at 0 (Over 1) ∷ raised 1 1
+        ∷ did (add_asking 17) ∷ []) ≡ None }
+    ensures twice { due_signing None (at 0 (Granted 1) ∷ at 0 (Granted 1) ∷ raised 1 1
+        ∷ did (add_asking 17) ∷ []) ≡ None }
     ensures locked_since { due_signing None (at 0 (Granted 1) ∷ did (lock (codes "pw")) ∷ raised 1 1
         ∷ did (add_asking 17) ∷ []) ≡ None }
-    ensures died_since { due_signing None (at 10 (Granted 1) ∷ raised 1 1 ∷ did (add_for_ten 17) ∷ []) ≡ None }
+    ensures died_since { due_signing None (at 10 (Granted 1) ∷ raised 1 1 ∷ did (add_for_ten 17)
+        ∷ []) ≡ None }
 {}

@@ -1,8 +1,6 @@
 -- A signature is put to the helper exactly where it may be, and is refused exactly for its cause.
 use Rattle.std.proofs.Common.{◌≡◌, ◌≢◌, ℕ, ◌+◌, ◌-◌, ◌^◌, ◌<◌, List, length, not, nat_lt, refl, ap, arith, sym, subst, ◌∙◌, ◌==◌, if◌then◌else◌, Option, Some, None, IsSome, Bool, true, false, Ok, inl, inr, ◌↔◌}
 use Rattle.std.proofs.lemmas.Bool.Decides.{nat_tests}
-use Rattle.helper_link.specs.declared.state.LinkState.{LinkState}
-use Rattle.helper_link.specs.declared.state.LinkState.TheVariants as states
 use Rattle.identity_table.specs.Identities.{HeldKey, find_identity}
 use Rattle.agent_msg.specs.Requests.{Sign, Signing}
 use Rattle.agent_model.specs.Actions.{Work, settles}
@@ -10,11 +8,12 @@ use Rattle.agent_model.specs.Askable.{HasConfirmationRoom, HasRoom, IsJudgedAs, 
 use Rattle.dest_rule.specs.Rules.{denial_under}
 use Rattle.dest_rule.specs.declared.denial.Denial.{Denial}
 use Rattle.agent_model.specs.Dispatch.{Asker, serve, serve_by, sign_by, sign_unless, sign_with}
-use Rattle.agent_model.specs.Errands.{Signs, ask_fault, ask_fault_by, helper_fault, put_unless, raise_fault, raise_fault_by, raise_unless}
+use Rattle.agent_model.specs.Errands.{Signs, ask_fault, put_unless, raise_fault, raise_fault_by, raise_unless}
 use Rattle.agent_model.specs.KeyStates.{KeyState}
-use Rattle.agent_model.specs.Limits.{last_number, most_asks, most_confirmations}
+use Rattle.agent_model.specs.Limits.{last_number, most_confirmations}
 use Rattle.agent_model.specs.State.{OnAsk, OnConfirmation, UnderWay}
 use Rattle.agent_model.specs.Verdicts.{AsksSpent, Awaits, Cause, DestinationDenied, JobsSpent, Locked, NotHeld, Refuses, TooManyAsks, TooManyConfirmations}
+use Rattle.agent_model.proofs.RoomLemmas.{RoomFor, free, full, no_ask, no_job, room-free, room-full, room-no_ask, room-no_job, room-of}
 
 -- what comes of a signature, and why
 pub data Comes (signing : Signing) (asker : Asker) (held : KeyState) (under_way : UnderWay) : Work → Type 0 where
@@ -33,23 +32,15 @@ module _ (signing : Signing) (asker : Asker) (held : KeyState) (under_way : Unde
     comes-raise false is = comes-raised (under_way.last_job == last_number) refl (grind (arith, nat_tests))
 
   module _ (usable : IsUsable signing false asker held) where
-    comes-job : (spent : Bool) → (under_way.last_job == last_number) ≡ spent → length under_way.link.asks < 256 → under_way.link.last ≢ 2 ^ 64 - 1 → under_way.link.state ≡ states.None → Comes signing asker held under_way (put_unless (if spent then Some JobsSpent else None) (Signs usable.permitted.key signing) asker.port under_way)
-    comes-job true is few numbers none = refused JobsSpent (inl (usable, few, numbers, none, grind (arith, nat_tests)))
-    comes-job false is few numbers none = put usable record { few = few; numbers = numbers; jobs = λ state spent. grind (arith, nat_tests) }
-
-    comes-helper : (link : LinkState) → under_way.link.state ≡ link → length under_way.link.asks < 256 → under_way.link.last ≢ 2 ^ 64 - 1 → Comes signing asker held under_way (put_unless (helper_fault link under_way.last_job) (Signs usable.permitted.key signing) asker.port under_way)
-    comes-helper states.None is few numbers = comes-job (under_way.last_job == last_number) refl few numbers is
-    comes-helper (states.Starting job) is few numbers = put usable record { few = few; numbers = numbers; jobs = λ none. absurd (cc) }
-    comes-helper (states.Linked port) is few numbers = put usable record { few = few; numbers = numbers; jobs = λ none. absurd (cc) }
-
-    comes-put : (full spent : Bool) → not (nat_lt (length under_way.link.asks) most_asks) ≡ full → (under_way.link.last == last_number) ≡ spent → Comes signing asker held under_way (put_unless (ask_fault_by full spent under_way) (Signs usable.permitted.key signing) asker.port under_way)
-    comes-put true spent is_full is_spent = refused TooManyAsks (usable, grind (arith, nat_tests))
-    comes-put false true is_full is_spent = refused AsksSpent (usable, grind (arith, nat_tests), grind (arith, nat_tests))
-    comes-put false false is_full is_spent = comes-helper under_way.link.state refl (grind (arith, nat_tests)) (λ is. grind (arith, nat_tests))
+    comes-put : {fault : Option Cause} → RoomFor under_way fault → Comes signing asker held under_way (put_unless fault (Signs usable.permitted.key signing) asker.port under_way)
+    comes-put (free room) = put usable room
+    comes-put (full more) = refused TooManyAsks (usable, more)
+    comes-put (no_ask few last) = refused AsksSpent (usable, few, last)
+    comes-put (no_job few numbers none jobs) = refused JobsSpent (inl (usable, few, numbers, none, jobs))
 
   comes-with : (confirm : Bool) (permitted : IsJudgedAs None signing asker held) → permitted.key.confirm ≡ confirm → Comes signing asker held under_way (sign_with confirm asker permitted.key signing under_way)
   comes-with true permitted is = comes-raise record { permitted = permitted; confirm = is } _ refl
-  comes-with false permitted is = comes-put record { permitted = permitted; confirm = is } _ _ refl refl
+  comes-with false permitted is = comes-put record { permitted = permitted; confirm = is } (room-of under_way)
 
   comes-unless : (denial : Option Denial) (key : HeldKey) → held.lock ≡ None → find_identity signing.blob held.table.identities ≡ Some key → denial_under key.rules signing.blob asker.chain signing.message asker.wall ≡ denial → Comes signing asker held under_way (sign_unless denial asker key signing under_way)
   comes-unless (Some denial) key unlocked found is =
@@ -102,20 +93,9 @@ module _ (signing : Signing) (asker : Asker) (held : KeyState) (under_way : Unde
       ∙ ap (λ confirm. sign_with confirm asker usable.permitted.key signing under_way) usable.confirm
       ∙ ap (λ f. put_unless f (Signs usable.permitted.key signing) asker.port under_way) is
 
-  fault_of : (full spent : Bool) → not (nat_lt (length under_way.link.asks) most_asks) ≡ full → (under_way.link.last == last_number) ≡ spent → ask_fault under_way ≡ ask_fault_by full spent under_way
-  fault_of full spent is_full is_spent = ap (λ b. ask_fault_by b (under_way.link.last == last_number) under_way) is_full ∙ ap (λ b. ask_fault_by full b under_way) is_spent
-
   -- what may be put is
   pub put-usable : (usable : IsUsable signing false asker held) → HasRoom under_way → (serve (Ok (Sign signing)) asker held under_way).work ≡ put_unless None (Signs usable.permitted.key signing) asker.port under_way
-  put-usable usable room = usable-put None usable (fault_of false false (grind (arith, nat_tests, room.few)) (grind (arith, nat_tests, room.numbers)) ∙ by_link under_way.link.state refl)
-    where
-      by_link : (link : LinkState) → under_way.link.state ≡ link → helper_fault link under_way.last_job ≡ None
-      by_link states.None is =
-          let apart : under_way.last_job ≢ 2 ^ 64 - 1 = room.jobs is in
-          let unspent : (under_way.last_job == last_number) ≡ false = grind (arith, nat_tests) in
-          ap (λ b. if b then Some JobsSpent else None) unspent
-      by_link (states.Starting job) is = refl
-      by_link (states.Linked port) is = refl
+  put-usable usable room = usable-put None usable (room-free under_way room)
 
   -- the user is asked, unless something stands against it
   usable-raise : (fault : Option Cause) (usable : IsUsable signing true asker held) → raise_fault under_way ≡ fault → (serve (Ok (Sign signing)) asker held under_way).work ≡ raise_unless fault usable.permitted.key signing asker.port under_way
@@ -124,8 +104,8 @@ module _ (signing : Signing) (asker : Asker) (held : KeyState) (under_way : Unde
       ∙ ap (λ confirm. sign_with confirm asker usable.permitted.key signing under_way) usable.confirm
       ∙ ap (λ f. raise_unless f usable.permitted.key signing asker.port under_way) is
 
-  raise_fault_of : (full : Bool) → not (nat_lt (length under_way.confirmations) most_confirmations) ≡ full → raise_fault under_way ≡ raise_fault_by full under_way.last_job
-  raise_fault_of full is = ap (λ b. raise_fault_by b under_way.last_job) is
+  raise_fault_of : (most : Bool) → not (nat_lt (length under_way.confirmations) most_confirmations) ≡ most → raise_fault under_way ≡ raise_fault_by most under_way.last_job
+  raise_fault_of most is = ap (λ b. raise_fault_by b under_way.last_job) is
 
   -- what the user may be asked for is asked for
   pub raise-usable : (usable : IsUsable signing true asker held) → HasConfirmationRoom under_way → (serve (Ok (Sign signing)) asker held under_way).work ≡ raise_unless None usable.permitted.key signing asker.port under_way
@@ -144,12 +124,9 @@ module _ (signing : Signing) (asker : Asker) (held : KeyState) (under_way : Unde
       ap (λ lock. (serve_by lock (Sign signing) asker held under_way).work.verdict) why.0 ∙ ap (λ found. (sign_by found asker signing under_way).verdict) why.1
   because TooManyConfirmations why = ap (λ (w : Work). w.verdict) (usable-raise (Some TooManyConfirmations) why.0 (raise_fault_of true (grind (arith, nat_tests, why.1))))
   because (DestinationDenied denial) why = ap (λ (w : Work). w.verdict) (judged-work (Some denial) why)
-  because TooManyAsks why = ap (λ (w : Work). w.verdict) (usable-put (Some TooManyAsks) why.0 (fault_of true _ (grind (arith, nat_tests, why.1)) refl))
-  because AsksSpent why = ap (λ (w : Work). w.verdict) (usable-put (Some AsksSpent) why.0 (fault_of false true (grind (arith, nat_tests, why.1)) (grind (arith, nat_tests, why.2))))
-  because JobsSpent (inl why) =
-      let spent : (under_way.last_job == last_number) ≡ true = grind (arith, nat_tests, why.4) in
-      ap (λ (w : Work). w.verdict) (usable-put (Some JobsSpent) why.0 (fault_of false false (grind (arith, nat_tests, why.1)) (grind (arith, nat_tests, why.2))
-      ∙ ap (λ l. helper_fault l under_way.last_job) why.3 ∙ ap (λ b. if b then Some JobsSpent else None) spent))
+  because TooManyAsks why = ap (λ (w : Work). w.verdict) (usable-put (Some TooManyAsks) why.0 (room-full under_way why.1))
+  because AsksSpent why = ap (λ (w : Work). w.verdict) (usable-put (Some AsksSpent) why.0 (room-no_ask under_way why.1 why.2))
+  because JobsSpent (inl why) = ap (λ (w : Work). w.verdict) (usable-put (Some JobsSpent) why.0 (room-no_job under_way why.1 why.2 why.3 why.4))
   because JobsSpent (inr why) =
       let spent : (under_way.last_job == last_number) ≡ true = grind (arith, nat_tests, why.2) in
       ap (λ (w : Work). w.verdict) (usable-raise (Some JobsSpent) why.0 (raise_fault_of false (grind (arith, nat_tests, why.1)) ∙ ap (λ b. if b then Some JobsSpent else None) spent))

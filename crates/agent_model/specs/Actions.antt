@@ -29,14 +29,16 @@ pub record Proving : Type 0 where
   pub port : ℕ
   pub binding : Binding
 
--- a confirmation that the user was asked for: its job, who asked, the addition of the key, and what is to be signed
+-- a confirmation that the user was asked for: its job, who asked, the addition of the key, and what
+-- is to be signed
 pub record Raising : Type 0 where
   pub job : ℕ
   pub port : ℕ
   pub addition : ℕ
   pub signing : Signing
 
--- an action: `Granted` is the user's consent, `Over` another end of a confirmation, `Lost` the loss of the helper
+-- an action: `Granted` is the user's consent, `Over` another end of a confirmation, `Lost` the loss
+-- of the helper
 pub data Action : Type 0 where
   Requested : (requesting : Requesting) → Action
   Asked : (asking : Asking) → Action
@@ -47,8 +49,8 @@ pub data Action : Type 0 where
   Over : (job : ℕ) → Action
   Lost : Action
 
--- the state that something leaves, the actions, oldest first, the messages that were put to the helper, and the ports
--- that were closed
+-- the state that something leaves, the actions, oldest first, the messages that were put to the
+-- helper, and the ports that were closed
 pub record Outcome : Type 0 where
   pub state : State
   pub actions : List Action
@@ -80,7 +82,8 @@ and_then first next = behind first (next first.state)
 abbrev pub closing : ℕ → List Port → List ℕ → List ℕ
 closing number ports later = if is_some (find_port number ports) then number ∷ later else later
 
--- what the caller of the agent sees of an event: the state that it leaves, and the ports that it closed, rising
+-- what the caller of the agent sees of an event: the state that it leaves, and the ports that it
+-- closed, rising
 pub record Stepped : Type 0 where
   pub state : State
   pub closes : List ℕ
@@ -98,4 +101,5 @@ pub record Work : Type 0 where
 
 -- nothing more is under way, and the client is told this
 abbrev pub settles : Verdict → UnderWay → Work
-settles verdict under_way = record { under_way = under_way; verdict = verdict; actions = []; put = [] }
+settles verdict under_way =
+    record { under_way = under_way; verdict = verdict; actions = []; put = [] }

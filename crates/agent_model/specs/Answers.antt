@@ -71,14 +71,17 @@ answer_true None one before = answer_asker (Replies Success) one before
 answer_true (Some verification) one before = record {
   ports = change_port one.asker (prove verification) before.ports;
   verifications = remove_verification one.ask before.verifications;
-  actions = before.actions ++ Answered one ∷ proved_at (find_port one.asker before.ports) verification;
+  actions =
+      before.actions ++ Answered one ∷ proved_at (find_port one.asker before.ports) verification;
 }
 
 -- by what the helper says
 abbrev pub answer_by : Answer → Settled → Answering → Answering
-answer_by (answer.Signed signature) one before = answer_asker (Replies (Signature signature)) one before
+answer_by (answer.Signed signature) one before =
+    answer_asker (Replies (Signature signature)) one before
 answer_by answer.Refused one before = answer_asker (Refuses HelperRefused) one before
-answer_by answer.True one before = answer_true (find_verification one.ask before.verifications) one before
+answer_by answer.True one before =
+    answer_true (find_verification one.ask before.verifications) one before
 answer_by answer.False one before = answer_asker (Refuses SignatureWrong) one before
 
 -- answers, one after another
@@ -108,7 +111,8 @@ with_answers new_link answers state = record state {
 -- each of these clients is told
 abbrev pub tell_each : Verdict → List ℕ → List Port → List Port
 tell_each verdict [] ports = ports
-tell_each verdict (number ∷ others) ports = tell_each verdict others (change_port number (tell verdict) ports)
+tell_each verdict (number ∷ others) ports =
+    tell_each verdict others (change_port number (tell verdict) ports)
 
 -- without the helper's port
 abbrev pub close_helper : LinkState → List Port → List Port
@@ -145,7 +149,8 @@ lose_if (Some fault) state = lose state
 -- its answers count up to the first faulty frame
 abbrev pub helper_tells : Telling → State → Outcome
 helper_tells told state = and_then
-    (acted (answers_in told.settled state).actions (with_answers told.link (answers_in told.settled state) state))
+    (acted (answers_in told.settled state).actions (with_answers told.link
+    (answers_in told.settled state) state))
     (lose_if told.fault)
 
 -- the helper sent more

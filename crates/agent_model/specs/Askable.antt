@@ -1,5 +1,5 @@
--- Which requests for a signature are put to the helper or to the user, and why the others are refused; which grants
--- still hold (ours).
+-- Which requests for a signature are put to the helper or to the user, and why the others are
+-- refused; which grants still hold (ours).
 use Rattle.std.specs.Prelude.{◌≡◌, ◌≢◌, ◌⊎◌, ℕ, List, ◌-◌, ◌^◌, ◌<◌, ◌≤◌, length, Option, None, Some, IsSome, Bool, true, false}
 use Rattle.helper_link.specs.declared.state.LinkState.TheVariants as states
 use Rattle.identity_table.specs.Identities.{HeldKey, find_identity, find_number}
@@ -13,26 +13,30 @@ use Rattle.agent_model.specs.KeyStates.{KeyState}
 use Rattle.agent_model.specs.State.{UnderWay}
 use Rattle.agent_model.specs.Verdicts.{AsksSpent, Cause, DestinationDenied, JobsSpent, Locked, NoLongerAllowed, NotHeld, TooManyAsks, TooManyConfirmations}
 
--- the agent is unlocked and holds the key, whose destination constraints say this of the signature for this asker
-pub record IsJudgedAs (result : Option Denial) (signing : Signing) (asker : Asker) (held : KeyState) : Type 0 where
+-- the agent is unlocked and holds the key, whose destination constraints say this of the signature
+-- for this asker
+pub record IsJudgedAs (result : Option Denial) (signing : Signing) (asker : Asker) (held : KeyState)
+    : Type 0 where
   pub unlocked : held.lock ≡ None
   pub key : HeldKey
   pub found : find_identity signing.blob held.table.identities ≡ Some key
   pub judged : denial_under key.rules signing.blob asker.chain signing.message asker.wall ≡ result
 
 -- they permit it, and the user is to be asked or not
-pub record IsUsable (signing : Signing) (asks_user : Bool) (asker : Asker) (held : KeyState) : Type 0 where
+pub record IsUsable (signing : Signing) (asks_user : Bool) (asker : Asker) (held : KeyState) : Type
+    0 where
   pub permitted : IsJudgedAs None signing asker held
   pub confirm : permitted.key.confirm ≡ asks_user
 
--- one more ask may be put: fewer than 256 are unanswered, and neither the numbers of asks are spent nor, where no
--- helper is there or being started, those of jobs
+-- one more ask may be put: fewer than 256 are unanswered, and neither the numbers of asks are spent
+-- nor, where no helper is there or being started, those of jobs
 pub record HasRoom (under_way : UnderWay) : Type 0 where
   pub few : length under_way.link.asks < 256
   pub numbers : under_way.link.last ≢ 2 ^ 64 - 1
   pub jobs : under_way.link.state ≡ states.None → under_way.last_job ≢ 2 ^ 64 - 1
 
--- the user may be asked once more: fewer than 16 confirmations are waited for, and the numbers of jobs are not spent
+-- the user may be asked once more: fewer than 16 confirmations are waited for, and the numbers of
+-- jobs are not spent
 pub record HasConfirmationRoom (under_way : UnderWay) : Type 0 where
   pub few : length under_way.confirmations < 16
   pub jobs : under_way.last_job ≢ 2 ^ 64 - 1
@@ -42,29 +46,35 @@ abbrev pub IsRefusedFor : Cause → Signing → Asker → KeyState → UnderWay 
 IsRefusedFor Locked signing asker held under_way = IsSome held.lock
 IsRefusedFor NotHeld signing asker held under_way =
     (held.lock ≡ None) × (find_identity signing.blob held.table.identities ≡ None)
-IsRefusedFor (DestinationDenied denial) signing asker held under_way = IsJudgedAs (Some denial) signing asker held
+IsRefusedFor (DestinationDenied denial) signing asker held under_way =
+    IsJudgedAs (Some denial) signing asker held
 IsRefusedFor TooManyConfirmations signing asker held under_way =
     IsUsable signing true asker held × (16 ≤ length under_way.confirmations)
 IsRefusedFor TooManyAsks signing asker held under_way =
     IsUsable signing false asker held × (256 ≤ length under_way.link.asks)
 IsRefusedFor AsksSpent signing asker held under_way =
-    IsUsable signing false asker held × (length under_way.link.asks < 256) × (under_way.link.last ≡ 2 ^ 64 - 1)
+    IsUsable signing false asker held × (length under_way.link.asks < 256) × (under_way.link.last
+    ≡ 2 ^ 64 - 1)
 IsRefusedFor JobsSpent signing asker held under_way =
-    (IsUsable signing false asker held × (length under_way.link.asks < 256) × (under_way.link.last ≢ 2 ^ 64 - 1)
+    (IsUsable signing false asker held × (length under_way.link.asks < 256) × (under_way.link.last
+    ≢ 2 ^ 64 - 1)
     × (under_way.link.state ≡ states.None) × (under_way.last_job ≡ 2 ^ 64 - 1))
-    ⊎ (IsUsable signing true asker held × (length under_way.confirmations < 16) × (under_way.last_job ≡ 2 ^ 64 - 1))
+    ⊎ (IsUsable signing true asker held × (length under_way.confirmations < 16)
+    × (under_way.last_job ≡ 2 ^ 64 - 1))
 IsRefusedFor other signing asker held under_way = ⊥
 
 -- ---- the user's consent
 
--- the agent is unlocked, the addition of this number is held, as this key, and its destination constraints permit the
--- signature of the message for this chain at this second of the wall clock
-pub record IsGrantable (key : HeldKey) (chain : List Binding) (addition : ℕ) (message : List ℕ) (wall : ℕ) (held : KeyState) : Type 0 where
+-- the agent is unlocked, the addition of this number is held, as this key, and its destination
+-- constraints permit the signature of the message for this chain at this second of the wall clock
+pub record IsGrantable (key : HeldKey) (chain : List Binding) (addition : ℕ) (message : List ℕ)
+    (wall : ℕ) (held : KeyState) : Type 0 where
   pub unlocked : held.lock ≡ None
   pub found : find_number addition held.table.identities ≡ Some key
   pub permitted : denial_under key.rules key.blob chain message wall ≡ None
 
--- consent comes to nothing for this cause: no such key may be used, or one may, and its ask can't be put
+-- consent comes to nothing for this cause: no such key may be used, or one may, and its ask can't
+-- be put
 abbrev pub IsRefusedAtGrant : Cause → List Binding → Confirmation → ℕ → KeyState → UnderWay → Type 0
 IsRefusedAtGrant NoLongerAllowed chain confirmation wall held under_way =
     (key : HeldKey) → IsGrantable key chain confirmation.addition confirmation.message wall held → ⊥

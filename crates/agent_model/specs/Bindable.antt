@@ -24,8 +24,10 @@ IsBindRefusedFor (BindRefused fault) bind asker held under_way =
 IsBindRefusedFor TooManyAsks bind asker held under_way =
     IsBindable bind asker held × (256 ≤ length under_way.link.asks)
 IsBindRefusedFor AsksSpent bind asker held under_way =
-    IsBindable bind asker held × (length under_way.link.asks < 256) × (under_way.link.last ≡ 2 ^ 64 - 1)
+    IsBindable bind asker held × (length under_way.link.asks < 256) × (under_way.link.last
+    ≡ 2 ^ 64 - 1)
 IsBindRefusedFor JobsSpent bind asker held under_way =
-    IsBindable bind asker held × (length under_way.link.asks < 256) × (under_way.link.last ≢ 2 ^ 64 - 1)
+    IsBindable bind asker held × (length under_way.link.asks < 256) × (under_way.link.last
+    ≢ 2 ^ 64 - 1)
     × (under_way.link.state ≡ states.None) × (under_way.last_job ≡ 2 ^ 64 - 1)
 IsBindRefusedFor other bind asker held under_way = ⊥

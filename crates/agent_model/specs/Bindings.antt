@@ -1,4 +1,5 @@
--- The bindings of a connection by what was done: those whose signatures the helper found right (ours).
+-- The bindings of a connection by what was done: those whose signatures the helper found right
+-- (ours).
 use Rattle.std.specs.Prelude.{ℕ, List, [], ◌∷◌, Option, Some, None, is_some, ◌==◌, if◌then◌else◌}
 use Rattle.dest_rule.specs.Chains.{bound, find_session}
 use Rattle.dest_rule.specs.declared.binding.Binding.{Binding}
@@ -7,14 +8,16 @@ use Rattle.agent_model.specs.State.{Port, find_port}
 
 -- a chain with this binding at its end, unless it has one of that session
 abbrev pub bound_once : Binding → List Binding → List Binding
-bound_once binding chain = if is_some (find_session binding.session chain) then chain else bound binding chain
+bound_once binding chain =
+    if is_some (find_session binding.session chain) then chain else bound binding chain
 
 -- what an action makes of the bindings of the connection of this port
 abbrev pub bound_by : ℕ → Action → List Binding → List Binding
 bound_by number (Requested requesting) chain = chain
 bound_by number (Asked asking) chain = chain
 bound_by number (Answered one) chain = chain
-bound_by number (Proved proving) chain = if proving.port == number then bound_once proving.binding chain else chain
+bound_by number (Proved proving) chain =
+    if proving.port == number then bound_once proving.binding chain else chain
 bound_by number (Raised raising) chain = chain
 bound_by number (Granted job) chain = chain
 bound_by number (Over job) chain = chain

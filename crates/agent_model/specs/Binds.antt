@@ -1,4 +1,5 @@
--- What a client asks of the agent: the request that a body is, where the host key of a request to bind reads too (ours).
+-- What a client asks of the agent: the request that a body is, where the host key of a request to
+-- bind reads too (ours).
 use Rattle.std.specs.Prelude.{ℕ, List, Result, Ok, Err}
 use Rattle.key_blob.specs.PublicKeys.{KeyParts, public_key_of}
 use Rattle.key_blob.specs.declared.fault.KeyFault.{KeyFault}

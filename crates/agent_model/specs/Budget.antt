@@ -12,7 +12,8 @@ asking_bytes Children heard = 0
 -- those of a port, and one more where it is owed bytes
 abbrev pub port_budget : UnderWay → Port → ℕ
 port_budget under_way port =
-    asking_bytes port.door port.heard + (if is_some_bytes (owed_by_port port under_way) then 1 else 0)
+    asking_bytes port.door port.heard + (if is_some_bytes (owed_by_port port under_way) then 1
+    else 0)
 
 -- the same over all ports
 abbrev pub ports_budget : UnderWay → List Port → ℕ

@@ -68,9 +68,11 @@ lost event = with_event event two_wait
 abbrev pub private : ℕ → List ℕ
 private tag = blob tag ++ 0 ∷ 0 ∷ 0 ∷ 32 ∷ replicate 32 33
 
--- SIGN: the ask's number, the private string, the blob, the two bytes that are to be signed, and no flags
+-- SIGN: the ask's number, the private string, the blob, the two bytes that are to be signed, and no
+-- flags
 abbrev pub sign_frame : ℕ → ℕ → List ℕ
-sign_frame ask tag = 0 ∷ 0 ∷ 0 ∷ 191 ∷ 1 ∷ number ask ++ 0 ∷ 0 ∷ 0 ∷ 100 ∷ private tag ++ 0 ∷ 0 ∷ 0 ∷ 64 ∷ blob tag
+sign_frame ask tag =
+    0 ∷ 0 ∷ 0 ∷ 191 ∷ 1 ∷ number ask ++ 0 ∷ 0 ∷ 0 ∷ 100 ∷ private tag ++ 0 ∷ 0 ∷ 0 ∷ 64 ∷ blob tag
     ++ 0 ∷ 0 ∷ 0 ∷ 2 ∷ 1 ∷ 2 ∷ 0 ∷ 0 ∷ 0 ∷ 0 ∷ []
 
 -- SSH_AGENT_SIGN_RESPONSE with a signature of three bytes

@@ -28,7 +28,8 @@ job_left number state = record state {
   under_way = record state.under_way { to_start = remove_to_start number state.under_way.to_start };
 }
 
--- the job of a confirmation that is waited for; that of one that is over is named by no child process
+-- the job of a confirmation that is waited for; that of one that is over is named by no child
+-- process
 abbrev pub started_for : Option Confirmation → Job → List ℕ → List StartedJob
 started_for None job ticket = []
 started_for (Some confirmation) job ticket = record { job = job; ticket = ticket } ∷ []
@@ -36,7 +37,8 @@ started_for (Some confirmation) job ticket = record { job = job; ticket = ticket
 -- the job, to be named by its child process
 abbrev pub started_by : JobKind → Job → List ℕ → List Confirmation → List StartedJob
 started_by kinds.Helper job ticket confirmations = record { job = job; ticket = ticket } ∷ []
-started_by kinds.Confirm job ticket confirmations = started_for (find_job job.number confirmations) job ticket
+started_by kinds.Confirm job ticket confirmations =
+    started_for (find_job job.number confirmations) job ticket
 
 -- the job was started, if it was to be
 abbrev pub started_if : Option Job → List ℕ → List Confirmation → List StartedJob
@@ -49,7 +51,8 @@ job_started number ticket state = record state {
   under_way = record state.under_way {
     to_start = remove_to_start number state.under_way.to_start;
     started = state.under_way.started
-        ++ started_if (find_to_start number state.under_way.to_start) ticket state.under_way.confirmations;
+        ++ started_if (find_to_start number state.under_way.to_start) ticket
+        state.under_way.confirmations;
   };
 }
 
@@ -122,12 +125,14 @@ confirmer_goes_on (Some confirmation) rest state = confirmer_heard confirmation 
 
 -- the same in a state
 abbrev pub confirmer_hears : ℕ → List ℕ → State → Outcome
-confirmer_hears job rest state = confirmer_goes_on (find_job job state.under_way.confirmations) rest state
+confirmer_hears job rest state =
+    confirmer_goes_on (find_job job state.under_way.confirmations) rest state
 
 -- a child process named itself, and what it sent behind its name counts at once
 abbrev pub named_by : JobKind → ℕ → ℕ → List ℕ → State → Outcome
 named_by kinds.Helper job number rest state = helper_heard rest (helper_named job number state)
-named_by kinds.Confirm job number rest state = confirmer_hears job rest (confirmer_named job number state)
+named_by kinds.Confirm job number rest state =
+    confirmer_hears job rest (confirmer_named job number state)
 
 -- by whether the ticket is the job's own
 abbrev pub ticket_by : Bool → Job → ℕ → List ℕ → State → Outcome
@@ -137,7 +142,8 @@ ticket_by false job number rest state = shut number state
 -- by the started job that it names
 abbrev pub hello_by : Option StartedJob → List ℕ → ℕ → List ℕ → State → Outcome
 hello_by None ticket number rest state = shut number state
-hello_by (Some one) ticket number rest state = ticket_by (bytes_eq one.ticket ticket) one.job number rest state
+hello_by (Some one) ticket number rest state =
+    ticket_by (bytes_eq one.ticket ticket) one.job number rest state
 
 -- by its first message: all but HELLO is refused
 abbrev pub first_message : Result FromChildMessage ChildFault → ℕ → List ℕ → State → Outcome
@@ -154,11 +160,13 @@ first_message (Err fault) number rest state = shut number state
 -- by what stands at the front of its bytes
 abbrev pub first_frame : Front → ℕ → List ℕ → State → Outcome
 first_frame (Whole body_len) number heard state =
-    first_message (from_child_of (front_body body_len heard)) number (after_front body_len heard) state
+    first_message (from_child_of (front_body body_len heard)) number (after_front body_len heard)
+    state
 first_frame (Bad announced) number heard state = shut number state
 first_frame More number heard state = stay state
 
 -- a child process that hasn't named itself sent more behind what was heard of it
 abbrev pub unnamed_heard : (heard piece : List ℕ) → ℕ → State → Outcome
 unnamed_heard heard piece number state =
-    first_frame (front 262144 (heard ++ piece)) number (heard ++ piece) (changed number (heard_more piece) state)
+    first_frame (front 262144 (heard ++ piece)) number (heard ++ piece)
+    (changed number (heard_more piece) state)

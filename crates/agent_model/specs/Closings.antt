@@ -3,7 +3,8 @@ use Rattle.std.specs.Prelude.{ℕ, List, [], ◌∷◌, ◌++◌, nat_lt, if◌t
 use Rattle.agent_model.specs.NumberLists.{without}
 use Rattle.agent_model.specs.State.{State, numbers}
 
--- the number of the port that joined, if one did, between these last numbers: an event lets at most one join
+-- the number of the port that joined, if one did, between these last numbers: an event lets at most
+-- one join
 abbrev pub joined_between : ℕ → ℕ → List ℕ
 joined_between old_last new_last = if nat_lt old_last new_last then new_last ∷ [] else []
 

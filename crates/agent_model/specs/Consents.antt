@@ -28,7 +28,8 @@ find_started number all = find_by started_number number all
 abbrev pub remove_started : ℕ → List StartedJob → List StartedJob
 remove_started number all = remove_by started_number number all
 
--- what is under way without the confirmation of this job: no child process can name the job from then on
+-- what is under way without the confirmation of this job: no child process can name the job from
+-- then on
 abbrev pub without_confirmation : ℕ → UnderWay → UnderWay
 without_confirmation job under_way = record under_way {
   started = remove_started job under_way.started;
@@ -45,7 +46,8 @@ abbrev pub confirmer_closes : Option ℕ → List Port → List ℕ
 confirmer_closes None ports = []
 confirmer_closes (Some port) ports = closing port ports []
 
--- a confirmation ends without consent: its child process's port is closed, and the client, where it is open, is told
+-- a confirmation ends without consent: its child process's port is closed, and the client, where it
+-- is open, is told
 abbrev pub over : Confirmation → State → Outcome
 over confirmation state = record {
   state = record state {
@@ -80,15 +82,19 @@ grant_unless None key confirmation under_way =
 abbrev pub grant_with : Option HeldKey → List Binding → Confirmation → ℕ → UnderWay → Work
 grant_with None chain confirmation wall under_way = settles (Refuses NoLongerAllowed) under_way
 grant_with (Some key) chain confirmation wall under_way =
-    grant_unless (denial_under key.rules key.blob chain confirmation.message wall) key confirmation under_way
+    grant_unless (denial_under key.rules key.blob chain confirmation.message wall) key confirmation
+    under_way
 
 -- by the lock
 abbrev pub grant_by : Option (List ℕ) → KeyState → List Binding → Confirmation → ℕ → UnderWay → Work
-grant_by (Some passphrase) held chain confirmation wall under_way = settles (Refuses NoLongerAllowed) under_way
+grant_by (Some passphrase) held chain confirmation wall under_way =
+    settles (Refuses NoLongerAllowed) under_way
 grant_by None held chain confirmation wall under_way =
-    grant_with (find_number confirmation.addition held.table.identities) chain confirmation wall under_way
+    grant_with (find_number confirmation.addition held.table.identities)
+    chain confirmation wall under_way
 
--- what comes of the consent for a client with this chain: the agent, the key and the destination are tested again
+-- what comes of the consent for a client with this chain: the agent, the key and the destination
+-- are tested again
 abbrev pub grant_work : List Binding → Confirmation → State → Work
 grant_work chain confirmation state =
     grant_by state.held.lock state.held chain confirmation state.moment.wall
@@ -98,7 +104,8 @@ grant_work chain confirmation state =
 abbrev pub grant_concluded : Work → Confirmation → State → Outcome
 grant_concluded work confirmation state = record {
   state = record state {
-    ports = change_port confirmation.asker (tell work.verdict) (close_confirmer confirmation.port state.ports);
+    ports = change_port confirmation.asker (tell work.verdict)
+        (close_confirmer confirmation.port state.ports);
     under_way = work.under_way;
   };
   actions = Granted confirmation.job ∷ work.actions;
@@ -109,7 +116,8 @@ grant_concluded work confirmation state = record {
 -- by the client that waits; it is always open
 abbrev pub grant_to : Option Port → Confirmation → State → Outcome
 grant_to None confirmation state = stay state
-grant_to (Some port) confirmation state = grant_concluded (grant_work port.chain confirmation state) confirmation state
+grant_to (Some port) confirmation state =
+    grant_concluded (grant_work port.chain confirmation state) confirmation state
 
 -- the user consents
 abbrev pub grant : Confirmation → State → Outcome
@@ -120,7 +128,8 @@ grant confirmation state = grant_to (find_port confirmation.asker state.ports) c
 -- more was heard at the confirmation of this job
 abbrev pub with_heard : ℕ → List ℕ → State → State
 with_heard job piece state = record state {
-  under_way = record state.under_way { confirmations = told job piece state.under_way.confirmations };
+  under_way =
+      record state.under_way { confirmations = told job piece state.under_way.confirmations };
 }
 
 -- by what the user says

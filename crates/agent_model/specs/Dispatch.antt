@@ -1,6 +1,7 @@
--- What the agent answers to a request: the table of requests, a line a row.
--- Source: draft-miller-ssh-agent, "Protocol Messages"; OpenSSH's agent for what isn't served; OpenSSH's PROTOCOL.agent
--- for the request that binds a connection. Who sees which identity, and who is asked, is ours.
+-- What the agent answers to a request: the table of requests, a line a row. Source:
+-- draft-miller-ssh-agent, "Protocol Messages"; OpenSSH's agent for what isn't served; OpenSSH's
+-- PROTOCOL.agent for the request that binds a connection. Who sees which identity, and who is
+-- asked, is ours.
 use Rattle.std.specs.Prelude.{ℕ, ◌==◌, nat_lt, Bool, true, false, List, [], ◌∷◌, map, filter, Option, Some, None, Result, Ok, Err}
 use Rattle.std.specs.Str.{bytes_eq}
 use Rattle.constraint_rec.specs.declared.fault.TermFault.{TermFault}
@@ -21,8 +22,8 @@ use Rattle.dest_rule.specs.declared.binding.Binding.{Binding}
 use Rattle.agent_model.specs.State.{UnderWay}
 use Rattle.agent_model.specs.Verdicts.{Cause, Identities, Malformed, Locked, Unserved, NotHeld, NotVisible, DestinationDenied, Constraints, ListFull, NoPassphrase, WrongPassphrase, NotLocked, BindRefused, AdditionsSpent, Refuses, Replies, Reply, Success}
 
--- who asks, and when: the port, the hosts that its connection was bound to, whether it tried to bind it, the greatest
--- monotonic second so far, and the wall clock
+-- who asks, and when: the port, the hosts that its connection was bound to, whether it tried to
+-- bind it, the greatest monotonic second so far, and the wall clock
 pub record Asker : Type 0 where
   pub port : ℕ
   pub chain : List Binding
@@ -66,14 +67,16 @@ sign_with false asker key signing under_way = put_ask (Signs key signing) asker.
 
 -- by what the key's destination constraints say
 abbrev pub sign_unless : Option Denial → Asker → HeldKey → Signing → UnderWay → Work
-sign_unless (Some denial) asker key signing under_way = settles (Refuses (DestinationDenied denial)) under_way
+sign_unless (Some denial) asker key signing under_way =
+    settles (Refuses (DestinationDenied denial)) under_way
 sign_unless None asker key signing under_way = sign_with key.confirm asker key signing under_way
 
 -- by the identity that has the blob
 abbrev pub sign_by : Option HeldKey → Asker → Signing → UnderWay → Work
 sign_by None asker signing under_way = settles (Refuses NotHeld) under_way
-sign_by (Some key) asker signing under_way =
-    sign_unless (denial_under key.rules signing.blob asker.chain signing.message asker.wall) asker key signing under_way
+sign_by (Some key) asker signing under_way = sign_unless
+    (denial_under key.rules signing.blob asker.chain signing.message asker.wall)
+    asker key signing under_way
 
 -- ---- additions
 
@@ -86,7 +89,8 @@ abbrev pub length_with : Addition → ℕ → TableState → ℕ
 length_with addition now table =
     answer_len (identities_with table addition.key addition.terms addition.comment now)
 
--- why the table doesn't take it: one message would not list all identities, or all numbers were given
+-- why the table doesn't take it: one message would not list all identities, or all numbers were
+-- given
 abbrev pub add_fault : Bool → Bool → Option Cause
 add_fault true spent = Some ListFull
 add_fault false true = Some AdditionsSpent
@@ -102,19 +106,22 @@ add_unless None addition now held under_way =
 abbrev pub add_seen : Bool → Addition → ℕ → KeyState → UnderWay → Served
 add_seen false addition now held under_way = refuses NotVisible held under_way
 add_seen true addition now held under_way =
-    add_unless (add_fault (nat_lt max_answer (length_with addition now held.table)) (held.table.last == last_number))
+    add_unless (add_fault (nat_lt max_answer (length_with addition now held.table))
+    (held.table.last == last_number))
     addition now held under_way
 
 -- by the identity that has the blob
 abbrev pub add_by : Option HeldKey → Asker → Addition → KeyState → UnderWay → Served
 add_by None asker addition held under_way = add_seen true addition asker.mono held under_way
-add_by (Some key) asker addition held under_way = add_seen (sees asker key) addition asker.mono held under_way
+add_by (Some key) asker addition held under_way =
+    add_seen (sees asker key) addition asker.mono held under_way
 
 -- ---- removals
 
 -- the identities changed
 abbrev pub with_identities : List HeldKey → KeyState → KeyState
-with_identities identities held = record held { table = record held.table { identities = identities } }
+with_identities identities held =
+    record held { table = record held.table { identities = identities } }
 
 -- by whether the asker sees it
 abbrev pub remove_seen : Bool → List ℕ → KeyState → UnderWay → Served
@@ -132,7 +139,8 @@ remove_by (Some key) asker blob held under_way = remove_seen (sees asker key) bl
 -- by whether there is a passphrase
 abbrev pub lock_by : List ℕ → KeyState → UnderWay → Served
 lock_by [] held under_way = refuses NoPassphrase held under_way
-lock_by (byte ∷ bytes) held under_way = answers Success (record held { lock = Some (byte ∷ bytes) }) under_way
+lock_by (byte ∷ bytes) held under_way =
+    answers Success (record held { lock = Some (byte ∷ bytes) }) under_way
 
 -- by whether the passphrase is the one that locked it
 abbrev pub unlock_by : Bool → KeyState → UnderWay → Served
@@ -151,7 +159,8 @@ bind_by New asker bind under_way = put_ask (Verifies bind true) asker.port under
 
 -- of an agent that isn't locked
 abbrev pub serve_unlocked : ClientRequest → Asker → KeyState → UnderWay → Served
-serve_unlocked ListIdentities asker held under_way = answers (Identities (seen_by asker held)) held under_way
+serve_unlocked ListIdentities asker held under_way =
+    answers (Identities (seen_by asker held)) held under_way
 serve_unlocked (Sign signing) asker held under_way =
     keeps held (sign_by (find_identity signing.blob held.table.identities) asker signing under_way)
 serve_unlocked (Add addition) asker held under_way =
@@ -174,7 +183,8 @@ serve_locked passphrase (Add addition) held under_way = refuses Locked held unde
 serve_locked passphrase (Remove blob) held under_way = refuses Locked held under_way
 serve_locked passphrase RemoveAll held under_way = refuses Locked held under_way
 serve_locked passphrase (Lock other) held under_way = refuses Locked held under_way
-serve_locked passphrase (Unlock other) held under_way = unlock_by (bytes_eq passphrase other) held under_way
+serve_locked passphrase (Unlock other) held under_way =
+    unlock_by (bytes_eq passphrase other) held under_way
 serve_locked passphrase (Bind bind) held under_way = refuses Locked held under_way
 serve_locked passphrase (OtherExtension name) held under_way = refuses Locked held under_way
 serve_locked passphrase (Unsupported number) held under_way = refuses Locked held under_way
@@ -182,9 +192,11 @@ serve_locked passphrase (Unsupported number) held under_way = refuses Locked hel
 -- by the lock
 abbrev pub serve_by : Option (List ℕ) → ClientRequest → Asker → KeyState → UnderWay → Served
 serve_by None request asker held under_way = serve_unlocked request asker held under_way
-serve_by (Some passphrase) request asker held under_way = serve_locked passphrase request held under_way
+serve_by (Some passphrase) request asker held under_way =
+    serve_locked passphrase request held under_way
 
--- constraints that don't read, by the lock: what else doesn't read is malformed even where the agent is locked
+-- constraints that don't read, by the lock: what else doesn't read is malformed even where the
+-- agent is locked
 abbrev pub constraints_by : Option (List ℕ) → TermFault → Cause
 constraints_by None term_fault = Constraints term_fault
 constraints_by (Some passphrase) term_fault = Locked

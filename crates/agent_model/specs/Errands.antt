@@ -1,4 +1,5 @@
--- Asks that are put to the helper, confirmations that the user is asked for, and the jobs that these begin (ours).
+-- Asks that are put to the helper, confirmations that the user is asked for, and the jobs that
+-- these begin (ours).
 use Rattle.std.specs.Prelude.{ℕ, ◌+◌, ◌==◌, nat_lt, not, List, [], ◌∷◌, ◌++◌, length, Option, Some, None, Bool, true, false, if◌then◌else◌}
 use Rattle.world_ports.specs.declared.Job.{Job}
 use Rattle.world_ports.specs.declared.JobKind.{JobKind}
@@ -17,7 +18,7 @@ use Rattle.confirm_desk.specs.Prompt.{prompt_for}
 use Rattle.agent_model.specs.Limits.{last_number, most_asks, most_confirmations}
 use Rattle.agent_model.specs.State.{OnAsk, OnConfirmation, UnderWay, Verification}
 use Rattle.agent_model.specs.Verdicts.{Cause, TooManyAsks, AsksSpent, JobsSpent, TooManyConfirmations, Refuses, Awaits}
-use Rattle.agent_model.specs.Actions.{Asked, Purpose, ForSignature, ForBinding, Raised, Work, settles}
+use Rattle.agent_model.specs.Actions.{Asked, Asking, Purpose, ForSignature, ForBinding, Raised, Work, settles}
 
 -- ---- jobs
 
@@ -66,7 +67,8 @@ pub data Errand : Type 0 where
 
 -- the binding that a request is for
 abbrev pub binding_of : BindRequest → Binding
-binding_of bind = record { host_key = bind.host_key; session = bind.session; forwarding = bind.forwarding }
+binding_of bind =
+    record { host_key = bind.host_key; session = bind.session; forwarding = bind.forwarding }
 
 -- the kind of its ask
 abbrev pub kind_of : Errand → AskKind
@@ -98,16 +100,22 @@ ask_fault_by false false under_way = helper_fault under_way.link.state under_way
 -- why nothing can be put to the helper
 abbrev pub ask_fault : UnderWay → Option Cause
 ask_fault under_way =
-    ask_fault_by (not (nat_lt (length under_way.link.asks) most_asks)) (under_way.link.last == last_number) under_way
+    ask_fault_by (not (nat_lt (length under_way.link.asks) most_asks))
+    (under_way.link.last == last_number) under_way
 
 -- what is under way once it is put
 abbrev pub with_ask : Errand → ℕ → UnderWay → UnderWay
 with_ask errand asker under_way = record under_way {
-  link = submitted (kind_of errand) asker (message_of errand) (link_begun (under_way.last_job + 1) under_way.link);
+  link = submitted (kind_of errand) asker (message_of errand) (link_begun (under_way.last_job + 1)
+      under_way.link);
   to_start = under_way.to_start ++ helper_jobs under_way.link.state (under_way.last_job + 1);
   verifications = under_way.verifications ++ noted_verification errand (under_way.link.last + 1);
   last_job = last_job_for under_way.link.state under_way.last_job;
 }
+
+-- the ask of this number for it
+abbrev pub asking_of : Errand → ℕ → ℕ → Asking
+asking_of errand asker number = record { ask = number; port = asker; purpose = purpose_of errand }
 
 -- unless it can't be
 abbrev pub put_unless : Option Cause → Errand → ℕ → UnderWay → Work
@@ -115,11 +123,12 @@ put_unless (Some cause) errand asker under_way = settles (Refuses cause) under_w
 put_unless None errand asker under_way = record {
   under_way = with_ask errand asker under_way;
   verdict = Awaits (OnAsk (under_way.link.last + 1));
-  actions = Asked (record { ask = under_way.link.last + 1; port = asker; purpose = purpose_of errand }) ∷ [];
+  actions = Asked (asking_of errand asker (under_way.link.last + 1)) ∷ [];
   put = message_of errand (under_way.link.last + 1) ∷ [];
 }
 
--- an ask is put for a client: a helper is started where none is there, and the client waits for the answer
+-- an ask is put for a client: a helper is started where none is there, and the client waits for the
+-- answer
 abbrev pub put_ask : Errand → ℕ → UnderWay → Work
 put_ask errand asker under_way = put_unless (ask_fault under_way) errand asker under_way
 
@@ -133,18 +142,26 @@ raise_fault_by false last_job = spent_jobs last_job
 -- why the user can't be asked
 abbrev pub raise_fault : UnderWay → Option Cause
 raise_fault under_way =
-    raise_fault_by (not (nat_lt (length under_way.confirmations) most_confirmations)) under_way.last_job
+    raise_fault_by (not (nat_lt (length under_way.confirmations) most_confirmations))
+    under_way.last_job
 
 -- what waits for consent
 abbrev pub held_for : ℕ → HeldKey → Signing → Held
 held_for asker key signing =
-    record { asker = asker; addition = key.number; message = signing.message; flags = signing.flags }
+    record {
+      asker = asker;
+      addition = key.number;
+      message = signing.message;
+      flags
+          = signing.flags;
+    }
 
 -- what is under way once the user is to be asked
 abbrev pub with_confirmation : HeldKey → Signing → ℕ → UnderWay → UnderWay
 with_confirmation key signing asker under_way = record under_way {
   to_start = under_way.to_start ++ job_of (under_way.last_job + 1) kinds.Confirm ∷ [];
-  confirmations = raise (under_way.last_job + 1) (held_for asker key signing) (prompt_for key.comment key.blob)
+  confirmations =
+      raise (under_way.last_job + 1) (held_for asker key signing) (prompt_for key.comment key.blob)
       under_way.confirmations;
   last_job = under_way.last_job + 1;
 }
@@ -164,6 +181,8 @@ raise_unless None key signing asker under_way = record {
   put = [];
 }
 
--- the user is asked for a client, by a child process of its own, and the client waits for the consent
+-- the user is asked for a client, by a child process of its own, and the client waits for the
+-- consent
 abbrev pub ask_user : HeldKey → Signing → ℕ → UnderWay → Work
-ask_user key signing asker under_way = raise_unless (raise_fault under_way) key signing asker under_way
+ask_user key signing asker under_way =
+    raise_unless (raise_fault under_way) key signing asker under_way

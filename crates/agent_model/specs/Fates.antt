@@ -66,7 +66,8 @@ fate_verdict Unanswered ask = Awaits (OnAsk ask)
 fate_verdict (Gets answer) ask = answer_verdict answer
 fate_verdict Fails ask = Refuses HelperLost
 
--- the client of this port is open, is owed what it is told by this and nothing else, and waits as it says
+-- the client of this port is open, is owed what it is told by this and nothing else, and waits as
+-- it says
 pub record IsTold (number : ℕ) (verdict : Verdict) (ports : List Port) : Type 0 where
   pub port : Port
   pub found : find_port number ports ≡ Some port
@@ -80,7 +81,8 @@ pub record IsTold (number : ℕ) (verdict : Verdict) (ports : List Port) : Type 
 abbrev pub actions_of : State → List Timed → List Action
 actions_of state [] = []
 actions_of state (timed ∷ later) =
-    (step state timed.moment timed.event).actions ++ actions_of (step state timed.moment timed.event).state later
+    (step state timed.moment timed.event).actions
+    ++ actions_of (step state timed.moment timed.event).state later
 
 -- the port stays, as far as its client is concerned
 abbrev pub NoneEnds : ℕ → List Timed → Type 0

@@ -1,5 +1,5 @@
--- What the agent holds: its identities and its lock (draft-miller-ssh-agent, "Adding keys to the agent", "Locking
--- and unlocking an agent").
+-- What the agent holds: its identities and its lock (draft-miller-ssh-agent, "Adding keys to the
+-- agent", "Locking and unlocking an agent").
 use Rattle.std.specs.Prelude.{ℕ, List, [], map, Option, None}
 use Rattle.identity_table.specs.Identities.{HeldKey, TableState, alive_at}
 
@@ -18,7 +18,8 @@ no_keys life = record {
 -- without those whose lifetime has run out at this second
 abbrev pub expired : ℕ → KeyState → KeyState
 expired second keys = record keys {
-  table = record keys.table { identities = alive_at second keys.table.identities; greatest = second };
+  table =
+      record keys.table { identities = alive_at second keys.table.identities; greatest = second };
 }
 
 -- an identity as a list of them shows it: the blob of its public key, and its comment

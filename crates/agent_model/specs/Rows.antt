@@ -1,5 +1,5 @@
--- Literal rows: what one client is replied, message by message (draft-miller-ssh-agent, "Protocol Messages"). The
--- numbers are written out, so that a wrong definition can't agree with itself.
+-- Literal rows: what one client is replied, message by message (draft-miller-ssh-agent, "Protocol
+-- Messages"). The numbers are written out, so that a wrong definition can't agree with itself.
 use Rattle.std.specs.Prelude.{ℕ, zero, suc, List, [], ◌∷◌, ◌++◌, length, replicate, codes, None}
 use Rattle.world_ports.specs.declared.Moment.{Moment}
 use Rattle.world_ports.specs.declared.Door.TheVariants.{Clients}
@@ -37,7 +37,8 @@ took_all sent state = (step state (moment_at sent.second) (Took 1 (length (owed_
 -- what it is owed after each message, the reply to the one before taken
 abbrev pub replies_in : State → List Sent → List (List ℕ)
 replies_in state [] = []
-replies_in state (sent ∷ later) = owed_of 1 (asked sent state) ∷ replies_in (took_all sent (asked sent state)) later
+replies_in state (sent ∷ later) =
+    owed_of 1 (asked sent state) ∷ replies_in (took_all sent (asked sent state)) later
 
 -- from the first state on
 abbrev pub replies : List Sent → List (List ℕ)
@@ -65,15 +66,17 @@ none_listed = 0 ∷ 0 ∷ 0 ∷ 5 ∷ 12 ∷ 0 ∷ 0 ∷ 0 ∷ 0 ∷ []
 
 -- ---- keys and messages
 
--- the blob of a key with a public tag of 32 equal bytes, and the fields behind it: the secret, and a comment
+-- the blob of a key with a public tag of 32 equal bytes, and the fields behind it: the secret, and
+-- a comment
 abbrev pub blob : ℕ → List ℕ
 blob tag = 0 ∷ 0 ∷ 0 ∷ 24 ∷ (codes "keyed-sha256@example.com" ++ 0 ∷ 0 ∷ 0 ∷ 32 ∷ replicate 32 tag)
 
 abbrev pub key : ℕ → List ℕ → List ℕ
 key tag comment = blob tag ++ 0 ∷ 0 ∷ 0 ∷ 32 ∷ replicate 32 33 ++ 0 ∷ 0 ∷ 0 ∷ 3 ∷ comment
 
--- SSH_AGENTC_ADD_IDENTITY; SSH_AGENTC_ADD_ID_CONSTRAINED with a lifetime of 10 seconds, with the user to be asked, with
--- a constraint of an unknown number, and with an extension of an unknown name
+-- SSH_AGENTC_ADD_IDENTITY; SSH_AGENTC_ADD_ID_CONSTRAINED with a lifetime of 10 seconds, with the
+-- user to be asked, with a constraint of an unknown number, and with an extension of an unknown
+-- name
 abbrev pub add : ℕ → List ℕ
 add tag = 0 ∷ 0 ∷ 0 ∷ 108 ∷ 17 ∷ key tag (codes "one")
 
@@ -91,11 +94,14 @@ abbrev pub list : List ℕ
 list = 0 ∷ 0 ∷ 0 ∷ 1 ∷ 11 ∷ []
 
 abbrev pub listed : ℕ → List ℕ
-listed tag = 0 ∷ 0 ∷ 0 ∷ 80 ∷ 12 ∷ 0 ∷ 0 ∷ 0 ∷ 1 ∷ 0 ∷ 0 ∷ 0 ∷ 64 ∷ (blob tag ++ 0 ∷ 0 ∷ 0 ∷ 3 ∷ codes "one")
+listed tag =
+    0 ∷ 0 ∷ 0 ∷ 80 ∷ 12 ∷ 0 ∷ 0 ∷ 0 ∷ 1 ∷ 0 ∷ 0 ∷ 0 ∷ 64 ∷ (blob tag ++ 0 ∷ 0 ∷ 0 ∷ 3 ∷ codes "one")
 
--- SSH_AGENTC_SIGN_REQUEST for two bytes, SSH_AGENTC_REMOVE_IDENTITY, SSH_AGENTC_REMOVE_ALL_IDENTITIES
+-- SSH_AGENTC_SIGN_REQUEST for two bytes, SSH_AGENTC_REMOVE_IDENTITY,
+-- SSH_AGENTC_REMOVE_ALL_IDENTITIES
 abbrev pub sign : ℕ → List ℕ
-sign tag = 0 ∷ 0 ∷ 0 ∷ 79 ∷ 13 ∷ 0 ∷ 0 ∷ 0 ∷ 64 ∷ (blob tag ++ 0 ∷ 0 ∷ 0 ∷ 2 ∷ 1 ∷ 2 ∷ 0 ∷ 0 ∷ 0 ∷ 0 ∷ [])
+sign tag =
+    0 ∷ 0 ∷ 0 ∷ 79 ∷ 13 ∷ 0 ∷ 0 ∷ 0 ∷ 64 ∷ (blob tag ++ 0 ∷ 0 ∷ 0 ∷ 2 ∷ 1 ∷ 2 ∷ 0 ∷ 0 ∷ 0 ∷ 0 ∷ [])
 
 abbrev pub remove : ℕ → List ℕ
 remove tag = 0 ∷ 0 ∷ 0 ∷ 69 ∷ 18 ∷ 0 ∷ 0 ∷ 0 ∷ 64 ∷ blob tag

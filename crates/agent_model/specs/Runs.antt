@@ -25,18 +25,21 @@ pub record Stamped : Type 0 where
 
 -- the actions of an event, each with its moment
 abbrev pub stamped : Outcome → List Stamped
-stamped outcome = map (λ action. record { moment = outcome.state.moment; action = action }) outcome.actions
+stamped outcome =
+    map (λ action. record { moment = outcome.state.moment; action = action }) outcome.actions
 
 -- all actions, the oldest first
 abbrev pub history : State → List Timed → List Stamped
 history state [] = []
 history state (timed ∷ later) =
-    stamped (step state timed.moment timed.event) ++ history (step state timed.moment timed.event).state later
+    stamped (step state timed.moment timed.event)
+    ++ history (step state timed.moment timed.event).state later
 
 -- each event may come in the state that those before it lead to
 abbrev pub AllFit : State → List Timed → Type 0
 AllFit state [] = Unit {0}
-AllFit state (timed ∷ later) = Fits timed.event state × AllFit (step state timed.moment timed.event).state later
+AllFit state (timed ∷ later) =
+    Fits timed.event state × AllFit (step state timed.moment timed.event).state later
 
 -- ---- what the numbers of events may be, by their types
 

@@ -1,5 +1,5 @@
--- What holds of every state that events lead to: the ports' numbers rise and not too many are open, who waits is tied to
--- the asks, and bindings that are verified are judged yet as they were.
+-- What holds of every state that events lead to: the ports' numbers rise and not too many are open,
+-- who waits is tied to the asks, and bindings that are verified are judged yet as they were.
 use Rattle.std.specs.Prelude.{◌≡◌, ℕ, ◌≤◌, Bool, true, false, List, [], ◌∷◌, Some, None, IsSome, IsOk}
 use Rattle.std.specs.Option.{IfSome}
 use Rattle.lists.specs.Keyed.{RiseBy}
@@ -20,7 +20,8 @@ use Rattle.agent_model.specs.Answers.{find_verification}
 use Rattle.agent_model.specs.Asking.{AreRaised, JobsRise}
 use Rattle.agent_model.specs.State.{OnAsk, Port, State, Verification, client_count, find_port, number_of}
 
--- the numbers rise, each above `low` and none above `high`; so they are distinct, and the last one bounds them
+-- the numbers rise, each above `low` and none above `high`; so they are distinct, and the last one
+-- bounds them
 abbrev pub IsRising : ℕ → ℕ → List Port → Type 0
 IsRising low high ports = RiseBy number_of low ports high
 
@@ -45,7 +46,8 @@ abbrev pub judged : Bool → Judgement
 judged true = New
 judged false = Same
 
--- a binding that is verified has a host key that is read, and this chain judges it as it was judged then
+-- a binding that is verified has a host key that is read, and this chain judges it as it was judged
+-- then
 pub record IsRight (one : Verification) (chain : List Binding) : Type 0 where
   pub as_noted : judge one.binding.host_key one.binding.session chain ≡ judged one.is_new
   pub key : IsOk (public_key_of one.binding.host_key)
@@ -58,7 +60,8 @@ AreJudged ports verifications asks = (ask : ℕ) (what : Ask) (one : Verificatio
 
 -- each ask to verify has its binding
 abbrev pub AreNoted : List Verification → List Ask → Type 0
-AreNoted verifications asks = (ask asker : ℕ) → find_ask ask asks ≡ Some (ask_of ask asker kinds.Verifying)
+AreNoted verifications asks =
+    (ask asker : ℕ) → find_ask ask asks ≡ Some (ask_of ask asker kinds.Verifying)
     → IsSome (find_verification ask verifications)
 
 -- each binding's session is its own
@@ -75,7 +78,8 @@ AreChains ports = (number : ℕ) (port : Port) → find_port number ports ≡ So
 pub record IsJudged (state : State) : Type 0 where
   pub verified : AreJudged state.ports state.under_way.verifications state.under_way.link.asks
   pub noted : AreNoted state.under_way.verifications state.under_way.link.asks
-  pub given : (ask : ℕ) (one : Verification) → find_verification ask state.under_way.verifications ≡ Some one → ask ≤ state.under_way.link.last
+  pub given : (ask : ℕ) (one : Verification) → find_verification ask state.under_way.verifications
+      ≡ Some one → ask ≤ state.under_way.link.last
   pub chains : AreChains state.ports
 
 -- ---- who waits for the helper
@@ -87,20 +91,26 @@ pub record IsWaiting (number ask : ℕ) (port : Port) (asks : List Ask) : Type 0
   pub owed : port.owed ≡ []
   pub door : port.door ≡ Clients
 
--- whoever waits for an ask put it, and it is unanswered; and whoever an unanswered ask is for waits for it, where its
--- port is open
+-- whoever waits for an ask put it, and it is unanswered; and whoever an unanswered ask is for waits
+-- for it, where its port is open
 pub record AreTied (ports : List Port) (pending : List Ask) : Type 0 where
-  pub waits : (number ask : ℕ) (port : Port) → find_port number ports ≡ Some port → port.waits ≡ OnAsk ask → IsWaiting number ask port pending
-  pub asks : (ask : ℕ) (one : Ask) (port : Port) → find_ask ask pending ≡ Some one → find_port one.asker ports ≡ Some port → port.waits ≡ OnAsk ask
+  pub waits : (number ask : ℕ) (port : Port) → find_port number ports ≡ Some port
+      → port.waits ≡ OnAsk ask → IsWaiting number ask port pending
+  pub asks : (ask : ℕ) (one : Ask) (port : Port) → find_ask ask pending ≡ Some one
+      → find_port one.asker ports ≡ Some port → port.waits ≡ OnAsk ask
 
--- the numbers of the open ports and of the unanswered asks rise up to the last ones, and who waits is tied to the asks;
--- no ask is for a port that hasn't joined, the helper joined through the door of child processes, and what is to be
--- confirmed was raised for who waits for it
+-- the numbers of the open ports and of the unanswered asks rise up to the last ones, and who waits
+-- is tied to the asks; no ask is for a port that hasn't joined, the helper joined through the door
+-- of child processes, and what is to be confirmed was raised for who waits for it
 pub record IsTied (state : State) : Type 0 where
   pub rising : IsRising 0 state.last_port state.ports
   pub order : RiseTo 0 state.under_way.link.asks state.under_way.link.last
   pub tied : AreTied state.ports state.under_way.link.asks
-  pub askers : (ask : ℕ) (one : Ask) → find_ask ask state.under_way.link.asks ≡ Some one → one.asker ≤ state.last_port
-  pub helper : (number : ℕ) (port : Port) → state.under_way.link.state ≡ states.Linked number → find_port number state.ports ≡ Some port → port.door ≡ Children
-  pub known : (number : ℕ) → state.under_way.link.state ≡ states.Linked number → number ≤ state.last_port
-  pub raised : AreRaised state.under_way.confirmations state.under_way.last_job state.ports state.last_port
+  pub askers : (ask : ℕ) (one : Ask) → find_ask ask state.under_way.link.asks ≡ Some one
+      → one.asker ≤ state.last_port
+  pub helper : (number : ℕ) (port : Port) → state.under_way.link.state ≡ states.Linked number
+      → find_port number state.ports ≡ Some port → port.door ≡ Children
+  pub known : (number : ℕ) → state.under_way.link.state ≡ states.Linked number
+      → number ≤ state.last_port
+  pub raised : AreRaised state.under_way.confirmations state.under_way.last_job state.ports
+      state.last_port

@@ -24,9 +24,10 @@ pub data Waits : Type 0 where
   OnAsk : (ask : ℕ) → Waits
   OnConfirmation : (job : ℕ) → Waits
 
--- an open port: its number, the door through which it came, and the bytes that it sent and that nothing has taken yet.
--- Of a client also the bytes that it is owed, the hosts that its connection was bound to, whether it tried to bind it,
--- and what it waits for. What is heard and owed at the helper's port and at a confirmer's stands elsewhere.
+-- an open port: its number, the door through which it came, and the bytes that it sent and that
+-- nothing has taken yet. Of a client also the bytes that it is owed, the hosts that its connection
+-- was bound to, whether it tried to bind it, and what it waits for. What is heard and owed at the
+-- helper's port and at a confirmer's stands elsewhere.
 pub record Port : Type 0 where
   pub number : ℕ
   pub door : Door
@@ -47,8 +48,8 @@ pub record Verification : Type 0 where
   pub binding : Binding
   pub is_new : Bool
 
--- what is under way: the link to the helper, the jobs to start, the started ones, the verifications and
--- confirmations that are waited for, and the number of the last job
+-- what is under way: the link to the helper, the jobs to start, the started ones, the verifications
+-- and confirmations that are waited for, and the number of the last job
 pub record UnderWay : Type 0 where
   pub link : HelperLink
   pub to_start : List Job
@@ -57,8 +58,8 @@ pub record UnderWay : Type 0 where
   pub confirmations : List Confirmation
   pub last_job : ℕ
 
--- the identities and the lock, what is under way, the open ports by rising numbers, the number of the last port that
--- joined, the greatest monotonic second so far, and the last wall clock
+-- the identities and the lock, what is under way, the open ports by rising numbers, the number of
+-- the last port that joined, the greatest monotonic second so far, and the last wall clock
 pub record State : Type 0 where
   pub held : KeyState
   pub under_way : UnderWay
@@ -77,7 +78,8 @@ nothing_under_way = record {
   last_job = 0;
 }
 
--- the agent before its first event; identities that come without a lifetime live for so many seconds
+-- the agent before its first event; identities that come without a lifetime live for so many
+-- seconds
 abbrev pub first_state : Option ℕ → State
 first_state life = record {
   held = no_keys life;
@@ -127,7 +129,8 @@ is_open number state = is_some (find_port number state.ports)
 
 -- ---- who is at a port
 
--- a client, a child process that hasn't named itself, the helper, or the confirmer of a confirmation
+-- a client, a child process that hasn't named itself, the helper, or the confirmer of a
+-- confirmation
 pub data Role : Type 0 where
   Client : Role
   Unnamed : Role
@@ -164,7 +167,8 @@ is_client Children = false
 -- how many clients are open
 abbrev pub client_count : List Port → ℕ
 client_count [] = 0
-client_count (port ∷ ports) = if is_client port.door then suc (client_count ports) else client_count ports
+client_count (port ∷ ports) =
+    if is_client port.door then suc (client_count ports) else client_count ports
 
 -- a child process that hasn't named itself
 abbrev pub is_unnamed : Role → Bool
@@ -273,7 +277,8 @@ job_number job = job.number
 abbrev pub find_to_start : ℕ → List Job → Option Job
 find_to_start number jobs = find_by job_number number jobs
 
--- the event may come where the last port that joined has this number, these ports are open and this is under way
+-- the event may come where the last port that joined has this number, these ports are open and this
+-- is under way
 abbrev pub FitsAt : Happening → ℕ → List Port → UnderWay → Type 0
 FitsAt (Joined door) last ports under_way = last < 2 ^ 64 - 1
 FitsAt (Heard port piece) last ports under_way = IsSome (find_port port ports) × (0 < length piece)

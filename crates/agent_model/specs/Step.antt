@@ -1,5 +1,5 @@
--- One step of the abstract agent: a function of state, moment and event to a state, a list of actions and the
--- messages that were put to the helper (ours). The file is read from its end.
+-- One step of the abstract agent: a function of state, moment and event to a state, a list of
+-- actions and the messages that were put to the helper (ours). The file is read from its end.
 use Rattle.std.specs.Prelude.{ℕ, suc, max, List, [], ◌∷◌, ◌++◌, drop, Option, Some, None, Bool, true, false, nat_lt, ◌||◌}
 use Rattle.world_ports.specs.declared.Moment.{Moment}
 use Rattle.world_ports.specs.declared.Door.{Door}
@@ -24,8 +24,8 @@ use Rattle.agent_model.specs.Verdicts.{tell}
 
 -- ---- a client is looked at
 
--- whether a body makes the connection count as one that tried to bind itself, also where it then fails: a locked agent
--- doesn't look
+-- whether a body makes the connection count as one that tried to bind itself, also where it then
+-- fails: a locked agent doesn't look
 abbrev pub attempts : Option (List ℕ) → List ℕ → Bool
 attempts None body = names_bind body
 attempts (Some passphrase) body = false
@@ -33,7 +33,11 @@ attempts (Some passphrase) body = false
 -- the first frame, with a body of this length, leaves what was heard
 abbrev pub take_frame : ℕ → Bool → Port → Port
 take_frame body_len is_attempt port =
-    record port { heard = after_front body_len port.heard; attempted = port.attempted || is_attempt }
+    record port {
+      heard = after_front body_len port.heard;
+      attempted = port.attempted
+          || is_attempt;
+    }
 
 -- the client of this port, at this moment
 abbrev pub asker_at : Moment → Port → Asker
@@ -53,7 +57,8 @@ concluded number body served state = record {
     under_way = served.work.under_way;
     ports = change_port number (tell served.work.verdict) state.ports;
   };
-  actions = Requested (record { port = number; body = body; verdict = served.work.verdict }) ∷ served.work.actions;
+  actions = Requested (record { port = number; body = body; verdict = served.work.verdict })
+      ∷ served.work.actions;
   put = served.work.put;
   closes = [];
 }
@@ -86,8 +91,8 @@ abbrev pub look_port : Option Port → State → Outcome
 look_port None state = stay state
 look_port (Some port) state = look_waits port.waits port state
 
--- a client that waits for nothing and is owed nothing has its first request taken where that is whole, and is closed
--- where its length is bad
+-- a client that waits for nothing and is owed nothing has its first request taken where that is
+-- whole, and is closed where its length is bad
 abbrev pub looked : ℕ → State → Outcome
 looked number state = look_port (find_port number state.ports) state
 
@@ -95,7 +100,8 @@ looked number state = look_port (find_port number state.ports) state
 
 -- by who is at the port
 abbrev pub heard_by_role : Role → Port → List ℕ → State → Outcome
-heard_by_role Client port piece state = looked port.number (changed port.number (heard_more piece) state)
+heard_by_role Client port piece state =
+    looked port.number (changed port.number (heard_more piece) state)
 heard_by_role Unnamed port piece state = unnamed_heard port.heard piece port.number state
 heard_by_role Helper port piece state = helper_heard piece state
 heard_by_role (Confirmer confirmation) port piece state = confirmer_heard confirmation piece state
@@ -121,7 +127,8 @@ helper_took count state = record state {
 -- the same of a confirmer
 abbrev pub confirmer_took : ℕ → ℕ → State → State
 confirmer_took job count state = record state {
-  under_way = record state.under_way { confirmations = took job count state.under_way.confirmations };
+  under_way =
+      record state.under_way { confirmations = took job count state.under_way.confirmations };
 }
 
 -- by who is at the port: a child process that hasn't named itself is owed nothing
@@ -129,7 +136,8 @@ abbrev pub took_by_role : Role → ℕ → ℕ → State → Outcome
 took_by_role Client number count state = looked number (changed number (took_some count) state)
 took_by_role Unnamed number count state = stay state
 took_by_role Helper number count state = stay (helper_took count state)
-took_by_role (Confirmer confirmation) number count state = stay (confirmer_took confirmation.job count state)
+took_by_role (Confirmer confirmation) number count state =
+    stay (confirmer_took confirmation.job count state)
 
 -- where the port is open
 abbrev pub took_at : Option Port → ℕ → State → Outcome
@@ -157,7 +165,8 @@ turned_away false number = number ∷ []
 -- a port joined: it has the next number
 abbrev pub joined : Door → State → State
 joined door state = record state {
-  ports = admitted (has_room door state.ports state.under_way) (suc state.last_port) door state.ports;
+  ports =
+      admitted (has_room door state.ports state.under_way) (suc state.last_port) door state.ports;
   last_port = suc state.last_port;
 }
 
@@ -178,11 +187,13 @@ ended_by_role (Confirmer confirmation) number state = shut_then number (over con
 -- where the port is open
 abbrev pub ended_at : Option Port → State → Outcome
 ended_at None state = stay state
-ended_at (Some port) state = ended_by_role (role_of port.door port.number state.under_way) port.number state
+ended_at (Some port) state =
+    ended_by_role (role_of port.door port.number state.under_way) port.number state
 
 -- ---- a step
 
--- what an event brings, after the moment was taken in; it brings nothing where the port that it names isn't open
+-- what an event brings, after the moment was taken in; it brings nothing where the port that it
+-- names isn't open
 abbrev pub handle : Happening → State → Outcome
 handle (Joined door) state = join door state
 handle (Heard port piece) state = heard_at (find_port port state.ports) piece state
@@ -192,8 +203,8 @@ handle (Started job ticket) state = stay (job_started job ticket state)
 handle (StartFailed job) state = job_failed job state
 handle Tick state = stay state
 
--- the moment is taken in: the monotonic clock never falls, the wall clock is the one given, and identities whose
--- lifetime has run out leave
+-- the moment is taken in: the monotonic clock never falls, the wall clock is the one given, and
+-- identities whose lifetime has run out leave
 abbrev pub at_moment : Moment → State → State
 at_moment moment state = record state {
   moment = record { mono = max state.moment.mono moment.mono; wall = moment.wall };

@@ -6,8 +6,8 @@ use Rattle.agent_model.specs.Dispatch.{with_identities}
 use Rattle.agent_model.specs.State.{State}
 use Rattle.agent_model.specs.Verdicts.{verdict_text, verdict_waits}
 
--- the client is owed the same and waits for the same, and the same is under way and put to the helper: the causes of two
--- failures may differ
+-- the client is owed the same and waits for the same, and the same is under way and put to the
+-- helper: the causes of two failures may differ
 pub record IsSameReply (one two : Work) : Type 0 where
   pub text : verdict_text one.verdict ≡ verdict_text two.verdict
   pub waits : verdict_waits one.verdict ≡ verdict_waits two.verdict

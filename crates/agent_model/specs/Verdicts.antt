@@ -1,4 +1,5 @@
--- What comes of a request, and of what is waited for (draft-miller-ssh-agent, "Protocol Messages"; the causes are ours).
+-- What comes of a request, and of what is waited for (draft-miller-ssh-agent, "Protocol Messages";
+-- the causes are ours).
 use Rattle.std.specs.Prelude.{ℕ, List, [], ◌++◌}
 use Rattle.constraint_rec.specs.declared.fault.TermFault.{TermFault}
 use Rattle.agent_msg.specs.declared.fault.MsgFault.{MsgFault}
@@ -7,7 +8,8 @@ use Rattle.dest_rule.specs.declared.fault.ChainFault.{ChainFault}
 use Rattle.dest_rule.specs.declared.denial.Denial.{Denial}
 use Rattle.agent_model.specs.State.{Port, Waits, Nothing}
 
--- a reply that isn't a failure: SSH_AGENT_SUCCESS, SSH_AGENT_IDENTITIES_ANSWER or SSH_AGENT_SIGN_RESPONSE
+-- a reply that isn't a failure: SSH_AGENT_SUCCESS, SSH_AGENT_IDENTITIES_ANSWER or
+-- SSH_AGENT_SIGN_RESPONSE
 pub data Reply : Type 0 where
   Success : Reply
   Identities : (identities : List (List ℕ × List ℕ)) → Reply
@@ -49,7 +51,8 @@ pub data Cause : Type 0 where
   HelperRefused : Cause
   HelperLost : Cause
   NotConfirmed : Cause
-  -- the user said yes, and by then the agent was locked, the addition gone or the destination denied
+  -- the user said yes, and by then the agent was locked, the addition gone or the destination
+  -- denied
   NoLongerAllowed : Cause
 
 -- what a client gets
@@ -72,4 +75,5 @@ verdict_waits (Awaits waits) = waits
 
 -- the client is told
 abbrev pub tell : Verdict → Port → Port
-tell verdict port = record port { owed = port.owed ++ verdict_text verdict; waits = verdict_waits verdict }
+tell verdict port =
+    record port { owed = port.owed ++ verdict_text verdict; waits = verdict_waits verdict }

@@ -19,69 +19,76 @@ ghost use Rattle.agent_model.specs.State.{Confirmer, OnAsk, OnConfirmation, Port
 ghost use Rattle.agent_model.specs.Step.{at_moment, step};
 ghost use Rattle.agent_model.specs.Verdicts.{Awaits, Cause, Refuses};
 
-/// Whatever happened before: at most 16 confirmations are waited for, whoever waits for one is open and owed nothing,
-/// each child process that came to ask is open, and no two of these, nor the helper, share a port. A client that waits
-/// for consent has a confirmation of its own.
+/// Whatever happened before: at most 16 confirmations are waited for, whoever waits for one is open
+/// and owed nothing, each child process that came to ask is open, and no two of these, nor the
+/// helper, share a port. A client that waits for consent has a confirmation of its own.
 pub fn who_waits_for_the_user_is_open()
-    ensures attended { (life : Option ℕ) (events : List Timed) → IsAttended (run (first_state life) events) }
-    ensures step { (state : State) (moment : Moment) (event : Happening) → IsTied state → IsAttended state
-        → IsAttended (step state moment event).state }
+    ensures attended { (life : Option ℕ) (events : List Timed)
+        → IsAttended (run (first_state life) events) }
+    ensures step { (state : State) (moment : Moment) (event : Happening) → IsTied state
+        → IsAttended state → IsAttended (step state moment event).state }
     ensures waits { (state : State) (number job : ℕ) (port : Port) → IsTied state
         → find_port number state.ports ≡ Some port → port.waits ≡ OnConfirmation job
         → IsAsking number job port state.under_way.confirmations }
 {}
 
-/// Where the bytes of a child process that asks the user are cut does not matter: a piece in two parts leads to the
-/// state of the whole piece, as the next event at the same moment begins, and the same is done and put to the helper.
+/// Where the bytes of a child process that asks the user are cut does not matter: a piece in two
+/// parts leads to the state of the whole piece, as the next event at the same moment begins, and
+/// the same is done and put to the helper.
 pub fn a_piece_of_a_confirmer_in_two_parts()
     ensures state { (state : State) (moment : Moment) (number : ℕ) (a b : List ℕ) (port : Port)
-        (confirmation : Confirmation) → IsTied state → IsAttended state → find_port number state.ports ≡ Some port
-        → role_of port.door port.number state.under_way ≡ Confirmer confirmation
+        (confirmation : Confirmation) → IsTied state → IsAttended state
+        → find_port number state.ports ≡ Some port → role_of port.door port.number state.under_way
+        ≡ Confirmer confirmation
         → at_moment moment (step state moment (Heard number (a ++ b))).state
-        ≡ at_moment moment (step (step state moment (Heard number a)).state moment (Heard number b)).state }
+        ≡ at_moment moment (step (step state moment (Heard number a)).state moment
+        (Heard number b)).state }
     ensures actions { (state : State) (moment : Moment) (number : ℕ) (a b : List ℕ) (port : Port)
-        (confirmation : Confirmation) → IsTied state → IsAttended state → find_port number state.ports ≡ Some port
-        → role_of port.door port.number state.under_way ≡ Confirmer confirmation
-        → (step state moment (Heard number (a ++ b))).actions
+        (confirmation : Confirmation) → IsTied state → IsAttended state
+        → find_port number state.ports ≡ Some port → role_of port.door port.number state.under_way
+        ≡ Confirmer confirmation → (step state moment (Heard number (a ++ b))).actions
         ≡ (step state moment (Heard number a)).actions
         ++ (step (step state moment (Heard number a)).state moment (Heard number b)).actions }
     ensures put { (state : State) (moment : Moment) (number : ℕ) (a b : List ℕ) (port : Port)
-        (confirmation : Confirmation) → IsTied state → IsAttended state → find_port number state.ports ≡ Some port
-        → role_of port.door port.number state.under_way ≡ Confirmer confirmation
-        → (step state moment (Heard number (a ++ b))).put
+        (confirmation : Confirmation) → IsTied state → IsAttended state
+        → find_port number state.ports ≡ Some port → role_of port.door port.number state.under_way
+        ≡ Confirmer confirmation → (step state moment (Heard number (a ++ b))).put
         ≡ (step state moment (Heard number a)).put
         ++ (step (step state moment (Heard number a)).state moment (Heard number b)).put }
 {}
 
-/// Whatever happened before, and while its port stays: a client that waits for the user is owed nothing and goes on
-/// waiting until its own confirmation ends, whatever others do. Where that ends without consent it is told
-/// SSH_AGENT_FAILURE; at consent it waits for the ask that is put for it in that event, or is told SSH_AGENT_FAILURE.
+/// Whatever happened before, and while its port stays: a client that waits for the user is owed
+/// nothing and goes on waiting until its own confirmation ends, whatever others do. Where that ends
+/// without consent it is told SSH_AGENT_FAILURE; at consent it waits for the ask that is put for it
+/// in that event, or is told SSH_AGENT_FAILURE.
 pub fn a_client_waits_for_its_own_consent()
     ensures waits { (state : State) (number job : ℕ) (port : Port) → IsTied state
         → find_port number state.ports ≡ Some port → port.waits ≡ OnConfirmation job
         → IsTold number (Awaits (OnConfirmation job)) state.ports }
-    ensures agreed { (state : State) (moment : Moment) (event : Happening) (number job : ℕ) → IsTied state
-        → event ≢ Ended number → IsTold number (Awaits (OnConfirmation job)) state.ports
-        → IsAgreed number job (step state moment event).actions (step state moment event).state.ports }
+    ensures agreed { (state : State) (moment : Moment) (event : Happening) (number job : ℕ)
+        → IsTied state → event ≢ Ended number
+        → IsTold number (Awaits (OnConfirmation job)) state.ports
+        → IsAgreed number job (step state moment event).actions (step state moment
+        event).state.ports }
 {}
 
-/// Consent leads to an ask exactly where the agent is unlocked, the very addition that the client asked for is held,
-/// its destination constraints permit the signature for the client's chain at the wall clock of this event, fewer than
-/// 256 asks are unanswered and the numbers are not spent; and it comes to nothing for a cause exactly where that cause
-/// holds.
+/// Consent leads to an ask exactly where the agent is unlocked, the very addition that the client
+/// asked for is held, its destination constraints permit the signature for the client's chain at
+/// the wall clock of this event, fewer than 256 asks are unanswered and the numbers are not spent;
+/// and it comes to nothing for a cause exactly where that cause holds.
 pub fn consent_counts_exactly_where_it_may()
-    ensures put { (ask : ℕ) (held : KeyState) (chain : List Binding) (confirmation : Confirmation) (wall : ℕ)
-        (under_way : UnderWay)
+    ensures put { (ask : ℕ) (held : KeyState) (chain : List Binding) (confirmation : Confirmation)
+        (wall : ℕ) (under_way : UnderWay)
         → ((grant_by held.lock held chain confirmation wall under_way).verdict ≡ Awaits (OnAsk ask))
-        ↔ ((key : HeldKey) × IsGrantable key chain confirmation.addition confirmation.message wall held
-        × HasRoom under_way × (ask ≡ under_way.link.last + 1)) }
-    ensures message { (key : HeldKey) (held : KeyState) (chain : List Binding) (confirmation : Confirmation)
-        (wall : ℕ) (under_way : UnderWay)
-        → IsGrantable key chain confirmation.addition confirmation.message wall held → HasRoom under_way
-        → grant_by held.lock held chain confirmation wall under_way
+        ↔ ((key : HeldKey) × IsGrantable key chain confirmation.addition confirmation.message wall
+        held × HasRoom under_way × (ask ≡ under_way.link.last + 1)) }
+    ensures message { (key : HeldKey) (held : KeyState) (chain : List Binding)
+        (confirmation : Confirmation) (wall : ℕ) (under_way : UnderWay)
+        → IsGrantable key chain confirmation.addition confirmation.message wall held
+        → HasRoom under_way → grant_by held.lock held chain confirmation wall under_way
         ≡ put_unless None (Signs key (signing_of key confirmation)) confirmation.asker under_way }
-    ensures refused { (cause : Cause) (held : KeyState) (chain : List Binding) (confirmation : Confirmation)
-        (wall : ℕ) (under_way : UnderWay)
+    ensures refused { (cause : Cause) (held : KeyState) (chain : List Binding)
+        (confirmation : Confirmation) (wall : ℕ) (under_way : UnderWay)
         → ((grant_by held.lock held chain confirmation wall under_way).verdict ≡ Refuses cause)
         ↔ IsRefusedAtGrant cause chain confirmation wall held under_way }
 {}

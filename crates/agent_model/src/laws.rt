@@ -25,20 +25,21 @@ pub fn a_moment_is_taken_in_once()
 {}
 
 /// Where a client's bytes are cut does not matter: a piece in two parts leads to the state of the
-/// whole piece, and the same is done and put to the helper. An identity that was added with no lifetime
-/// left leaves as the next event begins, so that the states are compared as one begins.
+/// whole piece, and the same is done and put to the helper. An identity that was added with no
+/// lifetime left leaves as the next event begins, so that the states are compared as one begins.
 pub fn a_piece_in_two_parts()
-    ensures state { (state : State) (moment : Moment) (port : ℕ) (a b : List ℕ) → IsSound state → IsClient port state
-        → at_moment moment (step state moment (Heard port (a ++ b))).state
-        ≡ at_moment moment (step (step state moment (Heard port a)).state moment (Heard port b)).state }
-    ensures actions { (state : State) (moment : Moment) (port : ℕ) (a b : List ℕ) → IsSound state → IsClient port state
-        → (step state moment (Heard port (a ++ b))).actions
+    ensures state { (state : State) (moment : Moment) (port : ℕ) (a b : List ℕ) → IsSound state
+        → IsClient port state → at_moment moment (step state moment (Heard port (a ++ b))).state
+        ≡ at_moment moment (step (step state moment (Heard port a)).state moment
+        (Heard port b)).state }
+    ensures actions { (state : State) (moment : Moment) (port : ℕ) (a b : List ℕ) → IsSound state
+        → IsClient port state → (step state moment (Heard port (a ++ b))).actions
         ≡ (step state moment (Heard port a)).actions
         ++ (step (step state moment (Heard port a)).state moment (Heard port b)).actions }
-    ensures put { (state : State) (moment : Moment) (port : ℕ) (a b : List ℕ) → IsSound state → IsClient port state
-        → (step state moment (Heard port (a ++ b))).put
-        ≡ (step state moment (Heard port a)).put
-        ++ (step (step state moment (Heard port a)).state moment (Heard port b)).put }
+    ensures put { (state : State) (moment : Moment) (port : ℕ) (a b : List ℕ) → IsSound state
+        → IsClient port state → (step state moment (Heard port (a ++ b))).put
+        ≡ (step state moment (Heard port a)).put ++ (step (step state moment (Heard port a)).state
+        moment (Heard port b)).put }
 {}
 
 /// The ports that an event closed are those that were open or joined and aren't open after, rising.
@@ -52,7 +53,8 @@ pub fn what_was_open_and_is_not_was_closed()
 /// Whatever happens, the numbers of the ports rise, so that they differ, none is above that of the
 /// last port that joined, and no more than 128 clients are open.
 pub fn ports_rise_and_are_few()
-    ensures sound { (life : Option ℕ) (events : List Timed) → IsSound (run (first_state life) events) }
+    ensures sound { (life : Option ℕ) (events : List Timed)
+        → IsSound (run (first_state life) events) }
     ensures step { (state : State) (moment : Moment) (event : Happening) → IsSound state
         → IsSound (step state moment event).state }
     ensures fits { (life : Option ℕ) (events : List Timed) → AllFit (first_state life) events
@@ -74,21 +76,22 @@ pub fn a_failure_has_a_cause()
     ensures reply { (reply : Reply) → verdict_text (Replies reply) ≢ failure }
 {}
 
-/// The numbers of jobs and of asks never begin again: each one that is given is the next behind the last, and no event
-/// makes the last one fall, the loss of the helper included.
+/// The numbers of jobs and of asks never begin again: each one that is given is the next behind the
+/// last, and no event makes the last one fall, the loss of the helper included.
 pub fn no_number_is_given_twice()
     ensures jobs { (state : State) (events : List Timed)
         → state.under_way.last_job ≤ (run state events).under_way.last_job }
     ensures asks { (state : State) (events : List Timed)
         → state.under_way.link.last ≤ (run state events).under_way.link.last }
     ensures next { (errand : Errand) (asker : ℕ) (under_way : UnderWay)
-        → (put_unless None errand asker under_way).verdict ≡ Awaits (OnAsk (under_way.link.last + 1)) }
+        → (put_unless None errand asker under_way).verdict
+        ≡ Awaits (OnAsk (under_way.link.last + 1)) }
     ensures last { (errand : Errand) (asker : ℕ) (under_way : UnderWay)
         → (put_unless None errand asker under_way).under_way.link.last ≡ under_way.link.last + 1 }
 {}
 
-/// Once the helper is lost nothing is unanswered, to be sent to it or heard of it, and its port isn't open any more,
-/// so that none of its bytes can answer anything.
+/// Once the helper is lost nothing is unanswered, to be sent to it or heard of it, and its port
+/// isn't open any more, so that none of its bytes can answer anything.
 pub fn a_lost_helper_answers_nothing()
     ensures unanswered { (state : State) → (lose state).state.under_way.link.asks ≡ [] }
     ensures unsent { (state : State) → (lose state).state.under_way.link.owed ≡ [] }
@@ -108,9 +111,9 @@ pub fn a_closed_port_brings_nothing()
         → (handle (Ended port) state).state ≡ state }
 {}
 
-/// An answer goes to the client that asked and to nobody else: it is owed SSH_AGENT_SIGN_RESPONSE with the helper's
-/// bytes, or SSH_AGENT_FAILURE, and waits for nothing more, so that no ask is answered twice. Where the helper is lost,
-/// only those that wait for it are told.
+/// An answer goes to the client that asked and to nobody else: it is owed SSH_AGENT_SIGN_RESPONSE
+/// with the helper's bytes, or SSH_AGENT_FAILURE, and waits for nothing more, so that no ask is
+/// answered twice. Where the helper is lost, only those that wait for it are told.
 pub fn answers_go_to_who_asked()
     ensures others { (settled : List Settled) (before : Answering) (number : ℕ)
         → is_among number (askers_of settled) ≡ false
@@ -123,6 +126,7 @@ pub fn answers_go_to_who_asked()
         → find_port one.asker before.ports ≡ Some port
         → find_port one.asker (answer_by answers.Refused one before).ports
         ≡ Some (record port { owed = port.owed ++ failure; waits = Nothing }) }
-    ensures lost { (askers : List ℕ) (ports : List Port) (number : ℕ) → is_among number askers ≡ false
-        → find_port number (tell_each (Refuses HelperLost) askers ports) ≡ find_port number ports }
+    ensures lost { (askers : List ℕ) (ports : List Port) (number : ℕ) → is_among number askers
+        ≡ false → find_port number (tell_each (Refuses HelperLost) askers ports)
+        ≡ find_port number ports }
 {}

@@ -1,4 +1,5 @@
-//! Literal rows of the table of requests: laws that are proved by computing, one a row, a cause or a limit.
+//! Literal rows of the table of requests: laws that are proved by computing, one a row, a cause or
+//! a limit.
 #![tactic(auto, unfolding(wire_text::specs::Frames::front, wire_text::specs::Frames::split_up_to, wire_text::specs::Frames::split, wire_text::specs::Wire::uint32, wire_text::specs::Wire::uint64, wire_text::specs::Wire::string, wire_text::specs::Wire::announced_len, wire_core::specs::Fields::uint32_at, wire_core::specs::Fields::uint64_at, wire_core::specs::Fields::string_len, wire_core::specs::Fields::string_at, key_blob::specs::AddedKeys::blob_fields_at, key_blob::specs::AddedKeys::certificate_blob_at, key_blob::specs::AddedKeys::blob_at, key_blob::specs::AddedKeys::added_key_at, key_blob::specs::AddedKeys::private_at, key_blob::specs::KeyTypes::form_named, key_blob::specs::PublicKeys::public_key_of, key_blob::specs::Reading::field_at, key_blob::specs::Reading::fields_at, key_blob::specs::Reading::after_fields, key_blob::specs::Reading::form_at, constraint_rec::specs::Constraints::restrict_destination, constraint_rec::specs::Reading::kind_at, constraint_rec::specs::Reading::contents_at, constraint_rec::specs::Reading::next_at, constraint_rec::specs::Reading::terms_up_to, constraint_rec::specs::Reading::terms_of, agent_msg::specs::Reading::request_of_number, agent_msg::specs::Reading::request_of, agent_msg::specs::Reading::is_addition, agent_msg::specs::Requests::session_bind, agent_msg::specs::Requests::bind_front, agent_msg::specs::Requests::names_bind, identity_table::specs::Identities::find_identity, identity_table::specs::Identities::put_identity, identity_table::specs::Identities::remove_identity, identity_table::specs::Identities::alive_at, identity_table::specs::Identities::entries_len, dest_rule::specs::Rules::visible, dest_rule::specs::Rules::denial, dest_rule::specs::Rules::bad_place, dest_rule::specs::Rules::is_hop, dest_rule::specs::Chains::judge,))]
 
 ghost use Rattle.std.specs.Prelude.{◌≡◌, ℕ, List, [], ◌∷◌, ◌++◌, codes, true, false};
@@ -20,14 +21,16 @@ pub fn additions_are_listed()
         ≡ done ∷ done ∷ none_listed ∷ [] }
     ensures lived { replies (at 5 (add_for_ten 17) ∷ at 14 list ∷ at 3 list ∷ at 15 list ∷ [])
         ≡ done ∷ listed 17 ∷ listed 17 ∷ none_listed ∷ [] }
-    ensures numbered { (state_after (now (add 17) ∷ now remove_all ∷ now (add 18) ∷ [])).held.table.last ≡ 2 }
+    ensures numbered { (state_after (now (add 17) ∷ now remove_all ∷ now (add 18)
+        ∷ [])).held.table.last ≡ 2 }
 {}
 
 /// What isn't done is answered SSH_AGENT_FAILURE.
 pub fn refusals_are_failures()
     ensures not_held { replies (now (add 17) ∷ now (sign 18) ∷ now (remove 18) ∷ [])
         ≡ done ∷ failed ∷ failed ∷ [] }
-    ensures constraint { replies (now (add_unknown 17) ∷ now list ∷ []) ≡ failed ∷ none_listed ∷ [] }
+    ensures constraint { replies (now (add_unknown 17) ∷ now list ∷ []) ≡ failed ∷ none_listed
+        ∷ [] }
     ensures extension { replies (now extension ∷ []) ≡ failed ∷ [] }
     ensures unknown { replies (now (0 ∷ 0 ∷ 0 ∷ 1 ∷ 200 ∷ []) ∷ []) ≡ failed ∷ [] }
     ensures short { replies (now (0 ∷ 0 ∷ 0 ∷ 1 ∷ 13 ∷ []) ∷ []) ≡ failed ∷ [] }
@@ -40,10 +43,11 @@ pub fn refusals_are_failures()
 pub fn a_locked_agent_does_nothing()
     ensures listed { replies (now (add 17) ∷ now (lock (codes "pw")) ∷ now list ∷ [])
         ≡ done ∷ done ∷ none_listed ∷ [] }
-    ensures refused { replies (now (lock (codes "pw")) ∷ now (add 17) ∷ now (remove 17) ∷ now remove_all
-        ∷ now (sign 17) ∷ now (lock (codes "no")) ∷ now extension ∷ [])
+    ensures refused { replies (now (lock (codes "pw")) ∷ now (add 17) ∷ now (remove 17)
+        ∷ now remove_all ∷ now (sign 17) ∷ now (lock (codes "no")) ∷ now extension ∷ [])
         ≡ done ∷ failed ∷ failed ∷ failed ∷ failed ∷ failed ∷ failed ∷ [] }
-    ensures constraint { replies (now (lock (codes "pw")) ∷ now (add_unknown 17) ∷ []) ≡ done ∷ failed ∷ [] }
+    ensures constraint { replies (now (lock (codes "pw")) ∷ now (add_unknown 17) ∷ [])
+        ≡ done ∷ failed ∷ [] }
     ensures opened { replies (now (add 17) ∷ now (lock (codes "pw")) ∷ now (unlock (codes "no"))
         ∷ now (unlock (codes "pw")) ∷ now list ∷ [])
         ≡ done ∷ done ∷ failed ∷ done ∷ listed 17 ∷ [] }
@@ -81,8 +85,8 @@ pub fn a_request_waits_for_the_reply_before()
 
 /// The monotonic clock counts as never falling, and the wall clock as it is given.
 pub fn moments_are_taken_in()
-    ensures rises { (ticked (record { mono = 9; wall = 3 } ∷ record { mono = 7; wall = 8 } ∷ [])).moment
-        ≡ record { mono = 9; wall = 3 } }
-    ensures falls { (ticked (record { mono = 7; wall = 8 } ∷ record { mono = 9; wall = 3 } ∷ [])).moment
-        ≡ record { mono = 9; wall = 8 } }
+    ensures rises { (ticked (record { mono = 9; wall = 3 } ∷ record { mono = 7; wall = 8 }
+        ∷ [])).moment ≡ record { mono = 9; wall = 3 } }
+    ensures falls { (ticked (record { mono = 7; wall = 8 } ∷ record { mono = 9; wall = 3 }
+        ∷ [])).moment ≡ record { mono = 9; wall = 8 } }
 {}

@@ -118,8 +118,8 @@ sent count link = record link { owed = drop count link.owed }
 abbrev pub askers : List Ask → List ℕ
 askers asks = map (λ (ask : Ask). ask.asker) asks
 
--- the helper is gone: what was unanswered failed, nothing is to be sent or was heard, and the count of losses stays at
--- its last value
+-- the helper is gone: what was unanswered failed, nothing is to be sent or was heard, and the count
+-- of losses stays at its last value
 abbrev pub lost : HelperLink → HelperLink
 lost link = record link {
   state = states.None;

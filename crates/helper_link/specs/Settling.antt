@@ -115,7 +115,8 @@ settle (body ∷ bodies) later asks = after_verdict (verdict body asks) (settle 
 
 -- the frames of a stream that was split, and then its rest
 abbrev pub settle_split : Split → List Ask → Settling
-settle_split parts asks = settle parts.bodies (at_rest (front longest_body parts.rest) parts.rest) asks
+settle_split parts asks =
+    settle parts.bodies (at_rest (front longest_body parts.rest) parts.rest) asks
 
 -- what the bytes of a stream settle, where these asks are unanswered
 unfoldable pub settling : List ℕ → List Ask → Settling

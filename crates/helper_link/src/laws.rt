@@ -18,8 +18,8 @@ pub fn cuts_of_the_stream_do_not_matter()
         → told_in_turn piece pieces link ≡ telling (joined piece pieces) link }
 {}
 
-/// What holds of the first link holds after each call that may be made: while no helper is there
-/// or being started, nothing is unanswered, to be sent or heard; at most 256 asks are unanswered, in
+/// What holds of the first link holds after each call that may be made: while no helper is there or
+/// being started, nothing is unanswered, to be sent or heard; at most 256 asks are unanswered, in
 /// the order of their numbers; and what was heard is less than a frame.
 pub fn links_stay_sound()
     ensures first { IsSound no_link }

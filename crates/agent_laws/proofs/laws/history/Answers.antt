@@ -1,5 +1,8 @@
-use Rattle.agent_laws.proofs.HistoryLemmas.{first-lawful}
+use Rattle.agent_laws.proofs.HistoryLemmas.{first-lawful, first-only}
 use Rattle.agent_laws.proofs.laws.history.Goals as goal
 
-pub returns : goal.returns
-returns c = record { lawful = first-lawful }
+pub returns-clause-lawful : goal.returns-clause-lawful
+returns-clause-lawful c = first-lawful
+
+pub returns-clause-only : goal.returns-clause-only
+returns-clause-only c = first-only
