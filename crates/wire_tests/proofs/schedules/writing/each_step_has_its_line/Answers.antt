@@ -1,6 +1,6 @@
 use Rattle.std.proofs.Common.{◌≡◌, arith, codes, length, refl}
 use Rattle.schedule_text.proofs.ShortLines.{bytes_text-short, one_text-short, two_text-short}
-use Rattle.schedule_text.proofs.tests.writing.each_step_has_its_line.Goals as goal
+use Rattle.wire_tests.proofs.schedules.writing.each_step_has_its_line.Goals as goal
 
 pub put_step-requires-2 : goal.put_step-requires-2
 put_step-requires-2 g c = record {

@@ -1,0 +1,11 @@
+use Rattle.helper_link.specs.HelperLink.{IsLinked}
+use Rattle.part_tests.proofs.link.told_in_pieces.Given as goal
+
+abbrev pub invariant-asks : goal.invariant-asks
+invariant-asks l = IsLinked l.link.state
+
+abbrev pub invariant-pieces : goal.invariant-pieces
+invariant-pieces l =
+    (goal.iterator-pieces).can_next l.piece-iterator ×
+    (goal.iterator-pieces).is_finite l.piece-iterator ×
+    IsLinked l.link.state
