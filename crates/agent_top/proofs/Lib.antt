@@ -1,3 +1,4 @@
 pub mod ProgramLemmas
 pub mod ServeLemmas
 pub mod ServeLawLemmas
+pub mod ServeFairLemmas

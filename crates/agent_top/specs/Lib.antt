@@ -2,3 +2,4 @@ pub mod Words
 pub mod Program
 pub mod ServeProgram
 pub mod ServeLaw
+pub mod ServeFair

@@ -1,54 +1,23 @@
 -- The law of history over the calls of `serve` (ours): `ServesLawfully`. From here on down, each file read from its end:
 --   ready_loop, specs/Serving.antt: how far a run of the loop is, by its calls
---   ready_hub, specs/Answered.antt: what has to come after a call, by its answer
+--   loop_model, specs/LegalJournal.antt: what each call brings, and what has to come after it
 --   agent_laws, specs/History.antt, Dues.antt, Past.antt: which signature is put to the helper, by what was done before
-use Rattle.std.specs.Prelude.{◌≡◌, ℕ, List, [], ◌∷◌, ◌++◌, Option, Some, None, Result, Ok, Err}
+use Rattle.std.specs.Prelude.{◌≡◌, ℕ, List, [], ◌∷◌, ◌++◌, Option, Some, None}
 use Rattle.world_ports.specs.Journal.{Grows}
 use Rattle.world_ports.specs.declared.entry.Entry.{Entry}
-use Rattle.world_ports.specs.declared.entry.Entry.TheVariants as entry
-use Rattle.world_ports.specs.declared.events.Moment.{Moment}
 use Rattle.agent_laws.specs.Answered.{IsAnswered}
 use Rattle.agent_laws.specs.History.{HasNumbers, IsLawful}
-use Rattle.agent_model.specs.Events.{Happening, Timed, Tick}
+use Rattle.agent_model.specs.Events.{Timed}
 use Rattle.agent_model.specs.Runs.{history, run}
 use Rattle.agent_model.specs.State.{State, first_state}
-use Rattle.ready_hub.specs.Answered.{Due, Free, NowFor, Closing, Polling, Nothing}
+use Rattle.loop_model.specs.LegalJournal.{events_at}
 use Rattle.ready_loop.specs.Serving.{Setting, Stage, Unbound, HalfBound, Running, Refused, gone_on, ran}
-
--- the event whose moment is to be read: a tick, where nothing has to come
-abbrev pub event_due : Due → Option Happening
-event_due Free = Some Tick
-event_due (NowFor event) = Some event
-event_due (Closing port later) = None
-event_due Polling = None
-event_due Nothing = None
-
--- the moment that was read
-abbrev pub moment_read : {E : Type 0} → Result Moment E → Option Moment
-moment_read (Ok moment) = Some moment
-moment_read (Err want) = None
-
-abbrev pub moment_of : Entry → Option Moment
-moment_of (entry.Bind door path answer) = None
-moment_of (entry.Poll wait items answer) = None
-moment_of (entry.Accept door answer) = None
-moment_of (entry.Read port room bytes answer) = None
-moment_of (entry.Write port offered answer) = None
-moment_of (entry.Close port answer) = None
-moment_of (entry.Start job answer) = None
-moment_of (entry.Now answer) = moment_read answer
-
--- the event at the moment, where there are both
-abbrev pub timed_by : Option Happening → Option Moment → List Timed
-timed_by None moment = []
-timed_by (Some event) None = []
-timed_by (Some event) (Some moment) = record { moment = moment; event = event } ∷ []
 
 -- what a call brings: events come once both listeners are bound
 abbrev pub call_events : Stage → Entry → List Timed
 call_events Unbound next = []
 call_events HalfBound next = []
-call_events (Running turning) next = timed_by (event_due turning.reading.due) (moment_of next)
+call_events (Running turning) next = events_at turning.due next
 call_events Refused next = []
 
 -- what later calls bring, where this one may come
@@ -66,7 +35,7 @@ calls_events setting stage (next ∷ later) =
 abbrev pub agent_at : Setting → Stage → State
 agent_at setting Unbound = setting.state
 agent_at setting HalfBound = setting.state
-agent_at setting (Running turning) = turning.reading.state
+agent_at setting (Running turning) = turning.state
 agent_at setting Refused = setting.state
 
 -- the calls lead to the state of the events which they bring; and while neither the numbers of asks nor those of jobs are

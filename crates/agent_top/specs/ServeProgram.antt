@@ -1,8 +1,8 @@
 -- What the end of `serve` says of the calls that it made on the world (ours): `ServesExactly`, a line a status. From here
 -- on down, each file read from its end:
 --   ready_loop, specs/Serving.antt: a whole run of the loop, and how it may end
---   ready_loop, specs/InTurn.antt: each thing is served in its turn
---   ready_hub, specs/LegalJournal.antt: which calls may come, by what the abstract agent owes and wants
+--   loop_model, specs/LegalJournal.antt: which calls may come, by what the abstract agent owes and wants, and in which
+--   order things are served
 --   agent_model, specs/Step.antt: one step of the abstract agent
 --   agent_model, specs/Dispatch.antt: the table of requests
 use Rattle.std.specs.Prelude.{List, Option, ◌⊎◌, Ok, Err}

@@ -1,6 +1,7 @@
 // The command `serve`.
 ghost use Rattle.std.specs.Prelude.{◌≡◌, ◌⊎◌, true};
 ghost use Rattle.ready_loop.specs.Serving.{Setting};
+ghost use Rattle.agent_top.specs.ServeFair.{ServesFairly};
 ghost use Rattle.agent_top.specs.ServeLaw.{ServesLawfully};
 ghost use Rattle.agent_top.specs.ServeProgram.{ServesExactly, status_of_serving};
 ghost use Rattle.agent_top.specs.Words.{IsServe, texts_of};
@@ -35,6 +36,8 @@ pub fn serve_by<R: Wait, W: World>(rt: &R, alloc: Global, words: &[String], worl
         → ServesExactly setting result (W.journal world.old) (W.journal world.new) }
     ensures serves_lawfully { (setting : Setting) → IsServe words.now setting
         → ServesLawfully (life_in (texts_of words.now)) setting (W.journal world.old) (W.journal world.new) }
+    ensures serves_fairly { (setting : Setting) → IsServe words.now setting
+        → ServesFairly setting (W.journal world.old) (W.journal world.new) }
     ensures usage { result ≡ Status.Usage → is_usage (texts_of words.now) ≡ true }
     ensures refused { is_usage (texts_of words.now) ≡ true
         → (result ≡ Status.Usage) ⊎ (result ≡ Status.Memory) }

@@ -1,6 +1,7 @@
 // The program over any input, output and world.
 ghost use Rattle.std.specs.Prelude.{◌≡◌, ◌⊎◌, ℕ, None, Option};
 ghost use Rattle.agent_top.specs.Program.{ReplaysExactly, Completes, RunsLawfully};
+ghost use Rattle.agent_top.specs.ServeFair.{ServesFairly};
 ghost use Rattle.agent_top.specs.ServeLaw.{ServesLawfully};
 ghost use Rattle.agent_top.specs.ServeProgram.{ServesExactly};
 ghost use Rattle.agent_top.specs.Words.{BeginsServe, IsReplay, IsServe, IsUsage, replay_life, texts_of};
@@ -27,9 +28,10 @@ use world_ports::{Sink, Source, World};
 /// other words it touches none of the three.
 ///
 /// With both commands a signature is put to the helper exactly where what was done before says so, while
-/// neither the numbers of asks nor those of jobs are spent: `lawful` and `serves_lawfully`.
+/// neither the numbers of asks nor those of jobs are spent: `lawful` and `serves_lawfully`. With `serve` each thing that is
+/// ready and can be served is served between two services of any other: `serves_fairly`.
 ///
-/// What the clauses say stands in specs/Program.antt, ServeProgram.antt and ServeLaw.antt, whose heads
+/// What the clauses say stands in specs/Program.antt, ServeProgram.antt, ServeLaw.antt and ServeFair.antt, whose heads
 /// name where to read on, down to the table of requests.
 pub fn agent_main<R: Wait, W: World, I: Source, O: Sink>(
     rt: &R,
@@ -53,6 +55,8 @@ pub fn agent_main<R: Wait, W: World, I: Source, O: Sink>(
         → ServesExactly setting result (W.journal world.old) (W.journal world.new) }
     ensures serves_lawfully { (setting : Setting) → IsServe words.now setting
         → ServesLawfully (life_in (texts_of words.now)) setting (W.journal world.old) (W.journal world.new) }
+    ensures serves_fairly { (setting : Setting) → IsServe words.now setting
+        → ServesFairly setting (W.journal world.old) (W.journal world.new) }
     ensures usage { result ≡ Status.Usage → IsUsage words.now }
     ensures refused { IsUsage words.now
         → (result ≡ Status.Usage) ⊎ ((result ≡ Status.Memory) × BeginsServe words.now) }

@@ -5,12 +5,12 @@ use Rattle.std.proofs.lemmas.List.{append-nil}
 use Rattle.std.specs.List.{filter}
 use Rattle.lists.specs.Rising.{IsRisingList, IsRisingNumbers, is_among}
 use Rattle.lists.proofs.RisingLemmas.{is_among-above, rising_list}
-use Rattle.ready_hub.specs.Things.{set_of}
-use Rattle.ready_hub.specs.declared.thing.Thing.{Thing}
-use Rattle.ready_hub.specs.declared.thing.Thing.TheVariants.{Write}
-use Rattle.ready_loop.specs.Aside.{Aside, taken_back, things_aside, writes_of}
-use Rattle.ready_loop.specs.Lines.{Line, brought}
-use Rattle.ready_loop.proofs.AsideLemmas.{aside-write, is_among-filter, or_false}
+use Rattle.loop_model.specs.Things.{set_of}
+use Rattle.loop_model.specs.declared.thing.Thing.{Thing}
+use Rattle.loop_model.specs.declared.thing.Thing.TheVariants.{Write}
+use Rattle.loop_model.specs.Aside.{Aside, taken_back, things_aside, writes_of}
+use Rattle.loop_model.specs.Lines.{Line, brought}
+use Rattle.loop_model.proofs.AsideLemmas.{aside-write, is_among-filter, or_false}
 use Rattle.ready_loop.proofs.FilterLemmas.{kept, numbers_all, numbers_alike, numbers_none}
 
 -- ---- ports that come back, by a test

@@ -1,17 +1,17 @@
 -- What a test lets pass: all, none, or as many as another test.
 use Rattle.std.proofs.Common.{◌≡◌, ◌∙◌, Bool, true, false, List, [], ◌∷◌, refl, sym, ap, cond, not, ◌||◌, ℕ, ◌==◌, arith}
 use Rattle.std.specs.List.{filter}
-use Rattle.ready_hub.specs.Things.{same_thing, set_of, same_door}
-use Rattle.ready_hub.specs.declared.thing.Thing.{Thing}
-use Rattle.ready_loop.specs.Aside.{Aside, taken_back, things_aside, accepts_of}
-use Rattle.ready_loop.specs.Queues.{dropped}
+use Rattle.loop_model.specs.Things.{same_thing, set_of, same_door}
+use Rattle.loop_model.specs.declared.thing.Thing.{Thing}
+use Rattle.loop_model.specs.Aside.{Aside, taken_back, things_aside, accepts_of}
+use Rattle.loop_model.specs.Queues.{dropped}
 use Rattle.std.proofs.lemmas.Bool.Decides.{nat_tests}
 use Rattle.world_ports.specs.declared.events.Door.{Door}
 use Rattle.lists.specs.Rising.{is_among}
-use Rattle.ready_hub.specs.declared.thing.Thing.TheVariants.{Accept, Read, Write}
-use Rattle.ready_loop.proofs.TestLemmas.{or_left, or_right}
-use Rattle.ready_loop.proofs.ThingLemmas.{false_by, same_thing-refl, same_thing-true}
-use Rattle.ready_loop.proofs.AsideLemmas.{aside-accept, aside-read, aside-write}
+use Rattle.loop_model.specs.declared.thing.Thing.TheVariants.{Accept, Read, Write}
+use Rattle.loop_model.proofs.TestLemmas.{or_left, or_right}
+use Rattle.loop_model.proofs.ThingLemmas.{false_by, same_thing-refl, same_thing-true}
+use Rattle.loop_model.proofs.AsideLemmas.{aside-accept, aside-read, aside-write}
 
 -- no test holds and doesn't
 pub true_false : (test : Bool) → test ≡ true → test ≡ false → ⊥

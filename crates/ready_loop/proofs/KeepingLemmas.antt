@@ -1,22 +1,17 @@
 -- Nothing that is set aside can be served, whatever calls were added.
-use Rattle.std.proofs.Common.{◌≡◌, ◌∙◌, List, Option, Result, Ok, Err, ℕ, sym, ap, subst, not}
+use Rattle.std.proofs.Common.{◌≡◌, List, Option, Result, Ok, Err, ℕ, sym, subst}
 use Rattle.std.specs.Prelude.{OnOk}
 use Rattle.world_ports.specs.declared.answers.Ready.{Ready}
 use Rattle.world_ports.specs.declared.entry.Entry.{Entry}
 use Rattle.agent_model.specs.State.{State}
-use Rattle.ready_hub.specs.Answered.{Free}
-use Rattle.ready_hub.specs.Things.{Hot, same_thing, set_of}
-use Rattle.ready_hub.specs.declared.thing.Thing.{Thing}
-use Rattle.ready_loop.specs.Aside.{Aside, things_aside}
-use Rattle.ready_loop.specs.InTurn.{Turning, in_state}
-use Rattle.ready_loop.specs.Lines.{IsQuiet, Line, queued_all, queued_port, without}
+use Rattle.loop_model.specs.Dues.{Free}
+use Rattle.loop_model.specs.LegalJournal.{Turning, in_state}
+use Rattle.loop_model.specs.Lines.{IsQuiet, Line, queued_all, queued_port}
 use Rattle.ready_loop.specs.Moves.{Goes, Serves, served_by}
 use Rattle.ready_loop.specs.declared.outcome.HubFault.{HubFault}
 use Rattle.ready_loop.specs.declared.outcome.Turn.{Turn}
-use Rattle.ready_loop.proofs.AddingLemmas.{adds-queued_all, adds-queued_port}
-use Rattle.ready_loop.proofs.AsideLemmas.{set_of-taken_back}
-use Rattle.ready_loop.proofs.QuietLemmas.{quiet_kept}
-use Rattle.ready_loop.proofs.TestLemmas.{and_both}
+use Rattle.loop_model.proofs.AddingLemmas.{adds-queued_all, adds-queued_port}
+use Rattle.loop_model.proofs.QuietLemmas.{quiet_kept, quiet_more}
 
 -- what holds where memory sufficed, holds
 pub on_ok : {T E P : Type 0} (result : Result T E) → P → OnOk result P
@@ -28,30 +23,21 @@ on_ok (Err fault) holds = tt
 pub quiet_is : (state : State) (line left : Line) → left ≡ line → IsQuiet state line → IsQuiet state left
 quiet_is state line left is quiet = subst (λ (l : Line). IsQuiet state l) (sym is) quiet
 
--- one in which the same is set aside
-quiet_alike : (state : State) (line left : Line) → left.aside ≡ line.aside → IsQuiet state line → IsQuiet state left
-quiet_alike state line left is quiet = λ thing there.
-    quiet thing (ap (λ (aside : Aside). set_of (things_aside aside) thing) (sym is) ∙ there)
-
-pub quiet_without : (state : State) (thing : Thing) (line : Line) → IsQuiet state line → IsQuiet state (without thing line)
-quiet_without state thing line quiet = λ other there.
-    quiet other (and_both (not (same_thing thing other)) (set_of (things_aside line.aside) other)
-    (ap (λ (hot : Hot). hot other) (sym (set_of-taken_back thing line.aside)) ∙ there)).1
-
 pub quiet_queued_port : (state : State) (port : ℕ) (line : Line) → IsQuiet state line → IsQuiet state (queued_port port line)
-quiet_queued_port state port line = quiet_alike state line (queued_port port line) (adds-queued_port port line).aside
+quiet_queued_port state port line = quiet_more state line (queued_port port line) (adds-queued_port port line)
 
-pub quiet_queued_all : (state : State) (items : List Ready) (line : Line) → IsQuiet state line → IsQuiet state (queued_all state items line)
-quiet_queued_all state items line = quiet_alike state line (queued_all state items line) (adds-queued_all state items line).aside
+pub quiet_queued_all : (state : State) (items : List Ready) (line : Line) → IsQuiet state line
+    → IsQuiet state (queued_all state items line)
+quiet_queued_all state items line = quiet_more state line (queued_all state items line) (adds-queued_all state items line)
 
 -- ---- of what calls lead to
 
-pub quiet_goes : {T E : Type 0} (result : Result T E) (from : Turning) (old new : Option (List Entry)) (state : State) (line : Line) → Goes result from old new (in_state state line Free) → IsQuiet from.reading.state from.line → OnOk result (IsQuiet state line)
+pub quiet_goes : {T E : Type 0} (result : Result T E) (from : Turning) (old new : Option (List Entry)) (state : State) (line : Line) → Goes result from old new (in_state state line Free) → IsQuiet from.state from.line → OnOk result (IsQuiet state line)
 quiet_goes (Ok value) from old new state line goes quiet =
     quiet_kept from (in_state state line Free) goes.by.added goes.by.legal quiet
 quiet_goes (Err fault) from old new state line goes quiet = tt
 
-quiet_serves : {T E : Type 0} (result : Result T E) (from : Turning) (old new : Option (List Entry)) (state : State) (line : Line) → Serves result from old new (in_state state line Free) → IsQuiet from.reading.state from.line → OnOk result (IsQuiet state line)
+quiet_serves : {T E : Type 0} (result : Result T E) (from : Turning) (old new : Option (List Entry)) (state : State) (line : Line) → Serves result from old new (in_state state line Free) → IsQuiet from.state from.line → OnOk result (IsQuiet state line)
 quiet_serves (Ok value) from old new state line serves quiet =
     quiet_kept from (in_state state line Free) serves.by.calls.added serves.by.calls.legal quiet
 quiet_serves (Err fault) from old new state line serves quiet = tt
@@ -61,7 +47,7 @@ quiet_turns : {E : Type 0} (result : Result Unit E) (state : State) (line : Line
 quiet_turns (Ok value) state line quiet = quiet
 quiet_turns (Err fault) state line quiet = tt
 
-pub quiet_served : {E : Type 0} (result : Result Unit E) (turn : Result Turn HubFault) (from : Turning) (old new : Option (List Entry)) (state : State) (line : Line) → turn ≡ served_by result → Serves result from old new (in_state state line Free) → IsQuiet from.reading.state from.line → OnOk turn (IsQuiet state line)
+pub quiet_served : {E : Type 0} (result : Result Unit E) (turn : Result Turn HubFault) (from : Turning) (old new : Option (List Entry)) (state : State) (line : Line) → turn ≡ served_by result → Serves result from old new (in_state state line Free) → IsQuiet from.state from.line → OnOk turn (IsQuiet state line)
 quiet_served result turn from old new state line is serves quiet =
     subst (λ (r : Result Turn HubFault). OnOk r (IsQuiet state line)) (sym is)
     (quiet_turns result state line (quiet_serves result from old new state line serves quiet))

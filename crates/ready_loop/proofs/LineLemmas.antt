@@ -1,15 +1,15 @@
 -- What becomes of a line as things are served, become ready or are set aside.
 use Rattle.std.proofs.Common.{◌≡◌, ◌∙◌, Bool, true, false, List, [], ◌∷◌, ◌++◌, Some, None, drop, refl, sym, ap, subst, ◌||◌, if◌then◌else◌}
 use Rattle.agent_model.specs.State.{State}
-use Rattle.ready_hub.specs.Servable.{is_servable}
-use Rattle.ready_hub.specs.Things.{same_thing, set_of}
-use Rattle.ready_hub.specs.declared.thing.Thing.{Thing}
-use Rattle.ready_loop.specs.Aside.{Aside, put_aside, taken_back, things_aside}
-use Rattle.ready_loop.specs.Lines.{Line, aside_with, brought, hot_of, queued, sent_back, settled, without}
-use Rattle.ready_loop.specs.Queues.{dropped, first_servable, from_servable}
+use Rattle.loop_model.specs.Servable.{is_servable}
+use Rattle.loop_model.specs.Things.{same_thing, set_of}
+use Rattle.loop_model.specs.declared.thing.Thing.{Thing}
+use Rattle.loop_model.specs.Aside.{Aside, put_aside, taken_back, things_aside}
+use Rattle.loop_model.specs.Lines.{Line, aside_with, brought, hot_of, queued, sent_back, settled, without}
+use Rattle.loop_model.specs.Queues.{dropped, first_servable, from_servable}
 use Rattle.ready_loop.specs.Standing.{AreApart, IsFront, IsOnce, front_but, stuck_front}
-use Rattle.ready_loop.proofs.ThingLemmas.{false_by, same_thing-refl, same_thing-true}
-use Rattle.ready_loop.proofs.AsideLemmas.{set_of-append}
+use Rattle.loop_model.proofs.ThingLemmas.{false_by, same_thing-refl, same_thing-true}
+use Rattle.loop_model.proofs.AsideLemmas.{set_of-append}
 use Rattle.ready_loop.proofs.FilterLemmas.{absent-dropped, absent-taken}
 use Rattle.ready_loop.proofs.StandingLemmas.{aside-absent, front-dropped, front-taken, once-put}
 

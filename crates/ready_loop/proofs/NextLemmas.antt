@@ -4,8 +4,8 @@ use Rattle.std.proofs.lemmas.Bool.Decides.{nat_tests}
 use Rattle.agent_model.specs.Sound.{IsRising}
 use Rattle.agent_model.specs.State.{Port, find_port}
 use Rattle.agent_model.proofs.PortsLemmas.{find_port-below, rising_bound}
-use Rattle.ready_loop.specs.Lines.{Line}
-use Rattle.ready_loop.proofs.TestLemmas.{and_both}
+use Rattle.loop_model.specs.Lines.{Line}
+use Rattle.loop_model.proofs.TestLemmas.{and_both}
 use Rattle.ready_loop.proofs.CallingLemmas.{IsStep, called_by, called_by-none}
 
 -- ---- the ports that the agent names

@@ -8,17 +8,17 @@ use Rattle.lists.specs.Rising.{IsRisingList, is_among}
 use Rattle.agent_model.specs.Sound.{IsRising}
 use Rattle.agent_model.specs.State.{Port, State, UnderWay, find_port, is_client, is_some_bytes, next_owed, next_owed_in, owed_by, owed_by_port}
 use Rattle.agent_core.specs.Owing.{next_child_owed, next_child_owed_in}
-use Rattle.ready_hub.specs.Elsewhere.{is_clients}
-use Rattle.ready_hub.specs.Servable.{is_servable}
-use Rattle.ready_hub.specs.Things.{Hot, same_thing, set_of}
-use Rattle.ready_hub.specs.declared.thing.Thing.{Thing}
-use Rattle.ready_hub.specs.declared.thing.Thing.TheVariants.{Accept, Read, Write}
-use Rattle.ready_loop.specs.Aside.{Aside, accepts_of, reads_of, taken_back, things_aside, writes_of}
-use Rattle.ready_loop.specs.Lines.{Line, brought, called, called_all, called_own}
+use Rattle.loop_model.specs.Elsewhere.{is_clients}
+use Rattle.loop_model.specs.Servable.{is_servable}
+use Rattle.loop_model.specs.Things.{Hot, same_thing, set_of}
+use Rattle.loop_model.specs.declared.thing.Thing.{Thing}
+use Rattle.loop_model.specs.declared.thing.Thing.TheVariants.{Accept, Read, Write}
+use Rattle.loop_model.specs.Aside.{Aside, accepts_of, reads_of, taken_back, things_aside, writes_of}
+use Rattle.loop_model.specs.Lines.{Line, brought, called, called_all, called_own}
 use Rattle.ready_loop.specs.Standing.{IsStirred, may_stir}
-use Rattle.ready_loop.proofs.TestLemmas.{both_if}
-use Rattle.ready_loop.proofs.ThingLemmas.{false_by, same_thing-true}
-use Rattle.ready_loop.proofs.AsideLemmas.{accepts-read, accepts-write, aside-accept, aside-read, aside-write, reads-accept, reads-read, reads-write, set_of-taken_back}
+use Rattle.loop_model.proofs.TestLemmas.{both_if}
+use Rattle.loop_model.proofs.ThingLemmas.{false_by, same_thing-true}
+use Rattle.loop_model.proofs.AsideLemmas.{accepts-read, accepts-write, aside-accept, aside-read, aside-write, reads-accept, reads-read, reads-write, set_of-taken_back}
 use Rattle.ready_loop.proofs.FilterLemmas.{doors_all, filter_none, kept, numbers_all}
 use Rattle.ready_loop.proofs.CallingLemmas.{brought-next, called_by, called_by-alike, called_by-none}
 use Rattle.ready_loop.proofs.NextLemmas.{IsNextBy, next-step, next_by, next_by-is, passes, upto, upto-all}

@@ -16,10 +16,9 @@ use Rattle.world_ports.specs.declared.answers.Ready.{Ready}
 use Rattle.world_ports.specs.declared.events.Door.TheVariants.{Clients, Children}
 use Rattle.world_ports.specs.declared.events.Moment.{Moment}
 use Rattle.agent_model.specs.State.{State}
-use Rattle.ready_hub.specs.Answered.{Free, after_look, only_if}
-use Rattle.ready_hub.specs.Servable.{is_idle}
-use Rattle.ready_loop.specs.InTurn.{Turning, in_state, led, taken, turned}
-use Rattle.ready_loop.specs.Lines.{Line, hot_of}
+use Rattle.loop_model.specs.Dues.{Free}
+use Rattle.loop_model.specs.Lines.{Line, is_idle}
+use Rattle.loop_model.specs.LegalJournal.{Turning, in_state, led, taken, taken_if, turned}
 use Rattle.ready_loop.specs.Moves.{Advances, Looks, Stops, Turns, is_poll}
 use Rattle.ready_loop.specs.Serving.{HalfBound, Opens, Refused, Running, Runs, RunsUpTo, Serves, Setting, Stage, Unbound, begun, children_path, gone_on, is_deserted, may_come, ran, running_if, stage_if}
 use Rattle.ready_loop.specs.declared.outcome.HubFault.{HubFault}
@@ -28,7 +27,7 @@ use Rattle.ready_loop.specs.declared.outcome.Turn.{Turn}
 use Rattle.ready_loop.specs.declared.outcome.ServeEnd.{ServeEnd}
 use Rattle.ready_loop.specs.declared.outcome.ServeEnd.TheVariants as ends
 use Rattle.ready_loop.specs.declared.outcome.Turn.TheVariants as turns
-use Rattle.ready_loop.proofs.TestLemmas.{and_true}
+use Rattle.loop_model.proofs.TestLemmas.{and_true}
 use Rattle.ready_loop.proofs.TurningLemmas.{grows_more}
 
 -- ---- one part after another
@@ -37,7 +36,7 @@ ran_by : (setting : Setting) (going : Option Stage) (first later : List Entry) �
 ran_by setting None first later rest = refl
 ran_by setting (Some stage) first later rest = rest stage
 
-ran-append : (setting : Setting) (from : Stage) (first later : List Entry) → ran setting from (first ++ later) ≡ option_and_then (λ after. ran setting after later) (ran setting from first)
+pub ran-append : (setting : Setting) (from : Stage) (first later : List Entry) → ran setting from (first ++ later) ≡ option_and_then (λ after. ran setting after later) (ran setting from first)
 ran-append setting from [] later = refl
 ran-append setting from (next ∷ first) later =
     ran_by setting (gone_on setting from next) first later (λ stage. ran-append setting stage first later)
@@ -114,32 +113,30 @@ poll_step setting mid to poll found may may_is is legal =
     ]) legal
 
 looked : State → Line → Moment → Bool → Option Turning
-looked state line moment idle =
-    option_map (led (in_state state line Free) (entry.Now (Ok moment)))
-    (only_if idle (after_look {E = AllocError} state (hot_of line) (Ok moment)))
+looked state line moment idle = taken_if idle (in_state state line Free) (entry.Now (Ok moment))
 
 look_step : (setting : Setting) (state : State) (line : Line) (moment : Moment) (wait : Option ℕ) (items : List Ready) (answer : Result Polled WorldFault) (to : Turning) (idle : Bool) → (setting.until_idle && (is_deserted (in_state state line Free) && idle)) ≡ false → option_and_then (λ after. turned after (entry.Poll wait items answer ∷ [])) (looked state line moment idle) ≡ Some to → option_and_then (λ after. ran setting after (entry.Poll wait items answer ∷ [])) (option_map Running (looked state line moment idle)) ≡ Some (Running to)
 unfolding looked
 look_step setting state line moment wait items answer to false done legal = cc
 look_step setting state line moment wait items answer to true done legal =
-    let mid : Turning = led (in_state state line Free) (entry.Now (Ok moment)) (after_look {E = AllocError} state (hot_of line) (Ok moment)) in
+    let mid : Turning = led (in_state state line Free) (entry.Now (Ok moment)) in
     let poll = entry.Poll wait items answer in
     let may : may_come setting.until_idle mid poll ≡ true =
     ap (λ (b : Bool). not (setting.until_idle && b)) (sym (and_true (is_deserted (in_state state line Free)) true refl)) ∙ ap not done in
     poll_step setting mid to poll (taken mid poll) (may_come setting.until_idle mid poll) may refl legal
 
 -- what a look and a poll add is a run, where the loop isn't to end there
-pub looks_run : (setting : Setting) (state : State) (line : Line) (moment : Moment) (wait : Option ℕ) (items : List Ready) (answer : Result Polled WorldFault) (to : Turning) → (setting.until_idle && (is_deserted (in_state state line Free) && is_idle state (hot_of line))) ≡ false → turned (in_state state line Free) (entry.Now (Ok moment) ∷ entry.Poll wait items answer ∷ []) ≡ Some to → ran setting (Running (in_state state line Free)) (entry.Now (Ok moment) ∷ entry.Poll wait items answer ∷ []) ≡ Some (Running to)
+pub looks_run : (setting : Setting) (state : State) (line : Line) (moment : Moment) (wait : Option ℕ) (items : List Ready) (answer : Result Polled WorldFault) (to : Turning) → (setting.until_idle && (is_deserted (in_state state line Free) && is_idle state line)) ≡ false → turned (in_state state line Free) (entry.Now (Ok moment) ∷ entry.Poll wait items answer ∷ []) ≡ Some to → ran setting (Running (in_state state line Free)) (entry.Now (Ok moment) ∷ entry.Poll wait items answer ∷ []) ≡ Some (Running to)
 unfolding looked
 looks_run setting state line moment wait items answer to done legal =
-    look_step setting state line moment wait items answer to (is_idle state (hot_of line)) done legal
+    look_step setting state line moment wait items answer to (is_idle state line) done legal
 
 -- ---- turns
 
 -- the loop isn't to end here
 abbrev pub IsOn : Setting → State → Line → Type 0
 IsOn setting state line =
-    (setting.until_idle && (is_deserted (in_state state line Free) && is_idle state (hot_of line))) ≡ false
+    (setting.until_idle && (is_deserted (in_state state line Free) && is_idle state line)) ≡ false
 
 pub served_runs : {old new : Option (List Entry)} (setting : Setting) (from to : Turning) → Advances from old new to → Runs setting (Running from) old new (Running to)
 served_runs setting from to turn = record {

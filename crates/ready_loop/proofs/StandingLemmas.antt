@@ -1,14 +1,14 @@
 -- What stands in the queue or aside, and nowhere twice.
 use Rattle.std.proofs.Common.{◌≡◌, ◌∙◌, Bool, true, false, List, [], ◌∷◌, ◌++◌, drop, refl, sym, ap, subst, cond, not, ◌&&◌, ◌||◌}
 use Rattle.std.specs.List.{filter}
-use Rattle.ready_hub.specs.Things.{Hot, same_thing, set_of}
-use Rattle.ready_hub.specs.declared.thing.Thing.{Thing}
-use Rattle.ready_loop.specs.Aside.{Aside, put_aside, taken_back, things_aside}
-use Rattle.ready_loop.specs.Queues.{dropped}
+use Rattle.loop_model.specs.Things.{Hot, same_thing, set_of}
+use Rattle.loop_model.specs.declared.thing.Thing.{Thing}
+use Rattle.loop_model.specs.Aside.{Aside, put_aside, taken_back, things_aside}
+use Rattle.loop_model.specs.Queues.{dropped}
 use Rattle.ready_loop.specs.Standing.{AreApart, IsFront, IsOnce}
-use Rattle.ready_loop.proofs.TestLemmas.{and_both, or_left, or_right}
-use Rattle.ready_loop.proofs.ThingLemmas.{false_by, same_thing-refl, same_thing-true}
-use Rattle.ready_loop.proofs.AsideLemmas.{set_of-append, set_of-filter, set_of-put_aside, set_of-taken_back}
+use Rattle.loop_model.proofs.TestLemmas.{and_both, or_left, or_right}
+use Rattle.loop_model.proofs.ThingLemmas.{false_by, same_thing-refl, same_thing-true}
+use Rattle.loop_model.proofs.AsideLemmas.{set_of-append, set_of-filter, set_of-put_aside, set_of-taken_back}
 use Rattle.ready_loop.proofs.FilterLemmas.{absent-dropped, true_false}
 
 -- ---- tests

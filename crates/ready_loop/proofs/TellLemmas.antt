@@ -7,14 +7,14 @@ use Rattle.agent_model.specs.Sound.{IsRising}
 use Rattle.agent_model.specs.State.{State, find_port}
 use Rattle.agent_model.specs.Step.{step}
 use Rattle.agent_model.proofs.RunLemmas.{step-last_port, step-rises}
-use Rattle.ready_hub.specs.Elsewhere.{is_clients, is_of, tells_others}
-use Rattle.ready_hub.specs.Servable.{is_servable}
-use Rattle.ready_hub.specs.declared.thing.Thing.{Thing}
-use Rattle.ready_hub.specs.declared.thing.Thing.TheVariants.{Accept, Read, Write}
-use Rattle.ready_hub.proofs.ElsewhereLemmas.{owed_before, wanted_before}
+use Rattle.loop_model.specs.Elsewhere.{is_clients, is_of, tells_others}
+use Rattle.loop_model.specs.Servable.{is_servable}
+use Rattle.loop_model.specs.declared.thing.Thing.{Thing}
+use Rattle.loop_model.specs.declared.thing.Thing.TheVariants.{Accept, Read, Write}
+use Rattle.loop_model.proofs.ElsewhereLemmas.{owed_before, wanted_before}
 use Rattle.ready_loop.specs.Happenings.{number_after}
-use Rattle.ready_loop.specs.InTurn.{port_of}
-use Rattle.ready_loop.specs.Lines.{IsQuiet, Line}
+use Rattle.loop_model.specs.Dues.{port_of}
+use Rattle.loop_model.specs.Lines.{IsQuiet, Line}
 use Rattle.ready_loop.specs.Standing.{IsStirred, is_own, may_stir}
 
 -- another port than the event's own is one that the event isn't of

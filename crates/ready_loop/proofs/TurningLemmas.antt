@@ -1,7 +1,7 @@
 -- Calls one after another.
 use Rattle.std.proofs.Common.{◌≡◌, ◌∙◌, ◌⊎◌, inl, inr, ℕ, Bool, true, false, List, [], ◌∷◌, ◌++◌, Option, Some, None, Result, Ok, Err, refl, sym, ap, subst, append_assoc, length-append, arith}
 use Rattle.std.proofs.lemmas.List.{append-nil}
-use Rattle.std.specs.Prelude.{option_and_then, option_map, ◌||◌}
+use Rattle.std.specs.Prelude.{option_and_then, ◌||◌}
 use Rattle.std.specs.List.{list_any}
 use Rattle.world_ports.specs.declared.events.Moment.{Moment}
 use Rattle.world_ports.specs.declared.answers.Polled.{Polled}
@@ -12,15 +12,15 @@ use Rattle.world_ports.specs.declared.answers.Ready.{Ready}
 use Rattle.world_ports.specs.declared.answers.WorldFault.{WorldFault}
 use Rattle.world_ports.specs.declared.entry.Entry.{Entry}
 use Rattle.world_ports.specs.declared.entry.Entry.TheVariants as entry
-use Rattle.ready_hub.specs.Answered.{Free, Reading}
-use Rattle.ready_hub.specs.LegalJournal.{allowed}
+use Rattle.loop_model.specs.Dues.{Free}
+use Rattle.loop_model.specs.LegalJournal.{Turning, in_state, taken, turned}
 use Rattle.agent_model.specs.State.{State}
 use Rattle.ready_loop.specs.declared.outcome.HubFault.{HubFault}
 use Rattle.ready_loop.specs.declared.outcome.HubFault.TheVariants as faults
 use Rattle.ready_loop.specs.declared.outcome.Turn.{Turn}
 use Rattle.ready_loop.specs.declared.outcome.Turn.TheVariants as turns
-use Rattle.ready_loop.specs.InTurn.{Turning, in_state, is_in_turn, led, taken, taken_if, turned}
-use Rattle.ready_loop.specs.Lines.{Line}
+use Rattle.loop_model.specs.Lines.{Line}
+use Rattle.loop_model.proofs.JournalLemmas.{turned-append}
 use Rattle.ready_loop.specs.Moves.{Advances, Continues, Goes, GoesBy, PollsOr, Serves, ServesBy, Stops, Turns, Waits, WaitsOnce, is_poll}
 
 -- ---- the journal grows
@@ -33,14 +33,6 @@ grows_more (Some before) (Some between) (Some now) first later told more =
     more ∙ ap (λ (es : List Entry). es ++ later) told ∙ append_assoc before first later
 
 -- ---- the fold over two parts
-
-turned_by : (taking : Option Turning) (first later : List Entry) → ((turning : Turning) → turned turning (first ++ later) ≡ option_and_then (λ after. turned after later) (turned turning first)) → option_and_then (λ after. turned after (first ++ later)) taking ≡ option_and_then (λ after. turned after later) (option_and_then (λ after. turned after first) taking)
-turned_by None first later rest = refl
-turned_by (Some turning) first later rest = rest turning
-
-pub turned-append : (from : Turning) (first later : List Entry) → turned from (first ++ later) ≡ option_and_then (λ after. turned after later) (turned from first)
-turned-append from [] later = refl
-turned-append from (next ∷ first) later = turned_by (taken from next) first later (λ turning. turned-append turning first later)
 
 turned_on : (from mid to : Turning) (first later : List Entry) → turned from first ≡ Some mid → turned mid later ≡ Some to → turned from (first ++ later) ≡ Some to
 turned_on from mid to first later legal more =
@@ -130,13 +122,6 @@ stops_later first later = record { to = later.to; calls = goes_on first later.ca
 -- the readings that calls lead to are the same
 pub lands_at : {from : Turning} {old new : Option (List Entry)} (to other : Turning) → to ≡ other → Continues from old new to → Continues from old new other
 lands_at {from} {old} {new} to other is calls = subst (Continues from old new) is calls
-
--- ---- an entry that may come
-
--- one that is in turn, and that may come as ready_hub says
-pub taken-is : (from : Turning) (next : Entry) (reading : Reading) → is_in_turn from.reading.state from.line.queue next ≡ true → allowed from.reading next ≡ Some reading → taken from next ≡ Some (led from next reading)
-taken-is from next reading turn may =
-    ap (λ (b : Bool). taken_if b from next) turn ∙ ap (option_map (led from next)) may
 
 -- ---- by whether memory sufficed
 

@@ -1,11 +1,5 @@
 pub mod Happenings
-pub mod Aside
-pub mod Queues
-pub mod Lines
 pub mod Standing
 pub mod Rooms
-pub mod InTurn
 pub mod Moves
 pub mod Serving
-pub mod Fairness
-pub mod Rows

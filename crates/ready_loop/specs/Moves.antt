@@ -11,9 +11,9 @@ use Rattle.world_ports.specs.declared.events.Moment.{Moment}
 use Rattle.world_ports.specs.declared.entry.Entry.{Entry}
 use Rattle.world_ports.specs.declared.entry.Entry.TheVariants as entry
 use Rattle.agent_model.specs.State.{State}
-use Rattle.ready_hub.specs.Answered.{Free}
-use Rattle.ready_loop.specs.InTurn.{Turning, in_state, turned}
-use Rattle.ready_loop.specs.Lines.{Line}
+use Rattle.loop_model.specs.Dues.{Free}
+use Rattle.loop_model.specs.LegalJournal.{Turning, in_state, turned}
+use Rattle.loop_model.specs.Lines.{Line}
 use Rattle.ready_loop.specs.declared.outcome.Turn.{Turn}
 use Rattle.ready_loop.specs.declared.outcome.Turn.TheVariants as turns
 use Rattle.ready_loop.specs.declared.outcome.HubFault.{HubFault}

@@ -13,11 +13,10 @@ use Rattle.world_ports.specs.declared.entry.Entry.TheVariants as entry
 use Rattle.world_ports.specs.declared.events.Door.{Door}
 use Rattle.world_ports.specs.declared.events.Door.TheVariants.{Clients, Children}
 use Rattle.agent_model.specs.State.{State, client_count}
-use Rattle.ready_hub.specs.Answered.{Free}
-use Rattle.ready_hub.specs.Servable.{is_idle}
-use Rattle.ready_hub.specs.Things.{same_door}
-use Rattle.ready_loop.specs.InTurn.{Turning, in_state, taken}
-use Rattle.ready_loop.specs.Lines.{empty_line}
+use Rattle.loop_model.specs.Dues.{Free}
+use Rattle.loop_model.specs.Lines.{empty_line, is_idle}
+use Rattle.loop_model.specs.Things.{same_door}
+use Rattle.loop_model.specs.LegalJournal.{Turning, in_state, taken}
 use Rattle.ready_loop.specs.Moves.{is_poll}
 use Rattle.ready_loop.specs.declared.outcome.ServeEnd.{ServeEnd}
 use Rattle.ready_loop.specs.declared.outcome.ServeEnd.TheVariants.{Over, Idle, BindFault, PollFault, Memory}
@@ -72,7 +71,7 @@ bound door path next (entry.Now answer) = None
 
 -- a client has connected, and none is open
 abbrev pub is_deserted : Turning → Bool
-is_deserted turning = turning.line.joined && (client_count turning.reading.state.ports == 0)
+is_deserted turning = turning.line.joined && (client_count turning.state.ports == 0)
 
 -- a loop that is to end when it is idle doesn't poll there
 abbrev pub may_come : Bool → Turning → Entry → Bool
@@ -130,7 +129,7 @@ pub record RunsUntilIdle (setting : Setting) (from : Stage) (old new : Option (L
   pub calls : Runs setting from old new (Running turning)
   pub asked : setting.until_idle ≡ true
   pub deserted : is_deserted turning ≡ true
-  pub idle : is_idle turning.reading.state turning.reading.hot ≡ true
+  pub idle : is_idle turning.state turning.line ≡ true
 
 -- memory ran out: the calls up to there may come
 pub record RunsOut (setting : Setting) (from : Stage) (old new : Option (List Entry)) : Type 0 where

@@ -1,13 +1,13 @@
 -- What holds of a line in storage, so that the front of its queue and its own port are all that a turn looks at (ours).
 use Rattle.std.specs.Prelude.{◌≡◌, ℕ, Bool, true, false, List, [], ◌∷◌, Option, Some, None, ◌==◌, ◌||◌, not, if◌then◌else◌}
 use Rattle.agent_model.specs.State.{State, find_port}
-use Rattle.ready_hub.specs.Elsewhere.{is_clients}
-use Rattle.ready_hub.specs.Servable.{is_servable}
-use Rattle.ready_hub.specs.Things.{same_thing, set_of}
-use Rattle.ready_hub.specs.declared.thing.Thing.{Thing}
-use Rattle.ready_hub.specs.declared.thing.Thing.TheVariants.{Accept, Read, Write}
-use Rattle.ready_loop.specs.Aside.{Aside, things_aside}
-use Rattle.ready_loop.specs.Lines.{Line}
+use Rattle.loop_model.specs.Elsewhere.{is_clients}
+use Rattle.loop_model.specs.Servable.{is_servable}
+use Rattle.loop_model.specs.Things.{same_thing, set_of}
+use Rattle.loop_model.specs.declared.thing.Thing.{Thing}
+use Rattle.loop_model.specs.declared.thing.Thing.TheVariants.{Accept, Read, Write}
+use Rattle.loop_model.specs.Aside.{Aside, things_aside}
+use Rattle.loop_model.specs.Lines.{Line}
 
 -- nothing stands twice in the queue
 abbrev pub AreApart : List Thing → Type 0

@@ -5,7 +5,7 @@ ghost use Rattle.agent_model.specs.State.{Fits, State, client_count, find_port, 
 ghost use Rattle.agent_model.specs.Step.{step};
 ghost use Rattle.agent_core.specs.Happenings.{happening};
 ghost use Rattle.agent_core.specs.Owing.{next_child_owed};
-ghost use Rattle.ready_hub.specs.Elsewhere.{is_clients};
+ghost use Rattle.loop_model.specs.Elsewhere.{is_clients};
 
 use agent_core::{Agent, CoreMemory, Event};
 use world_ports::{Job, Moment};

@@ -1,12 +1,12 @@
 // What is ready and can't be served, set aside under its door or port.
 ghost use Rattle.std.specs.Prelude.{◌≡◌, OnErr, OnOk, filter, length, nat_lt, not};
 ghost use Rattle.lists.specs.Rising.{IsRisingList, inserted};
-ghost use Rattle.ready_hub.specs.Things.{same_door, set_of};
-ghost use Rattle.ready_hub.specs.declared.thing.Thing.TheVariants.{Accept};
-ghost use Rattle.ready_loop.specs.Aside.{accepts_of, none_aside, put_aside, taken_back, things_aside};
+ghost use Rattle.loop_model.specs.Things.{same_door, set_of};
+ghost use Rattle.loop_model.specs.declared.thing.Thing.TheVariants.{Accept};
+ghost use Rattle.loop_model.specs.Aside.{accepts_of, none_aside, put_aside, taken_back, things_aside};
 
 use crate::things::is_same_door;
-use ready_hub::Thing;
+use loop_model::Thing;
 use lists as rising;
 use std::alloc::{AllocError, Global};
 use std::marker::Model;
@@ -23,7 +23,7 @@ pub struct Aside {
 
 impl Model for Aside {
     ghost use Rattle.lists.specs.Rising.{IsRisingList};
-    ghost use Rattle.ready_loop.specs.Aside.{Aside as Things};
+    ghost use Rattle.loop_model.specs.Aside.{Aside as Things};
 
     ghost Value = { Things };
 

@@ -1,11 +1,9 @@
 // The hub: what is ready, and a turn of the loop.
 ghost use Rattle.std.specs.Prelude.{◌≡◌, ◌≤◌, Err, MatchOption, OnOk, [], true};
 ghost use Rattle.agent_model.specs.State.{starts};
-ghost use Rattle.ready_hub.specs.Answered.{Free};
-ghost use Rattle.ready_hub.specs.LegalJournal.{is_first_job};
-ghost use Rattle.ready_hub.specs.Servable.{is_idle};
-ghost use Rattle.ready_loop.specs.InTurn.{in_state};
-ghost use Rattle.ready_loop.specs.Lines.{IsQuiet, empty_line, hot_of};
+ghost use Rattle.loop_model.specs.Dues.{Free};
+ghost use Rattle.loop_model.specs.LegalJournal.{in_state, is_first_job};
+ghost use Rattle.loop_model.specs.Lines.{IsQuiet, empty_line, is_idle};
 ghost use Rattle.ready_loop.specs.Moves.{Turns, served_by};
 ghost use Rattle.world_ports.specs.Causes.{Rose};
 
@@ -15,7 +13,7 @@ use crate::room::Room;
 use crate::turn::{accept, read, start, write};
 use crate::{Core, HubFault, Turn};
 use agent_core::CoreMemory;
-use ready_hub::Thing;
+use loop_model::Thing;
 use std::alloc::{AllocError, Global};
 use std::marker::Model;
 use world_ports::{Job, Ready, World};
@@ -33,7 +31,7 @@ pub struct Hub {
 }
 
 impl Model for Hub {
-    ghost use Rattle.ready_loop.specs.Lines.{Line};
+    ghost use Rattle.loop_model.specs.Lines.{Line};
 
     ghost Value = { Line };
 
@@ -76,7 +74,7 @@ impl Hub {
     /// Whether nothing can be served, and no job waits, where nothing that is set aside can be.
     pub fn idle<A: Core>(&self, agent: &A) -> bool
         requires { IsQuiet (A.state agent.now) self.now }
-        ensures { result ≡ is_idle (A.state agent.now) (hot_of self.now) }
+        ensures { result ≡ is_idle (A.state agent.now) self.now }
     {
         is_idle(&self.queue, agent)
     }

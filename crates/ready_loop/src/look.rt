@@ -1,9 +1,8 @@
 // A look at the clock, and a poll.
 ghost use Rattle.std.specs.Prelude.{◌≡◌, ◌≤◌, ◌-◌, Err, OnOk, Option, true};
-ghost use Rattle.ready_hub.specs.Answered.{Free, Polling, wait_of};
-ghost use Rattle.ready_hub.specs.Servable.{is_idle};
-ghost use Rattle.ready_loop.specs.InTurn.{in_state};
-ghost use Rattle.ready_loop.specs.Lines.{IsQuiet, hot_of};
+ghost use Rattle.loop_model.specs.Dues.{Free, Polling, wait_of};
+ghost use Rattle.loop_model.specs.Lines.{IsQuiet, is_idle};
+ghost use Rattle.loop_model.specs.LegalJournal.{in_state};
 ghost use Rattle.ready_loop.specs.Moves.{PollsOr, Turns};
 ghost use Rattle.world_ports.specs.Causes.{Rose};
 
@@ -16,7 +15,7 @@ use world_ports::{Polled, Ready, World, WorldFault};
 // Whether nothing can be served, and no job waits.
 pub fn is_idle<A: Core>(queue: &Queue, agent: &A) -> bool
     requires { IsQuiet (A.state agent.now) queue.now }
-    ensures { result ≡ is_idle (A.state agent.now) (hot_of queue.now) }
+    ensures { result ≡ is_idle (A.state agent.now) queue.now }
 {
     agent.starts().is_empty() && queue.first(agent).is_none()
 }
@@ -65,7 +64,7 @@ pub fn look<A: Core, W: World>(
     world: &mut W,
     ready: &mut Vec<Ready>,
 ) -> Result<Turn, HubFault>
-    requires idle { is_idle (A.state agent.old) (hot_of queue.old) ≡ true }
+    requires idle { is_idle (A.state agent.old) queue.old ≡ true }
     requires quiet { IsQuiet (A.state agent.old) queue.old }
     requires ports { W.last_port world.old ≡ (A.state agent.old).last_port }
     ensures legal { Turns result (in_state (A.state agent.old) queue.old Free)

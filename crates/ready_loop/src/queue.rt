@@ -2,15 +2,15 @@
 ghost use Rattle.std.specs.Prelude.{◌≡◌, ◌||◌, None, OnOk, Some, false, length, nat_lt, true};
 ghost use Rattle.agent_model.specs.State.{State, is_client};
 ghost use Rattle.lists.specs.Rising.{IsRisingList};
-ghost use Rattle.ready_hub.specs.declared.thing.Thing.TheVariants.{Accept, Read, Write};
-ghost use Rattle.ready_loop.specs.Lines.{brought, called, called_all, called_own, empty_line, hot_of, queued, queued_all, queued_by, queued_if, queued_port, recalled, sent_back, settled, without, without_port};
-ghost use Rattle.ready_loop.specs.Queues.{dropped, first_servable};
+ghost use Rattle.loop_model.specs.declared.thing.Thing.TheVariants.{Accept, Read, Write};
+ghost use Rattle.loop_model.specs.Lines.{brought, called, called_all, called_own, empty_line, hot_of, queued, queued_all, queued_by, queued_if, queued_port, recalled, sent_back, settled, without, without_port};
+ghost use Rattle.loop_model.specs.Queues.{dropped, first_servable};
 ghost use Rattle.ready_loop.specs.Standing.{IsFront, IsStirred, front_but, stuck_front};
 
 use crate::Core;
 use crate::aside::Aside;
 use crate::things::{can_serve, has_thing, is_same};
-use ready_hub::Thing;
+use loop_model::Thing;
 use std::alloc::{AllocError, Global};
 use std::collections::VecDeque;
 use std::marker::Model;
@@ -26,7 +26,7 @@ pub struct Queue {
 }
 
 impl Model for Queue {
-    ghost use Rattle.ready_loop.specs.Lines.{Line};
+    ghost use Rattle.loop_model.specs.Lines.{Line};
     ghost use Rattle.ready_loop.specs.Standing.{IsOnce};
 
     ghost Value = { Line };

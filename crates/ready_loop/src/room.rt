@@ -1,6 +1,6 @@
 // Room for reads.
 ghost use Rattle.std.specs.Prelude.{◌≡◌, ◌<◌, IfOk, OnOk, length};
-ghost use Rattle.ready_hub.specs.LegalJournal.{read_room};
+ghost use Rattle.loop_model.specs.LegalJournal.{read_room};
 ghost use Rattle.ready_loop.specs.Rooms.{IsWiped};
 
 use std::alloc::{AllocError, Global};

@@ -1,10 +1,9 @@
 // The loop.
 ghost use Rattle.std.specs.Prelude.{◌≡◌, ◌≤◌, ◌&&◌, List, ℕ};
 ghost use Rattle.agent_model.specs.State.{State};
-ghost use Rattle.ready_hub.specs.Answered.{Free};
-ghost use Rattle.ready_hub.specs.Servable.{is_idle};
-ghost use Rattle.ready_loop.specs.InTurn.{in_state};
-ghost use Rattle.ready_loop.specs.Lines.{IsQuiet, hot_of};
+ghost use Rattle.loop_model.specs.Dues.{Free};
+ghost use Rattle.loop_model.specs.Lines.{IsQuiet, is_idle};
+ghost use Rattle.loop_model.specs.LegalJournal.{in_state};
 ghost use Rattle.ready_loop.specs.Serving.{Running, Serves, Unbound, is_deserted};
 ghost use Rattle.world_ports.specs.Causes.{Rose};
 
@@ -18,7 +17,7 @@ use world_ports::{World, WorldFault};
 fn is_done<A: Core>(hub: &Hub, agent: &A, until_idle: bool) -> bool
     requires { IsQuiet (A.state agent.now) hub.now }
     ensures { result ≡ (until_idle && (is_deserted (in_state (A.state agent.now) hub.now Free)
-        && is_idle (A.state agent.now) (hot_of hub.now))) }
+        && is_idle (A.state agent.now) hub.now)) }
 {
     until_idle && hub.has_joined() && agent.clients() == 0 && hub.idle(agent)
 }

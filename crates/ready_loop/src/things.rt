@@ -1,10 +1,10 @@
 // Things: whether two are the same, and whether one can be served.
 ghost use Rattle.std.specs.Prelude.{◌≡◌};
-ghost use Rattle.ready_hub.specs.Servable.{is_servable};
-ghost use Rattle.ready_hub.specs.Things.{same_door, same_thing, set_of};
+ghost use Rattle.loop_model.specs.Servable.{is_servable};
+ghost use Rattle.loop_model.specs.Things.{same_door, same_thing, set_of};
 
 use crate::Core;
-use ready_hub::Thing;
+use loop_model::Thing;
 use std::collections::VecDeque;
 use world_ports::Door;
 

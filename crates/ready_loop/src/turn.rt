@@ -3,22 +3,21 @@ ghost use Rattle.std.specs.Prelude.{◌≡◌, ◌≤◌, OnOk, Some, length, tr
 ghost use Rattle.agent_model.specs.Events.{Ended, Heard, Took};
 ghost use Rattle.agent_model.specs.State.{Fits, State, starts};
 ghost use Rattle.agent_model.specs.Step.{step};
-ghost use Rattle.ready_hub.specs.Answered.{Free, NowFor, due_of};
-ghost use Rattle.ready_hub.specs.Elsewhere.{tells_others};
-ghost use Rattle.ready_hub.specs.LegalJournal.{is_first_job, read_room};
-ghost use Rattle.ready_hub.specs.declared.thing.Thing.TheVariants.{Accept, Read, Write};
+ghost use Rattle.loop_model.specs.Dues.{Free, NowFor, due_of, port_of};
+ghost use Rattle.loop_model.specs.Elsewhere.{tells_others};
+ghost use Rattle.loop_model.specs.LegalJournal.{in_state, is_first_job, read_room};
+ghost use Rattle.loop_model.specs.declared.thing.Thing.TheVariants.{Accept, Read, Write};
 ghost use Rattle.agent_core.specs.Happenings.{happening};
 ghost use Rattle.ready_loop.specs.Happenings.{MayJoin, number_after};
-ghost use Rattle.ready_loop.specs.InTurn.{in_state, port_of};
-ghost use Rattle.ready_loop.specs.Lines.{IsQuiet, brought, recalled, sent_back, settled, without};
+ghost use Rattle.loop_model.specs.Lines.{IsQuiet, brought, recalled, sent_back, settled, without};
 ghost use Rattle.ready_loop.specs.Moves.{Goes, Serves};
-ghost use Rattle.ready_loop.specs.Queues.{first_servable};
+ghost use Rattle.loop_model.specs.Queues.{first_servable};
 ghost use Rattle.ready_loop.specs.Rooms.{IsWiped};
 
 use crate::Core;
 use crate::queue::Queue;
 use agent_core::{CoreMemory, Event};
-use ready_hub::Thing;
+use loop_model::Thing;
 use world_ports::{Accepted, Door, Got, Job, Moment, World, WorldFault, Wrote};
 
 // Closes the ports that the last event closed.

@@ -1,4 +1,5 @@
 use Rattle.std.proofs.Common.{ap, ◌∙◌, Some}
+use Rattle.agent_top.proofs.ServeFairLemmas.{serves_fairly}
 use Rattle.agent_top.proofs.ServeLawLemmas.{serves_lawfully}
 use Rattle.agent_top.proofs.ServeLemmas.{serves_words}
 use Rattle.agent_top.proofs.serving.serve_by.Goals as goal
@@ -15,3 +16,9 @@ returns-clause-serves_lawfully g c setting is = serves_lawfully _ setting _ _ is
 
 pub returns-in-Err-Memory-clause-serves_lawfully : goal.returns-in-Err-Memory-clause-serves_lawfully
 returns-in-Err-Memory-clause-serves_lawfully g c setting is = serves_lawfully _ setting _ _ is.state
+
+pub returns-clause-serves_fairly : goal.returns-clause-serves_fairly
+returns-clause-serves_fairly g c setting is = serves_fairly setting _ _
+
+pub returns-in-Err-Memory-clause-serves_fairly : goal.returns-in-Err-Memory-clause-serves_fairly
+returns-in-Err-Memory-clause-serves_fairly g c setting is = serves_fairly setting _ _

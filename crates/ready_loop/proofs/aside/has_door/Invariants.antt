@@ -1,7 +1,7 @@
 use Rattle.std.proofs.Common.{◌≡◌, drop}
-use Rattle.ready_hub.specs.Things.{set_of}
-use Rattle.ready_hub.specs.declared.thing.Thing.TheVariants.{Accept}
-use Rattle.ready_loop.specs.Aside.{accepts_of}
+use Rattle.loop_model.specs.Things.{set_of}
+use Rattle.loop_model.specs.declared.thing.Thing.TheVariants.{Accept}
+use Rattle.loop_model.specs.Aside.{accepts_of}
 use Rattle.ready_loop.proofs.aside.has_door.Given as goal
 
 -- it isn't before the index

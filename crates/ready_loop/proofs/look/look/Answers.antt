@@ -3,14 +3,12 @@ use Rattle.std.specs.declared.alloc.AllocError.{AllocError}
 use Rattle.world_ports.specs.declared.events.Moment.{Moment}
 use Rattle.std.specs.Prelude.{is_err}
 use Rattle.world_ports.specs.declared.entry.Entry.TheVariants as entry
-use Rattle.ready_hub.specs.Answered as hub
-use Rattle.ready_hub.specs.Answered.{Due, Free, Polling, due_after_look, due_of}
-use Rattle.ready_hub.specs.Servable.{is_idle}
-use Rattle.ready_loop.specs.InTurn.{in_state, led}
-use Rattle.ready_loop.specs.Lines.{hot_of, recalled}
+use Rattle.loop_model.specs.Dues.{Due, Free, Polling, due_look, due_of}
+use Rattle.loop_model.specs.Lines.{is_idle, recalled}
+use Rattle.loop_model.specs.LegalJournal.{in_state, led}
 use Rattle.ready_loop.proofs.CallLemmas.{look-any, look-closes, look-none, looked-at}
 use Rattle.ready_loop.proofs.KeepingLemmas.{quiet_goes, quiet_is}
-use Rattle.ready_loop.proofs.QuietLemmas.{quiet_recalled}
+use Rattle.loop_model.proofs.QuietLemmas.{quiet_recalled}
 use Rattle.ready_loop.proofs.TurningLemmas.{advances, advances_once, goes_stops, one_call, stops_later, stops_short, stops_there, looks_by}
 use Rattle.ready_loop.proofs.look.look.Goals as goal
 
@@ -19,7 +17,7 @@ returns-in_default-clause-legal g c =
     let state = g.A.Core.state c.args.agent.now in
     let line = c.args.queue.now in
     let next = entry.Now c.now.result in
-    inl (stops_short (in_state state line Free) (led (in_state state line Free) next (hub.after_look state (hot_of line) c.now.result))
+    inl (stops_short (in_state state line Free) (led (in_state state line Free) next)
     (g.W.World.journal c.args.world.now) (g.W.World.journal c.now.new.self) (is_err c.now.result) next refl
     (look-any state line c.now.result c.requires.idle) c.now.ensures.told)
 
@@ -29,7 +27,7 @@ returns-in_default-tell-clause-legal g c =
     let line = c.args.queue.now in
     let answer : Result Moment AllocError = Ok c.in-Ok.moment in
     let next = entry.Now answer in
-    inl (stops_there (one_call (in_state state line Free) (led (in_state state line Free) next (hub.after_look state (hot_of line) answer))
+    inl (stops_there (one_call (in_state state line Free) (led (in_state state line Free) next)
     (g.W.World.journal c.args.world.now) (g.W.World.journal c.now.new.self) next refl
     (look-any state line answer c.requires.idle) c.in-Ok.ensures.told))
 
@@ -44,7 +42,7 @@ returns-in_default-close_all-clause-legal g c =
     inl (stops_later (one_call (in_state state c.args.queue.now Free) (in_state after line (due_of after.closes))
     (g.W.World.journal c.args.world.now) (g.W.World.journal c.now.new.self) (entry.Now (Ok c.in-Ok.moment)) refl
     (looked-at state after c.args.queue.now line c.in-Ok.moment c.requires.idle c.in-Ok-tell.ensures.stepped c.in-Ok-tell.ensures.recalled
-    ∙ ap (λ (d : Due). Some (in_state after line d)) (look-closes after.closes (is_idle after (hot_of line)) some))
+    ∙ ap (λ (d : Due). Some (in_state after line d)) (look-closes after.closes (is_idle after line) some))
     c.in-Ok.ensures.told) (goes_stops c.close_all.ensures.legal))
 
 pub returns-then-not-is_empty-clause-legal : goal.returns-then-not-is_empty-clause-legal
@@ -57,7 +55,7 @@ returns-then-not-is_empty-clause-legal g c =
     ap (λ (ps : List ℕ). length ps == 0) (sym c.closes.ensures) ∙ sym c.is_empty.ensures ∙ full in
     advances (entry.Now (Ok c.in-Ok.moment)) refl
     (looked-at state after c.args.queue.now line c.in-Ok.moment c.requires.idle c.in-Ok-tell.ensures.stepped c.in-Ok-tell.ensures.recalled
-    ∙ ap (λ (d : Due). Some (in_state after line d)) (look-closes after.closes (is_idle after (hot_of line)) some))
+    ∙ ap (λ (d : Due). Some (in_state after line d)) (look-closes after.closes (is_idle after line) some))
     c.in-Ok.ensures.told c.in-Ok-close_all.ensures.legal.by
 
 pub returns-then-not-is_idle-clause-legal : goal.returns-then-not-is_idle-clause-legal
@@ -73,7 +71,7 @@ returns-then-not-is_idle-clause-legal g c =
     (g.W.World.journal c.args.world.now) (g.W.World.journal c.now.new.self) (entry.Now (Ok c.in-Ok.moment)) refl
     (looked-at state after c.args.queue.now line c.in-Ok.moment c.requires.idle c.in-Ok-tell.ensures.stepped c.in-Ok-tell.ensures.recalled
     ∙ ap (λ (d : Due). Some (in_state after line d))
-    (look-none after.closes (is_idle after (hot_of line)) none ∙ ap (due_after_look []) (sym c.is_idle.ensures ∙ busy)))
+    (look-none after.closes (is_idle after line) none ∙ ap (due_look []) (sym c.is_idle.ensures ∙ busy)))
     c.in-Ok.ensures.told
 
 pub returns-clause-legal : goal.returns-clause-legal
@@ -90,7 +88,7 @@ returns-clause-legal g c =
     after c.poll.new.queue
     (looked-at state after c.args.queue.now line c.in-Ok.moment c.requires.idle c.in-Ok-tell.ensures.stepped c.in-Ok-tell.ensures.recalled
     ∙ ap (λ (d : Due). Some (in_state after line d))
-    (look-none after.closes (is_idle after (hot_of line)) none ∙ ap (due_after_look []) (sym c.is_idle.ensures ∙ idle)))
+    (look-none after.closes (is_idle after line) none ∙ ap (due_look []) (sym c.is_idle.ensures ∙ idle)))
     c.in-Ok.ensures.told c.poll.ensures.legal
 
 pub returns-then-not-is_empty-clause-quiet : goal.returns-then-not-is_empty-clause-quiet

@@ -5,13 +5,12 @@ use Rattle.world_ports.specs.declared.answers.Ready.{Ready}
 use Rattle.world_ports.specs.declared.answers.WorldFault.{WorldFault}
 use Rattle.world_ports.specs.declared.answers.WorldFault.TheVariants.{Failed, Memory}
 use Rattle.world_ports.specs.declared.entry.Entry.TheVariants as entry
-use Rattle.ready_hub.specs.Answered as hub
-use Rattle.ready_hub.specs.Answered.{Free, Polling}
-use Rattle.ready_loop.specs.InTurn.{in_state, led}
-use Rattle.ready_loop.specs.Lines.{Line, hot_of, queued_all, settled}
-use Rattle.ready_loop.proofs.QuietLemmas.{quiet_settled}
+use Rattle.loop_model.specs.Dues.{Free, Polling}
+use Rattle.loop_model.specs.LegalJournal.{in_state, led}
+use Rattle.loop_model.specs.Lines.{Line, queued_all, settled}
+use Rattle.loop_model.proofs.QuietLemmas.{quiet_settled}
 use Rattle.ready_loop.proofs.KeepingLemmas.{quiet_is, quiet_queued_all}
-use Rattle.ready_loop.proofs.CallLemmas.{poll-any, poll-taken}
+use Rattle.ready_loop.proofs.CallLemmas.{poll-any}
 use Rattle.ready_loop.proofs.TurningLemmas.{told_at, waits_once, waits_short}
 use Rattle.ready_loop.proofs.look.poll.Goals as goal
 
@@ -21,7 +20,7 @@ returns-in_default-clause-legal g c =
     let line = c.args.queue.now in
     let items = c.poll.new.out.items in
     let answer : Result Polled WorldFault = Ok polled.Some in
-    let to = led (in_state state line Polling) (entry.Poll c.wait_of.result items answer) (hub.after_poll items state (hot_of line) answer) in
+    let to = led (in_state state line Polling) (entry.Poll c.wait_of.result items answer) in
     inr (record {
       answer = answer;
       last = record {
@@ -40,7 +39,7 @@ returns-in-Ok-clause-legal g c =
     let items = c.poll.new.out.items in
     let added = c.in-Ok.ensures ∙ ap (λ (is : List Ready). queued_all state is (settled state line)) c.deref.ensures.value in
     waits_once (in_state state line Polling) (in_state state c.add_all.new.self Free) (g.W.World.journal c.args.world.now) (g.W.World.journal c.poll.new.self) c.wait_of.result items (Ok polled.Some)
-    (poll-taken state line c.wait_of.result items c.wait_of.ensures
+    (poll-any state line c.wait_of.result items (Ok polled.Some) c.wait_of.ensures
     ∙ ap (λ (l : Line). Some (in_state state l Free)) (sym added))
     (told_at (λ r. entry.Poll c.wait_of.result c.poll.new.out.items r) (g.W.World.journal c.args.world.now) (g.W.World.journal c.poll.new.self)
     (c.in-Ok-Some.is ∙ ap Ok c.in-Ok-Some.field-0-is) c.poll.ensures.told)
@@ -51,7 +50,7 @@ returns-in-Ok-Over-clause-legal g c =
     let line = c.args.queue.now in
     let items = c.poll.new.out.items in
     let answer : Result Polled WorldFault = Ok polled.Over in
-    let to = led (in_state state line Polling) (entry.Poll c.wait_of.result items answer) (hub.after_poll items state (hot_of line) answer) in
+    let to = led (in_state state line Polling) (entry.Poll c.wait_of.result items answer) in
     record {
       to = to;
       waits = waits_once (in_state state line Polling) to (g.W.World.journal c.args.world.now) (g.W.World.journal c.poll.new.self) c.wait_of.result items answer
@@ -66,7 +65,7 @@ returns-in-Err-Failed-clause-legal g c =
     let line = c.args.queue.now in
     let items = c.poll.new.out.items in
     let answer : Result Polled WorldFault = Err Failed in
-    let to = led (in_state state line Polling) (entry.Poll c.wait_of.result items answer) (hub.after_poll items state (hot_of line) answer) in
+    let to = led (in_state state line Polling) (entry.Poll c.wait_of.result items answer) in
     record {
       to = to;
       waits = waits_once (in_state state line Polling) to (g.W.World.journal c.args.world.now) (g.W.World.journal c.poll.new.self) c.wait_of.result items answer
@@ -81,7 +80,7 @@ returns-in-Err-Memory-clause-legal g c =
     let line = c.args.queue.now in
     let items = c.poll.new.out.items in
     let answer : Result Polled WorldFault = Err Memory in
-    let to = led (in_state state line Polling) (entry.Poll c.wait_of.result items answer) (hub.after_poll items state (hot_of line) answer) in
+    let to = led (in_state state line Polling) (entry.Poll c.wait_of.result items answer) in
     waits_short (in_state state line Polling) to (g.W.World.journal c.args.world.now) (g.W.World.journal c.poll.new.self) c.wait_of.result items
     (poll-any state line c.wait_of.result items answer c.wait_of.ensures)
     (told_at (λ r. entry.Poll c.wait_of.result c.poll.new.out.items r) (g.W.World.journal c.args.world.now) (g.W.World.journal c.poll.new.self)

@@ -1,18 +1,17 @@
 use Rattle.std.proofs.Common.{◌∙◌, Ok, Err, ap, sym, arith, ◌&&◌}
-use Rattle.ready_hub.specs.Answered.{Free}
-use Rattle.ready_hub.specs.Servable.{is_idle}
-use Rattle.ready_loop.specs.InTurn.{in_state}
-use Rattle.ready_loop.specs.Lines.{hot_of}
+use Rattle.loop_model.specs.Dues.{Free}
+use Rattle.loop_model.specs.Lines.{is_idle}
+use Rattle.loop_model.specs.LegalJournal.{in_state}
 use Rattle.ready_loop.specs.Serving.{Running, Setting, is_deserted}
 use Rattle.ready_loop.specs.declared.outcome.ServeEnd.TheVariants as ends
 use Rattle.ready_loop.proofs.ServingLemmas.{fault_ends, memory_ends, over_ends, polled_runs, runs_more, served_runs, serves_more, turn_at}
-use Rattle.ready_loop.proofs.TestLemmas.{and_both}
+use Rattle.loop_model.proofs.TestLemmas.{and_both}
 use Rattle.ready_loop.proofs.serving.run.Goals as goal
 
 pub returns-then-is_done-clause-serves : goal.returns-then-is_done-clause-serves
 returns-then-is_done-clause-serves g c = λ path state.
     let here = in_state (g.A.Core.state c.turns.agent) c.turns.hub Free in
-    let idle = is_idle (g.A.Core.state c.turns.agent) (hot_of c.turns.hub) in
+    let idle = is_idle (g.A.Core.state c.turns.agent) c.turns.hub in
     let first = and_both c.args.until_idle (is_deserted here && idle) (sym c.is_done.ensures ∙ c.if-is_done.true) in
     let second = and_both (is_deserted here) idle first.1 in
     record {

@@ -1,8 +1,8 @@
 use Rattle.std.proofs.Common.{◌≡◌, ◌≤◌, List, ℕ}
 use Rattle.agent_model.specs.State.{State}
-use Rattle.ready_hub.specs.Answered.{Free}
-use Rattle.ready_loop.specs.InTurn.{in_state}
-use Rattle.ready_loop.specs.Lines.{IsQuiet}
+use Rattle.loop_model.specs.Dues.{Free}
+use Rattle.loop_model.specs.LegalJournal.{in_state}
+use Rattle.loop_model.specs.Lines.{IsQuiet}
 use Rattle.ready_loop.specs.Serving.{Running, Runs}
 use Rattle.ready_loop.proofs.serving.run.Given as goal
 

@@ -1,8 +1,8 @@
 use Rattle.std.proofs.Common.{◌∙◌, Err, Result, ap, subst}
 use Rattle.world_ports.specs.declared.answers.WorldFault.{WorldFault}
-use Rattle.ready_hub.specs.Answered.{Free}
-use Rattle.ready_loop.specs.InTurn.{in_state}
-use Rattle.ready_loop.specs.Lines.{Line}
+use Rattle.loop_model.specs.Dues.{Free}
+use Rattle.loop_model.specs.LegalJournal.{in_state}
+use Rattle.loop_model.specs.Lines.{Line}
 use Rattle.ready_loop.specs.Serving.{Opens, Running, Serves, Setting, Unbound, begun}
 use Rattle.ready_loop.proofs.ServingLemmas.{serves_more}
 use Rattle.ready_loop.proofs.serving.serve.Goals as goal

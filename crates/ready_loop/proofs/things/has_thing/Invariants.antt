@@ -1,6 +1,6 @@
 use Rattle.std.proofs.Common.{◌≡◌}
 use Rattle.std.specs.VecDeque.Iter.{deque_iter_rest}
-use Rattle.ready_hub.specs.Things.{set_of}
+use Rattle.loop_model.specs.Things.{set_of}
 use Rattle.ready_loop.proofs.things.has_thing.Given as goal
 
 -- it isn't among those before

@@ -6,12 +6,11 @@ use Rattle.world_ports.specs.declared.answers.WorldFault.TheVariants.{Failed, Me
 use Rattle.world_ports.specs.declared.entry.Entry.TheVariants as entry
 use Rattle.agent_model.specs.Events.{Joined}
 use Rattle.agent_model.specs.State.{is_client}
-use Rattle.ready_hub.specs.Answered as hub
-use Rattle.ready_hub.specs.Answered.{Free, NowFor}
-use Rattle.ready_hub.specs.declared.thing.Thing.TheVariants.{Accept}
-use Rattle.ready_loop.specs.InTurn.{in_state, led}
-use Rattle.ready_loop.specs.Lines.{Line, hot_of, queued_port, sent_back, settled}
-use Rattle.ready_loop.proofs.QuietLemmas.{quiet_settled}
+use Rattle.loop_model.specs.Dues.{Free, NowFor}
+use Rattle.loop_model.specs.declared.thing.Thing.TheVariants.{Accept}
+use Rattle.loop_model.specs.LegalJournal.{in_state, led}
+use Rattle.loop_model.specs.Lines.{Line, queued_port, sent_back, settled}
+use Rattle.loop_model.proofs.QuietLemmas.{quiet_settled}
 use Rattle.ready_loop.proofs.KeepingLemmas.{quiet_is, quiet_queued_port}
 use Rattle.ready_loop.proofs.CallLemmas as calls
 use Rattle.ready_loop.proofs.TurningLemmas.{one_call, serves_then, stops_short, stops_there, told_at}
@@ -32,7 +31,7 @@ returns-in_default-clause-legal g c =
     let answer = Ok (accepted.Port c.in-Ok-Port.number) in
     let next = entry.Accept c.args.door answer in
     record {
-      by = stops_there (one_call (in_state state line Free) (led (in_state state line Free) next (hub.after_accept c.args.door state (hot_of line) answer))
+      by = stops_there (one_call (in_state state line Free) (led (in_state state line Free) next)
           (g.W.World.journal c.args.world.now) (g.W.World.journal c.accept.new.self) next refl
           (calls.accept-any state line c.args.door answer c.requires.next)
           (told_at (λ r. entry.Accept c.args.door r) (g.W.World.journal c.args.world.now) (g.W.World.journal c.accept.new.self)
@@ -44,7 +43,7 @@ returns-in-Ok-clause-legal g c =
     let state = g.A.Core.state c.args.agent.now in
     let line = c.args.queue.now in
     serves_then (entry.Accept c.args.door (Ok (accepted.Port c.in-Ok-Port.number))) refl
-    (calls.accept-taken state line c.args.door c.in-Ok-Port.number c.requires.next
+    (calls.accept-any state line c.args.door (Ok (accepted.Port c.in-Ok-Port.number)) c.requires.next
     ∙ ap (λ (l : Line). Some (in_state state l (NowFor (Joined c.args.door)))) (sym (c.in-Ok.ensures state c.requires.next)))
     (told_at (λ r. entry.Accept c.args.door r) (g.W.World.journal c.args.world.now) (g.W.World.journal c.accept.new.self)
     (c.in-Ok-Port.is ∙ ap Ok c.in-Ok-Port.field-0-is) c.accept.ensures.told)
@@ -79,7 +78,7 @@ returns-in-Err-Memory-clause-legal g c =
     let answer : Result Accepted WorldFault = Err Memory in
     let next = entry.Accept c.args.door answer in
     record {
-      by = stops_short (in_state state line Free) (led (in_state state line Free) next (hub.after_accept c.args.door state (hot_of line) answer))
+      by = stops_short (in_state state line Free) (led (in_state state line Free) next)
           (g.W.World.journal c.args.world.now) (g.W.World.journal c.accept.new.self) true next refl
           (calls.accept-any state line c.args.door answer c.requires.next)
           (told_at (λ r. entry.Accept c.args.door r) (g.W.World.journal c.args.world.now) (g.W.World.journal c.accept.new.self)

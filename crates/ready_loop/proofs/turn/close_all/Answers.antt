@@ -1,10 +1,9 @@
 use Rattle.std.proofs.Common.{refl, ◌∙◌, Ok, Some, ◌+◌, ap, sym, drop, get_or, arith}
 use Rattle.std.specs.Prelude.{is_err}
 use Rattle.world_ports.specs.declared.entry.Entry.TheVariants as entry
-use Rattle.ready_hub.specs.Answered as hub
-use Rattle.ready_hub.specs.Answered.{Closing, Due, due_of}
-use Rattle.ready_loop.specs.InTurn.{in_state, led}
-use Rattle.ready_loop.specs.Lines.{Line, hot_of}
+use Rattle.loop_model.specs.Dues.{Closing, Due, due_of}
+use Rattle.loop_model.specs.LegalJournal.{in_state, led}
+use Rattle.loop_model.specs.Lines.{Line}
 use Rattle.ready_loop.proofs.CallLemmas.{close-any, close-taken, due-drop}
 use Rattle.ready_loop.proofs.TurningLemmas.{goes_on, lands_at, one_call, stops_later, stops_short}
 use Rattle.ready_loop.proofs.turn.close_all.Goals as goal
@@ -22,7 +21,7 @@ returns-in_default-clause-legal g c =
     (ap (λ (d : Due). in_state state line d) due) c.ports.invariant.calls in
     record {
       by = stops_later before
-          (stops_short (in_state state line (Closing port later)) (led (in_state state line (Closing port later)) next (hub.after_close port later state (hot_of line) c.close.result))
+          (stops_short (in_state state line (Closing port later)) (led (in_state state line (Closing port later)) next)
           (g.W.World.journal c.ports.world) (g.W.World.journal c.close.new.self) (is_err c.close.result) next refl
           (close-any state line port later c.close.result) c.close.ensures.told);
     }

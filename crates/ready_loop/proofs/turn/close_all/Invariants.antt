@@ -1,6 +1,6 @@
 use Rattle.std.proofs.Common.{◌≡◌, ◌≤◌, drop}
-use Rattle.ready_hub.specs.Answered.{due_of}
-use Rattle.ready_loop.specs.InTurn.{in_state}
+use Rattle.loop_model.specs.Dues.{due_of}
+use Rattle.loop_model.specs.LegalJournal.{in_state}
 use Rattle.ready_loop.specs.Moves.{Continues}
 use Rattle.ready_loop.proofs.turn.close_all.Given as goal
 

@@ -1,6 +1,7 @@
-use Rattle.ready_loop.specs.Lines.{settled, without}
-use Rattle.ready_loop.proofs.QuietLemmas.{quiet_settled}
-use Rattle.ready_loop.proofs.KeepingLemmas.{quiet_is, quiet_without}
+use Rattle.loop_model.specs.Lines.{settled, without}
+use Rattle.loop_model.proofs.QuietLemmas.{quiet_settled}
+use Rattle.ready_loop.proofs.KeepingLemmas.{quiet_is}
+use Rattle.loop_model.proofs.QuietLemmas.{quiet_without}
 use Rattle.ready_loop.proofs.TurningLemmas.{no_call, stops_there}
 use Rattle.ready_loop.proofs.turn.end.Goals as goal
 

@@ -3,11 +3,10 @@ use Rattle.std.specs.declared.alloc.AllocError.{AllocError}
 use Rattle.world_ports.specs.declared.events.Moment.{Moment}
 use Rattle.std.specs.Prelude.{is_err}
 use Rattle.world_ports.specs.declared.entry.Entry.TheVariants as entry
-use Rattle.ready_hub.specs.Answered as hub
-use Rattle.ready_hub.specs.Answered.{NowFor, due_of}
+use Rattle.loop_model.specs.Dues.{NowFor, due_of}
 use Rattle.agent_core.specs.Happenings.{happening}
-use Rattle.ready_loop.specs.InTurn.{in_state, led}
-use Rattle.ready_loop.specs.Lines.{Line, hot_of}
+use Rattle.loop_model.specs.LegalJournal.{in_state, led}
+use Rattle.loop_model.specs.Lines.{Line}
 use Rattle.ready_loop.proofs.TellLemmas.{last-stepped}
 use Rattle.ready_loop.proofs.KeepingLemmas.{on_ok}
 use Rattle.ready_loop.proofs.CallLemmas.{now-any, now-taken}
@@ -22,7 +21,7 @@ returns-in_default-clause-legal g c =
     let next = entry.Now c.now.result in
     record {
       by = stops_short (in_state state line (NowFor event))
-          (led (in_state state line (NowFor event)) next (hub.after_now event state (hot_of line) c.now.result))
+          (led (in_state state line (NowFor event)) next)
           (g.W.World.journal c.args.world.now) (g.W.World.journal c.now.new.self) (is_err c.now.result) next refl
           (now-any state line event c.now.result) c.now.ensures.told;
     }
@@ -36,7 +35,7 @@ returns-in_default-tell-clause-legal g c =
     let next = entry.Now answer in
     record {
       by = stops_there (one_call (in_state state line (NowFor event))
-          (led (in_state state line (NowFor event)) next (hub.after_now event state (hot_of line) answer))
+          (led (in_state state line (NowFor event)) next)
           (g.W.World.journal c.args.world.now) (g.W.World.journal c.now.new.self) next refl
           (now-any state line event answer) c.in-Ok.ensures.told);
     }

@@ -8,11 +8,10 @@ use Rattle.world_ports.specs.declared.answers.WorldFault.{WorldFault}
 use Rattle.world_ports.specs.declared.answers.WorldFault.TheVariants.{Failed, Memory}
 use Rattle.world_ports.specs.declared.entry.Entry.TheVariants as entry
 use Rattle.agent_model.specs.Events.{Ended, Heard}
-use Rattle.ready_hub.specs.Answered as hub
-use Rattle.ready_hub.specs.Answered.{Free, NowFor}
-use Rattle.ready_hub.specs.declared.thing.Thing.TheVariants.{Read}
-use Rattle.ready_loop.specs.InTurn.{in_state, led}
-use Rattle.ready_loop.specs.Lines.{hot_of, settled, without}
+use Rattle.loop_model.specs.Dues.{Free, NowFor}
+use Rattle.loop_model.specs.declared.thing.Thing.TheVariants.{Read}
+use Rattle.loop_model.specs.LegalJournal.{in_state, led}
+use Rattle.loop_model.specs.Lines.{settled, without}
 use Rattle.ready_loop.proofs.CallLemmas as calls
 use Rattle.ready_loop.proofs.TurningLemmas.{serves_then, stops_short, told_at}
 use Rattle.ready_loop.proofs.RoomLemmas.{wiped_again}
@@ -38,8 +37,7 @@ returns-in-Ok-Bytes-clause-legal g c =
     let answer = Ok (got.Bytes c.in-Ok-Bytes.n) in
     let bytes = take c.in-Ok-Bytes.n c.read.new.room in
     serves_then (entry.Read c.args.port (length c.args.room.now) bytes answer) refl
-    (calls.read-any state line c.args.port (length c.args.room.now) bytes answer c.requires.next c.requires.room
-    ∙ calls.read-lands state line c.args.port (NowFor (Heard c.args.port bytes)) c.requires.next)
+    (calls.read-any state line c.args.port (length c.args.room.now) bytes answer c.requires.next c.requires.room)
     (told_at (λ r. entry.Read c.args.port (length c.args.room.now) (got_of r c.read.new.room) r) (g.W.World.journal c.args.world.now) (g.W.World.journal c.read.new.self)
     (c.in-Ok-Bytes.is ∙ ap Ok c.in-Ok-Bytes.field-0-is) c.read.ensures.told)
     c.hear-heard.ensures.legal
@@ -56,8 +54,7 @@ returns-in-Ok-End-clause-legal g c =
     let line = c.args.queue.now in
     let answer = Ok got.End in
     serves_then (entry.Read c.args.port (length c.args.room.now) [] answer) refl
-    (calls.read-any state line c.args.port (length c.args.room.now) [] answer c.requires.next c.requires.room
-    ∙ calls.dropped-lands state line (without (Read c.args.port) (settled state line)) (Read c.args.port) (NowFor (Ended c.args.port)) refl)
+    (calls.read-any state line c.args.port (length c.args.room.now) [] answer c.requires.next c.requires.room)
     (told_at (λ r. entry.Read c.args.port (length c.args.room.now) (got_of r c.read.new.room) r) (g.W.World.journal c.args.world.now) (g.W.World.journal c.read.new.self)
     (c.in-Ok-End.is ∙ ap Ok c.in-Ok-End.field-0-is) c.read.ensures.told)
     c.end.ensures.legal
@@ -79,8 +76,7 @@ returns-in-Err-Failed-clause-legal g c =
     let line = c.args.queue.now in
     let answer : Result Got WorldFault = Err Failed in
     serves_then (entry.Read c.args.port (length c.args.room.now) [] answer) refl
-    (calls.read-any state line c.args.port (length c.args.room.now) [] answer c.requires.next c.requires.room
-    ∙ calls.dropped-lands state line (without (Read c.args.port) (settled state line)) (Read c.args.port) (NowFor (Ended c.args.port)) refl)
+    (calls.read-any state line c.args.port (length c.args.room.now) [] answer c.requires.next c.requires.room)
     (told_at (λ r. entry.Read c.args.port (length c.args.room.now) (got_of r c.read.new.room) r) (g.W.World.journal c.args.world.now) (g.W.World.journal c.read.new.self)
     (c.in-Err-Failed.is ∙ ap Err c.in-Err-Failed.field-0-is) c.read.ensures.told)
     c.end-in-Err-Failed.ensures.legal
@@ -92,7 +88,7 @@ returns-in-Err-Memory-clause-legal g c =
     let answer : Result Got WorldFault = Err Memory in
     let next = entry.Read c.args.port (length c.args.room.now) [] answer in
     record {
-      by = stops_short (in_state state line Free) (led (in_state state line Free) next (hub.after_read c.args.port [] state (hot_of line) answer))
+      by = stops_short (in_state state line Free) (led (in_state state line Free) next)
           (g.W.World.journal c.args.world.now) (g.W.World.journal c.read.new.self) true next refl
           (calls.read-any state line c.args.port (length c.args.room.now) [] answer c.requires.next c.requires.room)
           (told_at (λ r. entry.Read c.args.port (length c.args.room.now) (got_of r c.read.new.room) r) (g.W.World.journal c.args.world.now) (g.W.World.journal c.read.new.self)

@@ -1,6 +1,6 @@
-use Rattle.ready_hub.specs.declared.thing.Thing.TheVariants.{Write}
-use Rattle.ready_loop.specs.Lines.{sent_back, settled}
-use Rattle.ready_loop.proofs.QuietLemmas.{quiet_settled}
+use Rattle.loop_model.specs.declared.thing.Thing.TheVariants.{Write}
+use Rattle.loop_model.specs.Lines.{sent_back, settled}
+use Rattle.loop_model.proofs.QuietLemmas.{quiet_settled}
 use Rattle.ready_loop.proofs.KeepingLemmas.{quiet_is}
 use Rattle.ready_loop.proofs.TurningLemmas.{no_call, stops_there}
 use Rattle.ready_loop.proofs.turn.send.Goals as goal

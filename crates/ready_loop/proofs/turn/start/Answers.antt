@@ -2,10 +2,8 @@ use Rattle.std.proofs.Common.{refl, Ok, Err, Result, List, ℕ, ap, ◌∙◌, t
 use Rattle.world_ports.specs.declared.answers.WorldFault.{WorldFault}
 use Rattle.world_ports.specs.declared.answers.WorldFault.TheVariants.{Failed, Memory}
 use Rattle.world_ports.specs.declared.entry.Entry.TheVariants as entry
-use Rattle.ready_hub.specs.Answered as hub
-use Rattle.ready_hub.specs.Answered.{Free, NowFor}
-use Rattle.ready_loop.specs.InTurn.{in_state, led}
-use Rattle.ready_loop.specs.Lines.{hot_of}
+use Rattle.loop_model.specs.Dues.{Free}
+use Rattle.loop_model.specs.LegalJournal.{in_state, led}
 use Rattle.ready_loop.proofs.CallLemmas as calls
 use Rattle.ready_loop.proofs.TurningLemmas.{serves_then, stops_short, told_at}
 use Rattle.ready_loop.proofs.turn.start.Goals as goal
@@ -35,7 +33,7 @@ returns-in-Err-Memory-clause-legal g c =
     let answer : Result (List ℕ) WorldFault = Err Memory in
     let next = entry.Start c.args.job answer in
     record {
-      by = stops_short (in_state state line Free) (led (in_state state line Free) next (hub.after_start c.args.job.number state (hot_of line) answer))
+      by = stops_short (in_state state line Free) (led (in_state state line Free) next)
           (g.W.World.journal c.args.world.now) (g.W.World.journal c.start.new.self) true next refl
           (calls.start-any state line c.args.job answer c.requires.first)
           (told_at (λ r. entry.Start c.args.job r) (g.W.World.journal c.args.world.now) (g.W.World.journal c.start.new.self)

@@ -1,7 +1,7 @@
 use Rattle.std.proofs.Common.{ℕ, ap, ◌∙◌}
 use Rattle.agent_core.specs.Happenings.{happening}
 use Rattle.ready_loop.specs.Happenings.{number_after}
-use Rattle.ready_loop.specs.InTurn.{port_of}
+use Rattle.loop_model.specs.Dues.{port_of}
 use Rattle.ready_loop.proofs.TellLemmas.{stirs}
 use Rattle.ready_loop.proofs.turn.tell.Goals as goal
 

@@ -5,11 +5,10 @@ use Rattle.world_ports.specs.declared.answers.WorldFault.{WorldFault}
 use Rattle.world_ports.specs.declared.answers.WorldFault.TheVariants.{Failed, Memory}
 use Rattle.world_ports.specs.declared.entry.Entry.TheVariants as entry
 use Rattle.agent_model.specs.Events.{Ended, Took}
-use Rattle.ready_hub.specs.Answered as hub
-use Rattle.ready_hub.specs.Answered.{Free, NowFor}
-use Rattle.ready_hub.specs.declared.thing.Thing.TheVariants.{Write}
-use Rattle.ready_loop.specs.InTurn.{in_state, led}
-use Rattle.ready_loop.specs.Lines.{hot_of, settled, without}
+use Rattle.loop_model.specs.Dues.{Free, NowFor}
+use Rattle.loop_model.specs.declared.thing.Thing.TheVariants.{Write}
+use Rattle.loop_model.specs.LegalJournal.{in_state, led}
+use Rattle.loop_model.specs.Lines.{settled, without}
 use Rattle.ready_loop.proofs.CallLemmas as calls
 use Rattle.ready_loop.proofs.TurningLemmas.{serves_then, stops_short, told_at}
 use Rattle.ready_loop.proofs.turn.write.Goals as goal
@@ -26,8 +25,7 @@ returns-in-Ok-Took-clause-legal g c =
     let line = c.args.queue.now in
     let answer = Ok (wrote.Took c.in-Ok-Took.n) in
     serves_then (entry.Write c.args.port c.owed.result.now answer) refl
-    (calls.write-any state line c.args.port c.owed.result.now answer c.requires.next c.owed.ensures
-    ∙ calls.back-lands state line (Write c.args.port) (NowFor (Took c.args.port c.in-Ok-Took.n)) c.requires.next)
+    (calls.write-any state line c.args.port c.owed.result.now answer c.requires.next c.owed.ensures)
     (told_at (λ r. entry.Write c.args.port c.owed.result.now r) (g.W.World.journal c.args.world.now) (g.W.World.journal c.write.new.self)
     (c.in-Ok-Took.is ∙ ap Ok c.in-Ok-Took.field-0-is) c.write.ensures.told)
     c.send.ensures.legal
@@ -49,8 +47,7 @@ returns-in-Err-Failed-clause-legal g c =
     let line = c.args.queue.now in
     let answer : Result Wrote WorldFault = Err Failed in
     serves_then (entry.Write c.args.port c.owed.result.now answer) refl
-    (calls.write-any state line c.args.port c.owed.result.now answer c.requires.next c.owed.ensures
-    ∙ calls.dropped-lands state line (without (Write c.args.port) (settled state line)) (Write c.args.port) (NowFor (Ended c.args.port)) refl)
+    (calls.write-any state line c.args.port c.owed.result.now answer c.requires.next c.owed.ensures)
     (told_at (λ r. entry.Write c.args.port c.owed.result.now r) (g.W.World.journal c.args.world.now) (g.W.World.journal c.write.new.self)
     (c.in-Err-Failed.is ∙ ap Err c.in-Err-Failed.field-0-is) c.write.ensures.told)
     c.end.ensures.legal
@@ -62,7 +59,7 @@ returns-in-Err-Memory-clause-legal g c =
     let answer : Result Wrote WorldFault = Err Memory in
     let next = entry.Write c.args.port c.owed.result.now answer in
     record {
-      by = stops_short (in_state state line Free) (led (in_state state line Free) next (hub.after_write c.args.port state (hot_of line) answer))
+      by = stops_short (in_state state line Free) (led (in_state state line Free) next)
           (g.W.World.journal c.args.world.now) (g.W.World.journal c.write.new.self) true next refl
           (calls.write-any state line c.args.port c.owed.result.now answer c.requires.next c.owed.ensures)
           (told_at (λ r. entry.Write c.args.port c.owed.result.now r) (g.W.World.journal c.args.world.now) (g.W.World.journal c.write.new.self)

@@ -1,10 +1,10 @@
 use Rattle.std.proofs.Common.{◌∙◌, List, ap, sym}
 use Rattle.world_ports.specs.declared.events.Door.{Door}
 use Rattle.lists.specs.Rising.{is_among}
-use Rattle.ready_hub.specs.Things.{set_of}
-use Rattle.ready_hub.specs.declared.thing.Thing.TheVariants.{Accept, Read, Write}
-use Rattle.ready_loop.specs.Aside.{Aside, accepts_of}
-use Rattle.ready_loop.proofs.AsideLemmas.{aside-accept, aside-read, aside-write, told}
+use Rattle.loop_model.specs.Things.{set_of}
+use Rattle.loop_model.specs.declared.thing.Thing.TheVariants.{Accept, Read, Write}
+use Rattle.loop_model.specs.Aside.{Aside, accepts_of}
+use Rattle.loop_model.proofs.AsideLemmas.{aside-accept, aside-read, aside-write, told}
 use Rattle.ready_loop.proofs.aside.Aside.has.Goals as goal
 
 pub returns-in-Accept : goal.returns-in-Accept

@@ -1,9 +1,9 @@
 use Rattle.std.proofs.Common.{◌∙◌, sym, subst}
 use Rattle.lists.specs.Rising.{IsRisingList}
 use Rattle.lists.proofs.RisingLemmas.{rising_list-removed}
-use Rattle.ready_hub.specs.declared.thing.Thing.TheVariants.{Accept, Read, Write}
-use Rattle.ready_loop.specs.Aside.{Aside}
-use Rattle.ready_loop.proofs.AsideLemmas.{aside-accept, aside-read, aside-write, read_taken, told, write_taken}
+use Rattle.loop_model.specs.declared.thing.Thing.TheVariants.{Accept, Read, Write}
+use Rattle.loop_model.specs.Aside.{Aside}
+use Rattle.loop_model.proofs.AsideLemmas.{aside-accept, aside-read, aside-write, read_taken, told, write_taken}
 use Rattle.ready_loop.proofs.aside.Aside.take.Goals as goal
 
 pub invariant_of-self-in-Read : goal.invariant_of-self-in-Read

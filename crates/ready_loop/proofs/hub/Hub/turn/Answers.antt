@@ -1,8 +1,8 @@
 use Rattle.std.proofs.Common.{inl, List, length, ◌==◌, true, ap, sym, ◌∙◌}
 use Rattle.std.specs.Prelude.{is_some}
 use Rattle.world_ports.specs.declared.events.Job.{Job}
-use Rattle.ready_hub.specs.Answered.{Free}
-use Rattle.ready_loop.specs.InTurn.{in_state}
+use Rattle.loop_model.specs.Dues.{Free}
+use Rattle.loop_model.specs.LegalJournal.{in_state}
 use Rattle.ready_loop.proofs.IdleLemmas.{idle-is}
 use Rattle.ready_loop.proofs.KeepingLemmas.{quiet_is, quiet_served}
 use Rattle.ready_loop.proofs.TurningLemmas.{no_call, stops_there}

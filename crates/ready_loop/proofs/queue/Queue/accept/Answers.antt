@@ -1,6 +1,6 @@
 use Rattle.std.proofs.Common.{subst, sym}
-use Rattle.ready_hub.specs.declared.thing.Thing.TheVariants.{Accept, Read, Write}
-use Rattle.ready_loop.specs.Lines.{Line}
+use Rattle.loop_model.specs.declared.thing.Thing.TheVariants.{Accept, Read, Write}
+use Rattle.loop_model.specs.Lines.{Line}
 use Rattle.ready_loop.specs.Standing.{IsFront}
 use Rattle.ready_loop.proofs.LineLemmas.{front-queued, settled-front}
 use Rattle.ready_loop.proofs.queue.Queue.accept.Goals as goal

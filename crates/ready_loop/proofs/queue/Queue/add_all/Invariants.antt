@@ -1,5 +1,5 @@
 use Rattle.std.proofs.Common.{◌≡◌, drop}
-use Rattle.ready_loop.specs.Lines.{queued_all, settled}
+use Rattle.loop_model.specs.Lines.{queued_all, settled}
 use Rattle.ready_loop.proofs.queue.Queue.add_all.Given as goal
 
 -- the items from the index on are to be added

@@ -1,6 +1,6 @@
 use Rattle.std.proofs.Common.{◌∙◌, ◌∷◌, ◌++◌, [], List, ap, subst, sym}
-use Rattle.ready_hub.specs.declared.thing.Thing.{Thing}
-use Rattle.ready_loop.specs.Lines.{Line, brought}
+use Rattle.loop_model.specs.declared.thing.Thing.{Thing}
+use Rattle.loop_model.specs.Lines.{Line, brought}
 use Rattle.ready_loop.specs.Standing.{IsOnce}
 use Rattle.ready_loop.proofs.LineLemmas.{absent-brought}
 use Rattle.ready_loop.proofs.StandingLemmas.{once-brought, once-taken}

@@ -1,5 +1,5 @@
 use Rattle.std.proofs.Common.{◌∙◌, ap, subst, sym}
-use Rattle.ready_loop.specs.Lines.{Line, without}
+use Rattle.loop_model.specs.Lines.{Line, without}
 use Rattle.ready_loop.specs.Standing.{IsFront}
 use Rattle.ready_loop.proofs.LineLemmas.{front-without}
 use Rattle.ready_loop.proofs.queue.Queue.drop_front.Goals as goal

@@ -1,8 +1,8 @@
 use Rattle.std.proofs.Common.{◌∙◌, ap, not, subst, sym, List}
-use Rattle.ready_hub.specs.Things.{same_thing}
-use Rattle.ready_hub.specs.declared.thing.Thing.{Thing}
-use Rattle.ready_loop.specs.Lines.{Line, without}
-use Rattle.ready_loop.specs.Queues.{dropped}
+use Rattle.loop_model.specs.Things.{same_thing}
+use Rattle.loop_model.specs.declared.thing.Thing.{Thing}
+use Rattle.loop_model.specs.Lines.{Line, without}
+use Rattle.loop_model.specs.Queues.{dropped}
 use Rattle.ready_loop.specs.Standing.{IsOnce}
 use Rattle.ready_loop.proofs.LineLemmas.{aside-without}
 use Rattle.ready_loop.proofs.StandingLemmas.{once-filter, once-taken}

@@ -1,6 +1,6 @@
 use Rattle.std.proofs.Common.{◌≡◌}
 use Rattle.std.specs.VecDeque.Iter.{deque_iter_rest}
-use Rattle.ready_loop.specs.Queues.{first_servable}
+use Rattle.loop_model.specs.Queues.{first_servable}
 use Rattle.ready_loop.proofs.queue.Queue.first.Given as goal
 
 -- nothing before can be served

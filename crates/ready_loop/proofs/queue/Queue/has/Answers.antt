@@ -1,6 +1,6 @@
 use Rattle.std.proofs.Common.{◌∙◌, ap, true, false, refl}
-use Rattle.ready_hub.specs.Things.{set_of}
-use Rattle.ready_loop.specs.Lines.{Line, hot_of}
+use Rattle.loop_model.specs.Things.{set_of}
+use Rattle.loop_model.specs.Lines.{Line, hot_of}
 use Rattle.ready_loop.proofs.LineLemmas.{hot-either}
 use Rattle.ready_loop.proofs.queue.Queue.has.Goals as goal
 

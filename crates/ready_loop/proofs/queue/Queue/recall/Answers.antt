@@ -1,5 +1,5 @@
 use Rattle.std.proofs.Common.{Bool, None, false, subst, sym, true}
-use Rattle.ready_loop.specs.Lines.{called_own}
+use Rattle.loop_model.specs.Lines.{called_own}
 use Rattle.ready_loop.specs.Standing.{IsStirred}
 use Rattle.ready_loop.proofs.RecallLemmas.{own-stirred}
 use Rattle.ready_loop.proofs.queue.Queue.recall.Goals as goal

@@ -1,5 +1,5 @@
 use Rattle.std.proofs.Common.{subst, sym}
-use Rattle.ready_loop.specs.Lines.{Line}
+use Rattle.loop_model.specs.Lines.{Line}
 use Rattle.ready_loop.specs.Standing.{IsFront}
 use Rattle.ready_loop.proofs.LineLemmas.{settled-front}
 use Rattle.ready_loop.proofs.queue.Queue.send_back.Goals as goal

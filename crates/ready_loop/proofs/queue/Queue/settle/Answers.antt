@@ -1,5 +1,5 @@
 use Rattle.std.proofs.Common.{◌∙◌}
-use Rattle.ready_loop.specs.Lines.{Line}
+use Rattle.loop_model.specs.Lines.{Line}
 use Rattle.ready_loop.proofs.LineLemmas.{put-once, stuck-front, stuck-settled}
 use Rattle.ready_loop.proofs.queue.Queue.settle.Goals as goal
 

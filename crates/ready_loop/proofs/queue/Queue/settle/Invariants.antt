@@ -1,5 +1,5 @@
 use Rattle.std.proofs.Common.{◌≡◌, length}
-use Rattle.ready_loop.specs.Lines.{settled}
+use Rattle.loop_model.specs.Lines.{settled}
 use Rattle.ready_loop.specs.Standing.{IsOnce}
 use Rattle.ready_loop.proofs.queue.Queue.settle.Given as goal
 

@@ -1,5 +1,5 @@
 use Rattle.std.proofs.Common.{◌∙◌, sym}
-use Rattle.ready_loop.specs.Lines.{Line}
+use Rattle.loop_model.specs.Lines.{Line}
 use Rattle.ready_loop.proofs.LineLemmas.{but-front, but-stuck, free-settled, put-once, stuck-found, stuck-settled}
 use Rattle.ready_loop.proofs.queue.Queue.settle_before.Goals as goal
 

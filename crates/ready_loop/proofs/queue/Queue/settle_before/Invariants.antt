@@ -1,7 +1,7 @@
 use Rattle.std.proofs.Common.{◌≡◌, Some, length}
 use Rattle.agent_model.specs.State.{State}
-use Rattle.ready_loop.specs.Lines.{settled}
-use Rattle.ready_loop.specs.Queues.{first_servable}
+use Rattle.loop_model.specs.Lines.{settled}
+use Rattle.loop_model.specs.Queues.{first_servable}
 use Rattle.ready_loop.specs.Standing.{IsOnce}
 use Rattle.ready_loop.proofs.queue.Queue.settle_before.Given as goal
 

@@ -1,0 +1,30 @@
+-- Who waits while others are served by `serve` (ours): `ServesFairly`. From here on down:
+--   ready_loop, specs/Serving.antt: how far a run of the loop is, by its calls
+--   loop_model, specs/Fairness.antt: which call serves a thing, and what waits
+use Rattle.std.specs.Prelude.{◌≡◌, true, false, List, [], ◌∷◌, ◌++◌, Option, Some}
+use Rattle.std.specs.List.{list_any}
+use Rattle.world_ports.specs.Journal.{Grows}
+use Rattle.world_ports.specs.declared.entry.Entry.{Entry}
+use Rattle.loop_model.specs.Fairness.{is_service, waits_on}
+use Rattle.loop_model.specs.LegalJournal.{Turning}
+use Rattle.loop_model.specs.Things.{same_thing}
+use Rattle.loop_model.specs.declared.thing.Thing.{Thing}
+use Rattle.ready_loop.specs.Serving.{Setting, Stage, Unbound, Running, ran}
+
+-- the calls are two services of this thing, with others before, between and after them
+pub record ServeTwice (thing : Thing) (calls before between after : List Entry) (first last : Entry) : Type 0 where
+  pub split : calls ≡ before ++ first ∷ (between ++ last ∷ after)
+  pub once : is_service thing first ≡ true
+  pub again : is_service thing last ≡ true
+
+-- between two services of one thing each other thing is served that is ready and can be served all the while
+abbrev pub IsFair : Setting → List Entry → Type 0
+IsFair setting calls = (thing other : Thing) (before between after : List Entry) (first last : Entry) (turning : Turning)
+    → ServeTwice thing calls before between after first last → same_thing thing other ≡ false
+    → ran setting Unbound (before ++ first ∷ []) ≡ Some (Running turning) → waits_on other turning between ≡ true
+    → list_any (is_service other) between ≡ true
+
+-- so it is with the calls that were added
+abbrev pub ServesFairly : Setting → Option (List Entry) → Option (List Entry) → Type 0
+ServesFairly setting old new = (calls : List Entry) (to : Stage) → Grows old new calls
+    → ran setting Unbound calls ≡ Some to → IsFair setting calls

@@ -1,0 +1,174 @@
+-- One thing stands before another in a queue.
+use Rattle.std.proofs.Common.{◌≡◌, ◌∙◌, Bool, true, false, List, [], ◌∷◌, ◌++◌, Some, refl, sym, ap, cond, not, ◌&&◌, ◌||◌, if◌then◌else◌}
+use Rattle.agent_model.specs.State.{State}
+use Rattle.loop_model.specs.Servable.{is_servable}
+use Rattle.loop_model.specs.Things.{Hot, same_thing, set_of}
+use Rattle.loop_model.specs.declared.thing.Thing.{Thing}
+use Rattle.loop_model.specs.Queues.{dropped, first_servable, from_servable, is_thing, put_back}
+use Rattle.loop_model.proofs.AsideLemmas.{set_of-append, set_of-dropped}
+use Rattle.loop_model.proofs.TestLemmas.{and_both, not_true, or_first}
+use Rattle.loop_model.proofs.ThingLemmas.{false_by, same_thing-refl, same_thing-true}
+
+-- the other stands in the queue, and this thing doesn't stand before it
+abbrev pub ahead : Thing → Thing → List Thing → Bool
+ahead other thing [] = false
+ahead other thing (first ∷ queue) =
+    if same_thing first other then true else (not (same_thing first thing) && ahead other thing queue)
+
+-- where this thing doesn't stand at all
+ahead_by : (here : Bool) (other thing first : Thing) (queue : List Thing) → (here || set_of queue other) ≡ true
+    → (same_thing first thing || set_of queue thing) ≡ false
+    → (set_of queue other ≡ true → set_of queue thing ≡ false → ahead other thing queue ≡ true)
+    → (if here then true else (not (same_thing first thing) && ahead other thing queue)) ≡ true
+ahead_by true other thing first queue has lacks rest = refl
+ahead_by false other thing first queue has lacks rest =
+    elim (same_thing first thing) as
+    (λ b. (b || set_of queue thing) ≡ false → (not b && ahead other thing queue) ≡ true) [
+      | true ↦ λ never. cc
+      | false ↦ λ later. rest has later
+    ] lacks
+
+ahead_alone : (other thing : Thing) (queue : List Thing) → set_of queue other ≡ true → set_of queue thing ≡ false
+    → ahead other thing queue ≡ true
+ahead_alone other thing [] has lacks = cc
+ahead_alone other thing (first ∷ queue) has lacks =
+    ahead_by (same_thing first other) other thing first queue has lacks (ahead_alone other thing queue)
+
+-- more behind it changes nothing
+ahead_more_by : (here this : Bool) (front all : Bool) → (if here then true else (not this && front)) ≡ true
+    → (front ≡ true → all ≡ true) → (if here then true else (not this && all)) ≡ true
+ahead_more_by true this front all is rest = refl
+ahead_more_by false true front all is rest = cc
+ahead_more_by false false front all is rest = rest is
+
+pub ahead_more : (other thing : Thing) (queue more : List Thing) → ahead other thing queue ≡ true
+    → ahead other thing (queue ++ more) ≡ true
+ahead_more other thing [] more is = cc
+ahead_more other thing (first ∷ queue) more is =
+    ahead_more_by (same_thing first other) (same_thing first thing) (ahead other thing queue)
+    (ahead other thing (queue ++ more)) is
+    (ahead_more other thing queue more)
+
+-- nor does it that a third thing leaves
+ahead_left_by : (gone here this : Bool) (other thing third first : Thing) (queue : List Thing)
+    → same_thing third first ≡ gone → same_thing first other ≡ here → same_thing third other ≡ false
+    → (if here then true else (not (same_thing first thing) && ahead other thing queue)) ≡ true
+    → (ahead other thing queue ≡ true → ahead other thing (dropped third queue) ≡ true)
+    → ahead other thing (cond (not gone) (first ∷ dropped third queue) (dropped third queue)) ≡ true
+ahead_left_by true true this other thing third first queue gone here apart is rest =
+    let same : same_thing third other ≡ true = ap (λ (t : Thing). same_thing t other)
+    (same_thing-true third first gone) ∙ here in
+    cc
+ahead_left_by true false this other thing third first queue gone here apart is rest =
+    elim (same_thing first thing) as
+    (λ b. (not b && ahead other thing queue) ≡ true → ahead other thing (dropped third queue) ≡ true) [
+      | true ↦ λ never. cc
+      | false ↦ λ later. rest later
+    ] is
+ahead_left_by false here this other thing third first queue gone here_is apart is rest =
+    ap (λ (b : Bool). if b then true else
+    (not (same_thing first thing) && ahead other thing (dropped third queue))) here_is
+    ∙ ahead_more_by here (same_thing first thing) (ahead other thing queue)
+    (ahead other thing (dropped third queue)) is rest
+
+pub ahead_left : (other thing third : Thing) (queue : List Thing) → same_thing third other ≡ false
+    → ahead other thing queue ≡ true → ahead other thing (dropped third queue) ≡ true
+ahead_left other thing third [] apart is = cc
+ahead_left other thing third (first ∷ queue) apart is =
+    ahead_left_by (same_thing third first)
+    (same_thing first other) true other thing third first queue refl refl apart is
+    (ahead_left other thing third queue apart)
+
+-- or that one is served and goes to the back
+pub ahead_back : (other thing third : Thing) (queue : List Thing) → same_thing third other ≡ false
+    → ahead other thing queue ≡ true → ahead other thing (put_back third queue) ≡ true
+ahead_back other thing third queue apart is =
+    ahead_more other thing (dropped third queue) (third ∷ []) (ahead_left other thing third queue apart is)
+
+-- nor does it that those before the first that can be served are set aside
+ahead_settled_by : (able here : Bool) (state : State) (other thing first : Thing) (queue : List Thing)
+    → is_servable state first ≡ able → same_thing first other ≡ here → is_servable state other ≡ true
+    → ahead other thing (first ∷ queue) ≡ true
+    → (ahead other thing queue ≡ true → ahead other thing (from_servable state queue) ≡ true)
+    → ahead other thing (if able then first ∷ queue else from_servable state queue) ≡ true
+ahead_settled_by true here state other thing first queue able_is here_is waits is rest = is
+ahead_settled_by false true state other thing first queue able here waits is rest =
+    let also : is_servable state first ≡ true = ap (is_servable state) (same_thing-true first other here) ∙ waits in
+    cc
+ahead_settled_by false false state other thing first queue able here waits is rest =
+    let apart : (if false then true else (not (same_thing first thing) && ahead other thing queue)) ≡ true =
+    ap (λ (b : Bool). if b then true else (not (same_thing first thing) && ahead other thing queue)) (sym here)
+    ∙ is in
+    rest (and_both (not (same_thing first thing)) (ahead other thing queue) apart).1
+
+pub ahead_settled : (state : State) (other thing : Thing) (queue : List Thing) → is_servable state other ≡ true
+    → ahead other thing queue ≡ true → ahead other thing (from_servable state queue) ≡ true
+ahead_settled state other thing [] waits is = cc
+ahead_settled state other thing (first ∷ queue) waits is =
+    ahead_settled_by (is_servable state first)
+    (same_thing first other) state other thing first queue refl refl waits is
+    (ahead_settled state other thing queue waits)
+
+-- ---- what goes to the back stands behind it
+
+pub gone_at : (thing : Thing) (queue : List Thing) → set_of (dropped thing queue) thing ≡ false
+gone_at thing queue =
+    ap (λ (hot : Hot). hot thing) (set_of-dropped thing queue)
+    ∙ ap (λ (b : Bool). not b && set_of queue thing) (same_thing-refl thing)
+
+pub left_ahead : (other thing third : Thing) (queue : List Thing) → same_thing third thing ≡ true
+    → set_of (dropped third queue) other ≡ true → ahead other thing (dropped third queue) ≡ true
+left_ahead other thing third queue same has =
+    ahead_alone other thing (dropped third queue) has
+    (ap (λ (t : Thing). set_of (dropped third queue) t) (sym (same_thing-true third thing same))
+    ∙ gone_at third queue)
+
+pub back_ahead : (other thing third : Thing) (queue : List Thing) → same_thing third thing ≡ true
+    → same_thing thing other ≡ false → set_of (put_back third queue) other ≡ true
+    → ahead other thing (put_back third queue) ≡ true
+back_ahead other thing third queue same apart has =
+    let third_apart : same_thing third other ≡ false = ap (λ (t : Thing). same_thing t other)
+    (same_thing-true third thing same) ∙ apart in
+    let alone : set_of (third ∷ []) other ≡ false = ap (λ (b : Bool). b || false) third_apart in
+    ahead_more other thing (dropped third queue) (third ∷ [])
+    (left_ahead other thing third queue same
+    (or_first (set_of (dropped third queue) other) (set_of (third ∷ []) other) alone
+    (sym (set_of-append (dropped third queue) (third ∷ []) other) ∙ has)))
+
+-- ---- what stands before it is served first
+
+-- what is the same as one of two different things isn't the other
+apart_sym : (thing other first : Thing) → same_thing thing other ≡ false → same_thing first other ≡ true
+    → same_thing thing first ≡ false
+apart_sym thing other first apart here = ap (same_thing thing) (same_thing-true first other here) ∙ apart
+
+apart_flip : (thing first : Thing) → same_thing first thing ≡ false → same_thing thing first ≡ false
+apart_flip thing first apart = false_by (same_thing thing first) (λ same.
+    let is : same_thing first thing ≡ true = ap (same_thing first) (same_thing-true thing first same)
+    ∙ same_thing-refl first in cc)
+
+not_first_by : (able here : Bool) (state : State) (other thing first : Thing) (queue : List Thing)
+    → is_servable state first ≡ able → same_thing first other ≡ here → is_servable state other ≡ true
+    → same_thing thing other ≡ false
+    → (if here then true else (not (same_thing first thing) && ahead other thing queue)) ≡ true
+    → (ahead other thing queue ≡ true → is_thing thing (first_servable state queue) ≡ false)
+    → is_thing thing (if able then Some first else first_servable state queue) ≡ false
+not_first_by true true state other thing first queue able here waits apart is rest =
+    apart_sym thing other first apart here
+not_first_by true false state other thing first queue able here waits apart is rest =
+    let parts = and_both (not (same_thing first thing)) (ahead other thing queue) is in
+    apart_flip thing first (not_true (same_thing first thing) parts.0)
+not_first_by false true state other thing first queue able here waits apart is rest =
+    let also : is_servable state first ≡ true = ap (is_servable state) (same_thing-true first other here) ∙ waits in
+    cc
+not_first_by false false state other thing first queue able here waits apart is rest =
+    rest (and_both (not (same_thing first thing)) (ahead other thing queue) is).1
+
+pub not_first : (state : State) (other thing : Thing) (queue : List Thing) → is_servable state other ≡ true
+    → same_thing thing other ≡ false → ahead other thing queue ≡ true
+    → is_thing thing (first_servable state queue) ≡ false
+not_first state other thing [] waits apart is = cc
+not_first state other thing (first ∷ queue) waits apart is =
+    not_first_by (is_servable state first)
+    (same_thing first other) state other thing first queue refl refl waits apart is
+    (not_first state other thing queue waits apart)

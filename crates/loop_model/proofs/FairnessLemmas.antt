@@ -1,0 +1,115 @@
+-- What waits is overtaken by nothing that was served since.
+use Rattle.std.proofs.Common.{◌≡◌, ◌∙◌, Bool, true, false, List, [], ◌∷◌, ◌++◌, Option, Some, None, refl, sym, ap, ◌||◌}
+use Rattle.std.specs.Prelude.{option_and_then, option_map}
+use Rattle.std.specs.List.{list_any}
+use Rattle.world_ports.specs.declared.entry.Entry.{Entry}
+use Rattle.loop_model.specs.LegalJournal.{Turning, comes_next, led, taken, taken_if, turned}
+use Rattle.loop_model.specs.Servable.{is_servable}
+use Rattle.loop_model.specs.Things.{same_thing, set_of}
+use Rattle.loop_model.specs.declared.thing.Thing.{Thing}
+use Rattle.loop_model.specs.Aside.{things_aside}
+use Rattle.loop_model.specs.Fairness.{if_any, is_service, is_waiting, waits_on}
+use Rattle.loop_model.specs.Lines.{IsQuiet, hot_of}
+use Rattle.loop_model.proofs.AsideLemmas.{set_of-append}
+use Rattle.loop_model.proofs.QuietLemmas.{quiet_taken}
+use Rattle.loop_model.proofs.JournalLemmas.{in_turn, is_in_turn, leads}
+use Rattle.loop_model.proofs.TestLemmas.{and_both, or_first}
+use Rattle.loop_model.proofs.ThingLemmas.{false_by}
+use Rattle.loop_model.proofs.AheadLemmas.{ahead}
+use Rattle.loop_model.proofs.AheadCallLemmas.{ahead_after, ahead_of_served, out_of_turn}
+
+-- ---- between two services
+
+-- what waits stands in the queue, since nothing that is set aside can be served
+waiting_queued : (other : Thing) (turning : Turning) → IsQuiet turning.state turning.line
+    → is_waiting other turning ≡ true
+    → (set_of turning.line.queue other ≡ true) × (is_servable turning.state other ≡ true)
+waiting_queued other turning quiet waits =
+    let both = and_both (hot_of turning.line other) (is_servable turning.state other) waits in
+    let aside = set_of (things_aside turning.line.aside) other in
+    let never : aside ≡ false = false_by aside
+    (λ there. let still : is_servable turning.state other ≡ false = quiet other there in let able = both.1 in cc) in (
+      or_first (set_of turning.line.queue other) aside never
+          (sym (set_of-append turning.line.queue (things_aside turning.line.aside) other) ∙ both.0),
+      both.1,
+    )
+
+waiting_at_once : (other : Thing) (turning : Turning) (entries : List Entry) → waits_on other turning entries ≡ true
+    → is_waiting other turning ≡ true
+waiting_at_once other turning [] waits = waits
+waiting_at_once other turning (next ∷ later) waits =
+    (and_both (is_waiting other turning) (if_any (λ after. waits_on other after later) (taken turning next)) waits).0
+
+between_by : (served : Bool) (found : Option Turning) (other thing : Thing) (turning to : Turning) (next last : Entry)
+    (later : List Entry) → is_service other next ≡ served → taken turning next ≡ found
+    → option_and_then (λ after. turned after (later ++ last ∷ [])) found ≡ Some to → is_waiting other turning ≡ true
+    → if_any (λ after. waits_on other after later) found ≡ true → IsQuiet turning.state turning.line
+    → ahead other thing turning.line.queue ≡ true
+    → ((after : Turning) → IsQuiet after.state after.line → ahead other thing after.line.queue ≡ true
+    → turned after (later ++ last ∷ []) ≡ Some to → waits_on other after later ≡ true
+    → list_any (is_service other) later ≡ true) → (served || list_any (is_service other) later) ≡ true
+between_by true found other thing turning to next last later service is legal waits_now waits quiet first rest = refl
+between_by false None other thing turning to next last later service is legal waits_now waits quiet first rest = cc
+between_by false (Some after) other thing turning to next last later service is legal waits_now waits quiet first rest =
+    let there = leads turning after next is in
+    let still_quiet = quiet_taken turning after next is quiet in
+    let has = waiting_queued other after still_quiet (waiting_at_once other after later waits) in
+    let led_there = led turning next in
+    let queue_has : set_of led_there.line.queue other ≡ true =
+    ap (λ (t : Turning). set_of t.line.queue other) there.left ∙ has.0 in
+    let still = ahead_after turning.state led_there.state turning.due next other thing turning.line service
+    (waiting_queued other turning quiet waits_now).1 queue_has first in
+    rest after still_quiet (ap (λ (t : Turning). ahead other thing t.line.queue) (sym there.left) ∙ still) legal waits
+
+never_last : (other thing : Thing) (turning to : Turning) (last : Entry) → is_service thing last ≡ true
+    → same_thing thing other ≡ false → IsQuiet turning.state turning.line
+    → ahead other thing turning.line.queue ≡ true → is_waiting other turning ≡ true
+    → turned turning (last ∷ []) ≡ Some to → ⊥
+never_last other thing turning to last service apart quiet first waits legal =
+    let has = waiting_queued other turning quiet waits in
+    let out = out_of_turn turning.state last other thing turning.line.queue service has.1 apart first in
+    let never : comes_next turning last ≡ false = false_by (comes_next turning last)
+    (λ may. let turn = in_turn turning last may in let both : false ≡ true = sym out ∙ turn in cc) in
+    let none : option_and_then (λ (after : Turning). turned after []) (taken_if false turning last) ≡ Some to =
+    ap (λ (b : Bool). option_and_then (λ (after : Turning). turned after []) (taken_if b turning last)) (sym never)
+    ∙ legal in
+    cc
+
+between : (other thing : Thing) (turning to : Turning) (entries : List Entry) (last : Entry)
+    → is_service thing last ≡ true → same_thing thing other ≡ false → IsQuiet turning.state turning.line
+    → ahead other thing turning.line.queue ≡ true → turned turning (entries ++ last ∷ []) ≡ Some to
+    → waits_on other turning entries ≡ true → list_any (is_service other) entries ≡ true
+between other thing turning to [] last service apart quiet first legal waits =
+    absurd (never_last other thing turning to last service apart quiet first waits legal)
+between other thing turning to (next ∷ later) last service apart quiet first legal waits =
+    let both = and_both (is_waiting other turning)
+    (if_any (λ after. waits_on other after later) (taken turning next)) waits in
+    between_by (is_service other next)
+    (taken turning next) other thing turning to next last later refl refl legal both.0 both.1 quiet first
+    (λ after quiet_there ahead_there legal_there waits_there.
+    between other thing after to later last service apart quiet_there ahead_there legal_there waits_there)
+
+since_by : (found : Option Turning) (from to : Turning) (thing other : Thing) (first last : Entry)
+    (entries : List Entry) → taken from first ≡ found → IsQuiet from.state from.line
+    → option_and_then (λ after. turned after (entries ++ last ∷ [])) found ≡ Some to → is_service thing first ≡ true
+    → is_service thing last ≡ true → same_thing thing other ≡ false
+    → if_any (λ after. waits_on other after entries) found ≡ true → list_any (is_service other) entries ≡ true
+since_by None from to thing other first last entries is quiet legal service again apart waits = cc
+since_by (Some after) from to thing other first last entries is quiet legal service again apart waits =
+    let there = leads from after first is in
+    let still_quiet = quiet_taken from after first is quiet in
+    let has = waiting_queued other after still_quiet (waiting_at_once other after entries waits) in
+    let led_there = led from first in
+    let queue_has : set_of led_there.line.queue other ≡ true =
+    ap (λ (t : Turning). set_of t.line.queue other) there.left ∙ has.0 in
+    let behind = ahead_of_served from.state led_there.state from.due first other thing from.line service apart queue_has in
+    between other thing after to entries last again apart still_quiet
+    (ap (λ (t : Turning). ahead other thing t.line.queue) (sym there.left) ∙ behind) legal waits
+
+pub served_between : (from to : Turning) (thing other : Thing) (first last : Entry) (entries : List Entry)
+    → IsQuiet from.state from.line → turned from (first ∷ (entries ++ last ∷ [])) ≡ Some to
+    → is_service thing first ≡ true → is_service thing last ≡ true → same_thing thing other ≡ false
+    → if_any (λ after. waits_on other after entries) (taken from first) ≡ true
+    → list_any (is_service other) entries ≡ true
+served_between from to thing other first last entries quiet legal service again apart waits =
+    since_by (taken from first) from to thing other first last entries refl quiet legal service again apart waits

@@ -1,0 +1,140 @@
+-- Fronts of legal journals, and where a poll may come.
+use Rattle.std.proofs.Common.{◌≡◌, ◌∙◌, ℕ, Bool, true, false, List, [], ◌∷◌, ◌++◌, Option, Some, None, Result, Ok, Err, refl, sym, ap, subst, ◌&&◌}
+use Rattle.std.specs.Prelude.{option_and_then}
+use Rattle.world_ports.specs.declared.answers.Accepted.TheVariants as accepted
+use Rattle.world_ports.specs.declared.answers.Got.TheVariants as got
+use Rattle.world_ports.specs.declared.answers.Polled.{Polled}
+use Rattle.world_ports.specs.declared.answers.Polled.TheVariants as polled
+use Rattle.world_ports.specs.declared.answers.Ready.{Ready}
+use Rattle.world_ports.specs.declared.answers.WorldFault.{WorldFault}
+use Rattle.world_ports.specs.declared.answers.WorldFault.TheVariants.{Failed, Memory}
+use Rattle.world_ports.specs.declared.answers.Wrote.TheVariants as wrote
+use Rattle.world_ports.specs.declared.entry.Entry.{Entry}
+use Rattle.world_ports.specs.declared.entry.Entry.TheVariants as entry
+use Rattle.agent_model.specs.State.{State}
+use Rattle.loop_model.specs.Dues.{Closing, Due, Free, Nothing, NowFor, Polling, closes_later, due_event, due_look, due_of, is_polling, same_wait, wait_of}
+use Rattle.loop_model.specs.Fronts.{HasFront, IsAtRest, RestsAfter}
+use Rattle.loop_model.specs.LegalJournal.{Turning, comes_next, in_state, led, taken, turned}
+use Rattle.loop_model.specs.Lines.{Line, is_idle}
+use Rattle.loop_model.proofs.JournalLemmas.{leads}
+use Rattle.loop_model.proofs.TestLemmas.{and_both}
+
+-- ---- fronts
+
+front_by : (found : Option Turning) (to : Turning) (first later : List Entry) → ((turning : Turning) → turned turning (first ++ later) ≡ Some to → HasFront turning to first later) → option_and_then (λ after. turned after (first ++ later)) found ≡ Some to → (reached : Turning) × (option_and_then (λ after. turned after first) found ≡ Some reached) × (turned reached later ≡ Some to)
+front_by None to first later rest legal = cc
+front_by (Some turning) to first later rest legal =
+    let front = rest turning legal in (front.reached, front.front, front.rest)
+
+pub has_front : (from to : Turning) (first later : List Entry) → turned from (first ++ later) ≡ Some to → HasFront from to first later
+has_front from to [] later legal = record { reached = from; front = refl; rest = legal }
+has_front from to (next ∷ first) later legal =
+    let front = front_by (taken from next) to first later (λ turning rest. has_front turning to first later rest) legal in
+    record { reached = front.0; front = front.1; rest = front.2 }
+
+-- ---- where a poll may come, there is nothing to do
+
+abbrev Rests : Due → State → Line → Type 0
+Rests Free state line = Unit {0}
+Rests (NowFor event) state line = Unit {0}
+Rests (Closing port later) state line = Unit {0}
+Rests Polling state line = (is_idle state line ≡ true) × (state.closes ≡ [])
+Rests Nothing state line = Unit {0}
+
+abbrev IsWell : Turning → Type 0
+IsWell turning = Rests turning.due turning.state turning.line
+
+well_due : (closes : List ℕ) (state : State) (line : Line) → Rests (due_of closes) state line
+well_due [] state line = tt
+well_due (port ∷ later) state line = tt
+
+well_look : (closes : List ℕ) (idle : Bool) (state : State) (line : Line) → is_idle state line ≡ idle
+    → state.closes ≡ closes → Rests (due_look closes idle) state line
+well_look [] true state line idle closes = (idle, closes)
+well_look [] false state line idle closes = tt
+well_look (port ∷ later) idle state line is closes = tt
+
+well_event : (due : Due) (state : State) (line : Line) → Rests (due_event due state.closes (is_idle state line)) state line
+well_event Free state line = well_look state.closes (is_idle state line) state line refl refl
+well_event (NowFor event) state line = well_due state.closes state line
+well_event (Closing port later) state line = tt
+well_event Polling state line = tt
+well_event Nothing state line = tt
+
+well_led : (turning : Turning) (next : Entry) → comes_next turning next ≡ true → IsWell (led turning next)
+well_led turning (entry.Bind door path answer) may = cc
+well_led turning (entry.Poll wait items (Ok polled.Some)) may = tt
+well_led turning (entry.Poll wait items (Ok polled.Over)) may = tt
+well_led turning (entry.Poll wait items (Err fault)) may = tt
+well_led turning (entry.Accept door (Ok (accepted.Port number))) may = tt
+well_led turning (entry.Accept door (Ok accepted.NotNow)) may = tt
+well_led turning (entry.Accept door (Err Failed)) may = tt
+well_led turning (entry.Accept door (Err Memory)) may = tt
+well_led turning (entry.Read port room bytes (Ok (got.Bytes n))) may = tt
+well_led turning (entry.Read port room bytes (Ok got.End)) may = tt
+well_led turning (entry.Read port room bytes (Ok got.NotNow)) may = tt
+well_led turning (entry.Read port room bytes (Err Failed)) may = tt
+well_led turning (entry.Read port room bytes (Err Memory)) may = tt
+well_led turning (entry.Write port offered (Ok (wrote.Took n))) may = tt
+well_led turning (entry.Write port offered (Ok wrote.NotNow)) may = tt
+well_led turning (entry.Write port offered (Err Failed)) may = tt
+well_led turning (entry.Write port offered (Err Memory)) may = tt
+well_led turning (entry.Close port (Ok unit)) may = well_due (closes_later turning.due) turning.state _
+well_led turning (entry.Close port (Err want)) may = tt
+well_led turning (entry.Start job (Ok ticket)) may = tt
+well_led turning (entry.Start job (Err Failed)) may = tt
+well_led turning (entry.Start job (Err Memory)) may = tt
+well_led turning (entry.Now (Ok moment)) may =
+    let after = led turning (entry.Now (Ok moment)) in well_event turning.due after.state after.line
+well_led turning (entry.Now (Err want)) may = tt
+
+well_taken : (from after : Turning) (next : Entry) → taken from next ≡ Some after → IsWell after
+well_taken from after next is =
+    let there = leads from after next is in subst IsWell there.left (well_led from next there.comes)
+
+well_by : (found : Option Turning) (to : Turning) (later : List Entry)
+    → ((after : Turning) → found ≡ Some after → IsWell after)
+    → ((after : Turning) → IsWell after → turned after later ≡ Some to → IsWell to)
+    → option_and_then (λ after. turned after later) found ≡ Some to → IsWell to
+well_by None to later here rest is = cc
+well_by (Some after) to later here rest is = rest after (here after refl) is
+
+-- every place of a legal journal is well
+well_on : (from to : Turning) (entries : List Entry) → IsWell from → turned from entries ≡ Some to → IsWell to
+well_on from to [] well is = let same : from ≡ to = cc in subst IsWell same well
+well_on from to (next ∷ later) well is =
+    well_by (taken from next) to later (λ after here. well_taken from after next here)
+    (λ after here rest. well_on after to later here rest) is
+
+-- a poll may come only where one is due
+rests_by : (due : Due) (state : State) (line : Line) → is_polling due ≡ true → Rests due state line
+    → IsAtRest (in_state state line due)
+rests_by Free state line polls well = cc
+rests_by (NowFor event) state line polls well = cc
+rests_by (Closing port closes) state line polls well = cc
+rests_by Polling state line polls well = record { due = refl; idle = well.0; closes = well.1 }
+rests_by Nothing state line polls well = cc
+
+rests_taken : (found : Option Turning) (turning to : Turning) (wait : Option ℕ) (items : List Ready)
+    (answer : Result Polled WorldFault) (later : List Entry)
+    → taken turning (entry.Poll wait items answer) ≡ found → IsWell turning
+    → option_and_then (λ after. turned after later) found ≡ Some to → IsAtRest turning
+rests_taken None turning to wait items answer later is well legal = cc
+rests_taken (Some after) turning to wait items answer later is well legal =
+    rests_by turning.due turning.state turning.line
+    (and_both (is_polling turning.due) (same_wait wait (wait_of turning.state))
+    (leads turning after (entry.Poll wait items answer) is).comes).0 well
+
+pub rests_after : (state : State) (line : Line) (to : Turning) (first later : List Entry) (wait : Option ℕ)
+    (items : List Ready) (answer : Result Polled WorldFault)
+    → turned (in_state state line Free) (first ++ entry.Poll wait items answer ∷ later) ≡ Some to
+    → RestsAfter (in_state state line Free) first
+rests_after state line to first later wait items answer legal =
+    let front = has_front (in_state state line Free) to first (entry.Poll wait items answer ∷ later) legal in
+    let reached = front.reached in
+    record {
+      reached = reached;
+      front = front.front;
+      rest = rests_taken (taken reached (entry.Poll wait items answer)) reached to wait items answer later refl
+          (well_on (in_state state line Free) reached first tt front.front) front.rest;
+    }

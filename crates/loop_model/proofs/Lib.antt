@@ -1,0 +1,15 @@
+pub mod ThingLemmas
+pub mod TestLemmas
+pub mod AsideLemmas
+pub mod JournalLemmas
+pub mod FrontLemmas
+pub mod SparedLemmas
+pub mod ElsewhereLemmas
+pub mod AddingLemmas
+pub mod QuietLemmas
+pub mod BackLemmas
+pub mod AheadLemmas
+pub mod AheadCallLemmas
+pub mod FairnessLemmas
+pub mod PassedLemmas
+pub mod LastLemmas

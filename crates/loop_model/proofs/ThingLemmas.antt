@@ -1,0 +1,53 @@
+-- When two things are the same.
+use Rattle.std.proofs.Common.{◌≡◌, ◌∙◌, Bool, true, false, refl, sym, ap, not, ◌&&◌, ◌||◌}
+use Rattle.std.proofs.lemmas.Bool.Decides.{Decides-eqb}
+use Rattle.world_ports.specs.declared.events.Door.TheVariants.{Clients, Children}
+use Rattle.loop_model.specs.Things.{Hot, same_thing}
+use Rattle.loop_model.specs.declared.thing.Thing.{Thing}
+use Rattle.loop_model.specs.declared.thing.Thing.TheVariants.{Accept, Read, Write}
+
+-- a set with this thing
+abbrev pub heated : Thing → Hot → Hot
+heated thing hot other = same_thing thing other || hot other
+
+-- without it
+abbrev pub cooled : Thing → Hot → Hot
+cooled thing hot other = not (same_thing thing other) && hot other
+
+-- a thing is the same as itself
+pub same_thing-refl : (thing : Thing) → same_thing thing thing ≡ true
+same_thing-refl (Accept Clients) = refl
+same_thing-refl (Accept Children) = refl
+same_thing-refl (Read port) = (Decides-eqb port port).1 refl
+same_thing-refl (Write port) = (Decides-eqb port port).1 refl
+
+-- things that are the same are equal
+pub same_thing-true : (thing other : Thing) → same_thing thing other ≡ true → thing ≡ other
+same_thing-true (Accept Clients) (Accept Clients) same = refl
+same_thing-true (Accept Clients) (Accept Children) same = cc
+same_thing-true (Accept Children) (Accept Clients) same = cc
+same_thing-true (Accept Children) (Accept Children) same = refl
+same_thing-true (Accept door) (Read other) same = cc
+same_thing-true (Accept door) (Write other) same = cc
+same_thing-true (Read port) (Accept other) same = cc
+same_thing-true (Read port) (Read other) same = ap Read ((Decides-eqb port other).0 same)
+same_thing-true (Read port) (Write other) same = cc
+same_thing-true (Write port) (Accept other) same = cc
+same_thing-true (Write port) (Read other) same = cc
+same_thing-true (Write port) (Write other) same = ap Write ((Decides-eqb port other).0 same)
+
+-- a test that can't be true is false
+pub false_by : (test : Bool) → (test ≡ true → ⊥) → test ≡ false
+false_by true never = absurd (never refl)
+false_by false never = refl
+
+-- what is the same as one of two equal things is the same as the other
+pub same_thing-alike : (thing other third : Thing) → same_thing thing other ≡ true → same_thing other third ≡ same_thing thing third
+same_thing-alike thing other third same = ap (λ (t : Thing). same_thing t third) (sym (same_thing-true thing other same))
+
+-- what is the same as one of two different things isn't the same as the other
+pub same_thing-apart : (thing other third : Thing) → same_thing thing other ≡ false → same_thing thing third ≡ true → same_thing other third ≡ false
+same_thing-apart thing other third apart same = false_by (same_thing other third) (λ also.
+    let is : thing ≡ other = same_thing-true thing third same ∙ sym (same_thing-true other third also) in
+    let here : same_thing thing other ≡ true = ap (λ (t : Thing). same_thing thing t) (sym is) ∙ same_thing-refl thing in
+    cc)

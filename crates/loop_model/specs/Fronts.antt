@@ -1,0 +1,24 @@
+-- Places in a legal journal (ours).
+use Rattle.std.specs.Prelude.{◌≡◌, List, [], Some, true}
+use Rattle.world_ports.specs.declared.entry.Entry.{Entry}
+use Rattle.loop_model.specs.Dues.{Polling}
+use Rattle.loop_model.specs.LegalJournal.{Turning, turned}
+use Rattle.loop_model.specs.Lines.{is_idle}
+
+-- the first entries may come, and the others may come from where they lead to
+pub record HasFront (from to : Turning) (first later : List Entry) : Type 0 where
+  pub reached : Turning
+  pub front : turned from first ≡ Some reached
+  pub rest : turned reached later ≡ Some to
+
+-- nothing can be served, no job waits, and no port is to be closed
+pub record IsAtRest (turning : Turning) : Type 0 where
+  pub due : turning.due ≡ Polling
+  pub idle : is_idle turning.state turning.line ≡ true
+  pub closes : turning.state.closes ≡ []
+
+-- the first entries may come, and nothing is to do where they lead to
+pub record RestsAfter (from : Turning) (first : List Entry) : Type 0 where
+  pub reached : Turning
+  pub front : turned from first ≡ Some reached
+  pub rest : IsAtRest reached

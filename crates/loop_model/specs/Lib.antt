@@ -1,0 +1,12 @@
+pub mod Things
+pub mod Servable
+pub mod Aside
+pub mod Queues
+pub mod Lines
+pub mod Dues
+pub mod Calls
+pub mod LegalJournal
+pub mod Rows
+pub mod Fronts
+pub mod Elsewhere
+pub mod Fairness

@@ -1,0 +1,93 @@
+-- States, lines and journals that are written out, for the laws of src/rows.rt (ours).
+use Rattle.std.specs.Prelude.{ℕ, Bool, true, false, List, [], ◌∷◌, None, is_some, Ok}
+use Rattle.world_ports.specs.declared.events.Door.{Door}
+use Rattle.world_ports.specs.declared.events.Door.TheVariants.{Clients}
+use Rattle.world_ports.specs.declared.answers.Accepted.TheVariants as accepted
+use Rattle.world_ports.specs.declared.answers.Got.TheVariants as got
+use Rattle.world_ports.specs.declared.answers.Polled.TheVariants as polled
+use Rattle.world_ports.specs.declared.answers.Spot.TheVariants as spot
+use Rattle.world_ports.specs.declared.answers.Wrote.TheVariants as wrote
+use Rattle.world_ports.specs.declared.entry.Entry.{Entry}
+use Rattle.world_ports.specs.declared.entry.Entry.TheVariants as entry
+use Rattle.agent_model.specs.State.{State, first_state, new_port}
+use Rattle.loop_model.specs.Dues.{Free}
+use Rattle.loop_model.specs.LegalJournal.{in_state, turned}
+use Rattle.loop_model.specs.Lines.{Line}
+use Rattle.loop_model.specs.declared.thing.Thing.{Thing}
+
+-- ---- states
+
+-- no port is open
+abbrev pub no_ports : State
+no_ports = first_state None
+
+-- one client is open, or two; each is to be read, and none is owed bytes
+abbrev pub one_client : State
+one_client = record (first_state None) { ports = new_port 1 Clients ∷ []; last_port = 1 }
+
+abbrev pub two_clients : State
+two_clients = record (first_state None) { ports = new_port 1 Clients ∷ new_port 2 Clients ∷ []; last_port = 2 }
+
+-- ---- lines
+
+-- a queue, with listeners, ports to read and ports to write to aside
+abbrev pub line_of : List Thing → List Door → List ℕ → List ℕ → Line
+line_of queue doors reads writes =
+    record { queue = queue; aside = record { doors = doors; reads = reads; writes = writes }; joined = false }
+
+-- a queue, with nothing aside
+abbrev pub queue_of : List Thing → Line
+queue_of queue = line_of queue [] [] []
+
+-- ---- journals
+
+-- the calls may come in this state, with this queue and nothing aside
+abbrev pub comes_in_turn : State → List Thing → List Entry → Bool
+comes_in_turn state queue entries = is_some (turned (in_state state (queue_of queue) Free) entries)
+
+-- from the start, both listeners bound and nothing ready
+abbrev pub is_legal : List Entry → Bool
+is_legal entries = comes_in_turn no_ports [] entries
+
+-- ---- entries
+
+-- the clock is read at this second
+abbrev pub now_at : ℕ → Entry
+now_at second = entry.Now (Ok (record { mono = second; wall = second }))
+
+-- a wait without a bound tells of a client
+abbrev pub poll_client : Entry
+poll_client =
+    entry.Poll None (record { spot = spot.Door Clients; readable = true; writable = false } ∷ []) (Ok polled.Some)
+
+-- a wait without a bound tells of nothing
+abbrev pub poll_nothing : Entry
+poll_nothing = entry.Poll None [] (Ok polled.Some)
+
+-- the client gets this number
+abbrev pub accept_as : ℕ → Entry
+accept_as number = entry.Accept Clients (Ok (accepted.Port number))
+
+-- no client waits
+abbrev pub accept_none : Entry
+accept_none = entry.Accept Clients (Ok accepted.NotNow)
+
+-- these bytes are read from the port
+abbrev pub read_of : ℕ → ℕ → List ℕ → Entry
+read_of number count bytes = entry.Read number 16384 bytes (Ok (got.Bytes count))
+
+-- nothing more is there to be read
+abbrev pub read_none : ℕ → Entry
+read_none number = entry.Read number 16384 [] (Ok got.NotNow)
+
+-- the port takes so many of these bytes
+abbrev pub write_of : ℕ → List ℕ → ℕ → Entry
+write_of number bytes count = entry.Write number bytes (Ok (wrote.Took count))
+
+-- the port is closed
+abbrev pub close_of : ℕ → Entry
+close_of number = entry.Close number (Ok tt)
+
+-- a client that joins, with the moment of its joining, behind a look and a wait
+abbrev pub joins : List Entry → List Entry
+joins later = now_at 1 ∷ poll_client ∷ accept_as 1 ∷ now_at 1 ∷ later

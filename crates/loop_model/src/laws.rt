@@ -1,0 +1,51 @@
+//! Laws of legal journals.
+
+ghost use Rattle.std.specs.Prelude.{◌≡◌, ◌++◌, ◌∷◌, ℕ, List, Option, Result, Some, false, true};
+ghost use Rattle.world_ports.specs.declared.answers.Polled.{Polled};
+ghost use Rattle.world_ports.specs.declared.answers.Ready.{Ready};
+ghost use Rattle.world_ports.specs.declared.answers.WorldFault.{WorldFault};
+ghost use Rattle.world_ports.specs.declared.entry.Entry.{Entry};
+ghost use Rattle.world_ports.specs.declared.entry.Entry.TheVariants as entry;
+ghost use Rattle.world_ports.specs.declared.events.Moment.{Moment};
+ghost use Rattle.agent_model.specs.Events.{Happening};
+ghost use Rattle.agent_model.specs.Sound.{IsRising};
+ghost use Rattle.agent_model.specs.State.{State, find_port, is_some_bytes, owed_of, wants};
+ghost use Rattle.agent_model.specs.Step.{step};
+ghost use Rattle.loop_model.specs.Dues.{Free};
+ghost use Rattle.loop_model.specs.Elsewhere.{is_clients, is_of, tells_others};
+ghost use Rattle.loop_model.specs.Fronts.{HasFront, RestsAfter};
+ghost use Rattle.loop_model.specs.LegalJournal.{Turning, in_state, turned};
+ghost use Rattle.loop_model.specs.Lines.{Line};
+
+/// Every front of a legal journal is legal, and the rest is legal from where it leads to.
+pub fn every_front_is_legal()
+    ensures { (from to : Turning) (first later : List Entry)
+        → turned from (first ++ later) ≡ Some to → HasFront from to first later }
+{}
+
+/// No poll stands in a legal journal where something can be served, a job waits or a port is to be closed.
+pub fn nothing_waits_at_a_poll()
+    ensures { (state : State) (line : Line) (to : Turning) (first later : List Entry) (wait : Option ℕ)
+        (items : List Ready) (answer : Result Polled WorldFault)
+        → turned (in_state state line Free) (first ++ entry.Poll wait items answer ∷ later) ≡ Some to
+        → RestsAfter (in_state state line Free) first }
+{}
+
+/// An event lets no other port than its own be read that wasn't to be read before. The numbers of the open ports rise
+/// in every state that events lead to.
+pub fn an_event_wants_no_other_port()
+    ensures { (state : State) (moment : Moment) (event : Happening) (port : ℕ)
+        → IsRising 0 state.last_port state.ports → is_of event state.last_port port ≡ false
+        → wants port (step state moment event).state ≡ true → wants port state ≡ true }
+{}
+
+/// Unless a child process sent something, ended or couldn't be started, no other client than the event's own is owed
+/// bytes that was owed none before.
+pub fn an_event_of_a_client_owes_no_other_client()
+    ensures { (state : State) (moment : Moment) (event : Happening) (port : ℕ)
+        → IsRising 0 state.last_port state.ports → tells_others event state ≡ false
+        → is_of event state.last_port port ≡ false
+        → is_clients (find_port port (step state moment event).state.ports) ≡ true
+        → is_some_bytes (owed_of port (step state moment event).state) ≡ true
+        → is_some_bytes (owed_of port state) ≡ true }
+{}

@@ -1,0 +1,25 @@
+//! The readiness loop's definitions: which journals of a world are legal for the abstract agent, each thing being served
+//! in its turn. Stands on agent_model (the state and its steps), lists (what is set aside) and world_ports (the
+//! entries of a journal).
+#![tactic(auto)]
+
+mod laws;
+mod order;
+mod rows;
+mod thing;
+
+pub use laws::{
+    an_event_of_a_client_owes_no_other_client, an_event_wants_no_other_port, every_front_is_legal,
+    nothing_waits_at_a_poll,
+};
+pub use order::{
+    all_wait_their_turn, what_is_called_back_comes_last, what_is_served_goes_last,
+    what_is_set_aside_cant_be_served,
+};
+pub use rows::{
+    a_call_out_of_turn_is_refused, a_client_that_joined_is_served_first, a_wait_follows_a_look,
+    only_what_is_ready_is_tried, what_can_be_served_again_comes_back,
+    what_cant_be_served_is_set_aside, what_is_owed_is_written, what_is_ready_stands_once,
+    what_was_served_stands_last,
+};
+pub use thing::Thing;

@@ -1,0 +1,102 @@
+//! Literal lines and journals, each a law that is proved by computing.
+#![tactic(auto, unfolding(wire_text::specs::Frames::front, wire_text::specs::Frames::split_up_to, wire_text::specs::Frames::split, wire_text::specs::Wire::uint32, wire_text::specs::Wire::string, wire_text::specs::Wire::announced_len, agent_msg::specs::Reading::request_of_number, agent_msg::specs::Reading::request_of, agent_msg::specs::Reading::is_addition, agent_msg::specs::Requests::session_bind, agent_msg::specs::Requests::bind_front, agent_msg::specs::Requests::names_bind, identity_table::specs::Identities::alive_at, identity_table::specs::Identities::next_death, identity_table::specs::Identities::find_identity, identity_table::specs::Identities::remove_identity,))]
+
+ghost use Rattle.std.specs.Prelude.{◌≡◌, [], ◌∷◌, None, Some, false, true};
+ghost use Rattle.world_ports.specs.declared.answers.Got.TheVariants as got;
+ghost use Rattle.world_ports.specs.declared.events.Door.TheVariants.{Clients};
+ghost use Rattle.loop_model.specs.Calls.{after_got};
+ghost use Rattle.loop_model.specs.Lines.{queued, recalled, sent_back, settled, without};
+ghost use Rattle.loop_model.specs.Rows.{accept_as, accept_none, close_of, comes_in_turn, is_legal, joins, line_of, no_ports, now_at, one_client, poll_client, poll_nothing, queue_of, read_none, read_of, two_clients, write_of};
+ghost use Rattle.loop_model.specs.declared.thing.Thing.TheVariants.{Accept, Read, Write};
+
+/// A wait comes behind a look alone, and a look where nothing can be served.
+pub fn a_wait_follows_a_look()
+    ensures looked { is_legal (now_at 1 ∷ poll_nothing ∷ []) ≡ true }
+    ensures unlooked { is_legal (poll_nothing ∷ []) ≡ false }
+    ensures twice { is_legal (now_at 1 ∷ poll_nothing ∷ poll_nothing ∷ []) ≡ false }
+    ensures client_waits { is_legal (now_at 1 ∷ poll_client ∷ now_at 1 ∷ []) ≡ false }
+    ensures served { is_legal (now_at 1 ∷ poll_client ∷ accept_none ∷ now_at 2 ∷ poll_nothing ∷ []) ≡ true }
+{}
+
+/// What isn't ready isn't tried, and an event's moment is read before anything else.
+pub fn only_what_is_ready_is_tried()
+    ensures cold { is_legal (accept_as 1 ∷ []) ≡ false }
+    ensures joined { is_legal (joins []) ≡ true }
+    ensures no_moment { is_legal (now_at 1 ∷ poll_client ∷ accept_as 1 ∷ accept_none ∷ []) ≡ false }
+    ensures not_open { is_legal (joins (read_none 2 ∷ [])) ≡ false }
+    ensures read { is_legal (joins (read_none 1 ∷ [])) ≡ true }
+    ensures read_twice { is_legal (joins (read_none 1 ∷ read_none 1 ∷ [])) ≡ false }
+    ensures unread { is_legal (joins (now_at 2 ∷ [])) ≡ false }
+{}
+
+/// A write offers what is owed, and nothing else.
+pub fn what_is_owed_is_written()
+    ensures whole { is_legal (joins (read_of 1 5 (0 ∷ 0 ∷ 0 ∷ 1 ∷ 19 ∷ []) ∷ now_at 2
+        ∷ write_of 1 (0 ∷ 0 ∷ 0 ∷ 1 ∷ 6 ∷ []) 5 ∷ now_at 2 ∷ accept_none ∷ read_none 1 ∷ now_at 3 ∷ poll_nothing
+        ∷ [])) ≡ true }
+    ensures other { is_legal (joins (read_of 1 5 (0 ∷ 0 ∷ 0 ∷ 1 ∷ 19 ∷ []) ∷ now_at 2
+        ∷ write_of 1 (0 ∷ 0 ∷ 0 ∷ 1 ∷ 5 ∷ []) 5 ∷ [])) ≡ false }
+    ensures front { is_legal (joins (read_of 1 5 (0 ∷ 0 ∷ 0 ∷ 1 ∷ 19 ∷ []) ∷ now_at 2
+        ∷ write_of 1 (0 ∷ 0 ∷ 0 ∷ 1 ∷ []) 4 ∷ [])) ≡ false }
+    ensures forgotten { is_legal (joins (read_of 1 5 (0 ∷ 0 ∷ 0 ∷ 1 ∷ 19 ∷ []) ∷ now_at 2
+        ∷ accept_none ∷ [])) ≡ false }
+    ensures closed { is_legal (joins (read_of 1 4 (0 ∷ 0 ∷ 0 ∷ 0 ∷ []) ∷ now_at 2 ∷ close_of 1 ∷ [])) ≡ true }
+    ensures left_open { is_legal (joins (read_of 1 4 (0 ∷ 0 ∷ 0 ∷ 0 ∷ []) ∷ now_at 2 ∷ now_at 3 ∷ [])) ≡ false }
+{}
+
+/// What stands before the first thing that can be served is set aside, by rising numbers, and what stands behind it
+/// keeps its place.
+pub fn what_cant_be_served_is_set_aside()
+    ensures front { settled no_ports (queue_of (Read 2 ∷ Write 1 ∷ Accept Clients ∷ Read 1 ∷ []))
+        ≡ line_of (Accept Clients ∷ Read 1 ∷ []) [] (2 ∷ []) (1 ∷ []) }
+    ensures all { settled no_ports (queue_of (Read 7 ∷ Read 3 ∷ Write 3 ∷ [])) ≡ line_of [] [] (3 ∷ 7 ∷ []) (3 ∷ []) }
+    ensures none { settled one_client (queue_of (Read 1 ∷ Write 1 ∷ [])) ≡ queue_of (Read 1 ∷ Write 1 ∷ []) }
+{}
+
+/// What can be served comes back behind the queue, the event's own port first; what can't be stays aside.
+pub fn what_can_be_served_again_comes_back()
+    ensures door { recalled no_ports None (line_of (Read 9 ∷ []) (Clients ∷ []) (4 ∷ []) [])
+        ≡ line_of (Read 9 ∷ Accept Clients ∷ []) [] (4 ∷ []) [] }
+    ensures own { recalled one_client (Some 1) (line_of (Write 5 ∷ []) [] (1 ∷ []) [])
+        ≡ queue_of (Write 5 ∷ Read 1 ∷ []) }
+    ensures first { recalled two_clients (Some 2) (line_of [] (Clients ∷ []) (1 ∷ 2 ∷ []) (2 ∷ []))
+        ≡ line_of (Read 2 ∷ Accept Clients ∷ Read 1 ∷ []) [] [] (2 ∷ []) }
+{}
+
+/// A thing that was served goes behind all others, and a connection that was read behind what is to be written to it.
+pub fn what_was_served_stands_last()
+    ensures first { sent_back (Read 1) (queue_of (Read 1 ∷ Write 1 ∷ Read 2 ∷ []))
+        ≡ queue_of (Write 1 ∷ Read 2 ∷ Read 1 ∷ []) }
+    ensures only { sent_back (Read 1) (queue_of (Read 1 ∷ [])) ≡ queue_of (Read 1 ∷ []) }
+    ensures read { after_got 1 (got.Bytes 5) (line_of (Read 1 ∷ Read 2 ∷ []) [] [] (1 ∷ []))
+        ≡ line_of (Read 2 ∷ Write 1 ∷ Read 1 ∷ []) [] [] [] }
+{}
+
+/// A thing that is ready stands in one place, and one that isn't any more in none.
+pub fn what_is_ready_stands_once()
+    ensures new { queued (Write 1) (line_of (Read 2 ∷ []) [] (1 ∷ []) [])
+        ≡ line_of (Read 2 ∷ Write 1 ∷ []) [] (1 ∷ []) [] }
+    ensures there { queued (Read 2) (line_of (Read 2 ∷ []) [] (1 ∷ []) []) ≡ line_of (Read 2 ∷ []) [] (1 ∷ []) [] }
+    ensures aside { queued (Read 1) (line_of (Read 2 ∷ []) [] (1 ∷ []) []) ≡ line_of (Read 2 ∷ []) [] (1 ∷ []) [] }
+    ensures gone { without (Read 2) (line_of (Read 1 ∷ Read 2 ∷ []) [] [] (2 ∷ []))
+        ≡ line_of (Read 1 ∷ []) [] [] (2 ∷ []) }
+    ensures gone_aside { without (Write 2) (line_of (Read 1 ∷ Read 2 ∷ []) [] [] (2 ∷ []))
+        ≡ queue_of (Read 1 ∷ Read 2 ∷ []) }
+{}
+
+/// Of two clients that can be read the one that stands first is read first.
+pub fn a_call_out_of_turn_is_refused()
+    ensures out_of_turn { comes_in_turn two_clients (Read 1 ∷ Read 2 ∷ []) (read_none 2 ∷ []) ≡ false }
+    ensures in_turn { comes_in_turn two_clients (Read 1 ∷ Read 2 ∷ []) (read_none 1 ∷ read_none 2 ∷ []) ≡ true }
+    ensures passed_over { comes_in_turn two_clients (Write 1 ∷ Read 2 ∷ []) (read_none 2 ∷ []) ≡ true }
+    ensures twice { comes_in_turn two_clients (Read 1 ∷ Read 2 ∷ [])
+        (read_of 1 1 (0 ∷ []) ∷ now_at 1 ∷ read_of 1 1 (0 ∷ []) ∷ []) ≡ false }
+    ensures by_turns { comes_in_turn two_clients (Read 1 ∷ Read 2 ∷ [])
+        (read_of 1 1 (0 ∷ []) ∷ now_at 1 ∷ read_of 2 1 (0 ∷ []) ∷ now_at 1 ∷ read_none 1 ∷ []) ≡ true }
+{}
+
+/// A client that joined is read before the listener is tried again.
+pub fn a_client_that_joined_is_served_first()
+    ensures listener_first { is_legal (joins (accept_none ∷ [])) ≡ false }
+    ensures client_first { is_legal (joins (read_none 1 ∷ accept_none ∷ now_at 2 ∷ poll_nothing ∷ [])) ≡ true }
+{}
