@@ -14,7 +14,7 @@ use Rattle.world_ports.specs.declared.entry.Entry.TheVariants as entry
 use Rattle.agent_model.specs.State.{State}
 use Rattle.loop_model.specs.Dues.{Closing, Due, Free, Nothing, NowFor, Polling, closes_later, due_event, due_look, due_of, is_polling, same_wait, wait_of}
 use Rattle.loop_model.specs.Fronts.{HasFront, IsAtRest, RestsAfter}
-use Rattle.loop_model.specs.LegalJournal.{Turning, comes_next, in_state, led, taken, turned}
+use Rattle.loop_model.specs.LegalJournal.{Turning, closed_by, comes_next, events_at, in_state, led, taken, turned}
 use Rattle.loop_model.specs.Lines.{Line, is_idle}
 use Rattle.loop_model.proofs.JournalLemmas.{leads}
 use Rattle.loop_model.proofs.TestLemmas.{and_both}
@@ -38,7 +38,7 @@ abbrev Rests : Due → State → Line → Type 0
 Rests Free state line = Unit {0}
 Rests (NowFor event) state line = Unit {0}
 Rests (Closing port later) state line = Unit {0}
-Rests Polling state line = (is_idle state line ≡ true) × (state.closes ≡ [])
+Rests Polling state line = is_idle state line ≡ true
 Rests Nothing state line = Unit {0}
 
 abbrev IsWell : Turning → Type 0
@@ -49,17 +49,18 @@ well_due [] state line = tt
 well_due (port ∷ later) state line = tt
 
 well_look : (closes : List ℕ) (idle : Bool) (state : State) (line : Line) → is_idle state line ≡ idle
-    → state.closes ≡ closes → Rests (due_look closes idle) state line
-well_look [] true state line idle closes = (idle, closes)
-well_look [] false state line idle closes = tt
-well_look (port ∷ later) idle state line is closes = tt
+    → Rests (due_look closes idle) state line
+well_look [] true state line idle = idle
+well_look [] false state line idle = tt
+well_look (port ∷ later) idle state line is = tt
 
-well_event : (due : Due) (state : State) (line : Line) → Rests (due_event due state.closes (is_idle state line)) state line
-well_event Free state line = well_look state.closes (is_idle state line) state line refl refl
-well_event (NowFor event) state line = well_due state.closes state line
-well_event (Closing port later) state line = tt
-well_event Polling state line = tt
-well_event Nothing state line = tt
+well_event : (due : Due) (closes : List ℕ) (state : State) (line : Line)
+    → Rests (due_event due closes (is_idle state line)) state line
+well_event Free closes state line = well_look closes (is_idle state line) state line refl
+well_event (NowFor event) closes state line = well_due closes state line
+well_event (Closing port later) closes state line = tt
+well_event Polling closes state line = tt
+well_event Nothing closes state line = tt
 
 well_led : (turning : Turning) (next : Entry) → comes_next turning next ≡ true → IsWell (led turning next)
 well_led turning (entry.Bind door path answer) may = cc
@@ -85,7 +86,8 @@ well_led turning (entry.Start job (Ok ticket)) may = tt
 well_led turning (entry.Start job (Err Failed)) may = tt
 well_led turning (entry.Start job (Err Memory)) may = tt
 well_led turning (entry.Now (Ok moment)) may =
-    let after = led turning (entry.Now (Ok moment)) in well_event turning.due after.state after.line
+    let after = led turning (entry.Now (Ok moment)) in
+    well_event turning.due (closed_by turning.state (events_at turning.due (entry.Now (Ok moment)))) after.state after.line
 well_led turning (entry.Now (Err want)) may = tt
 
 well_taken : (from after : Turning) (next : Entry) → taken from next ≡ Some after → IsWell after
@@ -112,7 +114,7 @@ rests_by : (due : Due) (state : State) (line : Line) → is_polling due ≡ true
 rests_by Free state line polls well = cc
 rests_by (NowFor event) state line polls well = cc
 rests_by (Closing port closes) state line polls well = cc
-rests_by Polling state line polls well = record { due = refl; idle = well.0; closes = well.1 }
+rests_by Polling state line polls well = record { due = refl; idle = well }
 rests_by Nothing state line polls well = cc
 
 rests_taken : (found : Option Turning) (turning to : Turning) (wait : Option ℕ) (items : List Ready)

@@ -79,4 +79,3 @@ moved state due left (entry.Write port offered answer) line = after_write port a
 moved state due left (entry.Close port answer) line = after_close port answer line
 moved state due left (entry.Start job answer) line = line
 moved state due left (entry.Now answer) line = after_now left due answer line
-

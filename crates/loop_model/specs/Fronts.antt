@@ -11,11 +11,10 @@ pub record HasFront (from to : Turning) (first later : List Entry) : Type 0 wher
   pub front : turned from first ≡ Some reached
   pub rest : turned reached later ≡ Some to
 
--- nothing can be served, no job waits, and no port is to be closed
+-- a poll has to come next, and no port is to be closed; nothing can be served, and no job waits
 pub record IsAtRest (turning : Turning) : Type 0 where
   pub due : turning.due ≡ Polling
   pub idle : is_idle turning.state turning.line ≡ true
-  pub closes : turning.state.closes ≡ []
 
 -- the first entries may come, and nothing is to do where they lead to
 pub record RestsAfter (from : Turning) (first : List Entry) : Type 0 where

@@ -11,6 +11,7 @@ use Rattle.world_ports.specs.declared.entry.Entry.TheVariants as entry
 use Rattle.agent_model.specs.Events.{Happening, Timed}
 use Rattle.agent_model.specs.Runs.{run}
 use Rattle.agent_model.specs.State.{State, owed_of, starts}
+use Rattle.agent_model.specs.Step.{step}
 use Rattle.loop_model.specs.Calls.{moved}
 use Rattle.loop_model.specs.Dues.{Due, due_after, event_due, is_closing, is_free, is_polling, reads_clock, same_wait, wait_of}
 use Rattle.loop_model.specs.Lines.{Line, is_idle}
@@ -80,18 +81,27 @@ events_at due (entry.Close port answer) = []
 events_at due (entry.Start job answer) = []
 events_at due (entry.Now answer) = timed_by answer (event_due due)
 
--- after an entry that leads to this state and this line
-abbrev pub left_by : Due → Entry → State → Line → Turning
-left_by due next state line = in_state state line (due_after due state.closes (is_idle state line) next)
+-- the ports that it closed
+abbrev pub closed_by : State → List Timed → List ℕ
+closed_by state [] = []
+closed_by state (timed ∷ later) = (step state timed.moment timed.event).closes
+
+-- after an entry that leads to this state and this line, and that closed these ports
+abbrev pub left_by : Due → Entry → List ℕ → State → Line → Turning
+left_by due next closes state line = in_state state line (due_after due closes (is_idle state line) next)
 
 -- after an entry that leads to this state
-abbrev pub led_to : Turning → Entry → State → Turning
-led_to turning next state =
-    left_by turning.due next state (moved turning.state turning.due state next turning.line)
+abbrev pub led_to : Turning → Entry → List ℕ → State → Turning
+led_to turning next closes state =
+    left_by turning.due next closes state (moved turning.state turning.due state next turning.line)
+
+-- after an entry that brings these events
+abbrev pub led_by : Turning → Entry → List Timed → Turning
+led_by turning next events = led_to turning next (closed_by turning.state events) (run turning.state events)
 
 -- after an entry
 abbrev pub led : Turning → Entry → Turning
-led turning next = led_to turning next (run turning.state (events_at turning.due next))
+led turning next = led_by turning next (events_at turning.due next)
 
 -- where the test holds
 abbrev pub taken_if : Bool → Turning → Entry → Option Turning

@@ -41,12 +41,15 @@ pub now-any : (state : State) (line : Line) (event : Happening) (answer : Result
     ≡ Some (led (in_state state line (NowFor event)) (entry.Now answer))
 now-any state line event answer = refl
 
-pub now-taken : (state next : State) (line : Line) (event : Happening) (moment : Moment)
-    → next ≡ (step state moment event).state
+pub now-taken : (state next : State) (closes : List ℕ) (line : Line) (event : Happening) (moment : Moment)
+    → next ≡ (step state moment event).state → closes ≡ (step state moment event).closes
     → taken (in_state state line (NowFor event)) (entry.Now (Ok moment))
-    ≡ Some (in_state next (recalled next (port_of event next.last_port) line) (due_of next.closes))
-now-taken state next line event moment is =
-    ap (λ (s : State). Some (in_state s (recalled s (port_of event s.last_port) line) (due_of s.closes))) (sym is)
+    ≡ Some (in_state next (recalled next (port_of event next.last_port) line) (due_of closes))
+now-taken state next closes line event moment is closed =
+    let due = due_of (step state moment event).closes in
+    ap (λ (s : State). Some (in_state s (recalled s (port_of event s.last_port) line) due)) (sym is)
+    ∙ ap (λ (cs : List ℕ). Some (in_state next (recalled next (port_of event next.last_port) line) (due_of cs)))
+    (sym closed)
 
 pub close-any : (state : State) (line : Line) (port : ℕ) (later : List ℕ) (answer : Result Unit AllocError)
     → taken (in_state state line (Closing port later)) (entry.Close port answer)
@@ -74,15 +77,18 @@ pub look-any : (state : State) (line : Line) (answer : Result Moment AllocError)
 look-any state line answer idle = taken-is (in_state state line Free) (entry.Now answer) idle
 
 -- with the line that is left
-pub looked-at : (state next : State) (line left : Line) (moment : Moment) → is_idle state line ≡ true
-    → next ≡ (step state moment Tick).state → left ≡ recalled next None line
+pub looked-at : (state next : State) (closes : List ℕ) (line left : Line) (moment : Moment)
+    → is_idle state line ≡ true → next ≡ (step state moment Tick).state → closes ≡ (step state moment Tick).closes
+    → left ≡ recalled next None line
     → taken (in_state state line Free) (entry.Now (Ok moment))
-    ≡ Some (in_state next left (due_look next.closes (is_idle next left)))
-looked-at state next line left moment idle is there =
+    ≡ Some (in_state next left (due_look closes (is_idle next left)))
+looked-at state next closes line left moment idle is closed there =
+    let cs = (step state moment Tick).closes in
     look-any state line (Ok moment) idle
-    ∙ ap (λ (s : State). Some (in_state s (recalled s None line) (due_look s.closes (is_idle s (recalled s None line)))))
+    ∙ ap (λ (s : State). Some (in_state s (recalled s None line) (due_look cs (is_idle s (recalled s None line)))))
     (sym is)
-    ∙ ap (λ (l : Line). Some (in_state next l (due_look next.closes (is_idle next l)))) (sym there)
+    ∙ ap (λ (l : Line). Some (in_state next l (due_look cs (is_idle next l)))) (sym there)
+    ∙ ap (λ (c : List ℕ). Some (in_state next left (due_look c (is_idle next left)))) (sym closed)
 
 -- a look that closes ports
 pub look-closes : (closes : List ℕ) (idle : Bool) → (length closes == 0) ≡ false → due_look closes idle ≡ due_of closes

@@ -1,5 +1,5 @@
 // The agent as the loop sees it.
-ghost use Rattle.std.specs.Prelude.{◌≡◌, OnOk};
+ghost use Rattle.std.specs.Prelude.{◌≡◌, List, OnOk, ℕ};
 ghost use Rattle.agent_model.specs.Sound.{IsRising};
 ghost use Rattle.agent_model.specs.State.{Fits, State, client_count, find_port, is_open, next_due, next_owed, owed_of, starts, wants};
 ghost use Rattle.agent_model.specs.Step.{step};
@@ -16,11 +16,16 @@ pub trait Core {
     /// The state of the abstract agent.
     ghost state: { Self → State };
 
+    /// The ports that the last event closed, rising.
+    ghost closes: { Self → List ℕ };
+
     /// Takes one event at a moment. Where memory runs out the agent can only be dropped.
     fn step(&mut self, moment: Moment, event: &Event<'_>) -> Result<(), CoreMemory>
         requires { Fits (happening event.now) (state self.old) }
-        ensures { OnOk result
-            (state self.new ≡ (step (state self.old) moment (happening event.now)).state) };
+        ensures stepped { OnOk result
+            (state self.new ≡ (step (state self.old) moment (happening event.now)).state) }
+        ensures closed { OnOk result
+            (closes self.new ≡ (step (state self.old) moment (happening event.now)).closes) };
 
     /// What the port is owed: nothing where it isn't open.
     fn owed(&self, port: u64) -> &[u8]
@@ -54,7 +59,7 @@ pub trait Core {
 
     /// The ports that the last event closed, rising.
     fn closes(&self) -> &[u64]
-        ensures { result.now ≡ (state self.now).closes };
+        ensures { result.now ≡ closes self.now };
 
     /// The first second from which an identity is dead, or `None` where the clock comes to none.
     fn next_due(&self) -> Option<u64>
@@ -75,7 +80,9 @@ pub trait Core {
 }
 
 impl Core for Agent {
-    ghost state = { λ agent. agent };
+    ghost state = { λ agent. agent.state };
+
+    ghost closes = { λ agent. agent.closes };
 
     fn step(&mut self, moment: Moment, event: &Event<'_>) -> Result<(), CoreMemory> {
         Agent::step(self, moment, event)

@@ -6,8 +6,8 @@ ghost use Rattle.loop_model.specs.declared.thing.Thing.TheVariants.{Accept};
 ghost use Rattle.loop_model.specs.Aside.{accepts_of, none_aside, put_aside, taken_back, things_aside};
 
 use crate::things::is_same_door;
-use loop_model::Thing;
 use lists as rising;
+use loop_model::Thing;
 use std::alloc::{AllocError, Global};
 use std::marker::Model;
 use world_ports::Door;

@@ -27,7 +27,7 @@ pub fn close_all<A: Core, W: World>(
     world: &mut W,
 ) -> Result<(), CoreMemory>
     ensures legal { Goes result
-        (in_state (A.state agent.now) queue.old (due_of (A.state agent.now).closes))
+        (in_state (A.state agent.now) queue.old (due_of (A.closes agent.now)))
         (W.journal world.old) (W.journal world.new)
         (in_state (A.state agent.now) queue.new Free) }
     ensures ports { W.last_port world.new ≡ W.last_port world.old }
@@ -76,6 +76,8 @@ pub fn tell<A: Core>(
     requires quiet { IsQuiet (A.state agent.old) queue.old }
     ensures stepped { OnOk result
         (A.state agent.new ≡ (step (A.state agent.old) moment (happening event.now)).state) }
+    ensures closed { OnOk result
+        (A.closes agent.new ≡ (step (A.state agent.old) moment (happening event.now)).closes) }
     ensures recalled { OnOk result (queue.new
         ≡ recalled (A.state agent.new) (port_of (happening event.now) (A.state agent.new).last_port) queue.old) }
 {

@@ -35,66 +35,71 @@ pub returns-in_default-close_all-clause-legal : goal.returns-in_default-close_al
 returns-in_default-close_all-clause-legal g c =
     let state = g.A.Core.state c.args.agent.now in
     let after = g.A.Core.state c.tell.new.agent in
+    let closes = g.A.Core.closes c.tell.new.agent in
     let line = c.tell.new.queue in
     let full : c.is_empty.result ≡ false = grind arith in
-    let some : (length after.closes == 0) ≡ false =
+    let some : (length closes == 0) ≡ false =
     ap (λ (ps : List ℕ). length ps == 0) (sym c.closes.ensures) ∙ sym c.is_empty.ensures ∙ full in
-    inl (stops_later (one_call (in_state state c.args.queue.now Free) (in_state after line (due_of after.closes))
+    inl (stops_later (one_call (in_state state c.args.queue.now Free) (in_state after line (due_of closes))
     (g.W.World.journal c.args.world.now) (g.W.World.journal c.now.new.self) (entry.Now (Ok c.in-Ok.moment)) refl
-    (looked-at state after c.args.queue.now line c.in-Ok.moment c.requires.idle c.in-Ok-tell.ensures.stepped c.in-Ok-tell.ensures.recalled
-    ∙ ap (λ (d : Due). Some (in_state after line d)) (look-closes after.closes (is_idle after line) some))
+    (looked-at state after closes c.args.queue.now line c.in-Ok.moment c.requires.idle c.in-Ok-tell.ensures.stepped c.in-Ok-tell.ensures.closed c.in-Ok-tell.ensures.recalled
+    ∙ ap (λ (d : Due). Some (in_state after line d)) (look-closes closes (is_idle after line) some))
     c.in-Ok.ensures.told) (goes_stops c.close_all.ensures.legal))
 
 pub returns-then-not-is_empty-clause-legal : goal.returns-then-not-is_empty-clause-legal
 returns-then-not-is_empty-clause-legal g c =
     let state = g.A.Core.state c.args.agent.now in
     let after = g.A.Core.state c.tell.new.agent in
+    let closes = g.A.Core.closes c.tell.new.agent in
     let line = c.tell.new.queue in
     let full : c.is_empty.result ≡ false = grind arith in
-    let some : (length after.closes == 0) ≡ false =
+    let some : (length closes == 0) ≡ false =
     ap (λ (ps : List ℕ). length ps == 0) (sym c.closes.ensures) ∙ sym c.is_empty.ensures ∙ full in
     advances (entry.Now (Ok c.in-Ok.moment)) refl
-    (looked-at state after c.args.queue.now line c.in-Ok.moment c.requires.idle c.in-Ok-tell.ensures.stepped c.in-Ok-tell.ensures.recalled
-    ∙ ap (λ (d : Due). Some (in_state after line d)) (look-closes after.closes (is_idle after line) some))
+    (looked-at state after closes c.args.queue.now line c.in-Ok.moment c.requires.idle c.in-Ok-tell.ensures.stepped c.in-Ok-tell.ensures.closed c.in-Ok-tell.ensures.recalled
+    ∙ ap (λ (d : Due). Some (in_state after line d)) (look-closes closes (is_idle after line) some))
     c.in-Ok.ensures.told c.in-Ok-close_all.ensures.legal.by
 
 pub returns-then-not-is_idle-clause-legal : goal.returns-then-not-is_idle-clause-legal
 returns-then-not-is_idle-clause-legal g c =
     let state = g.A.Core.state c.args.agent.now in
     let after = g.A.Core.state c.tell.new.agent in
+    let closes = g.A.Core.closes c.tell.new.agent in
     let line = c.tell.new.queue in
     let bare : c.is_empty.result ≡ true = grind arith in
     let busy : c.is_idle.result ≡ false = grind arith in
-    let none : (length after.closes == 0) ≡ true =
+    let none : (length closes == 0) ≡ true =
     ap (λ (ps : List ℕ). length ps == 0) (sym c.closes.ensures) ∙ sym c.is_empty.ensures ∙ bare in
     advances_once (in_state state c.args.queue.now Free) (in_state after line Free)
     (g.W.World.journal c.args.world.now) (g.W.World.journal c.now.new.self) (entry.Now (Ok c.in-Ok.moment)) refl
-    (looked-at state after c.args.queue.now line c.in-Ok.moment c.requires.idle c.in-Ok-tell.ensures.stepped c.in-Ok-tell.ensures.recalled
+    (looked-at state after closes c.args.queue.now line c.in-Ok.moment c.requires.idle c.in-Ok-tell.ensures.stepped c.in-Ok-tell.ensures.closed c.in-Ok-tell.ensures.recalled
     ∙ ap (λ (d : Due). Some (in_state after line d))
-    (look-none after.closes (is_idle after line) none ∙ ap (due_look []) (sym c.is_idle.ensures ∙ busy)))
+    (look-none closes (is_idle after line) none ∙ ap (due_look []) (sym c.is_idle.ensures ∙ busy)))
     c.in-Ok.ensures.told
 
 pub returns-clause-legal : goal.returns-clause-legal
 returns-clause-legal g c =
     let state = g.A.Core.state c.args.agent.now in
     let after = g.A.Core.state c.tell.new.agent in
+    let closes = g.A.Core.closes c.tell.new.agent in
     let line = c.tell.new.queue in
     let bare : c.is_empty.result ≡ true = grind arith in
     let idle : c.is_idle.result ≡ true = grind arith in
-    let none : (length after.closes == 0) ≡ true =
+    let none : (length closes == 0) ≡ true =
     ap (λ (ps : List ℕ). length ps == 0) (sym c.closes.ensures) ∙ sym c.is_empty.ensures ∙ bare in
     looks_by c.poll.result c.in-Ok.moment (in_state state c.args.queue.now Free) (in_state after line Polling)
     (g.W.World.journal c.args.world.now) (g.W.World.journal c.now.new.self) (g.W.World.journal c.poll.new.world)
     after c.poll.new.queue
-    (looked-at state after c.args.queue.now line c.in-Ok.moment c.requires.idle c.in-Ok-tell.ensures.stepped c.in-Ok-tell.ensures.recalled
+    (looked-at state after closes c.args.queue.now line c.in-Ok.moment c.requires.idle c.in-Ok-tell.ensures.stepped c.in-Ok-tell.ensures.closed c.in-Ok-tell.ensures.recalled
     ∙ ap (λ (d : Due). Some (in_state after line d))
-    (look-none after.closes (is_idle after line) none ∙ ap (due_look []) (sym c.is_idle.ensures ∙ idle)))
+    (look-none closes (is_idle after line) none ∙ ap (due_look []) (sym c.is_idle.ensures ∙ idle)))
     c.in-Ok.ensures.told c.poll.ensures.legal
 
 pub returns-then-not-is_empty-clause-quiet : goal.returns-then-not-is_empty-clause-quiet
 returns-then-not-is_empty-clause-quiet g c =
     let after = g.A.Core.state c.tell.new.agent in
-    quiet_goes (Ok c.in-Ok-close_all.field-0) (in_state after c.tell.new.queue (due_of after.closes))
+    let closes = g.A.Core.closes c.tell.new.agent in
+    quiet_goes (Ok c.in-Ok-close_all.field-0) (in_state after c.tell.new.queue (due_of closes))
     (g.W.World.journal c.now.new.self) (g.W.World.journal c.close_all.new.world) after c.close_all.new.queue
     c.in-Ok-close_all.ensures.legal
     (quiet_is (g.A.Core.state c.tell.new.agent) (recalled (g.A.Core.state c.tell.new.agent) None c.args.queue.now) c.tell.new.queue

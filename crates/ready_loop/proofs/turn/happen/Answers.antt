@@ -44,9 +44,10 @@ pub returns-clause-legal : goal.returns-clause-legal
 returns-clause-legal g c =
     let state = g.A.Core.state c.args.agent.now in
     let after = g.A.Core.state c.tell.new.agent in
+    let closes = g.A.Core.closes c.tell.new.agent in
     goes_then (entry.Now (Ok c.in-Ok.moment)) refl
-    (now-taken state after c.args.queue.now (happening c.args.event.now) c.in-Ok.moment c.in-Ok-tell.ensures.stepped
-    ∙ ap (λ (line : Line). Some (in_state after line (due_of after.closes))) (sym c.in-Ok-tell.ensures.recalled))
+    (now-taken state after closes c.args.queue.now (happening c.args.event.now) c.in-Ok.moment c.in-Ok-tell.ensures.stepped c.in-Ok-tell.ensures.closed
+    ∙ ap (λ (line : Line). Some (in_state after line (due_of closes))) (sym c.in-Ok-tell.ensures.recalled))
     c.in-Ok.ensures.told c.close_all.ensures.legal
 
 pub returns-clause-ports : goal.returns-clause-ports

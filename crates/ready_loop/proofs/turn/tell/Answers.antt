@@ -9,6 +9,6 @@ pub recall-requires : goal.recall-requires
 recall-requires g c =
     let event = happening c.args.event.now in
     stirs (g.A.Core.state c.args.agent.now) (g.A.Core.state c.step.new.self) c.args.moment event
-    c.port_of-own.result c.tells_others-all.result c.args.queue.now c.in_ok-step.ensures
+    c.port_of-own.result c.tells_others-all.result c.args.queue.now c.in_ok-step.ensures.stepped
     (c.port_of-own.ensures ∙ ap (λ (n : ℕ). port_of event (number_after event n)) c.ports_so_far.ensures.last)
     c.tells_others-all.ensures c.ports_so_far.ensures.rising c.requires.quiet
