@@ -1,4 +1,5 @@
 use Rattle.std.proofs.Common.{ap, ◌∙◌, Some}
+use Rattle.agent_model.specs.Actions.{Stepped}
 use Rattle.agent_top.proofs.ServeFairLemmas.{serves_fairly}
 use Rattle.agent_top.proofs.ServeLawLemmas.{serves_lawfully}
 use Rattle.agent_top.proofs.ServeLemmas.{serves_words}
@@ -7,9 +8,10 @@ use Rattle.agent_top.proofs.serving.serve_by.Goals as goal
 pub returns-clause-serves : goal.returns-clause-serves
 returns-clause-serves g c setting is =
     rw c.status_of_serving.ensures
-    (serves_words c.args.words.now setting c.as_str-path.result.now c.in-Ok.served.until_idle c.in-Ok.served.life c.new-agent.result c.serve.result
+    (serves_words c.args.words.now setting c.as_str-path.result.now c.in-Ok.served.until_idle c.in-Ok.served.life c.new-agent.result.state c.serve.result
     (g.W.World.journal c.args.world.now) (g.W.World.journal c.serve.new.world) is
-    (ap Some c.as_str-path.ensures.value ∙ c.in-Ok.ensures.path) c.in-Ok.ensures.until_idle c.in-Ok.ensures.life c.new-agent.ensures c.serve.ensures.serves)
+    (ap Some c.as_str-path.ensures.value ∙ c.in-Ok.ensures.path) c.in-Ok.ensures.until_idle c.in-Ok.ensures.life
+    (ap (λ (seen : Stepped). seen.state) c.new-agent.ensures) c.serve.ensures.serves)
 
 pub returns-clause-serves_lawfully : goal.returns-clause-serves_lawfully
 returns-clause-serves_lawfully g c setting is = serves_lawfully _ setting _ _ is.state
