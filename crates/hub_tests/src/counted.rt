@@ -17,7 +17,7 @@ pub struct Counted {
 
 impl Counted {
     pub fn new(alloc: Global) -> Counted
-        ensures { result.agent ≡ first_state None }
+        ensures { result.agent.state ≡ first_state None }
     {
         Counted {
             agent: Agent::new(alloc, Settings { default_life: None }),
@@ -36,7 +36,9 @@ impl Counted {
 }
 
 impl Core for Counted {
-    ghost state = { λ counted. counted.agent };
+    ghost state = { λ counted. counted.agent.state };
+
+    ghost closes = { λ counted. counted.agent.closes };
 
     fn step(&mut self, moment: Moment, event: &Event<'_>) -> Result<(), CoreMemory> {
         self.agent.step(moment, event)
