@@ -1,18 +1,20 @@
 //! One call, or one look at its answer, a function, with a label that a failure prints. A test that owns a world has no
 //! exit of its own then: at each the world's drop would be proved once more.
+ghost use Rattle.std.specs.Prelude.{◌<◌, length};
+
 use std::io::{Read, Write};
 use std::os::unix::net::UnixStream;
 use std::process::Abort;
 use std::test::*;
-use world_ports::{Accepted, Got, Polled, Ready, World, WorldFault, Wrote};
+use world_ports::{Accepted, Got, Polled, World, WorldFault, Wrote};
 
 /// What has to be so.
 pub fn holds(rt: &impl Abort, does: bool, label: &str) {
     assert!(rt; does, "{label}");
 }
 
-/// What a listener answers.
-pub fn accepts(
+/// What a listener answered.
+pub fn accepted(
     rt: &impl Abort,
     answer: Result<Accepted, WorldFault>,
     wanted: Accepted,
@@ -21,16 +23,9 @@ pub fn accepts(
     assert_eq!(rt; answer.ok(), Some(wanted), "{label}");
 }
 
-/// What a wait answers.
-pub fn polls<W: World>(
-    rt: &impl Abort,
-    world: &mut W,
-    wait: Option<u64>,
-    ready: &mut Vec<Ready>,
-    wanted: Polled,
-    label: &str,
-) {
-    assert_eq!(rt; world.poll(wait, ready).ok(), Some(wanted), "{label}");
+/// What a wait answered.
+pub fn polled(rt: &impl Abort, answer: Result<Polled, WorldFault>, wanted: Polled, label: &str) {
+    assert_eq!(rt; answer.ok(), Some(wanted), "{label}");
 }
 
 /// What a read into `room` answers.
@@ -41,8 +36,9 @@ pub fn reads<W: World>(
     room: &mut [u8],
     wanted: Got,
     label: &str,
-) {
-    assert!(rt; !room.is_empty(), "{label}");
+)
+    requires { 0 < length room.old }
+{
     assert_eq!(rt; world.read(port, room).ok(), Some(wanted), "{label}");
 }
 
@@ -54,8 +50,9 @@ pub fn writes<W: World>(
     bytes: &[u8],
     wanted: Wrote,
     label: &str,
-) {
-    assert!(rt; !bytes.is_empty(), "{label}");
+)
+    requires { 0 < length bytes.now }
+{
     assert_eq!(rt; world.write(port, bytes).ok(), Some(wanted), "{label}");
 }
 

@@ -1,5 +1,7 @@
 //! Connections: bytes come as they were sent, and a wait reports what became ready.
-use crate::calls::{accepts, holds, polls, reads, receives, sends, writes};
+ghost use Rattle.std.specs.Prelude.{◌<◌, length};
+
+use crate::calls::{accepted, holds, polled, reads, receives, sends, writes};
 use crate::no_programs::no_programs;
 use std::io::Read;
 use std::os::unix::net::UnixStream;
@@ -12,37 +14,20 @@ use world_ports::{Accepted, Door, Got, Polled, Ready, Spot, World, WorldFault, W
 fn a_client_is_reported_and_heard_to_its_end(rt: HostRuntime) -> Result<(), Fail> {
     let alloc = rt.alloc();
     let mut world = UnixWorld::new(&rt, alloc, String::new(alloc), no_programs(alloc))?;
-    holds(
-        &rt,
-        world.bind(Door::Clients, "heard.socket").is_ok(),
-        "a listener",
-    );
-    accepts(
-        &rt,
-        world.accept(Door::Clients),
-        Accepted::NotNow,
-        "no client yet",
-    );
+    let listens = world.bind(Door::Clients, "heard.socket").is_ok();
+    holds(&rt, listens, "a listener");
+    let answer = world.accept(Door::Clients);
+    assert!(rt; matches!(answer, Ok(Accepted::NotNow)), "no client yet");
     let mut client = UnixStream::connect(&rt, "heard.socket").expect(&rt, "a client");
     sends(&rt, &mut client, b"abc");
     drop(client);
     let mut ready = Vec::new(alloc);
-    polls(
-        &rt,
-        &mut world,
-        None,
-        &mut ready,
-        Polled::Some,
-        "a client came",
-    );
+    let answer = world.poll(None, &mut ready);
+    polled(&rt, answer, Polled::Some, "a client came");
     holds(&rt, ready.len() == 1, "one thing is ready");
     holds(&rt, at_door(&ready, Door::Clients), "it is the listener");
-    accepts(
-        &rt,
-        world.accept(Door::Clients),
-        Accepted::Port(1),
-        "the client",
-    );
+    let answer = world.accept(Door::Clients);
+    accepted(&rt, answer, Accepted::Port(1), "the client");
     let mut room = [7; 9];
     reads(&rt, &mut world, 1, &mut room, Got::Bytes(3), "its bytes");
     holds(
@@ -59,18 +44,11 @@ fn a_client_is_reported_and_heard_to_its_end(rt: HostRuntime) -> Result<(), Fail
 fn a_reply_arrives_and_a_closed_connection_is_refused(rt: HostRuntime) -> Result<(), Fail> {
     let alloc = rt.alloc();
     let mut world = UnixWorld::new(&rt, alloc, String::new(alloc), no_programs(alloc))?;
-    holds(
-        &rt,
-        world.bind(Door::Children, "reply.socket").is_ok(),
-        "a listener",
-    );
+    let listens = world.bind(Door::Children, "reply.socket").is_ok();
+    holds(&rt, listens, "a listener");
     let mut child = UnixStream::connect(&rt, "reply.socket").expect(&rt, "a child");
-    accepts(
-        &rt,
-        world.accept(Door::Children),
-        Accepted::Port(1),
-        "the child",
-    );
+    let answer = world.accept(Door::Children);
+    accepted(&rt, answer, Accepted::Port(1), "the child");
     let mut room = [0; 4];
     reads(
         &rt,
@@ -91,8 +69,9 @@ fn a_reply_arrives_and_a_closed_connection_is_refused(rt: HostRuntime) -> Result
 }
 
 // Writes until there is no room, 4096 times at the most: how many bytes were taken.
-fn fill<W: World>(rt: &impl Abort, world: &mut W, bytes: &[u8]) -> u64 {
-    assert!(rt; !bytes.is_empty());
+fn fill<W: World>(rt: &impl Abort, world: &mut W, bytes: &[u8]) -> u64
+    requires { 0 < length bytes.now }
+{
     let mut sent = 0_u64;
     for _ in 0..4096 {
         match world.write(1, bytes).expect(rt, "a write") {
@@ -135,18 +114,11 @@ fn room_for_a_write_is_reported_once_there_is_some(rt: HostRuntime) -> Result<()
     let bytes = vec![in alloc; 5; 65536]?;
     let mut room = vec![in alloc; 0; 65536]?;
     let mut world = UnixWorld::new(&rt, alloc, String::new(alloc), no_programs(alloc))?;
-    holds(
-        &rt,
-        world.bind(Door::Clients, "room.socket").is_ok(),
-        "a listener",
-    );
+    let listens = world.bind(Door::Clients, "room.socket").is_ok();
+    holds(&rt, listens, "a listener");
     let mut client = UnixStream::connect(&rt, "room.socket").expect(&rt, "a client");
-    accepts(
-        &rt,
-        world.accept(Door::Clients),
-        Accepted::Port(1),
-        "the client",
-    );
+    let answer = world.accept(Door::Clients);
+    accepted(&rt, answer, Accepted::Port(1), "the client");
     let sent = fill(&rt, &mut world, &bytes);
     let mut ready = Vec::new(alloc);
     holds(

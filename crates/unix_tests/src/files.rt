@@ -19,11 +19,8 @@ fn refuses<W: World>(rt: &impl Abort, world: &mut W, path: &str) {
 fn only_the_user_may_open_the_file_and_it_goes(rt: HostRuntime) -> Result<(), Fail> {
     let alloc = rt.alloc();
     let mut world = UnixWorld::new(&rt, alloc, String::new(alloc), no_programs(alloc))?;
-    holds(
-        &rt,
-        world.bind(Door::Clients, "mode.socket").is_ok(),
-        "a listener",
-    );
+    let listens = world.bind(Door::Clients, "mode.socket").is_ok();
+    holds(&rt, listens, "a listener");
     let metadata = fs::metadata(&rt, "mode.socket").expect(&rt, "its file");
     holds(
         &rt,
@@ -40,11 +37,8 @@ fn a_file_that_nobody_listens_at_is_replaced(rt: HostRuntime) -> Result<(), Fail
     let alloc = rt.alloc();
     drop(UnixListener::bind(&rt, "stale.socket")?);
     let mut world = UnixWorld::new(&rt, alloc, String::new(alloc), no_programs(alloc))?;
-    holds(
-        &rt,
-        world.bind(Door::Clients, "stale.socket").is_ok(),
-        "a listener",
-    );
+    let listens = world.bind(Door::Clients, "stale.socket").is_ok();
+    holds(&rt, listens, "a listener");
     world.remove_files();
     Ok(())
 }
