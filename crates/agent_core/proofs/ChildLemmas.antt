@@ -3,12 +3,13 @@ use Rattle.std.specs.Option.{option_map}
 use Rattle.std.proofs.Common.{◌≡◌, ◌++◌, ◌==◌, ℕ, List, [], ◌∷◌, refl, ap, arith, sym, subst, ◌∙◌, Option, Some, None, IsSome, Result, Ok, Err, Bool, true, false, if◌then◌else◌}
 use Rattle.std.proofs.lemmas.Bool.Decides.{nat_tests}
 use Rattle.std.specs.Str.{bytes_eq}
+use Rattle.lists.proofs.KeyedLemmas.{find_by-change}
 use Rattle.world_ports.specs.declared.Job.{Job}
 use Rattle.world_ports.specs.declared.JobKind.{JobKind}
 use Rattle.world_ports.specs.declared.JobKind.TheVariants as kinds
 use Rattle.child_msg.specs.Messages.{Denied, False, FromChildMessage, Granted, Hello, Refused, Signed, True}
 use Rattle.child_msg.specs.declared.fault.ChildFault.{ChildFault}
-use Rattle.confirm_desk.specs.Confirmations.{Confirmation, find_job, find_linked, is_at, linked, linked_at}
+use Rattle.confirm_desk.specs.Confirmations.{Confirmation, find_job, find_linked, is_at, linked, linked_at, job_of}
 use Rattle.agent_model.specs.Answers.{helper_heard}
 use Rattle.helper_link.specs.HelperLink.{linked_to}
 use Rattle.wire_text.specs.Bounds.{longest_body}
@@ -66,15 +67,8 @@ confirmation_named job going named is =
 
 -- its child process came to the port, to be found by its job
 pub linked_job : (job number : ℕ) (confirmations : List Confirmation) (one : Confirmation) → find_job job confirmations ≡ Some one → find_job job (linked job number confirmations) ≡ Some (linked_at number one)
-linked_job job number [] one found = absurd (cc)
-linked_job job number (other ∷ confirmations) one found =
-    by_test (linked_job job number confirmations one) (other.job == job) refl found
-  where
-    by_test : (find_job job confirmations ≡ Some one → find_job job (linked job number confirmations) ≡ Some (linked_at number one)) → (test : Bool) → (other.job == job) ≡ test → (if test then Some other else find_job job confirmations) ≡ Some one → find_job job (if test then linked_at number other ∷ confirmations else other ∷ linked job number confirmations) ≡ Some (linked_at number one)
-    by_test rest true same is =
-        let here : other ≡ one = cc in
-        rw same (ap (λ (c : Confirmation). Some (linked_at number c)) here)
-    by_test rest false same is = rw same (rest is)
+linked_job job number confirmations one found =
+    find_by-change job_of job (linked_at number) confirmations (λ _. refl) ∙ ap (option_map (linked_at number)) found
 
 -- and by its port, where none was linked to that before
 pub linked_there : (job number : ℕ) (confirmations : List Confirmation) (one : Confirmation) → find_job job confirmations ≡ Some one → find_linked number confirmations ≡ None → find_linked number (linked job number confirmations) ≡ Some (linked_at number one)

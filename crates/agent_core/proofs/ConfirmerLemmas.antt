@@ -1,8 +1,7 @@
 -- What a user's consent is in the agent's parts.
 use Rattle.std.proofs.Common.{◌≡◌, ℕ, ◌+◌, ◌≤◌, ◌==◌, List, [], ◌∷◌, ◌++◌, length, refl, ap, arith, sym, subst, ◌∙◌, Option, Some, None, Bool, true, false, if◌then◌else◌}
 use Rattle.std.specs.Option.{IsSomeAnd, option_map}
-use Rattle.std.proofs.lemmas.Bool.Decides.{nat_tests}
-use Rattle.helper_link.specs.declared.state.LinkState.{LinkState}
+use Rattle.lists.proofs.KeyedLemmas.{found_key}
 use Rattle.confirm_desk.specs.Confirmations.{Confirmation, Consent, No, NotYet, Yes, consent, find_asker, find_job, find_linked, job_of}
 use Rattle.confirm_desk.specs.Calls.{Telling, given_back, telling, telling_by, telling_if}
 use Rattle.confirm_desk.specs.declared.held.Verdict.{Verdict as DeskVerdict}
@@ -10,20 +9,20 @@ use Rattle.confirm_desk.specs.declared.held.Verdict.TheVariants as verdicts
 use Rattle.confirm_desk.specs.declared.held.Held.{Held as CodeHeld}
 use Rattle.identity_table.specs.Identities.{AreShort, HeldKey, answer_len, entries_len, entry_len, find_number, longest_private, max_answer}
 use Rattle.agent_model.specs.Actions.{Outcome, Stepped, closing}
-use Rattle.agent_model.specs.Asking.{AreAsking, AreAttended, JobsRise}
+use Rattle.agent_model.specs.Asking.{AreAsking, JobsRise}
 use Rattle.agent_model.specs.Consents.{close_confirmer, confirmer_closes, confirmer_heard, consent_by, grant_concluded, grant_to, over, without_confirmation}
 use Rattle.agent_model.specs.KeyStates.{KeyState}
 use Rattle.agent_model.specs.NumberLists.{put_all}
 use Rattle.agent_model.specs.Children.{shut, shut_then}
 use Rattle.agent_model.specs.Sound.{IsRising}
-use Rattle.agent_model.specs.State.{OnAsk, Port, State, UnderWay, change_port, find_port, remove_port}
-use Rattle.agent_model.specs.Verdicts.{Awaits, NotConfirmed, Refuses, Verdict, tell}
+use Rattle.agent_model.specs.State.{Port, State, UnderWay, change_port, find_port, remove_port}
+use Rattle.agent_model.specs.Verdicts.{NotConfirmed, Refuses, tell}
 use Rattle.agent_model.proofs.PortsLemmas.{find_port-left, find_port-remove_port}
 use Rattle.agent_model.proofs.JobLemmas.{in-by_asker, in-by_port, in-found}
-use Rattle.under_way.specs.Parts.{TellsOf, confirmer_told, told_by, told_if}
+use Rattle.under_way.specs.Parts.{confirmer_told, told_by, told_if}
 use Rattle.agent_core.specs.Parts.{after, parts_of, state_of}
 use Rattle.agent_core.specs.Slots.{OpenPorts}
-use Rattle.agent_core.specs.Confirmers.{AreQuiet, IsHeldFor, IsShortKey, grant_of}
+use Rattle.agent_core.specs.Confirmers.{AreQuiet, IsShortKey, grant_of}
 use Rattle.agent_core.proofs.HelperLemmas.{shut-first}
 
 -- ---- what fits a message to the helper
@@ -45,13 +44,6 @@ pub short_key : (number : ℕ) (keys : List HeldKey) (key : HeldKey) → find_nu
 short_key number keys key found short fits =
     let parts = numbered_short number keys key found short in
     omega (arith, parts.0, parts.1, fits)
-
--- ---- what is told
-
--- some verdict is told by the number of an ask, or by none
-pub told_so : (asked : Option ℕ) → (verdict : Verdict) × TellsOf verdict asked
-told_so (Some ask) = (Awaits (OnAsk ask), refl)
-told_so None = (Refuses NotConfirmed, (refl, refl))
 
 -- ---- what a decision is
 
@@ -94,14 +86,7 @@ over_parts wall keys going left old new one confirmer asker left_is new_is asker
 
 -- by its job
 pub job_own : (job : ℕ) (confirmations : List Confirmation) (one : Confirmation) → find_job job confirmations ≡ Some one → one.job ≡ job
-job_own job [] one found = absurd (cc)
-job_own job (other ∷ confirmations) one found = by_test (job_own job confirmations one) (other.job == job) refl found
-  where
-    by_test : (find_job job confirmations ≡ Some one → one.job ≡ job) → (test : Bool) → (other.job == job) ≡ test → (if test then Some other else find_job job confirmations) ≡ Some one → one.job ≡ job
-    by_test rest true same is =
-        let here : other ≡ one = cc in
-        ap (λ (c : Confirmation). c.job) (sym here) ∙ (grind (arith, nat_tests))
-    by_test rest false same is = rest is
+job_own job confirmations one found = found_key job_of job confirmations one found
 
 -- by its port, in the order of the jobs
 pub found_linked : (number last : ℕ) (confirmations : List Confirmation) (one : Confirmation) → JobsRise 0 confirmations last → find_linked number confirmations ≡ Some one → find_job one.job confirmations ≡ Some one
@@ -119,15 +104,6 @@ found_asker number last confirmations one order found =
 pub quiet-asking : (ports : List Port) (confirmations : List Confirmation) → AreAsking ports confirmations → AreQuiet confirmations ports
 quiet-asking ports confirmations asking = λ job one port found there.
     (asking.waits one.asker job port there (asking.asks job one port found there)).owed
-
--- and is open
-pub held_for : (number last : ℕ) (link : LinkState) (ports : List Port) (confirmations : List Confirmation) (one : Confirmation) → JobsRise 0 confirmations last → AreAsking ports confirmations → AreAttended confirmations link ports → find_linked number confirmations ≡ Some one → IsHeldFor one ports
-held_for number last link ports confirmations one order asking attended found =
-    let there = found_linked number last confirmations one order found in
-    record {
-      is_open = attended.askers one.job one there;
-      silent = λ port at. quiet-asking ports confirmations asking one.job one port there at;
-    }
 
 -- ---- what is handed back
 

@@ -1,5 +1,5 @@
 -- Lemmas on what is held.
-use Rattle.std.proofs.Common.{◌≡◌, ℕ, ◌+◌, ◌≤◌, List, [], ◌∷◌, ◌++◌, length, map, refl, ap, sym, arith, ◌∙◌, Option, Some, None, Result, Ok, Err, is_some, not, subst, Bool, true, false, if◌then◌else◌}
+use Rattle.std.proofs.Common.{◌≡◌, ℕ, ◌+◌, ◌≤◌, List, [], ◌∷◌, ◌++◌, length, map, refl, ap, sym, arith, Option, Some, None, Result, Ok, Err, is_some, not, subst, Bool, true, false, if◌then◌else◌}
 use Rattle.std.specs.Prelude.{◌↔◌, IsSome, IsTrue, OnOk}
 use Rattle.agent_msg.specs.Requests.{Addition, ClientRequest, IsRequest, session_bind, ListIdentities, Sign, Add, Remove, RemoveAll, Lock, Unlock, Bind, OtherExtension, Unsupported}
 use Rattle.agent_msg.specs.Reading.{request_of}
@@ -18,7 +18,7 @@ use Rattle.identity_table.specs.Identities.{AreShort, answer_len, entries_len, f
 use Rattle.identity_table.proofs.FindLemmas.{found_has}
 use Rattle.agent_model.specs.Dispatch.{Asker, add_by, add_seen, remove_by, remove_seen, sees, serve, with_identities}
 use Rattle.agent_model.specs.State.{UnderWay}
-use Rattle.agent_msg.specs.Replies.{entry, entries_length, identities_length}
+use Rattle.agent_msg.specs.Replies.{entries_length, identities_length}
 use Rattle.agent_model.specs.KeyStates.{KeyState, shown}
 
 -- ---- lists of identities
@@ -37,9 +37,6 @@ pub length-entries_len : (keys : List HeldKey) → length keys ≤ entries_len k
 unfolding entries_len
 length-entries_len [] = omega arith
 length-entries_len (key ∷ keys) = omega (arith, length-entries_len keys)
-
-pub entry_of : (key : HeldKey) (blob comment : List ℕ) → blob ≡ key.blob → comment ≡ key.comment → entry (blob, comment) ≡ entry (shown key)
-entry_of key blob comment is_blob is_comment = ap (λ b. entry (b, comment)) is_blob ∙ ap (λ c. entry (key.blob, c)) is_comment
 
 -- ---- removals
 

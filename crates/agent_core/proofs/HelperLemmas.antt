@@ -15,12 +15,12 @@ use Rattle.helper_link.specs.declared.state.LinkState.TheVariants as states
 use Rattle.agent_model.specs.Actions.{Outcome, Stepped, closing}
 use Rattle.agent_model.specs.Answers.{Answering, answer_all, answer_by, answer_true, answers_in, close_helper, find_verification, helper_closes, helper_heard, lose, lose_if, remove_verification, tell_each, with_answers}
 use Rattle.agent_model.specs.KeyStates.{KeyState}
-use Rattle.agent_model.specs.State.{Port, State, UnderWay, Verification, change_port, find_port, numbers, remove_port, number_of}
-use Rattle.agent_model.specs.Verdicts.{HelperLost, Refuses, Verdict, tell}
+use Rattle.agent_model.specs.State.{Port, State, UnderWay, Verification, change_port, find_port, remove_port, number_of}
+use Rattle.agent_model.specs.Verdicts.{HelperLost, Refuses, tell}
 use Rattle.agent_model.specs.Children.{closed, shut_then}
 use Rattle.agent_model.specs.NumberLists.{put_all}
 use Rattle.agent_model.specs.Sound.{IsRising}
-use Rattle.agent_model.proofs.PortsLemmas.{find_port-remove_port, numbers-change_port}
+use Rattle.agent_model.proofs.PortsLemmas.{find_port-remove_port}
 use Rattle.agent_core.specs.Parts.{after, parts_of, state_of}
 use Rattle.agent_core.specs.Settlings.{AreProvable, AreShortAnswers, IsProvable, IsShortAnswer, answered, told_with, unanswered}
 use Rattle.agent_core.specs.Slots.{OpenPorts}
@@ -91,12 +91,6 @@ number-told_with answer.Refused found p = refl
 number-told_with answer.True None p = refl
 number-told_with answer.True (Some verification) p = refl
 number-told_with answer.False found p = refl
-
-pub numbers-tell_each : (verdict : Verdict) (askers : List ℕ) (ports : List Port) → numbers (tell_each verdict askers ports) ≡ numbers ports
-numbers-tell_each verdict [] ports = refl
-numbers-tell_each verdict (asker ∷ askers) ports =
-    numbers-tell_each verdict askers (change_port asker (tell verdict) ports)
-    ∙ numbers-change_port asker (tell verdict) ports (λ p. refl)
 
 -- nothing changes where the port isn't open
 pub change_port-absent : (number : ℕ) (f : Port → Port) (ports : List Port) → find_port number ports ≡ None → change_port number f ports ≡ ports

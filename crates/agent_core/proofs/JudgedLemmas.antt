@@ -1,5 +1,5 @@
 -- What is verified stays judged as it was, while ports change and others are answered.
-use Rattle.std.proofs.Common.{◌≡◌, ◌≢◌, ℕ, List, [], ◌∷◌, refl, ap, arith, sym, subst, ◌∙◌, ◌==◌, Option, Some, None, Bool, true, false, cond, inl, inr, if◌then◌else◌}
+use Rattle.std.proofs.Common.{◌≡◌, ◌≢◌, ℕ, List, [], ◌∷◌, refl, ap, arith, sym, subst, ◌∙◌, ◌==◌, Option, Some, None, true, cond, inl, inr}
 use Rattle.std.proofs.lemmas.Bool.{cases_eq}
 use Rattle.std.proofs.lemmas.Bool.Decides.{nat_tests}
 use Rattle.helper_link.specs.Answered.{LeadTo, kind_answered}
@@ -11,9 +11,9 @@ use Rattle.helper_link.specs.declared.answer.Answer.TheVariants as answer
 use Rattle.helper_link.specs.declared.answer.Settled.{Settled}
 use Rattle.helper_link.specs.declared.ask.Ask.{Ask}
 use Rattle.helper_link.specs.declared.ask.AskKind.{AskKind}
-use Rattle.lists.proofs.KeyedLemmas.{differ}
+use Rattle.lists.proofs.KeyedLemmas.{differ, find_by-remove_apart}
 use Rattle.helper_link.proofs.OrderLemmas.{find-remove, remove_rises}
-use Rattle.agent_model.specs.Answers.{find_verification, remove_verification}
+use Rattle.agent_model.specs.Answers.{find_verification, remove_verification, ask_number}
 use Rattle.agent_model.specs.Sound.{AreJudged, AreTied, IsRight}
 use Rattle.agent_model.specs.State.{OnAsk, Port, Verification, change_port, find_port}
 use Rattle.agent_model.proofs.TieLemmas.{IsOf, apart, found_after, here, tied-told}
@@ -32,14 +32,7 @@ waits-told_with answer.False found p ask is = absurd (cc)
 
 -- the verifications of the others are left
 find-left : (ask gone : ℕ) (vs : List Verification) → gone ≢ ask → find_verification ask (remove_verification gone vs) ≡ find_verification ask vs
-find-left ask gone [] differs = refl
-find-left ask gone (one ∷ others) differs = by_tests (one.ask == gone) (one.ask == ask) refl refl (find-left ask gone others differs)
-  where
-    by_tests : (first second : Bool) → (one.ask == gone) ≡ first → (one.ask == ask) ≡ second → find_verification ask (remove_verification gone others) ≡ find_verification ask others → find_verification ask (if first then others else one ∷ remove_verification gone others) ≡ (if second then Some one else find_verification ask others)
-    by_tests true true is that rest = absurd (differs (grind (arith, nat_tests)))
-    by_tests true false is that rest = refl
-    by_tests false true is that rest = ap (λ b. if b then Some one else find_verification ask (remove_verification gone others)) that
-    by_tests false false is that rest = ap (λ b. if b then Some one else find_verification ask (remove_verification gone others)) that ∙ rest
+find-left ask gone vs differs = find_by-remove_apart ask_number ask gone vs (λ is. differs (sym is))
 
 module _ (low last : ℕ) where
   -- and stay judged as they were

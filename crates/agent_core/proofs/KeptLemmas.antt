@@ -1,12 +1,13 @@
 -- Lemmas on the storage of the open ports.
 use Rattle.std.proofs.Common.{◌≡◌, ℕ, zero, suc, ◌+◌, ◌^◌, ◌<◌, ◌≤◌, List, [], ◌∷◌, ◌++◌, length, get_or, set, refl, ap, arith, sym, ◌∙◌, Some, subst, slice_get, true, ◌&&◌}
-use Rattle.std.proofs.lemmas.Bool.Decides.{nat_tests}
 use Rattle.std.proofs.lemmas.List.{map-set, map-append, drop-map, take-map, length-append}
 use Rattle.std.proofs.lemmas.Option.{slice_get-map}
 use Rattle.secret_buf.specs.Buffers.{Buffer, no_bytes}
 use Rattle.dest_rule.specs.Chains.{ChainState, no_chain}
 use Rattle.std.specs.List.{remove}
 use Rattle.std.specs.Option.{option_map}
+use Rattle.lists.specs.Keyed.{has_key}
+use Rattle.lists.proofs.FirstLemmas.{length-change}
 use Rattle.world_ports.specs.declared.Door.{Door}
 use Rattle.world_ports.specs.declared.Door.TheVariants.{Clients}
 use Rattle.agent_core.specs.declared.waits.Waits.TheVariants as waits
@@ -24,7 +25,7 @@ use Rattle.agent_model.specs.Step.{attempts, take_frame}
 use Rattle.agent_model.specs.Verdicts.{tell}
 use Rattle.agent_core.specs.Served.{served_at}
 use Rattle.wire_text.specs.Frames.{front_body}
-use Rattle.agent_model.specs.State.{Port, UnderWay, change_port, find_port, is_client, is_some_bytes, new_port, remove_port}
+use Rattle.agent_model.specs.State.{Port, UnderWay, change_port, find_port, is_client, is_some_bytes, new_port, remove_port, number_of}
 use Rattle.agent_model.proofs.PortsLemmas.{rising-append, rising-change_port, rising-remove_port, rising_higher}
 
 -- edits of the slots are edits of the ports
@@ -93,8 +94,7 @@ length-set_slots slots number place slot ports same =
     sym (length-ports_of (set slots place slot)) ∙ ap length same
 
 length-change_port : (number : ℕ) (f : Port → Port) (ports : List Port) → length (change_port number f ports) ≡ length ports
-length-change_port number f [] = refl
-length-change_port number f (port ∷ ports) = grind (arith, nat_tests, length-change_port number f ports)
+length-change_port number f ports = length-change (has_key number_of number) f ports
 
 -- one port is changed, and listed or not
 pub kept-changed : (slots : List Slot) (owing closed : List ℕ) (room croom last number place more : ℕ) (slot old : Slot) → IsKept slots owing closed room croom last → IsPlace number (ports_of slots) place → find_port number (ports_of slots) ≡ Some (port_of old) → slot.number ≡ old.number → slot.door ≡ old.door → room ≤ more → IsKept (set slots place slot) (noted (is_owing (port_of slot)) number owing) closed more croom last

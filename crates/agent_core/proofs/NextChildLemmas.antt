@@ -1,5 +1,7 @@
 -- The next child process that is owed bytes: as the next port, where no client is owed any. And with it the next port.
-use Rattle.std.proofs.Common.{◌≡◌, ℕ, List, [], ◌∷◌, refl, ap, sym, subst, ◌∙◌, Option, Some, None, IsSome, option_map, Bool, true, false, not, nat_lt, ◌==◌, ◌&&◌, if◌then◌else◌, arith, min}
+use Rattle.std.proofs.Common.{◌≡◌, ℕ, List, [], ◌∷◌, refl, ap, sym, subst, ◌∙◌, Option, Some, None, IsSome, option_map, Bool, true, false, not, nat_lt, ◌&&◌, if◌then◌else◌, arith, min, map}
+use Rattle.lists.specs.Keyed.{has_key}
+use Rattle.lists.proofs.FirstLemmas.{find-map}
 use Rattle.world_ports.specs.declared.Door.{Door}
 use Rattle.world_ports.specs.declared.Door.TheVariants.{Clients, Children}
 use Rattle.helper_link.specs.declared.state.LinkState.{LinkState}
@@ -9,7 +11,7 @@ use Rattle.confirm_desk.specs.Confirmations.{Confirmation, find_linked}
 use Rattle.lists.specs.Rising.{first_above}
 use Rattle.agent_model.specs.Asking.{AreAttended, AreRaised}
 use Rattle.agent_model.specs.Sound.{IsRising}
-use Rattle.agent_model.specs.State.{Port, UnderWay, find_port, is_client, is_linked_to, is_some_bytes, next_owed_in, owed_as, owed_by_port, role_by_helper, role_by_link, role_of}
+use Rattle.agent_model.specs.State.{Port, UnderWay, find_port, is_client, is_linked_to, is_some_bytes, next_owed_in, owed_as, owed_by_port, role_by_helper, role_by_link, role_of, number_of}
 use Rattle.agent_core.specs.Owing.{next_child_owed_in}
 use Rattle.agent_core.specs.Roles.{door_by, helper_owed, next_of, owed_helper, owed_helper_by}
 use Rattle.agent_core.specs.Slots.{is_owing, owing_of}
@@ -23,21 +25,14 @@ abbrev pub hush : Port → Port
 hush port = record port { owed = [] }
 
 abbrev pub hushed : List Port → List Port
-hushed [] = []
-hushed (port ∷ ports) = hush port ∷ hushed ports
+hushed ports = map hush ports
 
 rising-hushed : (low high : ℕ) (ports : List Port) → IsRising low high ports → IsRising low high (hushed ports)
 rising-hushed low high [] rising = rising
 rising-hushed low high (port ∷ ports) rising = (rising.0, rising-hushed port.number high ports rising.1)
 
 find_port-hushed : (number : ℕ) (ports : List Port) → find_port number (hushed ports) ≡ option_map hush (find_port number ports)
-find_port-hushed number [] = refl
-find_port-hushed number (port ∷ ports) = by_test (port.number == number) (find_port-hushed number ports)
-  where
-    by_test : (same : Bool) → find_port number (hushed ports) ≡ option_map hush (find_port number ports)
-        → (if same then Some (hush port) else find_port number (hushed ports)) ≡ option_map hush (if same then Some port else find_port number ports)
-    by_test true rest = refl
-    by_test false rest = rest
+find_port-hushed number ports = find-map hush (has_key number_of number) (has_key number_of number) (λ _. refl) ports
 
 -- one that is found was there
 was_there : (number : ℕ) (ports : List Port) (one : Port) → find_port number (hushed ports) ≡ Some one

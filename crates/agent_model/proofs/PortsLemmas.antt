@@ -3,7 +3,7 @@ use Rattle.std.proofs.Common.{◌≡◌, ◌≢◌, ℕ, ◌<◌, ◌≤◌, Lis
 use Rattle.std.specs.Option.{option_map}
 use Rattle.world_ports.specs.declared.Door.{Door}
 use Rattle.lists.specs.Keyed.{has_key}
-use Rattle.lists.proofs.FirstLemmas.{change-agree, change-same, change-twice, map-change, remove-change}
+use Rattle.lists.proofs.FirstLemmas.{change-agree, change-twice, map-change, remove-change}
 use Rattle.lists.proofs.KeyedLemmas as keyed
 use Rattle.lists.proofs.KeyedLemmas.{find_by-below, find_by-change, find_by-change_apart, find_by-left, find_by-remove_apart, find_by-removed, found_key, keeps_key, rise-bound, rise-change, rise-higher, rise-lower, rise-push, rise-remove}
 use Rattle.agent_model.specs.Sound.{IsRising}
@@ -35,10 +35,6 @@ find_port-change_port number f ports keeps = find_by-change number_of number f p
 -- two changes of one port are one
 pub change_port-twice : (number : ℕ) (f g : Port → Port) (ports : List Port) → ((port : Port) → (f port).number ≡ port.number) → change_port number g (change_port number f ports) ≡ change_port number (λ port. g (f port)) ports
 change_port-twice number f g ports keeps = change-twice (has_key number_of number) f g ports (keeps_key number_of number f keeps)
-
--- a change that does nothing to the port that is there does nothing
-pub change_port-same : (number : ℕ) (f : Port → Port) (ports : List Port) (port : Port) → find_port number ports ≡ Some port → f port ≡ port → change_port number f ports ≡ ports
-change_port-same number f ports port found same = change-same (has_key number_of number) f ports port found same
 
 -- only what a change does to the port that is there matters
 pub change_port-by : (number : ℕ) (f g : Port → Port) (ports : List Port) (port : Port) → find_port number ports ≡ Some port → f port ≡ g port → change_port number f ports ≡ change_port number g ports

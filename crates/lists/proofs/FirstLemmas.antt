@@ -129,21 +129,6 @@ changed_nowhere test f (one ∷ all) none =
     let both = some_or_later (test one) one (find test all) none in
     rw both.0 (ap (λ rest. one ∷ rest) (changed_nowhere test f all both.1))
 
--- a change to what is there is none
-pub change-same : {A : Type 0} (test : A → Bool) (f : A → A) (all : List A) (one : A) →
-    find test all ≡ Some one → f one ≡ one → change_first test f all ≡ all
-change-same test f [] one found same = refl
-change-same test f (first ∷ all) one found same =
-    by_test (test first) found (λ there. change-same test f all one there same)
-  where
-    by_test : (is : Bool) → cond is (Some first) (find test all) ≡ Some one →
-        (find test all ≡ Some one → change_first test f all ≡ all) →
-        cond is (f first ∷ all) (first ∷ change_first test f all) ≡ first ∷ all
-    by_test true there later =
-        let is : first ≡ one = cc in let changed : f first
-        ≡ first = ap f is ∙ same ∙ sym is in ap (λ here. here ∷ all) changed
-    by_test false there later = ap (λ rest. first ∷ rest) (later there)
-
 -- two changes that agree on what is found are one
 pub change-agree : {A : Type 0} (test : A → Bool) (f g : A → A) (all : List A) (one : A) →
     find test all ≡ Some one → f one ≡ g one →
@@ -253,14 +238,6 @@ pub find-before : {A : Type 0} (test : A → Bool) (all more : List A) (one : A)
     find test all ≡ Some one → find test (all ++ more) ≡ Some one
 find-before test all more one found =
     find-append test all more ∙ ap (λ here. option_or here (find test more)) found
-
--- one that passes, where none did
-pub find-pushed : {A : Type 0} (test : A → Bool) (all : List A) (last : A) → test last ≡ true →
-    find test all ≡ None → find test (all ++ last ∷ []) ≡ Some last
-find-pushed test [] last passes none = rw passes refl
-find-pushed test (one ∷ all) last passes none =
-    let both = some_or_later (test one) one (find test all) none in
-    rw both.0 (find-pushed test all last passes both.1)
 
 -- ---- of those that are kept
 

@@ -157,10 +157,3 @@ length-inserted number [] = omega arith
 length-inserted number (x ∷ xs) =
     let rest : length (inserted number xs) ≤ length xs + 1 = length-inserted number xs in
     grind (arith, nat_tests)
-
--- no more than before
-pub length-removed : (number : ℕ) (xs : List ℕ) → length (removed number xs) ≤ length xs
-length-removed number [] = omega arith
-length-removed number (x ∷ xs) =
-    let rest : length (removed number xs) ≤ length xs = length-removed number xs in
-    grind (arith, nat_tests)
