@@ -1,6 +1,6 @@
 -- What waits is overtaken by nothing that was served since.
 use Rattle.std.proofs.Common.{◌≡◌, ◌∙◌, Bool, true, false, List, [], ◌∷◌, ◌++◌, Option, Some, None, refl, sym, ap, ◌||◌}
-use Rattle.std.specs.Prelude.{option_and_then, option_map}
+use Rattle.std.specs.Prelude.{option_and_then}
 use Rattle.std.specs.List.{list_any}
 use Rattle.world_ports.specs.declared.entry.Entry.{Entry}
 use Rattle.loop_model.specs.LegalJournal.{Turning, comes_next, led, taken, taken_if, turned}
@@ -12,7 +12,7 @@ use Rattle.loop_model.specs.Fairness.{if_any, is_service, is_waiting, waits_on}
 use Rattle.loop_model.specs.Lines.{IsQuiet, hot_of}
 use Rattle.loop_model.proofs.AsideLemmas.{set_of-append}
 use Rattle.loop_model.proofs.QuietLemmas.{quiet_taken}
-use Rattle.loop_model.proofs.JournalLemmas.{in_turn, is_in_turn, leads}
+use Rattle.loop_model.proofs.JournalLemmas.{in_turn, leads}
 use Rattle.loop_model.proofs.TestLemmas.{and_both, or_first}
 use Rattle.loop_model.proofs.ThingLemmas.{false_by}
 use Rattle.loop_model.proofs.AheadLemmas.{ahead}

@@ -1,5 +1,5 @@
 -- Fronts of legal journals, and where a poll may come.
-use Rattle.std.proofs.Common.{◌≡◌, ◌∙◌, ℕ, Bool, true, false, List, [], ◌∷◌, ◌++◌, Option, Some, None, Result, Ok, Err, refl, sym, ap, subst, ◌&&◌}
+use Rattle.std.proofs.Common.{◌≡◌, ℕ, Bool, true, false, List, [], ◌∷◌, ◌++◌, Option, Some, None, Result, Ok, Err, refl, subst}
 use Rattle.std.specs.Prelude.{option_and_then}
 use Rattle.world_ports.specs.declared.answers.Accepted.TheVariants as accepted
 use Rattle.world_ports.specs.declared.answers.Got.TheVariants as got

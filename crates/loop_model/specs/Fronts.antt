@@ -1,5 +1,5 @@
 -- Places in a legal journal (ours).
-use Rattle.std.specs.Prelude.{◌≡◌, List, [], Some, true}
+use Rattle.std.specs.Prelude.{◌≡◌, List, Some, true}
 use Rattle.world_ports.specs.declared.entry.Entry.{Entry}
 use Rattle.loop_model.specs.Dues.{Polling}
 use Rattle.loop_model.specs.LegalJournal.{Turning, turned}

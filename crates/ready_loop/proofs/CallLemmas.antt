@@ -1,5 +1,5 @@
 -- What each call leaves of how the journal reads, by its answer.
-use Rattle.std.proofs.Common.{◌≡◌, ◌∙◌, ℕ, suc, ◌+◌, ◌-◌, ◌^◌, ◌<◌, Bool, true, false, List, [], ◌∷◌, length, drop, get_or, Option, Some, None, Result, Ok, Err, refl, sym, ap, ◌&&◌, ◌==◌, add-one, arith}
+use Rattle.std.proofs.Common.{◌≡◌, ◌∙◌, ℕ, suc, ◌+◌, ◌-◌, ◌^◌, ◌<◌, Bool, true, false, List, [], ◌∷◌, length, drop, get_or, Option, Some, None, Result, Ok, Err, refl, sym, ap, ◌==◌, add-one, arith}
 use Rattle.std.proofs.Math.Seq.{drop-cons}
 use Rattle.std.specs.Prelude.{IsSome, OnOk, is_some}
 use Rattle.std.specs.declared.alloc.AllocError.{AllocError}
@@ -21,7 +21,7 @@ use Rattle.world_ports.specs.declared.events.Moment.{Moment}
 use Rattle.agent_model.specs.Events.{Happening, Tick}
 use Rattle.agent_model.specs.State.{State, find_port, owed_of, starts}
 use Rattle.agent_model.specs.Step.{step}
-use Rattle.loop_model.specs.Dues.{Closing, Due, Free, NowFor, Polling, due_look, due_of, port_of, same_wait, wait_of}
+use Rattle.loop_model.specs.Dues.{Closing, Free, NowFor, Polling, due_look, due_of, port_of, same_wait, wait_of}
 use Rattle.loop_model.specs.LegalJournal.{in_state, is_first_job, led, read_room, taken}
 use Rattle.loop_model.specs.Lines.{Line, is_idle, recalled, settled, without, without_port}
 use Rattle.loop_model.specs.Queues.{first_servable, is_next, is_thing}

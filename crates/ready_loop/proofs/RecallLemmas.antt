@@ -6,8 +6,8 @@ use Rattle.std.specs.List.{filter}
 use Rattle.world_ports.specs.declared.events.Door.{Door}
 use Rattle.lists.specs.Rising.{IsRisingList, is_among}
 use Rattle.agent_model.specs.Sound.{IsRising}
-use Rattle.agent_model.specs.State.{Port, State, UnderWay, find_port, is_client, is_some_bytes, next_owed, next_owed_in, owed_by, owed_by_port}
-use Rattle.agent_core.specs.Owing.{next_child_owed, next_child_owed_in}
+use Rattle.agent_model.specs.State.{Port, State, UnderWay, find_port, is_client, is_some_bytes, next_owed_in, owed_by, owed_by_port}
+use Rattle.agent_core.specs.Owing.{next_child_owed_in}
 use Rattle.loop_model.specs.Elsewhere.{is_clients}
 use Rattle.loop_model.specs.Servable.{is_servable}
 use Rattle.loop_model.specs.Things.{Hot, same_thing, set_of}
@@ -15,7 +15,7 @@ use Rattle.loop_model.specs.declared.thing.Thing.{Thing}
 use Rattle.loop_model.specs.declared.thing.Thing.TheVariants.{Accept, Read, Write}
 use Rattle.loop_model.specs.Aside.{Aside, accepts_of, reads_of, taken_back, things_aside, writes_of}
 use Rattle.loop_model.specs.Lines.{Line, brought, called, called_all, called_own}
-use Rattle.ready_loop.specs.Standing.{IsStirred, may_stir}
+use Rattle.ready_loop.specs.Standing.{IsStirred, may_stir, next_called}
 use Rattle.loop_model.proofs.TestLemmas.{both_if}
 use Rattle.loop_model.proofs.ThingLemmas.{false_by, same_thing-true}
 use Rattle.loop_model.proofs.AsideLemmas.{accepts-read, accepts-write, aside-accept, aside-read, aside-write, reads-accept, reads-read, reads-write, set_of-taken_back}
@@ -105,104 +105,78 @@ called_all-none state all line stirred none =
     no_member [] port none there = absurd (cc)
     no_member (first ∷ ports) port none there = absurd (grind (arith, nat_tests))
 
--- ---- all ports that are owed bytes
+-- ---- all ports that are owed bytes, or those of child processes alone
 
-abbrev pub is_owed : UnderWay → Port → Bool
-is_owed under_way port = is_some_bytes (owed_by_port port under_way)
+abbrev pub is_called : Bool → UnderWay → Port → Bool
+is_called true under_way port = is_some_bytes (owed_by_port port under_way)
+is_called false under_way port = not (is_client port.door) && is_some_bytes (owed_by_port port under_way)
 
-pub owed-by : (after : ℕ) (ports : List Port) (under_way : UnderWay)
-    → next_owed_in after ports under_way ≡ next_by (is_owed under_way) after ports
+owed-by : (after : ℕ) (ports : List Port) (under_way : UnderWay)
+    → next_owed_in after ports under_way ≡ next_by (is_called true under_way) after ports
 owed-by after [] under_way = refl
 owed-by after (port ∷ ports) under_way =
-    ap (λ (found : Option ℕ). if nat_lt after port.number && is_owed under_way port then Some port.number else found) (owed-by after ports under_way)
+    ap (λ (found : Option ℕ). if nat_lt after port.number && is_called true under_way port then Some port.number else found)
+    (owed-by after ports under_way)
 
-owed-passes : (found : Option Port) (under_way : UnderWay)
-    → passes (is_owed under_way) found ≡ is_some_bytes (owed_by found under_way)
-owed-passes None under_way = refl
-owed-passes (Some port) under_way = refl
-
--- the line with those up to this number back in the queue
-abbrev pub owed_upto : State → ℕ → Line → Line
-owed_upto state after line = called_by (upto (is_owed state.under_way) state.ports after) line
-
-pub owed-next : (state : State) (after next : ℕ) → IsRising 0 state.last_port state.ports
-    → Some next ≡ next_owed after state
-    → IsNextBy (is_owed state.under_way) 0 state.last_port after next state.ports
-owed-next state after next rising found =
-    next_by-is (is_owed state.under_way) 0 state.last_port after next state.ports rising
-    (sym (found ∙ owed-by after state.ports state.under_way))
-
-pub owed-more : (state : State) (after next : ℕ) (line now : Line) → IsRising 0 state.last_port state.ports
-    → Some next ≡ next_owed after state → IsRisingList line.aside.writes → now ≡ owed_upto state after line
-    → brought (Write next) now ≡ owed_upto state next line
-owed-more state after next line now rising found numbers is =
-    ap (brought (Write next)) is
-    ∙ brought-next (upto (is_owed state.under_way) state.ports after) (upto (is_owed state.under_way) state.ports next) next line
-    (next-step (is_owed state.under_way) 0 state.last_port after next state.ports (owed-next state after next rising found)) numbers
-
-pub owed-all : (state : State) (after : ℕ) (line : Line) → IsRising 0 state.last_port state.ports
-    → None ≡ next_owed after state → IsStirred state None true line
-    → owed_upto state after line ≡ called_all state line
-owed-all state after line rising none stirred =
-    called_by-alike (upto (is_owed state.under_way) state.ports after) (λ port. is_servable state (Write port)) line
-    (λ port there.
-    upto-all (is_owed state.under_way) state.last_port after port state.ports rising
-    (sym (none ∙ owed-by after state.ports state.under_way))
-    ∙ owed-passes (find_port port state.ports) state.under_way)
-    ∙ called_by-all state true line stirred
-
--- ---- all child processes that are owed bytes
-
-abbrev pub is_child_owed : UnderWay → Port → Bool
-is_child_owed under_way port = not (is_client port.door) && is_some_bytes (owed_by_port port under_way)
-
-pub child-by : (after : ℕ) (ports : List Port) (under_way : UnderWay)
-    → next_child_owed_in after ports under_way ≡ next_by (is_child_owed under_way) after ports
+child-by : (after : ℕ) (ports : List Port) (under_way : UnderWay)
+    → next_child_owed_in after ports under_way ≡ next_by (is_called false under_way) after ports
 child-by after [] under_way = refl
 child-by after (port ∷ ports) under_way =
-    ap (λ (found : Option ℕ). if nat_lt after port.number && is_child_owed under_way port then Some port.number else found)
+    ap (λ (found : Option ℕ). if nat_lt after port.number && is_called false under_way port then Some port.number else found)
     (child-by after ports under_way)
 
--- where it is no client's, what it is owed decides
-child-passes : (found : Option Port) (under_way : UnderWay)
-    → (is_some_bytes (owed_by found under_way) ≡ true → not (is_clients found) ≡ true)
-    → passes (is_child_owed under_way) found ≡ is_some_bytes (owed_by found under_way)
-child-passes None under_way other = refl
-child-passes (Some port) under_way other = by_test (is_some_bytes (owed_by_port port under_way)) (not (is_client port.door)) other
+called-by : (all : Bool) (after : ℕ) (state : State)
+    → next_called all after state ≡ next_by (is_called all state.under_way) after state.ports
+called-by true after state = owed-by after state.ports state.under_way
+called-by false after state = child-by after state.ports state.under_way
+
+-- where it may be called, what it is owed decides
+called-passes : (all : Bool) (found : Option Port) (under_way : UnderWay)
+    → (is_some_bytes (owed_by found under_way) ≡ true → (all || not (is_clients found)) ≡ true)
+    → passes (is_called all under_way) found ≡ is_some_bytes (owed_by found under_way)
+called-passes true None under_way other = refl
+called-passes true (Some port) under_way other = refl
+called-passes false None under_way other = refl
+called-passes false (Some port) under_way other =
+    by_test (is_some_bytes (owed_by_port port under_way)) (not (is_client port.door)) other
   where
     by_test : (owes child : Bool) → (owes ≡ true → child ≡ true) → (child && owes) ≡ owes
     by_test true child other = ap (λ (b : Bool). b && true) (other refl)
     by_test false true other = refl
     by_test false false other = refl
 
-abbrev pub child_upto : State → ℕ → Line → Line
-child_upto state after line = called_by (upto (is_child_owed state.under_way) state.ports after) line
+-- the line with those up to this number back in the queue
+abbrev pub called_upto : Bool → State → ℕ → Line → Line
+called_upto all state after line = called_by (upto (is_called all state.under_way) state.ports after) line
 
-pub child-next : (state : State) (after next : ℕ) → IsRising 0 state.last_port state.ports
-    → Some next ≡ next_child_owed after state
-    → IsNextBy (is_child_owed state.under_way) 0 state.last_port after next state.ports
-child-next state after next rising found =
-    next_by-is (is_child_owed state.under_way) 0 state.last_port after next state.ports rising
-    (sym (found ∙ child-by after state.ports state.under_way))
+pub called-next : (all : Bool) (state : State) (after next : ℕ) → IsRising 0 state.last_port state.ports
+    → Some next ≡ next_called all after state
+    → IsNextBy (is_called all state.under_way) 0 state.last_port after next state.ports
+called-next all state after next rising found =
+    next_by-is (is_called all state.under_way) 0 state.last_port after next state.ports rising
+    (sym (found ∙ called-by all after state))
 
-pub child-more : (state : State) (after next : ℕ) (line now : Line) → IsRising 0 state.last_port state.ports
-    → Some next ≡ next_child_owed after state → IsRisingList line.aside.writes → now ≡ child_upto state after line
-    → brought (Write next) now ≡ child_upto state next line
-child-more state after next line now rising found numbers is =
+pub called-more : (all : Bool) (state : State) (after next : ℕ) (line now : Line)
+    → IsRising 0 state.last_port state.ports → Some next ≡ next_called all after state
+    → IsRisingList line.aside.writes → now ≡ called_upto all state after line
+    → brought (Write next) now ≡ called_upto all state next line
+called-more all state after next line now rising found numbers is =
+    let test = is_called all state.under_way in
     ap (brought (Write next)) is
-    ∙ brought-next (upto (is_child_owed state.under_way) state.ports after) (upto (is_child_owed state.under_way) state.ports next) next line
-    (next-step (is_child_owed state.under_way) 0 state.last_port after next state.ports (child-next state after next rising found)) numbers
+    ∙ brought-next (upto test state.ports after) (upto test state.ports next) next line
+    (next-step test 0 state.last_port after next state.ports (called-next all state after next rising found)) numbers
 
-pub child-all : (state : State) (after : ℕ) (line : Line) → IsRising 0 state.last_port state.ports
-    → None ≡ next_child_owed after state → IsStirred state None false line
-    → child_upto state after line ≡ called_all state line
-child-all state after line rising none stirred =
-    called_by-alike (upto (is_child_owed state.under_way) state.ports after) (λ port. is_servable state (Write port)) line
+pub called-rest : (all : Bool) (state : State) (after : ℕ) (line : Line) → IsRising 0 state.last_port state.ports
+    → None ≡ next_called all after state → IsStirred state None all line
+    → called_upto all state after line ≡ called_all state line
+called-rest all state after line rising none stirred =
+    let test = is_called all state.under_way in
+    called_by-alike (upto test state.ports after) (λ port. is_servable state (Write port)) line
     (λ port there.
-    upto-all (is_child_owed state.under_way) state.last_port after port state.ports rising
-    (sym (none ∙ child-by after state.ports state.under_way))
-    ∙ child-passes (find_port port state.ports) state.under_way (λ owes. stirred (Write port) (aside-write line.aside port ∙ there) owes))
-    ∙ called_by-all state false line stirred
+    upto-all test state.last_port after port state.ports rising (sym (none ∙ called-by all after state))
+    ∙ called-passes all (find_port port state.ports) state.under_way
+    (λ owes. stirred (Write port) (aside-write line.aside port ∙ there) owes))
+    ∙ called_by-all state all line stirred
 
 -- ---- the event's own port
 

@@ -1,5 +1,5 @@
--- A whole run of the loop (ours): both listeners are bound, the clients' first, and then the calls come as InTurn.antt
--- says. Read from the end.
+-- A whole run of the loop (ours): both listeners are bound, the clients' first, and then the calls come as
+-- LegalJournal.antt of loop_model says. Read from the end.
 use Rattle.std.specs.Prelude.{◌≡◌, ℕ, Bool, true, false, List, [], ◌∷◌, ◌++◌, Option, Some, None, Result, Ok, Err, ◌==◌, ◌&&◌, not, codes, option_and_then, option_map}
 use Rattle.std.specs.Str.{bytes_eq}
 use Rattle.world_ports.specs.Journal.{Grows}

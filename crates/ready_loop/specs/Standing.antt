@@ -1,6 +1,7 @@
 -- What holds of a line in storage, so that the front of its queue and its own port are all that a turn looks at (ours).
 use Rattle.std.specs.Prelude.{◌≡◌, ℕ, Bool, true, false, List, [], ◌∷◌, Option, Some, None, ◌==◌, ◌||◌, not, if◌then◌else◌}
-use Rattle.agent_model.specs.State.{State, find_port}
+use Rattle.agent_model.specs.State.{State, find_port, next_owed}
+use Rattle.agent_core.specs.Owing.{next_child_owed}
 use Rattle.loop_model.specs.Elsewhere.{is_clients}
 use Rattle.loop_model.specs.Servable.{is_servable}
 use Rattle.loop_model.specs.Things.{same_thing, set_of}
@@ -51,3 +52,8 @@ may_stir state own all (Write port) =
 abbrev pub IsStirred : State → Option ℕ → Bool → Line → Type 0
 IsStirred state own all line = (thing : Thing) → set_of (things_aside line.aside) thing ≡ true
     → is_servable state thing ≡ true → may_stir state own all thing ≡ true
+
+-- the port of the least number above this one that is owed bytes: with `all` any, and otherwise a child process's
+abbrev pub next_called : Bool → ℕ → State → Option ℕ
+next_called true after state = next_owed after state
+next_called false after state = next_child_owed after state

@@ -1,11 +1,12 @@
 // What is ready, in the order in which it is served.
 ghost use Rattle.std.specs.Prelude.{◌≡◌, ◌||◌, None, OnOk, Some, false, length, nat_lt, true};
+ghost use Rattle.agent_model.specs.Sound.{IsRising};
 ghost use Rattle.agent_model.specs.State.{State, is_client};
 ghost use Rattle.lists.specs.Rising.{IsRisingList};
 ghost use Rattle.loop_model.specs.declared.thing.Thing.TheVariants.{Accept, Read, Write};
 ghost use Rattle.loop_model.specs.Lines.{brought, called, called_all, called_own, empty_line, hot_of, queued, queued_all, queued_by, queued_if, queued_port, recalled, sent_back, settled, without, without_port};
 ghost use Rattle.loop_model.specs.Queues.{dropped, first_servable};
-ghost use Rattle.ready_loop.specs.Standing.{IsFront, IsStirred, front_but, stuck_front};
+ghost use Rattle.ready_loop.specs.Standing.{IsFront, IsStirred, front_but, next_called, stuck_front};
 
 use crate::Core;
 use crate::aside::Aside;
@@ -148,11 +149,7 @@ impl Queue {
         ensures { OnOk result (self.new ≡ recalled (A.state agent.now) own self.old) }
     {
         self.call_own(agent, own)?;
-        if all {
-            self.call_owed(agent)
-        } else {
-            self.call_children(agent)
-        }
+        self.call_writes(agent, all)
     }
 }
 
@@ -288,36 +285,33 @@ impl Queue {
         self.aside.has_writes()
     }
 
-    // Every port that is owed bytes comes back where it was set aside.
-    fn call_owed<A: Core>(&mut self, agent: &A) -> Result<(), AllocError>
-        requires { IsStirred (A.state agent.now) None true self.old }
+    // Every port that is owed bytes comes back where it was set aside: with `all` any, otherwise those of child processes
+    // alone.
+    fn call_writes<A: Core>(&mut self, agent: &A, all: bool) -> Result<(), AllocError>
+        requires { IsStirred (A.state agent.now) None all self.old }
         ensures { OnOk result (self.new ≡ called_all (A.state agent.now) self.old) }
     {
         if !self.has_writes() {
             return Ok(());
         }
         let mut after = 0;
-        'ports: while let Some(port) = agent.next_owed(after) {
+        'ports: while let Some(port) = next_owed(agent, after, all) {
             self.bring(Thing::Write(port))?;
             after = port;
         }
         Ok(())
     }
+}
 
-    // Every child process that is owed bytes comes back where it was set aside.
-    fn call_children<A: Core>(&mut self, agent: &A) -> Result<(), AllocError>
-        requires { IsStirred (A.state agent.now) None false self.old }
-        ensures { OnOk result (self.new ≡ called_all (A.state agent.now) self.old) }
-    {
-        if !self.has_writes() {
-            return Ok(());
-        }
-        let mut after = 0;
-        'ports: while let Some(port) = agent.next_child_owed(after) {
-            self.bring(Thing::Write(port))?;
-            after = port;
-        }
-        Ok(())
+// The open port of the least number above `after` that is owed bytes: with `all` any, otherwise a child process's.
+fn next_owed<A: Core>(agent: &A, after: u64, all: bool) -> Option<u64>
+    ensures next { result ≡ next_called all after (A.state agent.now) }
+    ensures rising { IsRising 0 (A.state agent.now).last_port (A.state agent.now).ports }
+{
+    if all {
+        agent.next_owed(after)
+    } else {
+        agent.next_child_owed(after)
     }
 }
 

@@ -7,11 +7,9 @@ use Rattle.world_ports.specs.declared.answers.Got.TheVariants as got
 use Rattle.world_ports.specs.declared.answers.WorldFault.{WorldFault}
 use Rattle.world_ports.specs.declared.answers.WorldFault.TheVariants.{Failed, Memory}
 use Rattle.world_ports.specs.declared.entry.Entry.TheVariants as entry
-use Rattle.agent_model.specs.Events.{Ended, Heard}
-use Rattle.loop_model.specs.Dues.{Free, NowFor}
+use Rattle.loop_model.specs.Dues.{Free}
 use Rattle.loop_model.specs.declared.thing.Thing.TheVariants.{Read}
 use Rattle.loop_model.specs.LegalJournal.{in_state, led}
-use Rattle.loop_model.specs.Lines.{settled, without}
 use Rattle.ready_loop.proofs.CallLemmas as calls
 use Rattle.ready_loop.proofs.TurningLemmas.{serves_then, stops_short, told_at}
 use Rattle.ready_loop.proofs.RoomLemmas.{wiped_again}
