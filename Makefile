@@ -46,18 +46,19 @@ check:
 bench: $(PROGRAMS:%=bin/%)
 	bench/run
 
-# Agent and helpers can be run and not be read: their user's other programs can't trace them then, where root installs.
+# A person types `mortarleek`; the programs that it starts stand in a folder of their own. Agent and helpers can be run
+# and not be read: their user's other programs can't trace them then, where root installs.
 BIN := $(DESTDIR)$(PREFIX)/bin
 LIBEXEC := $(DESTDIR)$(PREFIX)/libexec/mortarleek
 SHARE := $(DESTDIR)$(PREFIX)/share
 UNITS := $(DESTDIR)$(PREFIX)/lib/systemd/user
 COMPLETIONS := $(SHARE)/bash-completion/completions $(SHARE)/zsh/site-functions $(SHARE)/fish/vendor_completions.d
 HELPERS := mortarleek-helper standin_helper confirm_relay add_tool
-SCRIPTS := mortarleek-agent mortarleek-add
+SCRIPTS := $(notdir $(wildcard scripts/mortarleek scripts/mortarleek-*))
 
 install: $(INSTALLED:%=bin/%)
 	install -d $(BIN) $(LIBEXEC) $(SHARE)/man/man1 $(SHARE)/man/man8 $(COMPLETIONS) $(UNITS)
-	$(if $(INSTALLED),install -m 711 $(INSTALLED:%=bin/%) $(BIN))
+	$(if $(INSTALLED),install -m 711 $(INSTALLED:%=bin/%) $(LIBEXEC))
 	install -m 755 $(SCRIPTS:%=scripts/%) $(BIN)
 	for name in $(HELPERS); do \
 	    if [ -x bin/$$name ]; then install -m 711 bin/$$name $(LIBEXEC) || exit 1; fi; \
@@ -73,7 +74,7 @@ install: $(INSTALLED:%=bin/%)
 	chmod 644 $(UNITS)/mortarleek-agent.service
 
 uninstall:
-	rm -f $(INSTALLED:%=$(BIN)/%) $(SCRIPTS:%=$(BIN)/%) $(HELPERS:%=$(LIBEXEC)/%)
+	rm -f $(SCRIPTS:%=$(BIN)/%) $(INSTALLED:%=$(LIBEXEC)/%) $(HELPERS:%=$(LIBEXEC)/%)
 	rm -f $(patsubst man/%,$(SHARE)/man/man1/%,$(wildcard man/*.1))
 	rm -f $(patsubst man/%,$(SHARE)/man/man8/%,$(wildcard man/*.8))
 	rm -f $(SCRIPTS:%=$(SHARE)/bash-completion/completions/%)

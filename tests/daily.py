@@ -10,6 +10,7 @@ import pathlib
 import re
 import shutil
 import signal
+import stat
 import struct
 import subprocess
 import sys
@@ -19,120 +20,19 @@ sys.dont_write_bytecode = True
 TOP = pathlib.Path(__file__).resolve().parents[1]
 
 import rig
+import words
 from hosts import Hosts
+from installed import PROGRAM, Installed, Keys, agent_of, both, check, keygen, plain
 from rig import Skip, children, is_alive, openssh_agent, run, until, zombies
 
-check = rig.Checks("daily")
-PROGRAM = rig.agent_program()
 NOBODY = 65534
-
-
-# Fixtures.
-
-
-class Installed:
-    """The programs as `make install` lays them, in a folder of the test's."""
-
-    def __init__(self, folder, helper=True, tool=True):
-        self.prefix = folder / "prefix"
-        bin, libexec = self.prefix / "bin", self.prefix / "libexec/mortarleek"
-        bin.mkdir(parents=True)
-        libexec.mkdir(parents=True)
-        for script in ("mortarleek-agent", "mortarleek-add"):
-            shutil.copy(TOP / "scripts" / script, bin)
-        shutil.copy(PROGRAM, bin / "agent_prog")
-        for name in ("mortarleek-helper", "standin_helper", "confirm_relay"):
-            if not helper and name == "mortarleek-helper":
-                continue
-            if (rig.BUILT / name).exists():
-                shutil.copy(rig.BUILT / name, libexec)
-        if tool:
-            shutil.copy(rig.built("add_tool"), libexec)
-        if helper and not (libexec / "mortarleek-helper").exists():
-            raise Skip("bin/mortarleek-helper isn't built: make helper")
-        self.agent, self.add = bin / "mortarleek-agent", bin / "mortarleek-add"
-        self.temporary = folder / "temporary"
-        self.temporary.mkdir()
-        self.environment = {
-            "PATH": os.environ["PATH"],
-            "TMPDIR": str(self.temporary),
-            "HOME": str(folder),
-            "SHELL": "/bin/sh",
-        }
-
-    def start(self, *words, environment={}, **more):
-        """A daemon, by the lines that it prints for the shell; the variables that these set."""
-        said = run([self.agent, *words], env=dict(self.environment, **environment), **more)
-        script = f'{said}\nprintf \'%s\\n\' "$SSH_AUTH_SOCK" "$SSH_AGENT_PID"'
-        _, path, pid = run(["sh", "-c", script]).splitlines()
-        return Daemon(self, path, int(pid))
-
-    def folders(self):
-        return sorted(self.temporary.iterdir())
-
-
-class Daemon:
-    def __init__(self, installed, path, pid):
-        self.installed, self.path, self.pid = installed, path, pid
-        self.environment = dict(installed.environment, SSH_AUTH_SOCK=path, SSH_AGENT_PID=str(pid))
-
-    def __enter__(self):
-        return self
-
-    def __exit__(self, *_):
-        if is_alive(self.pid):
-            self.signal(signal.SIGTERM)
-
-    def run(self, *words, status=0, **more):
-        return run(words, status, env=dict(self.environment, **more.pop("environment", {})), **more)
-
-    def agents(self):
-        """The numbers of the guard and of the agent."""
-        return [self.pid, *children(self.pid)]
-
-    def signal(self, number):
-        """Sends the guard a signal, and waits until all that belongs to it has ended."""
-        pids = self.agents()
-        os.kill(self.pid, number)
-        until(lambda: not any(map(is_alive, pids)), what="the end of the agent")
-
-
-def keygen(path, *words, passphrase="", comment=None, kind="ed25519"):
-    run(["ssh-keygen", "-q", "-t", kind, "-N", passphrase, "-C", comment or path.name, "-f", path, *words])
-    return path
-
-
-def plain(said):
-    """What is said, with numbers of processes and paths of sockets made equal."""
-    said = re.sub(r"\S*/(mortarleek|ssh)-\w+/agent\.\d+", "SOCKET", said)
-    return re.sub(r"(pid |_PID[= ]\"?)\d+", r"\1N", said)
-
-
-def both(installed, words, status=None, environment={}):
-    """What ours and ssh-agent print on the standard output, and their statuses, for the same words."""
-    answers = []
-    for program in (installed.agent, "ssh-agent"):
-        done = subprocess.run(
-            [program, *words],
-            capture_output=True,
-            text=True,
-            timeout=30,
-            env=dict(installed.environment, **environment),
-        )
-        for pid in re.findall(r"Agent pid (\d+);", done.stdout):
-            os.kill(int(pid), signal.SIGTERM)
-        answers.append((plain(done.stdout), done.returncode))
-    assert answers[0] == answers[1], f"ours {answers[0]}, ssh-agent {answers[1]}"
-    assert status is None or answers[0][1] == status, answers[0]
-    return answers[0][0]
-
 
 # The words.
 
 
 @check
 def the_scripts_are_plain_sh(folder):
-    scripts = [TOP / "scripts/mortarleek-agent", TOP / "scripts/mortarleek-add"]
+    scripts = sorted((TOP / "scripts").glob("mortarleek*"))
     run(["shellcheck", "-s", "sh", *scripts])
     for script in scripts:
         run(["dash", "-n", script])
@@ -176,9 +76,9 @@ def words_that_ssh_agent_refuses_are_refused(folder):
 @check
 def what_isn_t_there_is_refused_with_a_line(folder):
     installed = Installed(folder)
-    for words in (["-E", "md5"], ["-P", "/usr/lib/*"], ["-O", "no-restrict-websafe"], ["-t", "99999999999w"]):
+    for words in (["-E", "md5"], ["-a", "/tmp/a/"], ["-a", "/"]):
         said = run([installed.agent, *words], 1, env=installed.environment)
-        assert said.startswith("mortarleek"), said
+        assert said.startswith("mortarleek-agent: ") and said.count("\n") == 1, said
     assert installed.folders() == []
 
 
@@ -229,6 +129,7 @@ def a_command_s_end_is_seen_where_the_kernel_doesn_t_tell(folder):
         "ps",
         "tr",
         "wc",
+        "timeout",
         "ln",
         "mkdir",
         "rmdir",
@@ -303,7 +204,7 @@ def the_agent_gets_a_clean_environment_and_no_core(folder):
         "DBUS_SESSION_BUS_ADDRESS": "unix:path=/d",
     }
     with installed.start(environment=dict(kept, SECRET="s", LD_LIBRARY_PATH="/l", SSH_AUTH_SOCK="/other")) as daemon:
-        (agent,) = children(daemon.pid)
+        agent = agent_of(daemon.pid)
         found = dict(
             entry.split("=", 1)
             for entry in pathlib.Path(f"/proc/{agent}/environ").read_bytes().decode().rstrip("\0").split("\0")
@@ -318,8 +219,8 @@ def the_agent_gets_a_clean_environment_and_no_core(folder):
 def words_reach_the_agent(folder):
     installed = Installed(folder)
     asker = rig.script(folder / "ask me", 'printf "%s|%s\\n" "$1" "$SSH_ASKPASS_PROMPT" > "${0%/*}/asked"')
-    with installed.start("-t", "90m", environment={"SSH_ASKPASS": str(asker)}) as daemon:
-        (agent,) = children(daemon.pid)
+    with installed.start("-t", "90m", environment={"SSH_ASKPASS": str(asker), "SSH_ASKPASS_REQUIRE": "force"}) as daemon:
+        agent = agent_of(daemon.pid)
         words = pathlib.Path(f"/proc/{agent}/cmdline").read_text().rstrip("\0").split("\0")
         words = words[words.index("serve") :]
         assert words[:4] == ["serve", "-a", daemon.path, "--helper"] and words[-2:] == ["-t", "90m"], words
@@ -401,7 +302,7 @@ def what_root_installed_is_closed_to_its_user(folder):
     folder.chmod(0o755)
     installed = Installed(folder)
     installed.temporary.chmod(0o1777)
-    for program in (installed.prefix / "bin/agent_prog", *(installed.prefix / "libexec/mortarleek").iterdir()):
+    for program in (installed.prefix / "libexec/mortarleek").iterdir():
         program.chmod(0o711)
     # A shell between, since setpriv itself could still read every file when it starts a program.
     other = ["setpriv", f"--reuid={NOBODY}", f"--regid={NOBODY}", "--clear-groups", "sh", "-c", 'exec "$@"', "sh"]
@@ -411,7 +312,7 @@ def what_root_installed_is_closed_to_its_user(folder):
     environment = dict(installed.environment, SSH_AUTH_SOCK=path)
     run(["ssh-add", "-q", key], env=environment)
     run(["ssh-add", "-T", f"{key}.pub"], env=environment)
-    (agent,) = children(guard)
+    agent = agent_of(guard)
     (helper,) = children(agent)
     for pid in (agent, helper):
         # Its user is nobody, and yet its memory is root's to read.
@@ -457,7 +358,7 @@ def paths_with_odd_characters_work(folder):
             with installed.start(*words) as daemon:
                 assert daemon.path == words[1]
                 assert "no identities" in daemon.run("ssh-add", "-l", status=1)
-            until(lambda: list(odd.iterdir()) == [])
+            until(lambda: [place.name for place in odd.iterdir() if not place.name.endswith(".lock")] == [])
         if csh := shutil.which("tcsh"):
             said = run([installed.agent, "-c"], env=dict(installed.environment, TMPDIR=str(odd)))
             run_by_csh = said + "printenv SSH_AUTH_SOCK\n"
@@ -525,7 +426,8 @@ def a_stopped_agent_is_a_live_one(folder):
     installed = Installed(folder)
     path = folder / "s"
     with installed.start("-a", path) as daemon:
-        stopped = [pid for agent in children(daemon.pid) for pid in (agent, *children(agent))]
+        agent = agent_of(daemon.pid)
+        stopped = [agent, *children(agent)]
         for pid in stopped:
             os.kill(pid, signal.SIGSTOP)
         assert "in use" in run([installed.agent, "-a", str(path)], 1, env=installed.environment)
@@ -588,7 +490,7 @@ def signals_end_it_and_leave_nothing(folder):
 def a_stopped_agent_ends_too(folder):
     installed = Installed(folder)
     daemon = installed.start()
-    os.kill(children(daemon.pid)[0], signal.SIGSTOP)
+    os.kill(agent_of(daemon.pid), signal.SIGSTOP)
     daemon.signal(signal.SIGTERM)
     assert installed.folders() == []
 
@@ -652,7 +554,8 @@ def of_twenty_starts_at_one_path_one_has_it(folder):
         assert "no identities" in run(["ssh-add", "-l"], 1, env=dict(installed.environment, SSH_AUTH_SOCK=str(path)))
         os.kill(int(re.search(r"pid (\d+);", won[0])[1]), signal.SIGTERM)
         until(lambda: not path.exists(), what="the removal of the socket")
-        assert not (folder / "s.lock").exists()
+        lock = os.lstat(folder / "s.lock")
+        assert stat.S_ISREG(lock.st_mode) and lock.st_mode & 0o777 == 0o600 and lock.st_size == 0
 
 
 @check
@@ -661,7 +564,7 @@ def confirmations_leave_no_process_behind(folder):
     installed = Installed(folder)
     asker = rig.script(folder / "ask", f'echo "$1" >> {folder}/asked; exit "$(cat {folder}/status)"')
     key = keygen(folder / "key")
-    with installed.start(environment={"SSH_ASKPASS": str(asker)}) as daemon:
+    with installed.start(environment={"SSH_ASKPASS": str(asker), "SSH_ASKPASS_REQUIRE": "force"}) as daemon:
         daemon.run("ssh-add", "-q", "-c", key)
         for number in range(50):
             denied = number % 5 == 4
@@ -669,7 +572,7 @@ def confirmations_leave_no_process_behind(folder):
             daemon.run("ssh-add", "-T", f"{key}.pub", status=1 if denied else 0)
         asked = (folder / "asked").read_text()
         assert asked.count("Allow use of key") == 50 and run(["ssh-keygen", "-lf", f"{key}.pub"]).split()[1] in asked
-        (agent,) = children(daemon.pid)
+        agent = agent_of(daemon.pid)
         assert len(children(agent)) <= 2 and zombies(agent) <= 17, (children(agent), zombies(agent))
 
 
@@ -815,25 +718,6 @@ def the_helper_for_tests_signs_and_verifies(folder):
 
 
 # mortarleek-add.
-
-
-class Keys:
-    """A home with keys of each kind, and an agent of each side."""
-
-    def __init__(self, folder):
-        self.home = folder / "home"
-        (self.home / ".ssh").mkdir(parents=True, mode=0o700)
-        ssh = self.home / ".ssh"
-        for kind in ("rsa", "ecdsa", "ed25519"):
-            keygen(ssh / f"id_{kind}", kind=kind, comment=f"{kind} of home")
-        authority = keygen(folder / "authority")
-        self.certified = keygen(folder / "certified", comment="with a certificate")
-        run(["ssh-keygen", "-q", "-s", authority, "-I", "me", "-n", "root", f"{self.certified}.pub"])
-        self.plain = keygen(folder / "plain key")
-        self.locked = keygen(folder / "locked", passphrase="secret")
-        self.old = keygen(folder / "old", "-m", "PEM", kind="rsa")
-        self.asker = rig.script(folder / "secret", "echo secret")
-        self.defaults = [ssh / f"id_{kind}" for kind in ("rsa", "ecdsa", "ed25519")]
 
 
 @check
@@ -993,6 +877,7 @@ def typed_at(words, lines, environment, status):
 def manuals_are_clean_and_name_every_option(folder):
     pages = sorted((TOP / "man").iterdir())
     assert {page.name for page in pages} >= {
+        "mortarleek.1",
         "mortarleek-agent.1",
         "mortarleek-add.1",
         "agent_prog.1",
@@ -1012,10 +897,10 @@ def manuals_are_clean_and_name_every_option(folder):
         run(["mandoc", "-T", "ascii", TOP / "man" / name]) for name in ("mortarleek-agent.1", "mortarleek-add.1")
     )
     text = re.sub(".\b", "", agent)
-    for option in "acDdEkOPst":
+    for option in "acDdEkOPsTtUu":
         assert f"-{option}" in text, option
     text = re.sub(".\b", "", add)
-    for option in "cDdHhklLqtTXx":
+    for option in "CcDdEeHhKklLMmNqSsTtvXx":
         assert f"-{option}" in text, option
 
 
@@ -1064,30 +949,40 @@ def what_is_installed_works_and_is_taken_away_again(folder):
     run([*make, f"INSTALLED={' '.join(agents)}", "-o", "bin/agent_prog", "install"])
     found = {str(file.relative_to(target / "usr")): file for file in target.rglob("*") if file.is_file()}
     for name in (
-        *(f"bin/{name}" for name in agents),
+        *(f"libexec/mortarleek/{name}" for name in agents),
+        "bin/mortarleek",
         "bin/mortarleek-agent",
         "bin/mortarleek-add",
+        "share/man/man1/mortarleek.1",
         "share/man/man1/mortarleek-agent.1",
         "share/man/man1/mortarleek-add.1",
         "share/man/man1/agent_prog.1",
         "share/man/man8/mortarleek-helper.8",
+        "share/bash-completion/completions/mortarleek",
         "share/bash-completion/completions/mortarleek-agent",
         "share/zsh/site-functions/_mortarleek",
         "share/fish/vendor_completions.d/mortarleek-agent.fish",
         "lib/systemd/user/mortarleek-agent.service",
     ):
         assert name in found, (name, sorted(found))
-    for name in ("bin/agent_prog", "libexec/mortarleek/mortarleek-helper"):
+    assert not [name for name in found if name.startswith("bin/") and "mortarleek" not in name], sorted(found)
+    for name in ("libexec/mortarleek/agent_prog", "libexec/mortarleek/mortarleek-helper"):
         if name in found:
             assert found[name].stat().st_mode & 0o7777 == 0o711, name
     assert found["bin/mortarleek-agent"].stat().st_mode & 0o7777 == 0o755
     assert "ExecStart=/usr/bin/mortarleek-agent" in found["lib/systemd/user/mortarleek-agent.service"].read_text()
     if "libexec/mortarleek/mortarleek-helper" in found:
         said = run(
-            [target / "usr/bin/mortarleek-agent", "sh", "-c", "ssh-add -l || :"],
+            [target / "usr/bin/mortarleek", "agent", "sh", "-c", "ssh-add -l || :"],
             env={"PATH": os.environ["PATH"], "TMPDIR": str(folder)},
         )
         assert "no identities" in said
+        schedule = (TOP / "examples/demo.schedule").read_text()
+        replayed = run([target / "usr/bin/mortarleek", "replay"], input=schedule)
+        assert replayed == run([rig.BUILT / "agent_prog", "replay"], input=schedule) and replayed.endswith("end\n")
+        assert run([target / "usr/bin/mortarleek", "serve"], 2).startswith("mortarleek: ")
+    for words in ([], ["nothing"], ["../mortarleek"]):
+        assert run([target / "usr/bin/mortarleek", *words], 1).startswith("usage: mortarleek agent")
     run([*make, "uninstall"])
     assert not (target / "usr/libexec/mortarleek").exists()
     assert [file for file in target.rglob("*") if file.is_file()] == []

@@ -1,26 +1,48 @@
-# Completions of fish for mortarleek-agent and mortarleek-add.
+# Completions of fish for mortarleek, mortarleek-agent and mortarleek-add.
 
-complete -c mortarleek-agent -l stand-in -d 'Start the helper for tests'
-complete -c mortarleek-agent -s a -r -F -d 'Listen at this path'
-complete -c mortarleek-agent -s c -d 'Print lines for csh'
-complete -c mortarleek-agent -s D -d 'Stay in front'
-complete -c mortarleek-agent -s d -d 'Stay in front, and tell what is done'
-complete -c mortarleek-agent -s k -d 'End the agent of SSH_AGENT_PID'
-complete -c mortarleek-agent -s s -d 'Print lines for Bourne shells'
-complete -c mortarleek-agent -s t -x -a '30m 1h 8h 1d' -d 'Forget keys after this time'
+complete -c mortarleek -f -n __fish_use_subcommand -a add -d 'Add, list and remove keys'
+complete -c mortarleek -f -n __fish_use_subcommand -a agent -d 'Start or end an agent'
+complete -c mortarleek -f -n __fish_use_subcommand -a replay -d 'Run the agent over a schedule'
+complete -c mortarleek -f -n __fish_use_subcommand -a serve -d 'Run the agent itself at a socket'
 
-complete -c mortarleek-add -s c -d 'Ask the user before each use'
-complete -c mortarleek-add -s D -d 'Remove all keys'
-complete -c mortarleek-add -s d -d 'Remove keys'
-complete -c mortarleek-add -s E -x -a 'md5 sha256' -d 'Hash of fingerprints, by ssh-add'
-complete -c mortarleek-add -s H -r -F -d 'File of known hosts'
-complete -c mortarleek-add -s h -x -a '(__fish_print_hostnames)' -d 'Only towards this destination'
-complete -c mortarleek-add -s k -d 'Leave certificates aside'
-complete -c mortarleek-add -s L -d 'List public keys'
-complete -c mortarleek-add -s l -d 'List fingerprints'
-complete -c mortarleek-add -s q -d 'Say nothing where all goes well'
-complete -c mortarleek-add -s T -r -F -d 'Try the keys, by ssh-add'
-complete -c mortarleek-add -s t -x -a '30m 1h 8h 1d' -d 'Forget the key after this time'
-complete -c mortarleek-add -s v -d 'Does nothing'
-complete -c mortarleek-add -s X -d 'Unlock the agent'
-complete -c mortarleek-add -s x -d 'Lock the agent'
+# `mortarleek agent` and `mortarleek add` take the same words as the programs of these names.
+function __mortarleek_agent
+    complete $argv -l stand-in -d 'Start the helper for tests'
+    complete $argv -s a -r -F -d 'Listen at this path'
+    complete $argv -s c -d 'Print lines for csh'
+    complete $argv -s D -d 'Stay in front'
+    complete $argv -s d -d 'Stay in front, and tell what is done'
+    complete $argv -s E -x -a sha256 -d 'Hash of fingerprints'
+    complete $argv -s k -d 'End the agent of SSH_AGENT_PID'
+    complete $argv -s O -x -a 'allow-remote-pkcs11 no-restrict-websafe' -d 'Option that asks for nothing here'
+    complete $argv -s P -x -d 'Patterns of providers, none of which is ever loaded'
+    complete $argv -s s -d 'Print lines for Bourne shells'
+    complete $argv -s T -d 'Make the folder in TMPDIR'
+    complete $argv -s t -x -a '30m 1h 8h 1d' -d 'Forget keys after this time'
+    complete $argv -s U -d 'Leave folders of killed agents'
+    complete $argv -s u -d 'Remove folders of killed agents, and start none'
+end
+
+function __mortarleek_add
+    complete $argv -s c -d 'Ask the user before each use'
+    complete $argv -s D -d 'Remove all keys'
+    complete $argv -s d -d 'Remove keys'
+    complete $argv -s E -x -a 'md5 sha256' -d 'Hash of fingerprints, by ssh-add'
+    complete $argv -s H -r -F -d 'File of known hosts'
+    complete $argv -s h -x -a '(__fish_print_hostnames)' -d 'Only towards this destination'
+    complete $argv -s k -d 'Leave certificates aside'
+    complete $argv -s L -d 'List public keys'
+    complete $argv -s l -d 'List fingerprints'
+    complete $argv -s N -d 'Give certificates no end of their own'
+    complete $argv -s q -d 'Say nothing where all goes well'
+    complete $argv -s T -d 'Try the keys, by ssh-add'
+    complete $argv -s t -x -a '30m 1h 8h 1d' -d 'Forget the key after this time'
+    complete $argv -s v -d 'Tell what happens to each file'
+    complete $argv -s X -d 'Unlock the agent'
+    complete $argv -s x -d 'Lock the agent'
+end
+
+__mortarleek_agent -c mortarleek-agent
+__mortarleek_agent -c mortarleek -n '__fish_seen_subcommand_from agent'
+__mortarleek_add -c mortarleek-add
+__mortarleek_add -c mortarleek -n '__fish_seen_subcommand_from add'

@@ -1,0 +1,136 @@
+"""What the checks of the front ends share: the programs as they are installed, a daemon of them, keys in a home, and
+what OpenSSH's own tools answer to the same words."""
+
+import os
+import re
+import shutil
+import signal
+import subprocess
+
+import rig
+from rig import Skip, children, is_alive, run, until
+
+check = rig.Checks("daily")
+PROGRAM = rig.agent_program()
+
+
+class Installed:
+    """The programs as `make install` lays them, in a folder of the test's."""
+
+    def __init__(self, folder, helper=True, tool=True):
+        self.prefix = folder / "prefix"
+        bin, libexec = self.prefix / "bin", self.prefix / "libexec/mortarleek"
+        bin.mkdir(parents=True)
+        libexec.mkdir(parents=True)
+        for script in ("mortarleek", "mortarleek-agent", "mortarleek-add"):
+            shutil.copy(rig.TOP / "scripts" / script, bin)
+        shutil.copy(PROGRAM, libexec / "agent_prog")
+        for name in ("mortarleek-helper", "standin_helper", "confirm_relay"):
+            if not helper and name == "mortarleek-helper":
+                continue
+            if (rig.BUILT / name).exists():
+                shutil.copy(rig.BUILT / name, libexec)
+        if tool:
+            shutil.copy(rig.built("add_tool"), libexec)
+        if helper and not (libexec / "mortarleek-helper").exists():
+            raise Skip("bin/mortarleek-helper isn't built: make helper")
+        self.agent, self.add = bin / "mortarleek-agent", bin / "mortarleek-add"
+        self.temporary = folder / "temporary"
+        self.temporary.mkdir()
+        self.environment = {
+            "PATH": os.environ["PATH"],
+            "TMPDIR": str(self.temporary),
+            "HOME": str(folder),
+            "SHELL": "/bin/sh",
+        }
+
+    def start(self, *words, environment={}, **more):
+        """A daemon, by the lines that it prints for the shell; the variables that these set."""
+        said = run([self.agent, *words], env=dict(self.environment, **environment), **more)
+        script = f'{said}\nprintf \'%s\\n\' "$SSH_AUTH_SOCK" "$SSH_AGENT_PID"'
+        _, path, pid = run(["sh", "-c", script]).splitlines()
+        return Daemon(self, path, int(pid))
+
+    def folders(self):
+        return sorted(self.temporary.iterdir())
+
+
+class Daemon:
+    def __init__(self, installed, path, pid):
+        self.installed, self.path, self.pid = installed, path, pid
+        self.environment = dict(installed.environment, SSH_AUTH_SOCK=path, SSH_AGENT_PID=str(pid))
+
+    def __enter__(self):
+        return self
+
+    def __exit__(self, *_):
+        if is_alive(self.pid):
+            self.signal(signal.SIGTERM)
+
+    def run(self, *words, status=0, **more):
+        return run(words, status, env=dict(self.environment, **more.pop("environment", {})), **more)
+
+    def agents(self):
+        """The numbers of the guard and of the agent."""
+        return [self.pid, agent_of(self.pid)]
+
+    def signal(self, number):
+        """Sends the guard a signal, and waits until all that belongs to it has ended."""
+        pids = self.agents()
+        os.kill(self.pid, number)
+        until(lambda: not any(map(is_alive, pids)), what="the end of the agent")
+
+
+def agent_of(guard):
+    """The number of the agent: the guard has a child beside it that looks after the folder."""
+    (agent,) = (pid for pid in children(guard) if os.readlink(f"/proc/{pid}/exe").endswith("/agent_prog"))
+    return agent
+
+
+def keygen(path, *words, passphrase="", comment=None, kind="ed25519"):
+    run(["ssh-keygen", "-q", "-t", kind, "-N", passphrase, "-C", comment or path.name, "-f", path, *words])
+    return path
+
+
+def plain(said):
+    """What is said, with numbers of processes and paths of sockets made equal."""
+    said = re.sub(r"\S*/(mortarleek|ssh)-\w+/agent\.\d+", "SOCKET", said)
+    return re.sub(r"(pid |_PID[= ]\"?)\d+", r"\1N", said)
+
+
+def both(installed, words, status=None, environment={}):
+    """What ours and ssh-agent print on the standard output, and their statuses, for the same words."""
+    answers = []
+    for program in (installed.agent, "ssh-agent"):
+        done = subprocess.run(
+            [program, *words],
+            capture_output=True,
+            text=True,
+            timeout=30,
+            env=dict(installed.environment, **environment),
+        )
+        for pid in re.findall(r"Agent pid (\d+);", done.stdout):
+            os.kill(int(pid), signal.SIGTERM)
+        answers.append((plain(done.stdout), done.returncode))
+    assert answers[0] == answers[1], f"ours {answers[0]}, ssh-agent {answers[1]}"
+    assert status is None or answers[0][1] == status, answers[0]
+    return answers[0][0]
+
+
+class Keys:
+    """A home with keys of each kind, and an agent of each side."""
+
+    def __init__(self, folder):
+        self.home = folder / "home"
+        (self.home / ".ssh").mkdir(parents=True, mode=0o700)
+        ssh = self.home / ".ssh"
+        for kind in ("rsa", "ecdsa", "ed25519"):
+            keygen(ssh / f"id_{kind}", kind=kind, comment=f"{kind} of home")
+        authority = keygen(folder / "authority")
+        self.certified = keygen(folder / "certified", comment="with a certificate")
+        run(["ssh-keygen", "-q", "-s", authority, "-I", "me", "-n", "root", f"{self.certified}.pub"])
+        self.plain = keygen(folder / "plain key")
+        self.locked = keygen(folder / "locked", passphrase="secret")
+        self.old = keygen(folder / "old", "-m", "PEM", kind="rsa")
+        self.asker = rig.script(folder / "secret", "echo secret")
+        self.defaults = [ssh / f"id_{kind}" for kind in ("rsa", "ecdsa", "ed25519")]
