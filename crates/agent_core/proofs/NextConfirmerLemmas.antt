@@ -8,7 +8,7 @@ use Rattle.confirm_desk.specs.Confirmations.{Confirmation, find_job, find_linked
 use Rattle.agent_model.specs.Asking.{AreAttended, AreRaised}
 use Rattle.agent_model.specs.Sound.{IsRising}
 use Rattle.agent_model.specs.State.{Port, UnderWay, find_port, is_linked_to, is_some_bytes, next_owed_in, owed_as, owed_by_port, role_by_helper, role_by_link, role_of}
-use Rattle.agent_model.proofs.AttendedLemmas.{none_linked, some_port}
+use Rattle.agent_model.proofs.OpenLemmas.{none_linked, some_port}
 use Rattle.agent_model.proofs.JobLemmas.{IsIn, behind, here, in-by_port, in-found, linked_port}
 use Rattle.agent_model.proofs.PortsLemmas.{found_above, found_number}
 use Rattle.agent_core.proofs.LeastLemmas.{IsLeast, least-lesser, least-same, least-unique}

@@ -8,13 +8,12 @@ use Rattle.agent_model.specs.Actions.{Action, Outcome}
 use Rattle.agent_model.specs.Bindings.{bound_after, chain_of}
 use Rattle.agent_model.specs.Events.{Happening, Timed}
 use Rattle.agent_model.specs.Runs.{Stamped, history, run, stamped}
-use Rattle.agent_model.specs.Sound.{IsJudged, IsTied}
+use Rattle.agent_model.specs.Sound.{IsJudged, IsRising, IsTied}
 use Rattle.agent_model.specs.State.{Port, State, find_port, first_state}
 use Rattle.agent_model.specs.Step.{at_moment, join, step}
 use Rattle.agent_model.proofs.FatedLemmas.{first-tied, step-fated, tied-opened}
 use Rattle.agent_model.proofs.JudgedRunLemmas.{Adds, first-judged, step-judged}
 use Rattle.agent_model.proofs.PortsLemmas.{found_within}
-use Rattle.agent_model.specs.Sound.{IsRising}
 use Rattle.agent_model.proofs.MakeLemmas.{by_event}
 use Rattle.agent_model.proofs.NumberLemmas.{run-grows}
 use Rattle.agent_model.proofs.RunLemmas.{step-rises, step-unused}

@@ -14,7 +14,7 @@ use Rattle.agent_model.specs.Dispatch.{Served}
 use Rattle.agent_model.specs.Events.{Happening, Took}
 use Rattle.wire_text.specs.Bounds.{longest_body}
 use Rattle.agent_model.specs.Looks.{due, due_at, due_by}
-use Rattle.agent_model.specs.State.{Nothing, OnAsk, OnConfirmation, Port, State, UnderWay, Waits, change_port, find_port, is_some_bytes, owed_as, owed_by, owed_by_port, owed_of, remove_port, role_of, number_of}
+use Rattle.agent_model.specs.State.{Confirmer, Helper, Nothing, OnAsk, OnConfirmation, Port, Role, State, UnderWay, Waits, change_port, find_port, is_linked_to, is_some_bytes, number_of, owed_as, owed_by, owed_by_port, owed_of, remove_port, role_by_helper, role_by_link, role_of}
 use Rattle.agent_model.specs.Step.{asker_at, at_moment, attempts, looked, step, take_frame, took_at, took_by_role, took_some}
 use Rattle.agent_model.specs.Verdicts.{tell}
 use Rattle.agent_model.proofs.ClientLemmas.{handle-took, looked-bad, looked-stays, looked-whole, served_at}
@@ -25,7 +25,6 @@ use Rattle.agent_model.proofs.RunLemmas.{step_keeps-rising}
 use Rattle.agent_model.proofs.ServeLemmas.{serve-ends}
 use Rattle.agent_model.proofs.PortsLemmas.{rising-change_port}
 use Rattle.agent_model.specs.Sound.{IsRising, IsSteady}
-use Rattle.agent_model.specs.State.{Confirmer, Helper, Role, first_state, is_linked_to, role_by_helper, role_by_link}
 use Rattle.helper_link.specs.HelperLink.{sendable, sent}
 use Rattle.confirm_desk.specs.Confirmations.{Confirmation, find_linked, took}
 use Rattle.confirm_desk.specs.Confirmations as desk
@@ -399,6 +398,3 @@ step_keeps-steady state moment event steady = record {
   rising = step_keeps-rising state moment event steady.rising;
   order = (step-grows state moment event).order steady.order;
 }
-
-pub first_is_steady : (life : Option ℕ) → IsSteady (first_state life)
-first_is_steady life = record { rising = omega arith; order = omega arith }

@@ -7,11 +7,10 @@ use Rattle.agent_model.specs.Binds.{agent_request_of}
 use Rattle.agent_model.specs.Actions.{Outcome}
 use Rattle.agent_model.specs.Children.{changed, closed, heard_more}
 use Rattle.agent_model.specs.Dispatch.{Served, serve}
-use Rattle.agent_model.specs.Events.{Heard, Ended, Took}
+use Rattle.agent_model.specs.Events.{Heard, Took}
 use Rattle.agent_model.specs.Looks.{due, due_by}
-use Rattle.agent_model.specs.State.{Nothing, OnAsk, OnConfirmation, Port, State, Waits, change_port, find_port}
-use Rattle.agent_model.specs.Step.{asker_at, attempts, ended_by_role, handle, heard_at, heard_by_role, look_front, look_port, look_waits, looked, take_frame, took_at, took_by_role, took_some, ended_at}
-use Rattle.agent_model.specs.State.{Client, role_of}
+use Rattle.agent_model.specs.State.{Nothing, OnAsk, OnConfirmation, Port, State, Waits, change_port, find_port, role_of}
+use Rattle.agent_model.specs.Step.{asker_at, attempts, handle, heard_at, heard_by_role, look_front, look_port, look_waits, looked, take_frame, took_at, took_by_role, took_some}
 use Rattle.agent_model.specs.Verdicts.{tell}
 use Rattle.agent_model.proofs.PortsLemmas.{change_port-twice, found_number}
 
@@ -78,10 +77,3 @@ handle-took number count port state found is =
     ap (λ (o : Option Port). took_at o count state) found
     ∙ ap (λ (d : Door). took_by_role (role_of d port.number state.under_way) port.number count state) is
     ∙ ap (λ (n : ℕ). looked n (changed n (took_some count) state)) (found_number number state.ports port found)
-
--- a client ended
-pub handle-ended : (number : ℕ) (port : Port) (state : State) → find_port number state.ports ≡ Some port → port.door ≡ Clients → handle (Ended number) state ≡ ended_by_role Client number state
-handle-ended number port state found is =
-    ap (λ (o : Option Port). ended_at o state) found
-    ∙ ap (λ (d : Door). ended_by_role (role_of d port.number state.under_way) port.number state) is
-    ∙ ap (λ (n : ℕ). ended_by_role Client n state) (found_number number state.ports port found)

@@ -20,7 +20,7 @@ use Rattle.agent_model.specs.Sound.{IsTied}
 use Rattle.agent_model.specs.State.{Confirmer, Port, State, UnderWay, change_port, find_port, is_linked_to, role_by_helper, role_of}
 use Rattle.agent_model.specs.Step.{at_moment, handle, heard_at, heard_by_role, step}
 use Rattle.agent_model.specs.Verdicts.{NotConfirmed, Refuses, tell}
-use Rattle.agent_model.proofs.AttendedLemmas.{some_port}
+use Rattle.agent_model.proofs.OpenLemmas.{some_port}
 use Rattle.agent_model.proofs.BudgetLemmas.{confirmer_role}
 use Rattle.agent_model.proofs.FatedLemmas.{tied-opened}
 use Rattle.agent_model.proofs.JobLemmas.{in-by_port, in-found, linked-changed, linked_port}

@@ -23,7 +23,9 @@ pub mod FateLemmas
 pub mod RaisedLemmas
 pub mod WaitLemmas
 pub mod TiedLemmas
+pub mod FatedServeLemmas
 pub mod FatedLemmas
+pub mod OpenLemmas
 pub mod AttendedLemmas
 pub mod ConsentCutLemmas
 pub mod OnceLemmas

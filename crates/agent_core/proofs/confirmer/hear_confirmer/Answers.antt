@@ -6,7 +6,7 @@ use Rattle.confirm_desk.specs.declared.held.Held.{Held as CodeHeld}
 use Rattle.agent_model.specs.Consents.{consent_by}
 use Rattle.agent_model.specs.State.{State, find_port}
 use Rattle.agent_model.specs.Verdicts.{NotConfirmed, Refuses}
-use Rattle.agent_model.proofs.AttendedLemmas.{some_port}
+use Rattle.agent_model.proofs.OpenLemmas.{some_port}
 use Rattle.agent_model.proofs.JobLemmas.{linked_port}
 use Rattle.agent_core.specs.Confirmers.{IsHeldFor}
 use Rattle.agent_core.specs.Parts.{after, state_of}
