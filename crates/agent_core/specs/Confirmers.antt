@@ -13,18 +13,18 @@ use Rattle.under_way.specs.Parts.{TellsOf}
 
 -- ---- the second test
 
--- by what the key's destination constraints say by now
+-- the key of a consent, by what its destination constraints say by now
 abbrev pub granted_unless : Option Denial → HeldKey → Option HeldKey
 granted_unless (Some denial) key = None
 granted_unless None key = Some key
 
--- by whether the addition is held yet
+-- the key of a consent, by whether its addition is still held
 abbrev pub granted_with : Option HeldKey → List Binding → List ℕ → ℕ → Option HeldKey
 granted_with None chain message wall = None
 granted_with (Some key) chain message wall =
     granted_unless (denial_under key.rules key.blob chain message wall) key
 
--- by the lock
+-- the key of a consent, by whether the agent is locked by now
 abbrev pub granted_by : Option (List ℕ) → ℕ → List HeldKey → List Binding → List ℕ → ℕ → Option HeldKey
 granted_by (Some passphrase) addition keys chain message wall = None
 granted_by None addition keys chain message wall = granted_with (find_number addition keys) chain message wall

@@ -2,7 +2,7 @@
 use Rattle.std.specs.Prelude.{ℕ, Bool, true, false, List}
 use Rattle.lists.specs.Rising.{inserted, removed}
 
--- with this number or without it
+-- a list of numbers with this one or without it
 abbrev pub noted : Bool → ℕ → List ℕ → List ℕ
 noted true number numbers = inserted number numbers
 noted false number numbers = removed number numbers

@@ -61,7 +61,7 @@ IsShortAnswer answer.Refused = Unit {0}
 IsShortAnswer answer.True = Unit {0}
 IsShortAnswer answer.False = Unit {0}
 
--- each of these does
+-- each answer of these is short enough for a client's reply
 abbrev pub AreShortAnswers : List Settled → Type 0
 AreShortAnswers [] = Unit {0}
 AreShortAnswers (one ∷ later) = IsShortAnswer one.answer × AreShortAnswers later

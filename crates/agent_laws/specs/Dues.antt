@@ -21,7 +21,7 @@ abbrev pub proved_of : ℕ → List Stamped → List Binding
 proved_of port [] = []
 proved_of port (one ∷ before) = bound_by port one.action (proved_of port before)
 
--- without the first such number
+-- the numbers without the first that is this one
 abbrev pub without_number : ℕ → List ℕ → List ℕ
 without_number number [] = []
 without_number number (other ∷ others) =

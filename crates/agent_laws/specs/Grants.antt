@@ -26,25 +26,25 @@ pending_by job (Granted other) before = if other == job then None else before
 pending_by job (Over other) before = if other == job then None else before
 pending_by job Lost before = before
 
--- the same of actions, the oldest first
+-- what actions, the oldest first, leave of what the user is asked for by this job
 abbrev pub pending_after : ℕ → List Action → Option Raising → Option Raising
 pending_after job [] before = before
 pending_after job (action ∷ later) before = pending_after job later (pending_by job action before)
 
--- where nothing was before
+-- what actions, from the first state on, leave of what the user is asked for by this job
 abbrev pub pending : List Action → ℕ → Option Raising
 pending actions job = pending_after job actions None
 
 -- ---- what is noted of it
 
--- for whom, of which addition, and what is to be signed
+-- what a confirmation is for: whose, of which addition, and what is to be signed
 pub record Wanted : Type 0 where
   pub port : ℕ
   pub addition : ℕ
   pub message : List ℕ
   pub flags : ℕ
 
--- as it was raised
+-- what a confirmation is for, as it was raised
 abbrev pub wanted : Raising → Wanted
 wanted raising = record {
   port = raising.port;
@@ -53,12 +53,12 @@ wanted raising = record {
   flags = raising.signing.flags;
 }
 
--- as it waits
+-- what a confirmation is for, as it waits
 abbrev pub wanted_of : Confirmation → Wanted
 wanted_of one =
     record { port = one.asker; addition = one.addition; message = one.message; flags = one.flags }
 
--- that of this job
+-- what the confirmation of this job is for, where one waits
 abbrev pub noted : ℕ → List Confirmation → Option Wanted
 noted job confirmations = option_map wanted_of (find_job job confirmations)
 

@@ -93,7 +93,7 @@ abbrev pub NoneUnlocks : List Stamped → Type 0
 NoneUnlocks [] = Unit {0}
 NoneUnlocks (one ∷ later) = (done_of one.action ≢ DidUnlock) × NoneUnlocks later
 
--- no addition of this blob does
+-- no addition of this blob succeeds in these actions
 abbrev pub NoneAdds : List ℕ → List Stamped → Type 0
 NoneAdds blob [] = Unit {0}
 NoneAdds blob (one ∷ later) =

@@ -21,19 +21,19 @@ pub data Done : Type 0 where
   DidLock : Done
   DidUnlock : Done
 
--- by the reply
+-- what a request did, by its reply: one that lists or signs changed nothing
 abbrev pub done_by : Reply → Done → Done
 done_by Success done = done
 done_by (Identities identities) done = DidNothing
 done_by (Signature signature) done = DidNothing
 
--- only where it was answered so
+-- what a request did, by its verdict: one that wasn't answered with success did nothing
 abbrev pub done_if : Verdict → Done → Done
 done_if (Replies reply) done = done_by reply done
 done_if (Refuses cause) done = DidNothing
 done_if (Awaits waits) done = DidNothing
 
--- what such a request is for
+-- what a request with this verdict did to what is held
 abbrev pub done_of_request : Result ClientRequest MsgFault → Verdict → Done
 done_of_request (Err fault) verdict = DidNothing
 done_of_request (Ok ListIdentities) verdict = DidNothing
@@ -61,7 +61,7 @@ done_of Lost = DidNothing
 
 -- ---- the lock
 
--- behind something done
+-- whether the agent is locked behind something done, by whether it was before
 abbrev pub locked_by : Done → Bool → Bool
 locked_by DidNothing before = before
 locked_by (DidAdd addition) before = before
@@ -120,7 +120,7 @@ last_addition blob (one ∷ before) =
 abbrev pub is_alive : Option ℕ → ℕ → PastAddition → Bool
 is_alive life now past = lives_at now (death_of past.second past.addition.terms.life life)
 
--- it is held at this second
+-- the last addition of a blob, where its identity is held at this second
 abbrev pub held_by : Option PastAddition → Option ℕ → ℕ → Option PastAddition
 held_by None life now = None
 held_by (Some past) life now = if is_alive life now past then Some past else None

@@ -57,7 +57,7 @@ pub record Outcome : Type 0 where
   pub put : List ToChildMessage
   pub closes : List ℕ
 
--- nothing was done
+-- the outcome of doing nothing
 abbrev pub stay : State → Outcome
 stay state = record { state = state; actions = []; put = []; closes = [] }
 
@@ -65,7 +65,7 @@ stay state = record { state = state; actions = []; put = []; closes = [] }
 abbrev pub acted : List Action → State → Outcome
 acted actions state = record { state = state; actions = actions; put = []; closes = [] }
 
--- behind what was done before
+-- the outcome of something done behind something else, both in one event
 abbrev pub behind : Outcome → Outcome → Outcome
 behind first later = record {
   state = later.state;
@@ -88,7 +88,7 @@ pub record Stepped : Type 0 where
   pub state : State
   pub closes : List ℕ
 
--- of one with this outcome
+-- what the caller of the agent sees of an event with this outcome
 abbrev pub stepped : Outcome → Stepped
 stepped outcome = record { state = outcome.state; closes = outcome.closes }
 

@@ -25,7 +25,7 @@ ask_number one = one.ask
 abbrev pub find_verification : ℕ → List Verification → Option Verification
 find_verification ask all = find_by ask_number ask all
 
--- all but that of this ask
+-- the verifications but for the one that this ask is for
 abbrev pub remove_verification : ℕ → List Verification → List Verification
 remove_verification ask all = remove_by ask_number ask all
 
@@ -51,7 +51,7 @@ proved_at (Some port) verification =
 
 -- ---- answers
 
--- what answers change, and the actions
+-- what answers of the helper change: the ports, the verifications, and the actions so far
 pub record Answering : Type 0 where
   pub ports : List Port
   pub verifications : List Verification
@@ -75,7 +75,7 @@ answer_true (Some verification) one before = record {
       before.actions ++ Answered one ∷ proved_at (find_port one.asker before.ports) verification;
 }
 
--- by what the helper says
+-- what one answer of the helper changes
 abbrev pub answer_by : Answer → Settled → Answering → Answering
 answer_by (answer.Signed signature) one before =
     answer_asker (Replies (Signature signature)) one before
@@ -94,7 +94,7 @@ abbrev pub askers_of : List Settled → List ℕ
 askers_of [] = []
 askers_of (one ∷ later) = one.asker ∷ askers_of later
 
--- what answers change in a state
+-- what answers of the helper change in a state
 abbrev pub answers_in : List Settled → State → Answering
 answers_in settled state = answer_all settled
     (record { ports = state.ports; verifications = state.under_way.verifications; actions = [] })
@@ -114,13 +114,13 @@ tell_each verdict [] ports = ports
 tell_each verdict (number ∷ others) ports =
     tell_each verdict others (change_port number (tell verdict) ports)
 
--- without the helper's port
+-- the ports without the helper's
 abbrev pub close_helper : LinkState → List Port → List Port
 close_helper states.None ports = ports
 close_helper (states.Starting job) ports = ports
 close_helper (states.Linked port) ports = remove_port port ports
 
--- which port that closes
+-- the port that closes where the helper is lost
 abbrev pub helper_closes : LinkState → List Port → List ℕ
 helper_closes states.None ports = []
 helper_closes (states.Starting job) ports = []
@@ -139,7 +139,7 @@ lose state = record {
   closes = helper_closes state.under_way.link.state state.ports;
 }
 
--- by the fault of the helper's stream
+-- the helper is lost where its stream has a fault
 abbrev pub lose_if : Option LinkFault → State → Outcome
 lose_if None state = stay state
 lose_if (Some fault) state = lose state

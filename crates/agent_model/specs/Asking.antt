@@ -59,6 +59,6 @@ pub record AreAttended (confirmations : List Confirmation) (link : LinkState) (p
   pub helper : (job number : ℕ) (one : Confirmation) → find_job job confirmations ≡ Some one
       → one.port ≡ Some number → link ≢ states.Linked number
 
--- the same of a state
+-- the confirmations of a state are attended: few, of open ports, and each child process at a port of its own
 abbrev pub IsAttended : State → Type 0
 IsAttended state = AreAttended state.under_way.confirmations state.under_way.link.state state.ports

@@ -23,7 +23,7 @@ bound_by number (Granted job) chain = chain
 bound_by number (Over job) chain = chain
 bound_by number Lost chain = chain
 
--- what actions make of them, the oldest first
+-- what actions, the oldest first, make of the bindings of this connection
 abbrev pub bound_after : ℕ → List Action → List Binding → List Binding
 bound_after number [] chain = chain
 bound_after number (action ∷ later) chain = bound_after number later (bound_by number action chain)
@@ -33,6 +33,6 @@ abbrev pub chain_of : Option Port → List Binding
 chain_of None = []
 chain_of (Some port) = port.chain
 
--- of the connection of this port
+-- the bindings of the connection of this port
 abbrev pub chain_at : ℕ → List Port → List Binding
 chain_at number ports = chain_of (find_port number ports)

@@ -26,7 +26,7 @@ with_host_key (Bind bind) = bind_with bind (public_key_of bind.host_key)
 with_host_key (OtherExtension name) = Ok (OtherExtension name)
 with_host_key (Unsupported number) = Ok (Unsupported number)
 
--- the same, where they are
+-- a request that was read, whose host key, if it has one, is read as a public key too
 abbrev pub and_host_key : Result ClientRequest MsgFault → Result ClientRequest MsgFault
 and_host_key (Ok request) = with_host_key request
 and_host_key (Err fault) = Err fault

@@ -9,17 +9,17 @@ abbrev pub asking_bytes : Door → List ℕ → ℕ
 asking_bytes Clients heard = length heard
 asking_bytes Children heard = 0
 
--- those of a port, and one more where it is owed bytes
+-- the bytes of a client's port that may still ask, and one more where it is owed bytes
 abbrev pub port_budget : UnderWay → Port → ℕ
 port_budget under_way port =
     asking_bytes port.door port.heard + (if is_some_bytes (owed_by_port port under_way) then 1
     else 0)
 
--- the same over all ports
+-- the sum of the budgets of these ports
 abbrev pub ports_budget : UnderWay → List Port → ℕ
 ports_budget under_way [] = 0
 ports_budget under_way (port ∷ ports) = port_budget under_way port + ports_budget under_way ports
 
--- the same over the open ports of a state
+-- the sum of the budgets of a state's open ports
 abbrev pub budget : State → ℕ
 budget state = ports_budget state.under_way state.ports

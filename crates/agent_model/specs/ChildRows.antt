@@ -58,7 +58,7 @@ abbrev pub two_wait : State
 two_wait = holding (Joined Clients ∷ Heard 1 (sign 17) ∷ Heard 2 (sign 17) ∷ Started 1 (ticket 9)
     ∷ Joined Children ∷ Heard 3 (hello 1 9) ∷ [])
 
--- and then this happens
+-- the state in which two clients wait for the helper, and then this event
 abbrev pub lost : Happening → State
 lost event = with_event event two_wait
 

@@ -61,7 +61,7 @@ abbrev pub failed_by : JobKind → ℕ → State → Outcome
 failed_by kinds.Helper number state = lose state
 failed_by kinds.Confirm number state = over_if (find_job number state.under_way.confirmations) state
 
--- by the job, if it was to be started
+-- the start of a job failed, if it was to be started
 abbrev pub failed_if : Option Job → State → Outcome
 failed_if None state = stay state
 failed_if (Some job) state = failed_by job.kind job.number (job_left job.number state)
@@ -123,7 +123,7 @@ abbrev pub confirmer_goes_on : Option Confirmation → List ℕ → State → Ou
 confirmer_goes_on None rest state = stay state
 confirmer_goes_on (Some confirmation) rest state = confirmer_heard confirmation rest state
 
--- the same in a state
+-- in a state, the confirmation of a job hears what came behind its child process's name
 abbrev pub confirmer_hears : ℕ → List ℕ → State → Outcome
 confirmer_hears job rest state =
     confirmer_goes_on (find_job job state.under_way.confirmations) rest state
@@ -134,18 +134,18 @@ named_by kinds.Helper job number rest state = helper_heard rest (helper_named jo
 named_by kinds.Confirm job number rest state =
     confirmer_hears job rest (confirmer_named job number state)
 
--- by whether the ticket is the job's own
+-- a child process named this job, with the job's own ticket or with another: then its port is closed
 abbrev pub ticket_by : Bool → Job → ℕ → List ℕ → State → Outcome
 ticket_by true job number rest state = named_by job.kind job.number number rest state
 ticket_by false job number rest state = shut number state
 
--- by the started job that it names
+-- a child process named a job, which was started or not: then its port is closed
 abbrev pub hello_by : Option StartedJob → List ℕ → ℕ → List ℕ → State → Outcome
 hello_by None ticket number rest state = shut number state
 hello_by (Some one) ticket number rest state =
     ticket_by (bytes_eq one.ticket ticket) one.job number rest state
 
--- by its first message: all but HELLO is refused
+-- the first message of a child process: HELLO names it, and any other closes its port
 abbrev pub first_message : Result FromChildMessage ChildFault → ℕ → List ℕ → State → Outcome
 first_message (Ok (Hello job ticket)) number rest state =
     hello_by (find_started job state.under_way.started) ticket number rest state
@@ -157,7 +157,7 @@ first_message (Ok (Granted job)) number rest state = shut number state
 first_message (Ok (Denied job)) number rest state = shut number state
 first_message (Err fault) number rest state = shut number state
 
--- by what stands at the front of its bytes
+-- what stands at the front of the bytes of a child process that hasn't named itself
 abbrev pub first_frame : Front → ℕ → List ℕ → State → Outcome
 first_frame (Whole body_len) number heard state =
     first_message (from_child_of (front_body body_len heard)) number (after_front body_len heard)

@@ -24,7 +24,7 @@ started_number one = one.job.number
 abbrev pub find_started : ℕ → List StartedJob → Option StartedJob
 find_started number all = find_by started_number number all
 
--- all but that of this number
+-- the started jobs but for the one of this number
 abbrev pub remove_started : ℕ → List StartedJob → List StartedJob
 remove_started number all = remove_by started_number number all
 
@@ -36,12 +36,12 @@ without_confirmation job under_way = record under_way {
   confirmations = desk.lose job under_way.confirmations;
 }
 
--- without the port of its child process, where that came
+-- the ports without that of a confirmation's child process, where that came
 abbrev pub close_confirmer : Option ℕ → List Port → List Port
 close_confirmer None ports = ports
 close_confirmer (Some port) ports = remove_port port ports
 
--- which port that closes
+-- the port that closes where a confirmation ends: that of its child process, where that came
 abbrev pub confirmer_closes : Option ℕ → List Port → List ℕ
 confirmer_closes None ports = []
 confirmer_closes (Some port) ports = closing port ports []
@@ -60,32 +60,32 @@ over confirmation state = record {
   closes = confirmer_closes confirmation.port state.ports;
 }
 
--- where there is one
+-- a confirmation ends without consent, where there is one
 abbrev pub over_if : Option Confirmation → State → Outcome
 over_if None state = stay state
 over_if (Some confirmation) state = over confirmation state
 
 -- ---- consent
 
--- what is to be signed, with this key
+-- what a confirmation's client asked to have signed with this key
 abbrev pub signing_of : HeldKey → Confirmation → Signing
 signing_of key confirmation =
     record { blob = key.blob; message = confirmation.message; flags = confirmation.flags }
 
--- by what the key's destination constraints say by now
+-- what comes of a consent, by what the key's destination constraints say by now
 abbrev pub grant_unless : Option Denial → HeldKey → Confirmation → UnderWay → Work
 grant_unless (Some denial) key confirmation under_way = settles (Refuses NoLongerAllowed) under_way
 grant_unless None key confirmation under_way =
     put_ask (Signs key (signing_of key confirmation)) confirmation.asker under_way
 
--- by whether the addition is held yet
+-- what comes of a consent, by whether its addition is still held
 abbrev pub grant_with : Option HeldKey → List Binding → Confirmation → ℕ → UnderWay → Work
 grant_with None chain confirmation wall under_way = settles (Refuses NoLongerAllowed) under_way
 grant_with (Some key) chain confirmation wall under_way =
     grant_unless (denial_under key.rules key.blob chain confirmation.message wall) key confirmation
     under_way
 
--- by the lock
+-- what comes of a consent, by whether the agent is locked by now
 abbrev pub grant_by : Option (List ℕ) → KeyState → List Binding → Confirmation → ℕ → UnderWay → Work
 grant_by (Some passphrase) held chain confirmation wall under_way =
     settles (Refuses NoLongerAllowed) under_way
@@ -113,7 +113,7 @@ grant_concluded work confirmation state = record {
   closes = confirmer_closes confirmation.port state.ports;
 }
 
--- by the client that waits; it is always open
+-- what a consent brings to the client that waits for it; that is always open
 abbrev pub grant_to : Option Port → Confirmation → State → Outcome
 grant_to None confirmation state = stay state
 grant_to (Some port) confirmation state =
@@ -132,7 +132,7 @@ with_heard job piece state = record state {
       record state.under_way { confirmations = told job piece state.under_way.confirmations };
 }
 
--- by what the user says
+-- what the child process said so far: nothing yet, the user's consent, or none
 abbrev pub consent_by : Consent → Confirmation → List ℕ → State → Outcome
 consent_by NotYet confirmation piece state = stay (with_heard confirmation.job piece state)
 consent_by Yes confirmation piece state = grant confirmation state

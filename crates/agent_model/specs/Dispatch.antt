@@ -44,7 +44,7 @@ answers reply held under_way = record { held = held; work = settles (Replies rep
 abbrev pub refuses : Cause → KeyState → UnderWay → Served
 refuses cause held under_way = record { held = held; work = settles (Refuses cause) under_way }
 
--- what is held stays
+-- what is held stays, and this comes of the request
 abbrev pub keeps : KeyState → Work → Served
 keeps held work = record { held = held; work = work }
 
@@ -60,18 +60,18 @@ seen_by asker held = map shown (filter (sees asker) held.table.identities)
 
 -- ---- requests to sign
 
--- by whether the user is to be asked
+-- a signature that is permitted is put to the helper, or the user is asked first
 abbrev pub sign_with : Bool → Asker → HeldKey → Signing → UnderWay → Work
 sign_with true asker key signing under_way = ask_user key signing asker.port under_way
 sign_with false asker key signing under_way = put_ask (Signs key signing) asker.port under_way
 
--- by what the key's destination constraints say
+-- a request to sign with a key that is held, by what its destination constraints say
 abbrev pub sign_unless : Option Denial → Asker → HeldKey → Signing → UnderWay → Work
 sign_unless (Some denial) asker key signing under_way =
     settles (Refuses (DestinationDenied denial)) under_way
 sign_unless None asker key signing under_way = sign_with key.confirm asker key signing under_way
 
--- by the identity that has the blob
+-- a request to sign, by the identity that has its blob, where one is held
 abbrev pub sign_by : Option HeldKey → Asker → Signing → UnderWay → Work
 sign_by None asker signing under_way = settles (Refuses NotHeld) under_way
 sign_by (Some key) asker signing under_way = sign_unless
@@ -96,13 +96,13 @@ add_fault true spent = Some ListFull
 add_fault false true = Some AdditionsSpent
 add_fault false false = None
 
--- unless the table doesn't take it
+-- an addition is taken, unless the table has a cause not to
 abbrev pub add_unless : Option Cause → Addition → ℕ → KeyState → UnderWay → Served
 add_unless (Some cause) addition now held under_way = refuses cause held under_way
 add_unless None addition now held under_way =
     answers Success (record held { table = with_addition addition now held.table }) under_way
 
--- by whether the asker sees the identity that it replaces
+-- an addition, by whether its asker sees the identity that it replaces
 abbrev pub add_seen : Bool → Addition → ℕ → KeyState → UnderWay → Served
 add_seen false addition now held under_way = refuses NotVisible held under_way
 add_seen true addition now held under_way =
@@ -110,7 +110,7 @@ add_seen true addition now held under_way =
     (held.table.last == last_number))
     addition now held under_way
 
--- by the identity that has the blob
+-- an addition, by the identity that has its blob, where one is held
 abbrev pub add_by : Option HeldKey → Asker → Addition → KeyState → UnderWay → Served
 add_by None asker addition held under_way = add_seen true addition asker.mono held under_way
 add_by (Some key) asker addition held under_way =
@@ -118,38 +118,38 @@ add_by (Some key) asker addition held under_way =
 
 -- ---- removals
 
--- the identities changed
+-- what is held, with these identities in the place of the others
 abbrev pub with_identities : List HeldKey → KeyState → KeyState
 with_identities identities held =
     record held { table = record held.table { identities = identities } }
 
--- by whether the asker sees it
+-- a removal of an identity that is held, by whether its asker sees it
 abbrev pub remove_seen : Bool → List ℕ → KeyState → UnderWay → Served
 remove_seen false blob held under_way = refuses NotVisible held under_way
 remove_seen true blob held under_way =
     answers Success (with_identities (remove_identity blob held.table.identities) held) under_way
 
--- by the identity that has the blob
+-- a removal, by the identity that has its blob, where one is held
 abbrev pub remove_by : Option HeldKey → Asker → List ℕ → KeyState → UnderWay → Served
 remove_by None asker blob held under_way = refuses NotHeld held under_way
 remove_by (Some key) asker blob held under_way = remove_seen (sees asker key) blob held under_way
 
 -- ---- the lock
 
--- by whether there is a passphrase
+-- a lock with this passphrase: an empty one is refused
 abbrev pub lock_by : List ℕ → KeyState → UnderWay → Served
 lock_by [] held under_way = refuses NoPassphrase held under_way
 lock_by (byte ∷ bytes) held under_way =
     answers Success (record held { lock = Some (byte ∷ bytes) }) under_way
 
--- by whether the passphrase is the one that locked it
+-- an unlock, by whether its passphrase is the one that locked the agent
 abbrev pub unlock_by : Bool → KeyState → UnderWay → Served
 unlock_by true held under_way = answers Success (record held { lock = None }) under_way
 unlock_by false held under_way = refuses WrongPassphrase held under_way
 
 -- ---- bindings
 
--- by what is to be done with the binding
+-- a request to bind, by what the connection's chain says of the binding
 abbrev pub bind_by : Judgement → Asker → BindRequest → UnderWay → Work
 bind_by (Refuse fault) asker bind under_way = settles (Refuses (BindRefused fault)) under_way
 bind_by Same asker bind under_way = put_ask (Verifies bind false) asker.port under_way
@@ -157,7 +157,7 @@ bind_by New asker bind under_way = put_ask (Verifies bind true) asker.port under
 
 -- ---- the table of requests
 
--- of an agent that isn't locked
+-- the table of requests of an agent that isn't locked
 abbrev pub serve_unlocked : ClientRequest → Asker → KeyState → UnderWay → Served
 serve_unlocked ListIdentities asker held under_way =
     answers (Identities (seen_by asker held)) held under_way
@@ -175,7 +175,7 @@ serve_unlocked (Bind bind) asker held under_way =
 serve_unlocked (OtherExtension name) asker held under_way = refuses Unserved held under_way
 serve_unlocked (Unsupported number) asker held under_way = refuses Unserved held under_way
 
--- of an agent that is locked with this passphrase
+-- the table of requests of an agent that is locked with this passphrase
 abbrev pub serve_locked : List ℕ → ClientRequest → KeyState → UnderWay → Served
 serve_locked passphrase ListIdentities held under_way = answers (Identities []) held under_way
 serve_locked passphrase (Sign signing) held under_way = refuses Locked held under_way
@@ -189,7 +189,7 @@ serve_locked passphrase (Bind bind) held under_way = refuses Locked held under_w
 serve_locked passphrase (OtherExtension name) held under_way = refuses Locked held under_way
 serve_locked passphrase (Unsupported number) held under_way = refuses Locked held under_way
 
--- by the lock
+-- the table of requests, by whether the agent is locked
 abbrev pub serve_by : Option (List ℕ) → ClientRequest → Asker → KeyState → UnderWay → Served
 serve_by None request asker held under_way = serve_unlocked request asker held under_way
 serve_by (Some passphrase) request asker held under_way =

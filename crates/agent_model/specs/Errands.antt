@@ -80,7 +80,7 @@ abbrev pub message_of : Errand → ℕ → ToChildMessage
 message_of (Signs key signing) = sign_request key.private key.blob signing.message signing.flags
 message_of (Verifies bind is_new) = verify_request bind.host_key bind.signature bind.session
 
--- what it is for
+-- what an errand is for
 abbrev pub purpose_of : Errand → Purpose
 purpose_of (Signs key signing) = ForSignature signing
 purpose_of (Verifies bind is_new) = ForBinding (binding_of bind)
@@ -103,7 +103,7 @@ ask_fault under_way =
     ask_fault_by (not (nat_lt (length under_way.link.asks) most_asks))
     (under_way.link.last == last_number) under_way
 
--- what is under way once it is put
+-- what is under way once an ask is put
 abbrev pub with_ask : Errand → ℕ → UnderWay → UnderWay
 with_ask errand asker under_way = record under_way {
   link = submitted (kind_of errand) asker (message_of errand) (link_begun (under_way.last_job + 1)
@@ -117,7 +117,7 @@ with_ask errand asker under_way = record under_way {
 abbrev pub asking_of : Errand → ℕ → ℕ → Asking
 asking_of errand asker number = record { ask = number; port = asker; purpose = purpose_of errand }
 
--- unless it can't be
+-- an ask is put, unless there is a cause not to
 abbrev pub put_unless : Option Cause → Errand → ℕ → UnderWay → Work
 put_unless (Some cause) errand asker under_way = settles (Refuses cause) under_way
 put_unless None errand asker under_way = record {
@@ -134,7 +134,7 @@ put_ask errand asker under_way = put_unless (ask_fault under_way) errand asker u
 
 -- ---- confirmations
 
--- by whether as many are waited for as may be
+-- why the user can't be asked, by whether as many confirmations are waited for as may be
 abbrev pub raise_fault_by : Bool → ℕ → Option Cause
 raise_fault_by true last_job = Some TooManyConfirmations
 raise_fault_by false last_job = spent_jobs last_job
@@ -145,7 +145,7 @@ raise_fault under_way =
     raise_fault_by (not (nat_lt (length under_way.confirmations) most_confirmations))
     under_way.last_job
 
--- what waits for consent
+-- what is kept of a request while it waits for the user's consent
 abbrev pub held_for : ℕ → HeldKey → Signing → Held
 held_for asker key signing =
     record {
@@ -166,7 +166,7 @@ with_confirmation key signing asker under_way = record under_way {
   last_job = under_way.last_job + 1;
 }
 
--- unless the user can't be
+-- the user is asked, unless there is a cause not to
 abbrev pub raise_unless : Option Cause → HeldKey → Signing → ℕ → UnderWay → Work
 raise_unless (Some cause) key signing asker under_way = settles (Refuses cause) under_way
 raise_unless None key signing asker under_way = record {

@@ -31,7 +31,7 @@ fate_by ask (Granted job) = Unanswered
 fate_by ask (Over job) = Unanswered
 fate_by ask Lost = Fails
 
--- what comes first counts
+-- of two fates of an ask the first that isn't open counts
 abbrev pub or_later : Fate → Fate → Fate
 or_later Unanswered later = later
 or_later (Gets answer) later = Gets answer
@@ -42,7 +42,7 @@ abbrev pub fate_of : ℕ → List Action → Fate
 fate_of ask [] = Unanswered
 fate_of ask (action ∷ later) = or_later (fate_by ask action) (fate_of ask later)
 
--- the same of what a piece of the helper's stream settles, in order, and of its fault
+-- what settlings of a piece of the helper's stream make of the ask of this number, in order
 abbrev pub settled_fate : ℕ → List Settled → Fate
 settled_fate ask [] = Unanswered
 settled_fate ask (one ∷ later) = if one.ask == ask then Gets one.answer else settled_fate ask later
@@ -53,7 +53,7 @@ fault_fate (Some fault) = Fails
 
 -- ---- what its client is told
 
--- by the helper's answer
+-- what a client is told of the helper's answer to its ask
 abbrev pub answer_verdict : Answer → Verdict
 answer_verdict (answer.Signed signature) = Replies (Signature signature)
 answer_verdict answer.Refused = Refuses HelperRefused

@@ -26,6 +26,6 @@ expired second keys = record keys {
 abbrev pub shown : HeldKey → List ℕ × List ℕ
 shown key = (key.blob, key.comment)
 
--- all of them, in their order
+-- all identities as a list shows them, in their order
 abbrev pub listing : KeyState → List (List ℕ × List ℕ)
 listing keys = map shown keys.table.identities

@@ -11,11 +11,11 @@ due_at Nothing (byte ∷ bytes) heard = More
 due_at (OnAsk ask) owed heard = More
 due_at (OnConfirmation job) owed heard = More
 
--- the same of a client's port
+-- what is to be taken of a client's port: nothing while it waits or is owed bytes
 abbrev pub due : Port → Front
 due port = due_at port.waits port.owed port.heard
 
--- where it is open
+-- what is to be taken of a port: nothing where it isn't open
 abbrev pub due_by : Option Port → Front
 due_by None = More
 due_by (Some port) = due port

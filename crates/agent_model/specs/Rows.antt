@@ -40,11 +40,11 @@ replies_in state [] = []
 replies_in state (sent ∷ later) =
     owed_of 1 (asked sent state) ∷ replies_in (took_all sent (asked sent state)) later
 
--- from the first state on
+-- what a client of a new agent is owed after each message
 abbrev pub replies : List Sent → List (List ℕ)
 replies sent = replies_in one_client sent
 
--- the state after those messages
+-- the state after these messages, each reply taken
 abbrev pub state_after : List Sent → State
 state_after sent = after one_client sent
   where

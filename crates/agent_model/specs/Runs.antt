@@ -28,7 +28,7 @@ abbrev pub stamped : Outcome → List Stamped
 stamped outcome =
     map (λ action. record { moment = outcome.state.moment; action = action }) outcome.actions
 
--- all actions, the oldest first
+-- all actions of these events, the oldest first, each with its moment
 abbrev pub history : State → List Timed → List Stamped
 history state [] = []
 history state (timed ∷ later) =
@@ -53,13 +53,13 @@ IsInRange (Started job ticket) = (job < 2 ^ 64) × IsBytes ticket × (length tic
 IsInRange (StartFailed job) = job < 2 ^ 64
 IsInRange Tick = Unit {0}
 
--- the same of an event at its moment
+-- an event and its moment have numbers of their types
 pub record IsTimed (timed : Timed) : Type 0 where
   pub event : IsInRange timed.event
   pub mono : timed.moment.mono < 2 ^ 64
   pub wall : timed.moment.wall < 2 ^ 64
 
--- the same of each of these events
+-- each of these events and its moment have numbers of their types
 abbrev pub AreInRange : List Timed → Type 0
 AreInRange [] = Unit {0}
 AreInRange (timed ∷ later) = IsTimed timed × AreInRange later

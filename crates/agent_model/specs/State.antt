@@ -153,7 +153,7 @@ abbrev pub role_by_helper : Bool → ℕ → List Confirmation → Role
 role_by_helper true number confirmations = Helper
 role_by_helper false number confirmations = role_by_link (find_linked number confirmations)
 
--- by the door
+-- who is at a port, by its door and by what is under way
 abbrev pub role_of : Door → ℕ → UnderWay → Role
 role_of Clients number under_way = Client
 role_of Children number under_way =
@@ -177,7 +177,7 @@ is_unnamed Unnamed = true
 is_unnamed Helper = false
 is_unnamed (Confirmer confirmation) = false
 
--- how many of them are open
+-- how many child processes are open that haven't named themselves
 abbrev pub unnamed_count : UnderWay → List Port → ℕ
 unnamed_count under_way [] = 0
 unnamed_count under_way (port ∷ ports) =
@@ -218,7 +218,7 @@ abbrev pub heard_by : Option Port → UnderWay → List ℕ
 heard_by None under_way = []
 heard_by (Some port) under_way = heard_as (role_of port.door port.number under_way) port under_way
 
--- the same in a state
+-- what was heard at the port of this number of a state, and not taken
 abbrev pub heard_of : ℕ → State → List ℕ
 heard_of number state = heard_by (find_port number state.ports) state.under_way
 

@@ -69,24 +69,24 @@ taken body_len body port state = concluded port.number body
     (serve (agent_request_of body) (asker_at state.moment port) state.held state.under_way)
     (changed port.number (take_frame body_len (attempts state.held.lock body)) state)
 
--- by what stands at the front of the client's bytes
+-- a request that stands whole at the front of a client's bytes is taken, and a bad length closes the port
 abbrev pub look_front : Front → Port → State → Outcome
 look_front (Whole body_len) port state = taken body_len (front_body body_len port.heard) port state
 look_front (Bad announced) port state = shut port.number state
 look_front More port state = stay state
 
--- a client that is owed a reply isn't served
+-- a client's bytes are looked at, unless it is owed bytes
 abbrev pub look_owed : List ℕ → Port → State → Outcome
 look_owed [] port state = look_front (front longest_body port.heard) port state
 look_owed (byte ∷ bytes) port state = stay state
 
--- nor is one that waits
+-- a client's bytes are looked at, unless it waits
 abbrev pub look_waits : Waits → Port → State → Outcome
 look_waits Nothing port state = look_owed port.owed port state
 look_waits (OnAsk ask) port state = stay state
 look_waits (OnConfirmation job) port state = stay state
 
--- by whether the port is open
+-- a client's bytes are looked at, where its port is open
 abbrev pub look_port : Option Port → State → Outcome
 look_port None state = stay state
 look_port (Some port) state = look_waits port.waits port state
@@ -98,7 +98,7 @@ looked number state = look_port (find_port number state.ports) state
 
 -- ---- bytes that came
 
--- by who is at the port
+-- a piece came at an open port, by who is there
 abbrev pub heard_by_role : Role → Port → List ℕ → State → Outcome
 heard_by_role Client port piece state =
     looked port.number (changed port.number (heard_more piece) state)
@@ -106,7 +106,7 @@ heard_by_role Unnamed port piece state = unnamed_heard port.heard piece port.num
 heard_by_role Helper port piece state = helper_heard piece state
 heard_by_role (Confirmer confirmation) port piece state = confirmer_heard confirmation piece state
 
--- where the port is open
+-- a piece came at a port; one that isn't open brings nothing
 abbrev pub heard_at : Option Port → List ℕ → State → Outcome
 heard_at None piece state = stay state
 heard_at (Some port) piece state =
@@ -118,20 +118,20 @@ heard_at (Some port) piece state =
 abbrev pub took_some : ℕ → Port → Port
 took_some count port = record port { owed = drop count port.owed }
 
--- the same of the helper
+-- the first bytes that the helper was owed are sent
 abbrev pub helper_took : ℕ → State → State
 helper_took count state = record state {
   under_way = record state.under_way { link = sent count state.under_way.link };
 }
 
--- the same of a confirmer
+-- the first bytes that a confirmer was owed are sent
 abbrev pub confirmer_took : ℕ → ℕ → State → State
 confirmer_took job count state = record state {
   under_way =
       record state.under_way { confirmations = took job count state.under_way.confirmations };
 }
 
--- by who is at the port: a child process that hasn't named itself is owed nothing
+-- bytes were taken at an open port, by who is there: a child process that hasn't named itself is owed none
 abbrev pub took_by_role : Role → ℕ → ℕ → State → Outcome
 took_by_role Client number count state = looked number (changed number (took_some count) state)
 took_by_role Unnamed number count state = stay state
@@ -139,7 +139,7 @@ took_by_role Helper number count state = stay (helper_took count state)
 took_by_role (Confirmer confirmation) number count state =
     stay (confirmer_took confirmation.job count state)
 
--- where the port is open
+-- bytes were taken at a port; one that isn't open brings nothing
 abbrev pub took_at : Option Port → ℕ → State → Outcome
 took_at None count state = stay state
 took_at (Some port) count state =
@@ -157,7 +157,7 @@ abbrev pub admitted : Bool → ℕ → Door → List Port → List Port
 admitted true number door ports = ports ++ new_port number door ∷ []
 admitted false number door ports = ports
 
--- where there is none, it is closed at once
+-- the port that is closed at once where there is no room for it
 abbrev pub turned_away : Bool → ℕ → List ℕ
 turned_away true number = []
 turned_away false number = number ∷ []
@@ -176,7 +176,7 @@ join door state = record (stay (joined door state)) {
   closes = turned_away (has_room door state.ports state.under_way) (suc state.last_port);
 }
 
--- by who was at the port that ended: a client's confirmation ends with it
+-- an open port ended, by who was there: a client's confirmation ends with it
 abbrev pub ended_by_role : Role → ℕ → State → Outcome
 ended_by_role Client number state =
     shut_then number (over_if (find_asker number state.under_way.confirmations)) state
@@ -184,7 +184,7 @@ ended_by_role Unnamed number state = shut number state
 ended_by_role Helper number state = shut_then number lose state
 ended_by_role (Confirmer confirmation) number state = shut_then number (over confirmation) state
 
--- where the port is open
+-- a port ended; one that isn't open brings nothing
 abbrev pub ended_at : Option Port → State → Outcome
 ended_at None state = stay state
 ended_at (Some port) state =

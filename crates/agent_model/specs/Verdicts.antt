@@ -15,7 +15,7 @@ pub data Reply : Type 0 where
   Identities : (identities : List (List ℕ × List ℕ)) → Reply
   Signature : (signature : List ℕ) → Reply
 
--- as it is sent
+-- a reply as it is sent
 abbrev pub reply_text : Reply → List ℕ
 reply_text Success = success
 reply_text (Identities identities) = identities_answer identities
@@ -61,13 +61,13 @@ pub data Verdict : Type 0 where
   Refuses : (cause : Cause) → Verdict
   Awaits : (waits : Waits) → Verdict
 
--- what it is owed at once: every refusal is told alike
+-- what a verdict lets a client be owed at once: every refusal is told alike
 abbrev pub verdict_text : Verdict → List ℕ
 verdict_text (Replies reply) = reply_text reply
 verdict_text (Refuses cause) = failure
 verdict_text (Awaits waits) = []
 
--- what it waits for from then on
+-- what a client waits for after a verdict
 abbrev pub verdict_waits : Verdict → Waits
 verdict_waits (Replies reply) = Nothing
 verdict_waits (Refuses cause) = Nothing

@@ -22,7 +22,7 @@ given_back confirmation = record {
 
 -- ---- one more
 
--- by whether there are as many as may be
+-- why one more confirmation isn't taken, by whether there are as many as may be
 abbrev pub raise_fault_by : Bool → Option DeskFault
 raise_fault_by true = Some faults.Full
 raise_fault_by false = None
@@ -43,7 +43,7 @@ abbrev pub took_by : Option Confirmation → ℕ → List Confirmation → List 
 took_by None count confirmations = confirmations
 took_by (Some confirmation) count confirmations = took confirmation.job count confirmations
 
--- the same of the child process at this port
+-- the child process at this port took the first bytes that it is owed
 abbrev pub took_at : ℕ → ℕ → List Confirmation → List Confirmation
 took_at port count confirmations = took_by (find_linked port confirmations) count confirmations
 
@@ -65,7 +65,7 @@ telling_by Yes confirmation piece confirmations =
 telling_by No confirmation piece confirmations =
     telling_over (verdicts.Denied (given_back confirmation)) confirmation confirmations
 
--- by the confirmation, where there is one
+-- what a piece tells of the confirmation of its port, where there is one
 abbrev pub telling_if : Option Confirmation → List ℕ → List Confirmation → Telling
 telling_if None piece confirmations = record { desk = confirmations; verdict = verdicts.NotYet }
 telling_if (Some confirmation) piece confirmations =

@@ -17,7 +17,7 @@ pub record IsApart (confirmation : Confirmation) (others : List Confirmation) : 
   pub port : IsFree confirmation.port others
   pub part : front longest_body confirmation.heard ≡ More
 
--- so is it of each and those behind it
+-- no two confirmations are of one job, of one client, or at one port
 abbrev pub AreApart : List Confirmation → Type 0
 AreApart [] = Unit {0}
 AreApart (one ∷ others) = IsApart one others × AreApart others

@@ -54,7 +54,7 @@ begun_by job states.None = states.Starting job
 begun_by job (states.Starting earlier) = states.Starting earlier
 begun_by job (states.Linked port) = states.Linked port
 
--- the same of a link
+-- the link for which this job is to start a helper
 abbrev pub begun : ℕ → HelperLink → HelperLink
 begun job link = record link { state = begun_by job link.state }
 

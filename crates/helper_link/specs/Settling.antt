@@ -25,7 +25,7 @@ number_of ask = ask.number
 abbrev pub find_ask : ℕ → List Ask → Option Ask
 find_ask number asks = find_by number_of number asks
 
--- all but the first ask of this number
+-- the asks but for the first of this number
 abbrev pub remove_ask : ℕ → List Ask → List Ask
 remove_ask number asks = remove_by number_of number asks
 
@@ -85,11 +85,11 @@ pub record Settling : Type 0 where
   pub heard : List ℕ
   pub fault : Option LinkFault
 
--- nothing more is settled, and nothing more is read
+-- the settling that ends at a fault: nothing more is settled, and nothing more is read
 abbrev pub stopped : LinkFault → List Ask → Settling
 stopped fault asks = record { settled = []; asks = asks; heard = []; fault = Some fault }
 
--- nothing more is settled until more bytes come
+-- the settling that ends before a whole frame: nothing more is settled until more bytes come
 abbrev pub waiting : List ℕ → List Ask → Settling
 waiting rest asks = record { settled = []; asks = asks; heard = rest; fault = None }
 

@@ -31,7 +31,7 @@ pub record TableState : Type 0 where
 
 -- ---- lists of identities
 
--- it has this blob
+-- the identity has this blob
 abbrev pub has_blob : List ℕ → HeldKey → Bool
 has_blob blob key = bytes_eq key.blob blob
 
@@ -53,7 +53,7 @@ put_identity new [] = new ∷ []
 put_identity new (key ∷ keys) =
     if bytes_eq key.blob new.blob then new ∷ keys else key ∷ put_identity new keys
 
--- without the identity with this blob
+-- the identities without the one with this blob
 unfoldable pub remove_identity : List ℕ → List HeldKey → List HeldKey
 remove_identity blob keys = remove_first (has_blob blob) keys
 
@@ -77,7 +77,7 @@ abbrev pub taken_by : Option HeldKey → ℕ
 taken_by None = 0
 taken_by (Some key) = entry_len key
 
--- all of them
+-- the length of all entries of a list
 unfoldable pub entries_len : List HeldKey → ℕ
 entries_len [] = 0
 entries_len (key ∷ keys) = entry_len key + entries_len keys
@@ -107,7 +107,7 @@ HaveOwnNumbers last (key ∷ keys) =
 abbrev pub longest_private : ℕ
 longest_private = longest_body
 
--- none has a longer private string
+-- no identity has a private string that is longer than a message
 unfoldable pub AreShort : List HeldKey → Type 0
 AreShort [] = Unit {0}
 AreShort (key ∷ keys) = (length key.private ≤ longest_private) × AreShort keys

@@ -4,13 +4,13 @@ use Rattle.std.specs.Prelude.{ℕ, ◌≤◌, Bool, true, false, List, [], ◌�
 use Rattle.std.specs.Str.{bytes_eq}
 use Rattle.wire_text.specs.Bounds.{longest_body}
 
--- it is open, and the passphrase isn't empty (ours)
+-- the lock takes this passphrase: it is open, and the passphrase isn't empty (ours)
 abbrev pub can_lock : Option (List ℕ) → List ℕ → Bool
 can_lock None [] = false
 can_lock None (byte ∷ bytes) = true
 can_lock (Some held) passphrase = false
 
--- it is locked with this passphrase
+-- the lock opens for this passphrase: it is locked with it
 abbrev pub can_unlock : Option (List ℕ) → List ℕ → Bool
 can_unlock None passphrase = false
 can_unlock (Some held) passphrase = bytes_eq held passphrase

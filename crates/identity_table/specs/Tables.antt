@@ -16,11 +16,11 @@ empty_table life = record { identities = []; greatest = 0; last = 0; life = life
 abbrev pub expired : ℕ → TableState → TableState
 expired second table = record table { identities = alive_at second table.identities; greatest = second }
 
--- without the identity with this blob
+-- the table without the identity with this blob
 abbrev pub without : List ℕ → TableState → TableState
 without blob table = record table { identities = remove_identity blob table.identities }
 
--- without any identity
+-- the table without any identity
 abbrev pub emptied : TableState → TableState
 emptied table = record table { identities = [] }
 

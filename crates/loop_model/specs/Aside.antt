@@ -15,7 +15,7 @@ pub record Aside : Type 0 where
   pub reads : List ℕ
   pub writes : List ℕ
 
--- nothing
+-- nothing is set aside
 abbrev pub none_aside : Aside
 none_aside = record { doors = []; reads = []; writes = [] }
 
@@ -32,23 +32,23 @@ abbrev pub writes_of : List ℕ → List Thing
 writes_of [] = []
 writes_of (port ∷ ports) = Write port ∷ writes_of ports
 
--- all of them
+-- all things that are set aside
 abbrev pub things_aside : Aside → List Thing
 things_aside aside = accepts_of aside.doors ++ reads_of aside.reads ++ writes_of aside.writes
 
--- with this thing
+-- what is set aside, with this thing
 abbrev pub put_aside : Thing → Aside → Aside
 put_aside (Accept door) aside = record aside { doors = aside.doors ++ door ∷ [] }
 put_aside (Read port) aside = record aside { reads = inserted port aside.reads }
 put_aside (Write port) aside = record aside { writes = inserted port aside.writes }
 
--- without this thing
+-- what is set aside, without this thing
 abbrev pub taken_back : Thing → Aside → Aside
 taken_back (Accept door) aside = record aside { doors = filter (λ other. not (same_door door other)) aside.doors }
 taken_back (Read port) aside = record aside { reads = filter (λ other. not (port == other)) aside.reads }
 taken_back (Write port) aside = record aside { writes = filter (λ other. not (port == other)) aside.writes }
 
--- those that can't be served
+-- those of the set aside that can't be served in this state
 abbrev pub still_aside : State → Aside → Aside
 still_aside state aside = record {
   doors = filter (λ door. not (is_servable state (Accept door))) aside.doors;

@@ -27,7 +27,7 @@ after_accepted door (accepted.Port number) line =
     record (sent_back (Accept door) (queued_port number line)) { joined = is_client door || line.joined }
 after_accepted door accepted.NotNow line = without (Accept door) line
 
--- the same, or refused
+-- the line after a call that accepts, by its answer
 abbrev pub after_accept : Door → Result Accepted WorldFault → Line → Line
 after_accept door (Ok answer) line = after_accepted door answer line
 after_accept door (Err fault) line = without (Accept door) line
@@ -38,7 +38,7 @@ after_got port (got.Bytes n) line = sent_back (Read port) (brought (Write port) 
 after_got port got.End line = without (Read port) line
 after_got port got.NotNow line = without (Read port) line
 
--- the same, or refused
+-- the line after a read, by its answer
 abbrev pub after_read : ℕ → Result Got WorldFault → Line → Line
 after_read port (Ok answer) line = after_got port answer line
 after_read port (Err fault) line = without (Read port) line
@@ -48,7 +48,7 @@ abbrev pub after_wrote : ℕ → Wrote → Line → Line
 after_wrote port (wrote.Took n) line = sent_back (Write port) line
 after_wrote port wrote.NotNow line = without (Write port) line
 
--- the same, or refused
+-- the line after a write, by its answer
 abbrev pub after_write : ℕ → Result Wrote WorldFault → Line → Line
 after_write port (Ok answer) line = after_wrote port answer line
 after_write port (Err fault) line = without (Write port) line

@@ -128,7 +128,7 @@ abbrev pub due_of : List ℕ → Due
 due_of [] = Free
 due_of (port ∷ later) = Closing port later
 
--- those behind the one that has to be closed
+-- the ports that have to be closed behind the first
 abbrev pub closes_later : Due → List ℕ
 closes_later Free = []
 closes_later (NowFor event) = []
@@ -182,7 +182,7 @@ abbrev pub wait_until : Option ℕ → ℕ → Option ℕ
 wait_until None mono = None
 wait_until (Some death) mono = Some (death - mono)
 
--- in seconds
+-- how long a poll may wait, in seconds
 abbrev pub wait_of : State → Option ℕ
 wait_of state = wait_until (next_due state) state.moment.mono
 

@@ -45,7 +45,7 @@ SetsAside state thing before after = (other : Thing) → same_thing thing other 
 abbrev pub is_waiting : Thing → Turning → Bool
 is_waiting thing turning = hot_of turning.line thing && is_servable turning.state thing
 
--- it holds of the value, where there is one
+-- a test holds of the reading, where the journal reads
 abbrev pub if_any : (Turning → Bool) → Option Turning → Bool
 if_any test None = true
 if_any test (Some turning) = test turning

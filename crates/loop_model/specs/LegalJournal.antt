@@ -24,7 +24,7 @@ pub record Turning : Type 0 where
   pub line : Line
   pub due : Due
 
--- as it reads in a state
+-- a reading with this state, this line and this due call
 abbrev pub in_state : State → Line → Due → Turning
 in_state state line due = record { state = state; line = line; due = due }
 
@@ -41,7 +41,7 @@ same_kind kinds.Helper kinds.Confirm = false
 same_kind kinds.Confirm kinds.Helper = false
 same_kind kinds.Confirm kinds.Confirm = true
 
--- it is the first of the jobs that wait
+-- the job is the first of those that wait to be started
 abbrev pub is_first_job : Job → List Job → Bool
 is_first_job job [] = false
 is_first_job job (first ∷ later) = (job.number == first.number) && same_kind job.kind first.kind
@@ -103,7 +103,7 @@ led_by turning next events = led_to turning next (closed_by turning.state events
 abbrev pub led : Turning → Entry → Turning
 led turning next = led_by turning next (events_at turning.due next)
 
--- where the test holds
+-- the reading goes on with this entry, where the test holds
 abbrev pub taken_if : Bool → Turning → Entry → Option Turning
 taken_if true turning next = Some (led turning next)
 taken_if false turning next = None

@@ -59,7 +59,7 @@ abbrev pub without : Thing → Line → Line
 without thing line =
     record line { queue = dropped thing line.queue; aside = taken_back thing line.aside }
 
--- neither direction of this connection is
+-- the line in which neither direction of this connection is ready
 abbrev pub without_port : ℕ → Line → Line
 without_port port line = without (Write port) (without (Read port) line)
 
@@ -69,12 +69,12 @@ without_port port line = without (Write port) (without (Read port) line)
 abbrev pub queued : Thing → Line → Line
 queued thing line = if hot_of line thing then line else record line { queue = line.queue ++ thing ∷ [] }
 
--- where the test holds
+-- the line with this thing queued, where the test holds
 abbrev pub queued_if : Bool → Thing → Line → Line
 queued_if true thing line = queued thing line
 queued_if false thing line = line
 
--- both directions of a connection
+-- the line with both directions of a connection queued
 abbrev pub queued_port : ℕ → Line → Line
 queued_port port line = queued (Write port) (queued (Read port) line)
 
@@ -98,11 +98,11 @@ brought thing line =
     if set_of (things_aside line.aside) thing
     then record line { queue = line.queue ++ thing ∷ []; aside = taken_back thing line.aside } else line
 
--- where it can be served as well
+-- the line with a thing called back from aside, where it can be served
 abbrev pub called : State → Thing → Line → Line
 called state thing line = if is_servable state thing then brought thing line else line
 
--- both directions of the event's port
+-- the line with both directions of the event's port called back from aside
 abbrev pub called_own : State → Option ℕ → Line → Line
 called_own state None line = line
 called_own state (Some port) line = called state (Write port) (called state (Read port) line)

@@ -10,11 +10,11 @@ use Rattle.loop_model.specs.declared.thing.Thing.{Thing}
 abbrev pub dropped : Thing → List Thing → List Thing
 dropped thing = filter (λ other. not (same_thing thing other))
 
--- with this thing, behind all others
+-- the queue with this thing behind all others
 abbrev pub put_back : Thing → List Thing → List Thing
 put_back thing queue = dropped thing queue ++ thing ∷ []
 
--- from the first thing on that can be served
+-- the queue from the first thing on that can be served
 abbrev pub from_servable : State → List Thing → List Thing
 from_servable state [] = []
 from_servable state (thing ∷ things) =
@@ -26,7 +26,7 @@ first_servable state [] = None
 first_servable state (thing ∷ things) =
     if is_servable state thing then Some thing else first_servable state things
 
--- it is this thing
+-- there is a thing, and it is this one
 abbrev pub is_thing : Thing → Option Thing → Bool
 is_thing thing None = false
 is_thing thing (Some other) = same_thing thing other

@@ -35,22 +35,22 @@ pub data Stage : Type 0 where
   Running : (turning : Turning) → Stage
   Refused : Stage
 
--- as the loop begins
+-- the stage in which the loop begins
 abbrev pub begun : Setting → Stage
 begun setting = Running (in_state setting.state empty_line Free)
 
 -- ---- listeners
 
--- where child processes connect
+-- the path at which child processes connect
 abbrev pub children_path : List ℕ → List ℕ
 children_path path = path ++ codes ".children"
 
--- by whether the listener was bound
+-- the stage after a listener was to be bound, by whether it was
 abbrev pub after_bind : {E : Type 0} → Result Unit E → Stage → Stage
 after_bind (Ok unit) next = next
 after_bind (Err fault) next = Refused
 
--- where the test holds
+-- this stage, where the test holds
 abbrev pub stage_if : Bool → Stage → Option Stage
 stage_if true stage = Some stage
 stage_if false stage = None
@@ -145,7 +145,7 @@ Serves BindFault setting from old new = RunsUpToBind setting from old new
 Serves PollFault setting from old new = RunsUpToPoll setting from old new (Err fault.Failed)
 Serves Memory setting from old new = RunsOut setting from old new
 
--- by whether both listeners were bound
+-- what the calls are that bind both listeners, by whether both were bound
 abbrev pub Opens : Result Unit WorldFault → Setting → Option (List Entry) → Option (List Entry) → Type 0
 Opens (Ok unit) setting old new = Runs setting Unbound old new (begun setting)
 Opens (Err fault.Failed) setting old new = RunsUpToBind setting Unbound old new

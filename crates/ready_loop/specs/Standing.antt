@@ -30,12 +30,12 @@ abbrev pub stuck_front : State → List Thing → Option Thing
 stuck_front state [] = None
 stuck_front state (thing ∷ things) = if is_servable state thing then None else Some thing
 
--- where it isn't this one
+-- the front of the queue, where there is one and it is another thing
 abbrev pub front_but : Thing → List Thing → Option Thing
 front_but thing [] = None
 front_but thing (first ∷ things) = if same_thing thing first then None else Some first
 
--- it is this port
+-- the event is of this port
 abbrev pub is_own : ℕ → Option ℕ → Bool
 is_own port None = false
 is_own port (Some own) = own == port

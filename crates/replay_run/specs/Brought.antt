@@ -25,13 +25,13 @@ takings_from moment later state None = []
 takings_from moment later state (Some port) =
     at_moment moment (Took port (length (owed_of port state))) ∷ later (delivered moment port state)
 
--- at most so many
+-- the takings of a settling, at most so many of them
 abbrev pub takings_by : Moment → List ℕ → ℕ → State → List Timed
 takings_by moment held zero state = []
 takings_by moment held (suc fuel) state =
     takings_from moment (takings_by moment held fuel) state (next_to_take held state)
 
--- those of a settling
+-- the takings of a settling, as events
 abbrev pub takings : Moment → List ℕ → State → List Timed
 takings moment held state = takings_by moment held (budget state) state
 

@@ -15,7 +15,7 @@ abbrev pub end_by : ℕ → Option LineFault → RunEnd
 end_by line None = Done
 end_by line (Some fault) = Refused line fault
 
--- the same of a run
+-- how a run ends whose schedule ends here
 abbrev pub end_of : Run → RunEnd
 end_of run = end_by run.line run.refused
 

@@ -43,7 +43,7 @@ pub record Turned : Type 0 where
   pub run : Run
   pub output : List ℕ
 
--- nothing comes of it
+-- the turning of a line from which nothing comes
 abbrev pub unturned : Run → Turned
 unturned run = record { run = run; output = [] }
 

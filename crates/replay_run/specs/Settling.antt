@@ -58,7 +58,7 @@ pub record Settled : Type 0 where
   pub agent : State
   pub output : List ℕ
 
--- the same with an output before it
+-- what a settling leaves, with an output before its own
 abbrev pub after_output : List ℕ → Settled → Settled
 after_output output settling = record settling { output = output ++ settling.output }
 

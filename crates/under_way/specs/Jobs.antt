@@ -11,7 +11,7 @@ use Rattle.under_way.specs.declared.jobs.Started.{Started}
 abbrev pub started_job : Started → StartedJob
 started_job one = record { job = one.job; ticket = one.ticket }
 
--- all of them
+-- all started jobs, as the definitions see them
 abbrev pub all_started : List Started → List StartedJob
 all_started started = map started_job started
 
@@ -25,7 +25,7 @@ pub record IsJobAt (number : ℕ) (jobs : List Job) (place : ℕ) : Type 0 where
   pub found : (other : Job) → find_to_start number jobs ≡ Some (slice_index_or jobs place other)
   pub removed : remove_to_start number jobs ≡ remove jobs place
 
--- the same of a started one
+-- the started job of this number stands at this place
 pub record IsStartedAt (number : ℕ) (started : List Started) (place : ℕ) : Type 0 where
   pub within : place < length started
   pub found : (other : Started) → find_started number (all_started started) ≡ Some (started_job (slice_index_or started place other))

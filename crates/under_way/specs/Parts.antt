@@ -57,7 +57,7 @@ abbrev pub FitsToStart : JobKind → Option Confirmation → Type 0
 FitsToStart kinds.Helper found = found ≡ None
 FitsToStart kinds.Confirm found = IsUnlinked found
 
--- the same of a started job
+-- a started job and the confirmation of its number go together
 abbrev pub FitsStarted : JobKind → Option Confirmation → Type 0
 FitsStarted kinds.Helper found = found ≡ None
 FitsStarted kinds.Confirm found = IsAwaited found

@@ -14,7 +14,7 @@ verification_of one = record {
   is_new = one.is_new;
 }
 
--- all of them
+-- all verifications, as the code holds them
 abbrev pub all_verifications : List Verification → List Noted
 all_verifications verifications = map verification_of verifications
 
