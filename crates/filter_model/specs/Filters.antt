@@ -1,0 +1,121 @@
+-- The filter: its open pairs, and what each event makes of them (ours). The file is read from its end.
+use Rattle.std.specs.Prelude.{ℕ, suc, ◌^◌, ◌-◌, ◌<◌, ◌≤◌, Bool, true, false, List, [], ◌∷◌, ◌++◌, length, Option, Some, None, IsSome, nat_lt, ◌==◌, if◌then◌else◌}
+use Rattle.pair_ports.specs.declared.side.Side.{Side}
+use Rattle.filter_model.specs.Pairs.{Half, Pair, change_half, half_of, heard_more, new_pair, sent_some, wants_half}
+use Rattle.filter_model.specs.Looking.{Looked, ends, looked}
+
+-- an event, with its bytes as a plain list
+pub data Happening : Type 0 where
+  Joined : Happening
+  Heard : (number : ℕ) → (side : Side) → (piece : List ℕ) → Happening
+  Took : (number : ℕ) → (side : Side) → (count : ℕ) → Happening
+  Ended : (number : ℕ) → Happening
+
+-- an open pair and its number
+pub record Numbered : Type 0 where
+  pub number : ℕ
+  pub pair : Pair
+
+-- the blobs that may be used, the open pairs by rising numbers, the number of the last pair that joined, and the pairs
+-- that the last event closed
+pub record State : Type 0 where
+  pub listed : List (List ℕ)
+  pub pairs : List Numbered
+  pub last_pair : ℕ
+  pub closes : List ℕ
+
+-- the filter before its first event
+abbrev pub first_state : List (List ℕ) → State
+first_state listed = record { listed = listed; pairs = []; last_pair = 0; closes = [] }
+
+-- the most pairs
+abbrev pub most_pairs : ℕ
+most_pairs = 128
+
+-- ---- pairs by their numbers
+
+abbrev pub find_pair : ℕ → List Numbered → Option Pair
+find_pair number [] = None
+find_pair number (one ∷ others) = if number == one.number then Some one.pair else find_pair number others
+
+-- the pairs, that of this number being this one
+abbrev pub put_pair : ℕ → Pair → List Numbered → List Numbered
+put_pair number pair [] = []
+put_pair number pair (one ∷ others) =
+    (if number == one.number then record { number = number; pair = pair } else one) ∷ put_pair number pair others
+
+abbrev pub remove_pair : ℕ → List Numbered → List Numbered
+remove_pair number [] = []
+remove_pair number (one ∷ others) =
+    if number == one.number then remove_pair number others else one ∷ remove_pair number others
+
+-- what a side of this pair is owed: nothing where it isn't open
+abbrev pub owed_by : Option Pair → Side → List ℕ
+owed_by None side = []
+owed_by (Some pair) side = (half_of side pair).owed
+
+abbrev pub owed_of : ℕ → Side → State → List ℕ
+owed_of number side state = owed_by (find_pair number state.pairs) side
+
+-- the side of this pair is to be read
+abbrev pub wants_by : Option Pair → Side → Bool
+wants_by None side = false
+wants_by (Some pair) side = wants_half (half_of side pair)
+
+abbrev pub wants : ℕ → Side → State → Bool
+wants number side state = wants_by (find_pair number state.pairs) side
+
+-- ---- which events may come
+
+abbrev pub Fits : Happening → State → Type 0
+Fits Joined state = state.last_pair < 2 ^ 64 - 1
+Fits (Heard number side piece) state = IsSome (find_pair number state.pairs) × (0 < length piece)
+Fits (Took number side count) state = (0 < count) × (count ≤ length (owed_of number side state))
+Fits (Ended number) state = IsSome (find_pair number state.pairs)
+
+-- ---- a step
+
+-- the pair stays as it was left, or is closed
+abbrev pub settled : Bool → ℕ → Pair → State → State
+settled true number pair state = record state { pairs = put_pair number pair state.pairs; closes = [] }
+settled false number pair state = record state { pairs = remove_pair number state.pairs; closes = number ∷ [] }
+
+-- what an event of an open pair makes of it
+abbrev pub told : Happening → List (List ℕ) → Pair → Looked
+told Joined listed pair = looked listed pair
+told (Heard number side piece) listed pair = looked listed (change_half side (heard_more piece) pair)
+told (Took number side count) listed pair = looked listed (change_half side (sent_some count) pair)
+told (Ended number) listed pair = ends pair
+
+-- where the pair is open
+abbrev pub at_pair : Option Pair → ℕ → Happening → State → State
+at_pair None number event state = record state { closes = [] }
+at_pair (Some pair) number event state =
+    let after = told event state.listed pair in settled after.is_open number after.pair state
+
+-- a pair joins: it gets the next number, and where too many are open it is closed at once
+abbrev pub joined : Bool → State → State
+joined true state = record state {
+  pairs = state.pairs ++ (record { number = suc state.last_pair; pair = new_pair } ∷ []);
+  last_pair = suc state.last_pair;
+  closes = [];
+}
+joined false state = record state { last_pair = suc state.last_pair; closes = suc state.last_pair ∷ [] }
+
+abbrev pub step : State → Happening → State
+step state Joined = joined (nat_lt (length state.pairs) most_pairs) state
+step state (Heard number side piece) =
+    at_pair (find_pair number state.pairs) number (Heard number side piece) state
+step state (Took number side count) =
+    at_pair (find_pair number state.pairs) number (Took number side count) state
+step state (Ended number) = at_pair (find_pair number state.pairs) number (Ended number) state
+
+-- the state that these events lead to, the first one first
+abbrev pub run : State → List Happening → State
+run state [] = state
+run state (event ∷ later) = run (step state event) later
+
+-- each event may come in the state that those before it lead to
+abbrev pub AllFit : State → List Happening → Type 0
+AllFit state [] = Unit {0}
+AllFit state (event ∷ later) = Fits event state × AllFit (step state event) later

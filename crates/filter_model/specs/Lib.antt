@@ -1,0 +1,9 @@
+pub mod Pairs
+pub mod Looking
+pub mod Filters
+pub mod Rows
+pub mod Watching
+pub mod Lines
+pub mod Answered
+pub mod LegalPairs
+pub mod PairRows

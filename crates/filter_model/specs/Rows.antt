@@ -1,0 +1,50 @@
+-- Literal rows of the filter (ours). The numbers are written out, so that a wrong definition can't agree with itself.
+use Rattle.std.specs.Prelude.{ℕ, List, [], ◌∷◌, ◌++◌, replicate, codes}
+use Rattle.pair_ports.specs.declared.side.Side.{Side}
+use Rattle.pair_ports.specs.declared.side.Side.TheVariants.{Client, Upstream}
+use Rattle.filter_model.specs.Filters.{Happening, Heard, Joined, State, Took, first_state, owed_of, run}
+
+-- the blob of a key with a public tag of 32 equal bytes
+abbrev pub blob : ℕ → List ℕ
+blob tag = 0 ∷ 0 ∷ 0 ∷ 24 ∷ (codes "keyed-sha256@example.com" ++ 0 ∷ 0 ∷ 0 ∷ 32 ∷ replicate 32 tag)
+
+-- SSH_AGENTC_SIGN_REQUEST for "abc", SSH_AGENTC_REQUEST_IDENTITIES, SSH_AGENTC_REMOVE_ALL_IDENTITIES
+abbrev pub sign : ℕ → List ℕ
+sign tag = 0 ∷ 0 ∷ 0 ∷ 80 ∷ 13 ∷ 0 ∷ 0 ∷ 0 ∷ 64 ∷ (blob tag ++ 0 ∷ 0 ∷ 0 ∷ 3 ∷ (codes "abc" ++ 0 ∷ 0 ∷ 0 ∷ 0 ∷ []))
+
+abbrev pub list : List ℕ
+list = 0 ∷ 0 ∷ 0 ∷ 1 ∷ 11 ∷ []
+
+abbrev pub remove_all : List ℕ
+remove_all = 0 ∷ 0 ∷ 0 ∷ 1 ∷ 19 ∷ []
+
+-- SSH_AGENTC_EXTENSION "session-bind@openssh.com" with a host key that can't be read
+abbrev pub bind : List ℕ
+bind = 0 ∷ 0 ∷ 0 ∷ 43 ∷ 27 ∷ 0 ∷ 0 ∷ 0 ∷ 24 ∷ (codes "session-bind@openssh.com"
+    ++ 0 ∷ 0 ∷ 0 ∷ 1 ∷ 9 ∷ 0 ∷ 0 ∷ 0 ∷ 0 ∷ 0 ∷ 0 ∷ 0 ∷ 0 ∷ 0 ∷ [])
+
+-- SSH_AGENT_FAILURE, SSH_AGENT_IDENTITIES_ANSWER with two keys and with the first alone
+abbrev pub failed : List ℕ
+failed = 0 ∷ 0 ∷ 0 ∷ 1 ∷ 5 ∷ []
+
+abbrev pub one_listed : List ℕ
+one_listed = 0 ∷ 0 ∷ 0 ∷ 80 ∷ 12 ∷ 0 ∷ 0 ∷ 0 ∷ 1 ∷ 0 ∷ 0 ∷ 0 ∷ 64 ∷ (blob 17 ++ 0 ∷ 0 ∷ 0 ∷ 3 ∷ codes "one")
+
+abbrev pub two_listed : List ℕ
+two_listed = 0 ∷ 0 ∷ 0 ∷ 155 ∷ 12 ∷ 0 ∷ 0 ∷ 0 ∷ 2 ∷ 0 ∷ 0 ∷ 0 ∷ 64 ∷ (blob 17 ++ 0 ∷ 0 ∷ 0 ∷ 3 ∷ (codes "one"
+    ++ 0 ∷ 0 ∷ 0 ∷ 64 ∷ (blob 18 ++ 0 ∷ 0 ∷ 0 ∷ 3 ∷ codes "two")))
+
+-- the state after these events of pair 1, the only key being that of the first tag
+abbrev pub after : List Happening → State
+after events = run (first_state (blob 17 ∷ [])) (Joined ∷ events)
+
+-- what both sides of pair 1 are owed then
+abbrev pub owed : Side → List Happening → List ℕ
+owed side events = owed_of 1 side (after events)
+
+-- three requests in one piece, and the takings of the first two replies
+abbrev pub three : Happening
+three = Heard 1 Client (sign 18 ++ (remove_all ++ sign 17))
+
+abbrev pub took_reply : Happening
+took_reply = Took 1 Client 5

@@ -1,0 +1,51 @@
+//! Literal rows, each a law that is proved by computing.
+#![tactic(auto, unfolding(wire_text::specs::Frames::front, wire_text::specs::Wire::uint32, wire_text::specs::Wire::string, wire_text::specs::Wire::announced_len, wire_core::specs::Fields::uint32_at, wire_core::specs::Fields::uint64_at, wire_core::specs::Fields::string_len, wire_core::specs::Fields::string_at, agent_msg::specs::Reading::request_of_number, agent_msg::specs::Reading::request_of, agent_msg::specs::Requests::session_bind, agent_msg::specs::ReplyReading::reply_of, agent_msg::specs::ReplyReading::entries_at))]
+
+ghost use Rattle.std.specs.Prelude.{◌≡◌, [], ◌∷◌, ◌++◌, length, false, true};
+ghost use Rattle.pair_ports.specs.declared.side.Side.TheVariants.{Client, Upstream};
+ghost use Rattle.filter_model.specs.Filters.{Ended, Heard, Joined, Took, wants};
+ghost use Rattle.filter_model.specs.Rows.{after, bind, failed, list, one_listed, owed, remove_all, sign, three, took_reply, two_listed};
+ghost use Rattle.filter_model.specs.PairRows.{accept_none, close_of, is_legal, joins, poll_door, poll_nothing, read_failed, read_none, read_of, write_of};
+
+/// A list is forwarded, and its reply is cut to the keys that are listed.
+pub fn a_list_is_cut()
+    ensures forwarded { owed Upstream (Heard 1 Client list ∷ []) ≡ list }
+    ensures cut { owed Client (Heard 1 Client list ∷ Took 1 Upstream 5 ∷ Heard 1 Upstream two_listed ∷ []) ≡ one_listed }
+{}
+
+/// Requests are served one at a time, and only those on listed keys are forwarded.
+pub fn only_listed_keys_are_used()
+    ensures refused { owed Client (three ∷ []) ≡ failed }
+    ensures kept { owed Upstream (three ∷ []) ≡ [] }
+    ensures refused_again { owed Client (three ∷ took_reply ∷ []) ≡ failed }
+    ensures kept_again { owed Upstream (three ∷ took_reply ∷ []) ≡ [] }
+    ensures allowed { owed Upstream (three ∷ took_reply ∷ took_reply ∷ []) ≡ sign 17 }
+    ensures waits { owed Client (three ∷ took_reply ∷ took_reply ∷ []) ≡ [] }
+{}
+
+/// Binds are forwarded, and nothing is taken while a reply isn't sent whole.
+pub fn others_are_kept_in_order()
+    ensures bound { owed Upstream (Heard 1 Client bind ∷ []) ≡ bind }
+    ensures part { owed Client (Heard 1 Client (remove_all ++ remove_all) ∷ Took 1 Client 2 ∷ []) ≡ 0 ∷ 1 ∷ 5 ∷ [] }
+    ensures unasked { (after (Heard 1 Upstream (0 ∷ []) ∷ [])).closes ≡ 1 ∷ [] }
+    ensures behind { (after (Heard 1 Client list ∷ Heard 1 Upstream (failed ++ 0 ∷ []) ∷ [])).closes ≡ 1 ∷ [] }
+    ensures other_reply { (after (Heard 1 Client list ∷ Heard 1 Upstream (0 ∷ 0 ∷ 0 ∷ 1 ∷ 6 ∷ []) ∷ [])).closes ≡ 1 ∷ [] }
+    ensures wanted { wants 1 Client (after []) ≡ true }
+    ensures whole { wants 1 Client (after (Heard 1 Client (list ++ list) ∷ [])) ≡ false }
+{}
+
+/// Journals: what is ready is served in its turn and before a poll, and pairs are closed at once.
+pub fn journals_are_legal()
+    ensures unbound { is_legal (poll_door ∷ []) ≡ false }
+    ensures joined { is_legal (joins (read_none Client ∷ read_none Upstream ∷ accept_none ∷ poll_nothing ∷ [])) ≡ true }
+    ensures unread { is_legal (joins (read_none Client ∷ poll_nothing ∷ [])) ≡ false }
+    ensures out_of_turn { is_legal (joins (accept_none ∷ [])) ≡ false }
+    ensures asked { is_legal (joins (read_of Client 5 list ∷ read_none Upstream ∷ write_of Upstream 5 list ∷ accept_none
+        ∷ read_none Client ∷ poll_nothing ∷ [])) ≡ true }
+    ensures other { is_legal (joins (read_of Client 5 list ∷ read_none Upstream
+        ∷ write_of Upstream 4 (0 ∷ 0 ∷ 0 ∷ 1 ∷ []) ∷ [])) ≡ false }
+    ensures ended { is_legal (joins (read_of Client 5 list ∷ read_failed Upstream ∷ close_of 1 ∷ accept_none
+        ∷ poll_nothing ∷ [])) ≡ true }
+    ensures left_open { is_legal (joins (read_of Client 5 list ∷ read_failed Upstream ∷ accept_none ∷ [])) ≡ false }
+    ensures unasked { is_legal (joins (read_none Client ∷ read_of Upstream 1 (0 ∷ []) ∷ close_of 1 ∷ [])) ≡ true }
+{}

@@ -1,0 +1,9 @@
+use pair_ports::Side;
+
+/// What can be served: the door, or one direction of one side of a pair.
+#[derive(Clone, Copy, Debug, PartialEq, Eq)]
+pub enum Thing {
+    Accept,
+    Read(u64, Side),
+    Write(u64, Side),
+}

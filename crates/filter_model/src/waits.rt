@@ -1,0 +1,10 @@
+/// What a pair waits for.
+#[derive(Clone, Copy, Debug, PartialEq, Eq)]
+pub enum Waits {
+    /// Nothing: the client's next request is taken.
+    Nothing,
+    /// The list of keys.
+    OnList,
+    /// Another reply.
+    OnReply,
+}
