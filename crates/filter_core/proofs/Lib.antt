@@ -1,0 +1,5 @@
+pub mod FrontBodies
+pub mod PlaceLemmas
+pub mod SlotLemmas
+pub mod CutLemmas
+pub mod LookLemmas

@@ -1,0 +1,148 @@
+-- Edits of the slots are edits of the pairs, and these are the steps of the definition.
+use Rattle.std.proofs.Common.{◌≡◌, ◌∙◌, ℕ, zero, suc, ◌+◌, ◌-◌, ◌^◌, ◌<◌, List, [], ◌∷◌, ◌++◌, Bool, true, false, length, map, get_or, set, refl, ap, arith, sym, subst, Some, None, slice_get, Result, Ok, Err, drop, Vec, Global, ◌||◌}
+use Rattle.std.proofs.lemmas.List.{drop_more, map-set, map-append, drop-map, take-map}
+use Rattle.std.specs.Prelude.{OnOk}
+use Rattle.std.specs.Str.{bytes_eq}
+use Rattle.std.proofs.lemmas.Option.{slice_get-map}
+use Rattle.std.specs.List.{remove}
+use Rattle.std.specs.Option.{option_map}
+use Rattle.filter_model.specs.Pairs.{Pair}
+use Rattle.filter_model.specs.Looking.{is_listed}
+use Rattle.filter_model.specs.Filters.{Happening, Numbered, State, at_pair, find_pair, put_pair, remove_pair, settled, told}
+use Rattle.filter_core.specs.declared.slot.Slot.{Slot}
+use Rattle.filter_core.specs.Slots.{IsKept, IsRising, Leaves, blobs_of, numbered_of, pair_of, pairs_of}
+use Rattle.filter_core.specs.Places.{IsPlace}
+use Rattle.filter_core.proofs.PlaceLemmas.{length-pairs_of, rising-append, rising-higher, rising-put, rising-remove}
+
+pairs_of-remove : (slots : List Slot) (place : ℕ) → pairs_of (remove slots place) ≡ remove (pairs_of slots) place
+pairs_of-remove slots place = simp (map-append, drop-map, take-map)
+
+pub pairs_of-push : (slots : List Slot) (slot : Slot) → pairs_of (slots ++ slot ∷ []) ≡ pairs_of slots ++ numbered_of slot ∷ []
+pairs_of-push slots slot = map-append numbered_of slots (slot ∷ [])
+
+within_place : (slots : List Slot) (number place : ℕ) → IsPlace number (pairs_of slots) place → place < length slots
+within_place slots number place is =
+    let same : length (pairs_of slots) ≡ length slots = length-pairs_of slots in
+    omega (arith, is.within)
+
+slice_get-within : (slots : List Slot) (place : ℕ) (slot : Slot) → place < length slots → slice_get slots place ≡ Some (get_or slots place slot)
+slice_get-within [] place slot within = absurd (omega arith)
+slice_get-within (first ∷ slots) zero slot within = refl
+slice_get-within (first ∷ slots) (suc place) slot within = slice_get-within slots place slot (omega arith)
+
+slice_get-set : (slots : List Slot) (place : ℕ) (slot : Slot) → place < length slots → slice_get (set slots place slot) place ≡ Some slot
+slice_get-set [] place slot within = absurd (omega arith)
+slice_get-set (first ∷ slots) zero slot within = refl
+slice_get-set (first ∷ slots) (suc place) slot within = slice_get-set slots place slot (omega arith)
+
+remove-set : (slots : List Slot) (place : ℕ) (slot : Slot) → place < length slots → remove (set slots place slot) place ≡ remove slots place
+remove-set [] place slot within = absurd (omega arith)
+remove-set (first ∷ slots) zero slot within = refl
+remove-set (first ∷ slots) (suc place) slot within = ap (λ (l : List Slot). first ∷ l) (remove-set slots place slot (omega arith))
+
+-- the slot at the place of a number
+module _ (slots : List Slot) (number place : ℕ) (old : Slot) (is : IsPlace number (pairs_of slots) place) (here : old ≡ get_or slots place old) where
+  pub there : slice_get slots place ≡ Some old
+  there = slice_get-within slots place old (within_place slots number place is) ∙ ap Some (sym here)
+
+  there_pair : slice_get (pairs_of slots) place ≡ Some (numbered_of old)
+  there_pair = slice_get-map numbered_of slots place ∙ ap (option_map numbered_of) there
+
+  pub found_slot : find_pair number (pairs_of slots) ≡ Some (pair_of old)
+  found_slot = is.found (numbered_of old) there_pair
+
+  pub number_of_slot : old.number ≡ number
+  number_of_slot = is.numbered (numbered_of old) there_pair
+
+  pub put_slot : (slot : Slot) → slot.number ≡ old.number → pairs_of (set slots place slot) ≡ put_pair number (pair_of slot) (pairs_of slots)
+  put_slot slot same =
+      map-set numbered_of slots place slot
+      ∙ ap (λ n. set (pairs_of slots) place (record { number = n; pair = pair_of slot })) (same ∙ number_of_slot)
+      ∙ sym (is.put (pair_of slot))
+
+  pub remove_slot : pairs_of (remove slots place) ≡ remove_pair number (pairs_of slots)
+  remove_slot = pairs_of-remove slots place ∙ sym is.removed
+
+  pub remove_put : (slot : Slot) → pairs_of (remove (set slots place slot) place) ≡ remove_pair number (pairs_of slots)
+  remove_put slot = ap pairs_of (remove-set slots place slot (within_place slots number place is)) ∙ remove_slot
+
+  pub there_put : (slot : Slot) → slice_get (set slots place slot) place ≡ Some slot
+  there_put slot = slice_get-set slots place slot (within_place slots number place is)
+
+-- ---- the numbers go on rising
+
+pub kept_rising : (pairs : List Numbered) (last : ℕ) → IsKept pairs last → IsRising 0 (2 ^ 64) pairs
+kept_rising pairs last kept = rising-higher 0 last (2 ^ 64) pairs (omega (arith, kept.fits)) kept.rising
+
+pub kept-put : (pairs : List Numbered) (last number : ℕ) (pair : Pair) → IsKept pairs last → IsKept (put_pair number pair pairs) last
+kept-put pairs last number pair kept = record { rising = rising-put number 0 last pair pairs kept.rising; fits = kept.fits }
+
+pub kept-remove : (pairs : List Numbered) (last number : ℕ) → IsKept pairs last → IsKept (remove_pair number pairs) last
+kept-remove pairs last number kept = record { rising = rising-remove number 0 last pairs kept.rising; fits = kept.fits }
+
+pub kept-joined : (pairs : List Numbered) (last : ℕ) (pair : Pair) → last < 2 ^ 64 - 1 → IsKept pairs last → IsKept (pairs ++ record { number = last + 1; pair = pair } ∷ []) (last + 1)
+kept-joined pairs last pair below kept = record { rising = rising-append 0 last (last + 1) pair pairs (omega arith) kept.rising; fits = omega (arith, below) }
+
+pub kept-numbered : (pairs : List Numbered) (last : ℕ) → last < 2 ^ 64 - 1 → IsKept pairs last → IsKept pairs (last + 1)
+kept-numbered pairs last below kept = record { rising = rising-higher 0 last (last + 1) pairs (omega arith) kept.rising; fits = omega (arith, below) }
+
+-- ---- steps
+
+-- the pair stays open
+pub steps_open : (event : Happening) (state : State) (number : ℕ) (pair left : Pair) → find_pair number state.pairs ≡ Some pair → Leaves true left (told event state.listed pair)
+    → at_pair (find_pair number state.pairs) number event state ≡ record state { pairs = put_pair number left state.pairs; closes = [] }
+steps_open event state number pair left found leaves =
+    ap (λ f. at_pair f number event state) found
+    ∙ ap (λ b. settled b number (told event state.listed pair).pair state) (sym leaves.stays)
+    ∙ ap (λ p. settled true number p state) (sym leaves.left)
+
+-- it is closed
+pub steps_closed : (event : Happening) (state : State) (number : ℕ) (pair left : Pair) → find_pair number state.pairs ≡ Some pair → Leaves false left (told event state.listed pair)
+    → at_pair (find_pair number state.pairs) number event state ≡ record state { pairs = remove_pair number state.pairs; closes = number ∷ [] }
+steps_closed event state number pair left found leaves =
+    ap (λ f. at_pair f number event state) found
+    ∙ ap (λ b. settled b number (told event state.listed pair).pair state) (sym leaves.stays)
+
+-- it isn't there
+pub steps_absent : (event : Happening) (state : State) (number : ℕ) → find_pair number state.pairs ≡ None → state.closes ≡ []
+    → at_pair (find_pair number state.pairs) number event state ≡ state
+steps_absent event state number none quiet =
+    ap (λ f. at_pair f number event state) none ∙ ap (λ (c : List ℕ). let s : State = record state { closes = c } in s) (sym quiet)
+
+-- ---- the state of the storage
+
+abbrev pub state_of : List (List ℕ) → List Slot → ℕ → List ℕ → State
+state_of listed slots last closed = record { listed = listed; pairs = pairs_of slots; last_pair = last; closes = closed }
+
+-- an event that leaves the pair open
+pub tells_open : (listed : List (List ℕ)) (slots : List Slot) (last : ℕ) (closed : List ℕ) (number place : ℕ) (event : Happening) (old slot : Slot) (stays : Bool)
+    → IsPlace number (pairs_of slots) place → old ≡ get_or slots place old → slot.number ≡ old.number → Leaves stays (pair_of slot) (told event listed (pair_of old)) → stays ≡ true → closed ≡ []
+    → state_of listed (set slots place slot) last closed ≡ at_pair (find_pair number (pairs_of slots)) number event (state_of listed slots last closed)
+tells_open listed slots last closed number place event old slot stays is here same leaves open_yet quiet =
+    ap (λ (pairs : List Numbered). let s : State = record { listed = listed; pairs = pairs; last_pair = last; closes = closed } in s) (put_slot slots number place old is here slot same)
+    ∙ ap (λ (closes : List ℕ). let s : State = record { listed = listed; pairs = put_pair number (pair_of slot) (pairs_of slots); last_pair = last; closes = closes } in s) quiet
+    ∙ sym (steps_open event (state_of listed slots last closed) number (pair_of old) (pair_of slot) (found_slot slots number place old is here)
+    (subst (λ (b : Bool). Leaves b (pair_of slot) (told event listed (pair_of old))) open_yet leaves))
+
+-- one that closes it
+pub tells_closed : (listed : List (List ℕ)) (slots : List Slot) (last : ℕ) (closed : List ℕ) (number place : ℕ) (event : Happening) (old slot : Slot) (stays : Bool)
+    → IsPlace number (pairs_of slots) place → old ≡ get_or slots place old → slot.number ≡ old.number → Leaves stays (pair_of slot) (told event listed (pair_of old)) → stays ≡ false → closed ≡ []
+    → state_of listed (remove (set slots place slot) place) last (closed ++ slot.number ∷ []) ≡ at_pair (find_pair number (pairs_of slots)) number event (state_of listed slots last closed)
+tells_closed listed slots last closed number place event old slot stays is here same leaves shut quiet =
+    ap (λ (pairs : List Numbered). let s : State = record { listed = listed; pairs = pairs; last_pair = last; closes = closed ++ slot.number ∷ [] } in s) (remove_put slots number place old is here slot)
+    ∙ ap (λ (closes : List ℕ). let s : State = record { listed = listed; pairs = remove_pair number (pairs_of slots); last_pair = last; closes = closes ++ slot.number ∷ [] } in s) quiet
+    ∙ ap (λ (n : ℕ). let s : State = record { listed = listed; pairs = remove_pair number (pairs_of slots); last_pair = last; closes = n ∷ [] } in s) (same ∙ number_of_slot slots number place old is here)
+    ∙ sym (steps_closed event (state_of listed slots last closed) number (pair_of old) (pair_of slot) (found_slot slots number place old is here)
+    (subst (λ (b : Bool). Leaves b (pair_of slot) (told event listed (pair_of old))) shut leaves))
+
+-- what follows where memory sufficed
+pub after_ok : {T E : Type 0} {P Q : Type 0} (result : Result T E) → (P → Q) → OnOk result P → OnOk result Q
+after_ok (Ok value) step holds = step holds
+after_ok (Err want) step holds = tt
+
+-- ---- a list of blobs
+
+pub more_listed : (blob : List ℕ) (listed : List (Vec ℕ Global)) (i : ℕ) (one : Vec ℕ Global) → i < length listed → one ≡ get_or listed i one
+    → is_listed blob (blobs_of (drop i listed)) ≡ (bytes_eq blob one.items || is_listed blob (blobs_of (drop (i + 1) listed)))
+more_listed blob listed i one inside is =
+    ap (λ (l : List (Vec ℕ Global)). is_listed blob (blobs_of l)) (drop_more listed i one inside ∙ ap (λ (v : Vec ℕ Global). v ∷ drop (i + 1) listed) (sym is))

@@ -1,0 +1,75 @@
+-- The storage of the open pairs as the definition sees it.
+use Rattle.std.specs.Prelude.{◌≡◌, ℕ, ◌+◌, ◌^◌, ◌<◌, ◌≤◌, Bool, true, false, ◌&&◌, List, [], ◌∷◌, length, map, Option, Some, None, Vec}
+use Rattle.std.specs.declared.alloc.Global.{Global}
+use Rattle.wire_text.specs.Bounds.{longest_body}
+use Rattle.agent_msg.specs.Replies.{entries_length}
+use Rattle.agent_msg.specs.ReplyReading.{AgentReply, Failure, Identities, Signature, Success}
+use Rattle.filter_core.specs.declared.slot.Slot.{Slot}
+use Rattle.filter_model.specs.declared.waits.Waits.{Waits}
+use Rattle.filter_model.specs.declared.waits.Waits.TheVariants as waiting
+use Rattle.filter_model.specs.Pairs.{Half, Pair, half_of, owes_more}
+use Rattle.filter_model.specs.Looking.{Looked}
+use Rattle.filter_model.specs.Filters.{Ended, Happening, Heard, Joined, Numbered, Took}
+
+-- the blobs of a list
+abbrev pub blobs_of : List (Vec ℕ Global) → List (List ℕ)
+blobs_of listed = map (λ blob. blob.items) listed
+
+-- a pair without its storage, and with its number
+abbrev pub pair_of : Slot → Pair
+pair_of slot = record { client = slot.client; upstream = slot.upstream; waits = slot.waits }
+
+abbrev pub numbered_of : Slot → Numbered
+numbered_of slot = record { number = slot.number; pair = pair_of slot }
+
+abbrev pub pairs_of : List Slot → List Numbered
+pairs_of slots = map numbered_of slots
+
+-- the numbers rise, each above low and none above high
+abbrev pub IsRising : ℕ → ℕ → List Numbered → Type 0
+IsRising low high [] = low ≤ high
+IsRising low high (one ∷ others) = (low < one.number) × IsRising one.number high others
+
+-- the numbers of the open pairs rise up to the last one
+pub record IsKept (pairs : List Numbered) (last : ℕ) : Type 0 where
+  pub rising : IsRising 0 last pairs
+  pub fits : last < 2 ^ 64
+
+-- a side is owed a reply, where there is one
+abbrev pub owes_reply : Option (List ℕ) → Half → Half
+owes_reply None half = half
+owes_reply (Some reply) half = owes_more reply half
+
+-- no bytes
+abbrev pub is_none : List ℕ → Bool
+is_none [] = true
+is_none (byte ∷ bytes) = false
+
+-- nothing is waited for
+abbrev pub is_quiet : Waits → Bool
+is_quiet waiting.Nothing = true
+is_quiet waiting.OnList = false
+is_quiet waiting.OnReply = false
+
+-- the client's next request may be taken
+abbrev pub is_free : Pair → Bool
+is_free pair = is_quiet pair.waits && (is_none pair.client.owed && is_none pair.upstream.owed)
+
+-- a look left this pair, and tells whether it stays open
+pub record Leaves (is_open : Bool) (pair : Pair) (after : Looked) : Type 0 where
+  pub stays : is_open ≡ after.is_open
+  pub left : pair ≡ after.pair
+
+-- a list is no longer than a message
+abbrev pub IsShort : AgentReply → Type 0
+IsShort Failure = Unit {0}
+IsShort Success = Unit {0}
+IsShort (Identities identities) = 5 + entries_length identities ≤ longest_body
+IsShort (Signature signature) = Unit {0}
+
+-- the event may come to the pair: no more is taken than is owed
+abbrev pub FitsPair : Happening → Pair → Type 0
+FitsPair Joined pair = Unit {0}
+FitsPair (Heard number side piece) pair = Unit {0}
+FitsPair (Took number side count) pair = count ≤ length (half_of side pair).owed
+FitsPair (Ended number) pair = Unit {0}

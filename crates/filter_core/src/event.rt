@@ -1,0 +1,24 @@
+use pair_ports::Side;
+
+/// What happens to a filter: the atomic step of its pairs. Prints nothing, since it carries what clients sent.
+#[derive(Clone, Copy)]
+pub enum FilterEvent<'a> {
+    /// A client connected, and so did its upstream side. The new pair has the next number, from 1.
+    Joined,
+    /// The next bytes of a side, in a piece of any length.
+    Heard {
+        pair: u64,
+        side: Side,
+        piece: &'a [u8],
+    },
+    /// A side took so many bytes of those that it is owed, from their front.
+    Took {
+        pair: u64,
+        side: Side,
+        count: usize,
+    },
+    /// A side has ended, or could not be read or written.
+    Ended {
+        pair: u64,
+    },
+}

@@ -1,0 +1,212 @@
+//! The filter.
+
+ghost use Rattle.std.specs.Prelude.{◌≡◌, ◌↔◌, ◌-◌, ◌^◌, ◌<◌, ◌≤◌, [], ◌∷◌, ◌++◌, IsSome, IsTrue, MatchOption, None, OnOk, Some, false, length, map, slice_get, true};
+ghost use Rattle.std.specs.List.{remove};
+ghost use Rattle.filter_model.specs.Filters.{Fits, Joined, at_pair, find_pair, first_state, joined, owed_of, step, wants};
+ghost use Rattle.filter_model.specs.Pairs.{Pair};
+ghost use Rattle.filter_core.specs.Happenings.{happening};
+ghost use Rattle.filter_core.specs.Slots.{FitsPair, pair_of};
+ghost use Rattle.filter_core.specs.declared.slot.Slot.{Slot};
+
+use crate::FilterEvent;
+use crate::places::place_of;
+use crate::slot::{self, Slot};
+use pair_ports::Side;
+use std::alloc::{AllocError, Global};
+use std::marker::Model;
+
+/// The most pairs that are open at once.
+const MOST_PAIRS: usize = 128;
+
+/// A filter: its list, its open pairs, and those that its last step closed. Dropping it wipes what its pairs sent and
+/// are owed.
+#[derive(Drop)]
+pub struct Filter {
+    alloc: Global,
+    listed: Vec<Vec<u8>>,
+    // By their numbers, which rise.
+    slots: Vec<Slot>,
+    last: u64,
+    closed: Vec<u64>,
+}
+
+impl Model for Filter {
+    ghost use Rattle.filter_model.specs.Filters.{State};
+    ghost use Rattle.filter_core.specs.Slots.{IsKept, blobs_of, pairs_of};
+
+    ghost Value = { State };
+
+    ghost view = { λ f. record {
+      listed = blobs_of f.listed.items;
+      pairs = pairs_of f.slots.items;
+      last_pair = f.last;
+      closes = f.closed.items;
+    } };
+
+    ghost invariant = { λ f. IsKept (pairs_of f.slots.items) f.last };
+}
+
+impl Filter {
+    /// A filter that lets the keys of these blobs be listed and used. Takes no memory.
+    pub fn new(alloc: Global, listed: Vec<Vec<u8>>) -> Filter
+        ensures { result ≡ first_state (map (λ blob. blob.items) listed.items) }
+    {
+        Filter {
+            alloc,
+            listed,
+            slots: Vec::new(alloc),
+            last: 0,
+            closed: Vec::new(alloc),
+        }
+    }
+
+    /// Whether the event may come now.
+    pub fn fits(&self, event: &FilterEvent<'_>) -> bool
+        ensures { IsTrue result ↔ Fits (happening event.now) self.now }
+    {
+        match *event {
+            FilterEvent::Joined => self.last < u64::MAX,
+            FilterEvent::Heard { pair, piece, .. } => self.is_open(pair) && !piece.is_empty(),
+            FilterEvent::Took { pair, side, count } => {
+                count > 0 && count <= self.owed(pair, side).len()
+            }
+            FilterEvent::Ended { pair } => self.is_open(pair),
+        }
+    }
+
+    /// Takes one event. Where memory runs out, the filter can only be dropped.
+    pub fn step(&mut self, event: &FilterEvent<'_>) -> Result<(), AllocError>
+        requires { Fits (happening event.now) self.old }
+        ensures { OnOk result (self.new ≡ step self.old (happening event.now)) }
+    {
+        self.closed.clear();
+        match *event {
+            FilterEvent::Joined => self.join(),
+            FilterEvent::Heard { pair, .. } => self.tell(pair, event),
+            FilterEvent::Took { pair, .. } => self.tell(pair, event),
+            FilterEvent::Ended { pair } => self.tell(pair, event),
+        }
+    }
+
+    /// What a side of a pair is owed: nothing where the pair isn't open.
+    pub fn owed(&self, pair: u64, side: Side) -> &[u8]
+        ensures { result.now ≡ owed_of pair side self.now }
+    {
+        match self.find(pair) {
+            Some(slot) => slot::owed(slot, side),
+            None => &[],
+        }
+    }
+
+    /// Whether a side of a pair is to be read: not where the pair isn't open, and not while a whole frame or a bad one
+    /// of that side waits to be taken.
+    pub fn wants(&self, pair: u64, side: Side) -> bool
+        ensures { result ≡ wants pair side self.now }
+    {
+        match self.find(pair) {
+            Some(slot) => slot::wants(slot, side),
+            None => false,
+        }
+    }
+
+    /// The pairs that the last step closed, rising.
+    pub fn closes(&self) -> &[u64]
+        ensures { result.now ≡ self.now.closes }
+    {
+        &self.closed
+    }
+
+    /// Whether the pair is open.
+    pub fn is_open(&self, pair: u64) -> bool
+        ensures { IsTrue result ↔ IsSome (find_pair pair self.now.pairs) }
+    {
+        self.find(pair).is_some()
+    }
+
+    /// The number of the last pair that joined, 0 where none did.
+    pub fn pairs_so_far(&self) -> u64
+        ensures { result ≡ self.now.last_pair }
+    {
+        self.last
+    }
+}
+
+impl Filter {
+    fn find(&self, pair: u64) -> Option<&Slot>
+        ensures { MatchOption result (find_pair pair self.now.pairs ≡ None)
+            (λ slot. find_pair pair self.now.pairs ≡ Some (pair_of slot.now)) }
+    {
+        match place_of(&self.slots, pair) {
+            Some(place) => Some(&self.slots[place]),
+            None => None,
+        }
+    }
+
+    // A pair joins. Where too many are open it is closed at once.
+    fn join(&mut self) -> Result<(), AllocError>
+        requires last { self.old.last_pair < 2 ^ 64 - 1 }
+        requires closes { self.old.closes ≡ [] }
+        ensures { OnOk result (self.new ≡ step self.old Joined) }
+    {
+        if self.slots.len() < MOST_PAIRS {
+            self.admit()
+        } else {
+            self.turn_away()
+        }
+    }
+
+    // A pair is opened.
+    fn admit(&mut self) -> Result<(), AllocError>
+        requires last { self.old.last_pair < 2 ^ 64 - 1 }
+        requires closes { self.old.closes ≡ [] }
+        ensures { OnOk result (self.new ≡ joined true self.old) }
+    {
+        let number = self.last + 1;
+        self.slots.push(slot::new(self.alloc, number))?;
+        self.last = number;
+        Ok(())
+    }
+
+    // A pair that has no room is closed.
+    fn turn_away(&mut self) -> Result<(), AllocError>
+        requires last { self.old.last_pair < 2 ^ 64 - 1 }
+        requires closes { self.old.closes ≡ [] }
+        ensures { OnOk result (self.new ≡ joined false self.old) }
+    {
+        let number = self.last + 1;
+        self.closed.push(number)?;
+        self.last = number;
+        Ok(())
+    }
+
+    // An event of a pair happened: nothing, where it isn't open.
+    fn tell(&mut self, pair: u64, event: &FilterEvent<'_>) -> Result<(), AllocError>
+        requires closes { self.old.closes ≡ [] }
+        requires fits { (found : Pair) → find_pair pair self.old.pairs ≡ Some found → FitsPair (happening event.now) found }
+        ensures { OnOk result
+            (self.new ≡ at_pair (find_pair pair self.old.pairs) pair (happening event.now) self.old) }
+    {
+        match place_of(&self.slots, pair) {
+            Some(place) => {
+                let slot = &mut self.slots[place];
+                match slot::tell(self.alloc, slot, &self.listed, event)? {
+                    true => Ok(()),
+                    false => close(&mut self.slots, &mut self.closed, place),
+                }
+            }
+            None => Ok(()),
+        }
+    }
+}
+
+// Closes the pair at this place. What it sent and is owed is wiped.
+fn close(slots: &mut Vec<Slot>, closed: &mut Vec<u64>, place: usize) -> Result<(), AllocError>
+    requires { place < length slots.old.items }
+    ensures slots { slots.new.items ≡ remove slots.old.items place }
+    ensures closed { (slot : Slot) → slice_get slots.old.items place ≡ Some slot
+        → OnOk result (closed.new.items ≡ closed.old.items ++ slot.number ∷ []) }
+{
+    let slot = slots.remove(place);
+    closed.push(slot.number)?;
+    Ok(())
+}

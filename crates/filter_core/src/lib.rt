@@ -1,0 +1,14 @@
+//! A filter before another agent: its pairs, and what each event makes of them, with no input or output of its own.
+//! Each step is one step of filter_model. Stands on filter_model, agent_msg, frame_core and secret_buf.
+#![tactic(auto)]
+
+mod buffers;
+mod cut;
+mod event;
+mod fate;
+mod filter;
+mod places;
+mod slot;
+
+pub use event::FilterEvent;
+pub use filter::Filter;

@@ -1,0 +1,285 @@
+//! One open pair.
+
+ghost use Rattle.std.specs.Prelude.{◌≡◌, ◌≤◌, IfOk, OnOk, length, is_some};
+ghost use Rattle.wire_text.specs.Bounds.{longest_body};
+ghost use Rattle.wire_text.specs.Frames.{Whole, front, front_body};
+ghost use Rattle.agent_msg.specs.ReplyReading.{reply_of};
+ghost use Rattle.filter_model.specs.declared.waits.Waits.TheVariants as waiting;
+ghost use Rattle.filter_model.specs.Pairs.{change_half, half_of, heard_more, new_pair, sent_some, wants_half};
+ghost use Rattle.filter_model.specs.Looking.{answered, client_looked, fate_of, looked, reply_for, taken_as, upstream_looked, without_front};
+ghost use Rattle.filter_model.specs.Filters.{told};
+ghost use Rattle.filter_core.specs.Happenings.{happening};
+ghost use Rattle.filter_core.specs.Slots.{FitsPair, Leaves, blobs_of, is_free, is_none, is_quiet, numbered_of, owes_reply, pair_of};
+
+use crate::FilterEvent;
+use crate::buffers::Buffers;
+use crate::cut::owe_cut;
+use crate::fate::fate_of;
+use filter_model::Waits;
+use frame_core::Look;
+use pair_ports::Side;
+use std::alloc::{AllocError, Global};
+
+/// An open pair. Dropping it wipes what was heard and what is owed.
+#[derive(Drop)]
+pub struct Slot {
+    pub number: u64,
+    pub client: Buffers,
+    pub upstream: Buffers,
+    pub waits: Waits,
+}
+
+/// A pair at which nothing has happened. Takes no memory.
+pub fn new(alloc: Global, number: u64) -> Slot
+    ensures { numbered_of result ≡ record { number = number; pair = new_pair } }
+{
+    Slot {
+        number,
+        client: Buffers::new(alloc),
+        upstream: Buffers::new(alloc),
+        waits: Waits::Nothing,
+    }
+}
+
+/// What a side is owed.
+pub fn owed(slot: &Slot, side: Side) -> &[u8]
+    ensures { result.now ≡ (half_of side (pair_of slot.now)).owed }
+{
+    match side {
+        Side::Client => slot.client.owed(),
+        Side::Upstream => slot.upstream.owed(),
+    }
+}
+
+/// Whether a side is to be read.
+pub fn wants(slot: &Slot, side: Side) -> bool
+    ensures { result ≡ wants_half (half_of side (pair_of slot.now)) }
+{
+    match side {
+        Side::Client => slot.client.wants(),
+        Side::Upstream => slot.upstream.wants(),
+    }
+}
+
+// Appends the piece to what was heard from a side.
+fn push(slot: &mut Slot, side: Side, piece: &[u8]) -> Result<(), AllocError>
+    ensures pair { OnOk result (pair_of slot.new ≡ change_half side (heard_more piece.now) (pair_of slot.old)) }
+    ensures number { slot.new.number ≡ slot.old.number }
+{
+    match side {
+        Side::Client => slot.client.hear(piece),
+        Side::Upstream => slot.upstream.hear(piece),
+    }
+}
+
+// Drops the first `count` bytes that a side is owed.
+fn drop_sent(slot: &mut Slot, side: Side, count: usize)
+    requires { count ≤ length (half_of side (pair_of slot.old)).owed }
+    ensures pair { pair_of slot.new ≡ change_half side (sent_some count) (pair_of slot.old) }
+    ensures number { slot.new.number ≡ slot.old.number }
+{
+    match side {
+        Side::Client => slot.client.sent(count),
+        Side::Upstream => slot.upstream.sent(count),
+    }
+}
+
+// Takes the client's request with a body of this length: refuses or forwards it.
+fn take(alloc: Global, slot: &mut Slot, listed: &[Vec<u8>], body_len: u32) -> Result<(), AllocError>
+    requires whole { front longest_body slot.old.client.heard ≡ Whole body_len }
+    requires quiet { slot.old.waits ≡ waiting.Nothing }
+    ensures pair { OnOk result (pair_of slot.new ≡ taken_as
+        (fate_of (blobs_of listed.now) (front_body body_len slot.old.client.heard))
+        (front_body body_len slot.old.client.heard)
+        (record (pair_of slot.old) { client = without_front body_len slot.old.client })) }
+    ensures number { slot.new.number ≡ slot.old.number }
+{
+    let body = slot.client.body(body_len);
+    let fate = fate_of(alloc, listed, body)?;
+    match fate {
+        Waits::Nothing => slot.client.owe_failure()?,
+        Waits::OnList | Waits::OnReply => slot.upstream.owe(body)?,
+    }
+    slot.waits = fate;
+    slot.client.take(body_len);
+    Ok(())
+}
+
+// Whether these are no bytes.
+fn is_none(bytes: &[u8]) -> bool
+    ensures { result ≡ is_none bytes.now }
+{
+    match bytes {
+        [] => true,
+        _ => false,
+    }
+}
+
+// Whether the pair waits for nothing.
+fn is_quiet(waits: Waits) -> bool
+    ensures { result ≡ is_quiet waits }
+{
+    match waits {
+        Waits::Nothing => true,
+        Waits::OnList | Waits::OnReply => false,
+    }
+}
+
+// Whether the client's next request may be taken: nothing is waited for, and neither side is owed bytes.
+fn is_free(slot: &Slot) -> bool
+    ensures { result ≡ is_free (pair_of slot.now) }
+{
+    is_quiet(slot.waits) && is_none(slot.client.owed()) && is_none(slot.upstream.owed())
+}
+
+// Looks at what the client sent, where it is its turn; tells whether the pair stays open.
+#[tactic(auto, using(crate::proofs::LookLemmas::held_leaves, crate::proofs::LookLemmas::more_leaves, crate::proofs::LookLemmas::bad_leaves, crate::proofs::LookLemmas::taken_leaves, crate::proofs::LookLemmas::free_is_quiet))]
+fn look_at_client(alloc: Global, slot: &mut Slot, listed: &[Vec<u8>]) -> Result<bool, AllocError>
+    ensures looked { IfOk result (λ stays. Leaves stays (pair_of slot.new)
+        (client_looked (blobs_of listed.now) (pair_of slot.old))) }
+    ensures number { slot.new.number ≡ slot.old.number }
+{
+    if !is_free(slot) {
+        return Ok(true);
+    }
+    match slot.client.front() {
+        Look::Whole { body } => {
+            take(alloc, slot, listed, body)?;
+            Ok(true)
+        }
+        Look::Bad { .. } => Ok(false),
+        Look::More => Ok(true),
+    }
+}
+
+// Owes the client the reply that this answer of the upstream's makes; tells whether it makes one.
+fn owe_reply(
+    alloc: Global,
+    slot: &mut Slot,
+    listed: &[Vec<u8>],
+    body_len: u32,
+) -> Result<bool, AllocError>
+    requires { front longest_body slot.old.upstream.heard ≡ Whole body_len }
+    ensures is_one { IfOk result (λ is_one. is_one ≡ is_some (reply_for slot.old.waits (blobs_of listed.now)
+        (front_body body_len slot.old.upstream.heard))) }
+    ensures pair { OnOk result (pair_of slot.new ≡ record (pair_of slot.old) {
+      client = owes_reply (reply_for slot.old.waits (blobs_of listed.now)
+          (front_body body_len slot.old.upstream.heard)) slot.old.client;
+    }) }
+    ensures number { slot.new.number ≡ slot.old.number }
+{
+    let answer = slot.upstream.body(body_len);
+    match slot.waits {
+        Waits::Nothing => Ok(false),
+        Waits::OnList => owe_cut(alloc, &mut slot.client, listed, answer),
+        Waits::OnReply => {
+            slot.client.owe(answer)?;
+            Ok(true)
+        }
+    }
+}
+
+// Takes the upstream's answer with a body of this length; tells whether the pair stays open.
+#[tactic(auto, using(crate::proofs::LookLemmas::answered_none, crate::proofs::LookLemmas::answered_some))]
+fn take_answer(
+    alloc: Global,
+    slot: &mut Slot,
+    listed: &[Vec<u8>],
+    body_len: u32,
+) -> Result<bool, AllocError>
+    requires { front longest_body slot.old.upstream.heard ≡ Whole body_len }
+    ensures looked { IfOk result (λ stays. Leaves stays (pair_of slot.new) (answered
+        (reply_for slot.old.waits (blobs_of listed.now) (front_body body_len slot.old.upstream.heard))
+        body_len (pair_of slot.old))) }
+    ensures number { slot.new.number ≡ slot.old.number }
+{
+    if !owe_reply(alloc, slot, listed, body_len)? {
+        return Ok(false);
+    }
+    slot.upstream.take(body_len);
+    slot.waits = Waits::Nothing;
+    Ok(is_none(slot.upstream.heard()))
+}
+
+// Looks at what the upstream sent; tells whether the pair stays open.
+#[tactic(auto, using(crate::proofs::LookLemmas::unasked_leaves, crate::proofs::LookLemmas::upstream_more, crate::proofs::LookLemmas::upstream_bad, crate::proofs::LookLemmas::upstream_whole))]
+fn look_at_upstream(alloc: Global, slot: &mut Slot, listed: &[Vec<u8>]) -> Result<bool, AllocError>
+    ensures looked { IfOk result (λ stays. Leaves stays (pair_of slot.new)
+        (upstream_looked (blobs_of listed.now) (pair_of slot.old))) }
+    ensures number { slot.new.number ≡ slot.old.number }
+{
+    if is_quiet(slot.waits) {
+        return Ok(is_none(slot.upstream.heard()));
+    }
+    match slot.upstream.front() {
+        Look::Whole { body } => take_answer(alloc, slot, listed, body),
+        Look::Bad { .. } => Ok(false),
+        Look::More => Ok(true),
+    }
+}
+
+// Looks at both sides, the client's first; tells whether the pair stays open.
+#[tactic(auto, using(crate::proofs::LookLemmas::then_stops, crate::proofs::LookLemmas::then_goes))]
+fn look(alloc: Global, slot: &mut Slot, listed: &[Vec<u8>]) -> Result<bool, AllocError>
+    ensures looked { IfOk result (λ stays. Leaves stays (pair_of slot.new)
+        (looked (blobs_of listed.now) (pair_of slot.old))) }
+    ensures number { slot.new.number ≡ slot.old.number }
+{
+    if !look_at_client(alloc, slot, listed)? {
+        return Ok(false);
+    }
+    look_at_upstream(alloc, slot, listed)
+}
+
+// A side sent this piece; tells whether the pair stays open.
+fn hear(
+    alloc: Global,
+    slot: &mut Slot,
+    listed: &[Vec<u8>],
+    side: Side,
+    piece: &[u8],
+) -> Result<bool, AllocError>
+    ensures looked { IfOk result (λ stays. Leaves stays (pair_of slot.new)
+        (looked (blobs_of listed.now) (change_half side (heard_more piece.now) (pair_of slot.old)))) }
+    ensures number { slot.new.number ≡ slot.old.number }
+{
+    push(slot, side, piece)?;
+    look(alloc, slot, listed)
+}
+
+// A side took so many bytes; tells whether the pair stays open.
+fn sent(
+    alloc: Global,
+    slot: &mut Slot,
+    listed: &[Vec<u8>],
+    side: Side,
+    count: usize,
+) -> Result<bool, AllocError>
+    requires { count ≤ length (half_of side (pair_of slot.old)).owed }
+    ensures looked { IfOk result (λ stays. Leaves stays (pair_of slot.new)
+        (looked (blobs_of listed.now) (change_half side (sent_some count) (pair_of slot.old)))) }
+    ensures number { slot.new.number ≡ slot.old.number }
+{
+    drop_sent(slot, side, count);
+    look(alloc, slot, listed)
+}
+
+/// An event of the pair happened; tells whether the pair stays open.
+pub fn tell(
+    alloc: Global,
+    slot: &mut Slot,
+    listed: &[Vec<u8>],
+    event: &FilterEvent<'_>,
+) -> Result<bool, AllocError>
+    requires { FitsPair (happening event.now) (pair_of slot.old) }
+    ensures looked { IfOk result (λ stays. Leaves stays (pair_of slot.new)
+        (told (happening event.now) (blobs_of listed.now) (pair_of slot.old))) }
+    ensures number { slot.new.number ≡ slot.old.number }
+{
+    match *event {
+        FilterEvent::Joined => look(alloc, slot, listed),
+        FilterEvent::Heard { side, piece, .. } => hear(alloc, slot, listed, side, piece),
+        FilterEvent::Took { side, count, .. } => sent(alloc, slot, listed, side, count),
+        FilterEvent::Ended { .. } => Ok(false),
+    }
+}
