@@ -14,6 +14,19 @@ use zeroize::Zeroizing;
 /// The most bytes of DATA.
 const LONGEST_DATA: usize = 1_048_576;
 
+/// The variable that holds the ticket where the words have a `-` in its place: words can be read by
+/// every process of the machine.
+pub const TICKET: &str = "MORTARLEEK_TICKET";
+
+/// Puts the ticket where a `-` stands for it. Without one the words stay as they are, and are refused.
+pub fn put_ticket(words: &mut [OsString], ticket: Option<OsString>) {
+    if let (Some(word), Some(ticket)) = (words.get_mut(2), ticket) {
+        if word == "-" {
+            *word = ticket;
+        }
+    }
+}
+
 /// SOCKET JOB TICKET and, where there are hosts of stand-in keys, DATA.
 pub struct Words<'a> {
     socket: &'a OsStr,
@@ -57,7 +70,7 @@ pub fn run(words: &[OsString]) -> Result<(), Fault> {
         .write_all(&frame::hello(words.job, &words.ticket))
         .map_err(|_| Fault::WriteFault)?;
     let curves = Curves::new().map_err(|_| Fault::Memory)?;
-    Answerer { curves, hosts }.serve(&mut agent)
+    Answerer::new(curves, hosts).serve(&mut agent)
 }
 
 fn read_hosts(path: &OsStr) -> Result<Hosts, Fault> {
@@ -79,6 +92,21 @@ mod tests {
     fn read(words: &[&str]) -> bool {
         let words: Vec<OsString> = words.iter().map(OsString::from).collect();
         Words::read(&words).is_some()
+    }
+
+    #[test]
+    fn a_ticket_of_the_environment_stands_where_a_dash_does() {
+        let ticket = OsString::from("0123456789abcdefABCDEF0123456789");
+        for (word, given, wanted) in [
+            ("-", Some(ticket.clone()), "0123456789abcdefABCDEF0123456789"),
+            ("-", None, "-"),
+            ("00", Some(ticket), "00"),
+        ] {
+            let mut words = ["s", "1", word].map(OsString::from);
+            put_ticket(&mut words, given);
+            assert_eq!(words[2], wanted);
+        }
+        assert!(!read(&["s", "1", "-"]));
     }
 
     #[test]

@@ -40,7 +40,8 @@ use std::io::Write;
 use std::process::ExitCode;
 
 fn main() -> ExitCode {
-    let words: Vec<OsString> = std::env::args_os().skip(1).collect();
+    let mut words: Vec<OsString> = std::env::args_os().skip(1).collect();
+    helper::put_ticket(&mut words, std::env::var_os(helper::TICKET));
     match hygiene::prepare().and_then(|()| helper::run(&words)) {
         Ok(()) => ExitCode::SUCCESS,
         Err(fault) => {

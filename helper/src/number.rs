@@ -1,4 +1,5 @@
-//! Positive numbers in the form of RFC 4251's mpint: no sign, and no byte more than it takes.
+//! Positive numbers in the form of RFC 4251's mpint: no sign, and no byte more than it takes. A private
+//! number may have zeros in front, as OpenSSH reads it.
 
 use crate::refused::Refused;
 use crate::wire::Put;
@@ -12,10 +13,15 @@ pub fn public(mpint: &[u8]) -> Result<BigNum, Refused> {
     Ok(BigNum::from_slice(magnitude(mpint)?)?)
 }
 
-/// A number that stays secret: on the secure heap, and wiped when it is freed.
+/// A number that stays secret: on the secure heap, and wiped when it is freed. Zeros in front are
+/// dropped.
 pub fn secret(mpint: &[u8]) -> Result<BigNum, Refused> {
+    Refused::unless(mpint.first().map_or(false, |&first| first < 0x80))?;
+    let zeros = mpint.iter().take_while(|&&byte| byte == 0).count();
+    let bytes = mpint.get(zeros..).ok_or(Refused)?;
+    Refused::unless(!bytes.is_empty() && bytes.len() <= LONGEST)?;
     let mut number = BigNum::new_secure()?;
-    number.copy_from_slice(magnitude(mpint)?)?;
+    number.copy_from_slice(bytes)?;
     number.set_const_time();
     Ok(number)
 }
@@ -69,6 +75,16 @@ mod tests {
             b"\0\0\x80",
         ] {
             assert!(public(mpint).is_err());
+        }
+    }
+
+    #[test]
+    fn zeros_in_front_of_a_secret_number_are_dropped() {
+        for mpint in [&b"\x7f"[..], b"\0\x7f", b"\0\0\0\x7f"] {
+            assert!(secret(mpint).ok().unwrap() == BigNum::from_u32(0x7f).unwrap());
+        }
+        for mpint in [&b"\x80"[..], b"", b"\0", b"\0\0"] {
+            assert!(secret(mpint).is_err());
         }
     }
 

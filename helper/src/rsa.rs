@@ -13,9 +13,10 @@ use openssl::pkey::{Private, Public};
 use openssl::rsa::{Padding, Rsa};
 
 pub const NAME: &[u8] = b"ssh-rsa";
+const CERTIFIED: &[u8] = b"ssh-rsa-cert-v01@openssh.com";
 
 /// The bits that a modulus may have.
-const SIZES: std::ops::RangeInclusive<i32> = 1024..=16384;
+pub const SIZES: std::ops::RangeInclusive<i32> = 1024..=16384;
 
 /// The digest that is signed, which the algorithm's name tells.
 #[derive(Clone, Copy)]
@@ -84,6 +85,18 @@ fn encoded(info: &[u8], length: usize) -> Result<Vec<u8>, Refused> {
     let count = length.checked_sub(3 + info.len()).ok_or(Refused)?;
     let padding = vec![0xff; count];
     Ok([&[0, 1], &*padding, &[0], info].concat())
+}
+
+/// How many bits the modulus of a key blob has, plain or certified, where it is one of RSA.
+pub fn bits(fields: &mut Reader<'_>) -> Option<i32> {
+    match fields.string().ok()? {
+        NAME => (),
+        CERTIFIED => drop(fields.string().ok()?),
+        _ => return None,
+    }
+    fields.string().ok()?;
+    let modulus = number::public(fields.string().ok()?).ok()?;
+    Some(modulus.num_bits())
 }
 
 pub struct PublicKey<'a> {

@@ -5,7 +5,10 @@ use crate::fault::Fault;
 use crate::frame::{Answer, Ask, Request, LONGEST_BODY};
 use crate::key::{Blob, PrivateKey};
 use crate::refused::Refused;
+use crate::rsa;
 use crate::standin::{self, Hosts};
+use crate::wire::Reader;
+use std::cell::Cell;
 use std::io::{ErrorKind, Read, Write};
 
 /// A body, which may hold private keys: storage of its exact length that is wiped when it is freed.
@@ -16,11 +19,59 @@ type Body = Vec<u8>;
 
 /// Answers whoever asks, by what was made for it beforehand.
 pub struct Answerer {
-    pub curves: Curves,
-    pub hosts: Hosts,
+    curves: Curves,
+    hosts: Hosts,
+    /// Whether standard error was told that a key can't sign, and why: once for each cause.
+    has_told: [Cell<bool>; 2],
+}
+
+/// Why a key can't sign.
+#[derive(Clone, Copy)]
+enum Cause {
+    RsaSize,
+    Other,
+}
+
+impl Cause {
+    /// The cause where a signature was refused.
+    fn of(blob: &[u8]) -> Self {
+        match rsa::bits(&mut Reader::new(blob)) {
+            Some(bits) if !rsa::SIZES.contains(&bits) => Cause::RsaSize,
+            _ => Cause::Other,
+        }
+    }
+
+    fn text(self) -> &'static str {
+        match self {
+            Cause::RsaSize => "an RSA key signs with 1024 to 16384 bits, and this one has others",
+            Cause::Other => {
+                "a key can't sign: its type isn't known, or its private numbers aren't those of its \
+                 public key"
+            }
+        }
+    }
 }
 
 impl Answerer {
+    pub fn new(curves: Curves, hosts: Hosts) -> Self {
+        Answerer {
+            curves,
+            hosts,
+            has_told: [Cell::new(false), Cell::new(false)],
+        }
+    }
+
+    /// Says on standard error why a key can't sign, the first time that it comes to that.
+    fn tell(&self, blob: &[u8]) {
+        let cause = Cause::of(blob);
+        if let Some(told) = self.has_told.get(cause as usize) {
+            if !told.replace(true) {
+                // Where standard error is closed, the refusal alone tells.
+                let _ = writeln!(std::io::stderr(), "mortarleek-helper: {}", cause.text());
+            }
+        }
+    }
+
     /// Serves the peer until it ends between two frames.
     pub fn serve(&self, peer: &mut (impl Read + Write)) -> Result<(), Fault> {
         while let Some(body) = next_body(peer)? {
@@ -46,7 +97,10 @@ impl Answerer {
                 flags,
             } => match self.signature(private, blob, message, flags) {
                 Ok(signature) => Answer::Signed(signature),
-                Err(Refused) => Answer::Refused,
+                Err(Refused) => {
+                    self.tell(blob);
+                    Answer::Refused
+                }
             },
             Request::Verify {
                 host_key,

@@ -49,7 +49,8 @@ class Helper:
             listener.settimeout(20)
             words = [program, path, str(job), ticket.hex()] + ([data] if data else [])
             more.setdefault("env", {})
-            self.process = subprocess.Popen(words, stderr=subprocess.DEVNULL, **more)
+            more.setdefault("stderr", subprocess.DEVNULL)
+            self.process = subprocess.Popen(words, **more)
             try:
                 self.peer, _ = listener.accept()
             except TimeoutError:

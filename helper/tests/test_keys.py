@@ -114,7 +114,8 @@ class Keys(unittest.TestCase):
                     self.assertTrue(self.helper.verify(key.blob, signature, message))
 
     def test_an_altered_field_is_refused_or_the_signature_is_right(self):
-        """libcrypto does without iqmp, or without the factors, where the signature would be wrong."""
+        """libcrypto does without iqmp, or without the factors, where the signature would be wrong. Zeros in front of
+        a private number are dropped."""
         for key in self.keys + self.certified:
             with self.subTest(str(key)):
                 public = 1 if key.certified else FIELDS[key.name][0]
@@ -123,10 +124,35 @@ class Keys(unittest.TestCase):
                         fields = list(key.fields)
                         fields[place] = altered
                         signature = self.sign(key.with_fields(fields))
-                        if place < public or key.plain != "ssh-rsa":
+                        padded = key.plain != "ssh-ed25519" and altered == b"\0" + field
+                        if place >= public and padded:
+                            self.assertTrue(self.helper.verify(key.blob, signature, SIGNED))
+                        elif place < public or key.plain != "ssh-rsa":
                             self.assertIsNone(signature)
                         elif signature is not None:
                             self.assertTrue(self.helper.verify(key.blob, signature, SIGNED))
+
+    def test_zeros_in_front_of_private_numbers_are_dropped(self):
+        for key in (key for key in self.keys + self.certified if key.plain != "ssh-ed25519"):
+            with self.subTest(str(key)):
+                public = 1 if key.certified else FIELDS[key.name][0]
+                for zeros in (b"\0", bytes(3)):
+                    fields = key.fields[:public] + [zeros + field for field in key.fields[public:]]
+                    signature = self.sign(key.with_fields(fields))
+                    self.assertTrue(self.helper.verify(key.blob, signature, SIGNED))
+
+    def test_why_a_key_cannot_sign_is_said_once(self):
+        short = bytes([1]) * 96  # an RSA modulus of 761 bits
+        blob = b"".join(map(string, (b"ssh-rsa", b"\3", short)))
+        private = b"".join(map(string, (b"ssh-rsa", short, b"\3", b"\1", b"\1", b"\1", b"\1")))
+        with tempfile.TemporaryFile() as said:
+            with Helper(stderr=said) as helper:
+                for _ in range(2):
+                    self.assertIsNone(helper.sign(private, blob, SIGNED))
+            said.seek(0)
+            lines = said.read().decode().splitlines()
+        self.assertEqual(len(lines), 1)
+        self.assertIn("1024 to 16384 bits", lines[0])
 
     def test_fields_that_are_left_off_doubled_or_swapped_are_refused(self):
         for key in self.keys + self.certified:

@@ -3,23 +3,26 @@
 //! here are its words, its sockets and streams, and what it says on standard error.
 #![tactic(auto)]
 
+mod descriptors;
 mod outside;
 mod trouble;
 
+use crate::descriptors::close_inherited;
 use crate::outside::world_of;
 use crate::trouble::Trouble;
 use agent_top::{Status, agent_main};
-use std::alloc::AllocGlobal;
+use serve_words::{ServeFault, ServeWords, read_serve};
+use std::alloc::{AllocGlobal, Global};
 use std::env;
 use std::env::Env;
-use std::fs::Files;
+use std::fs::{File, Files};
 use std::io::{Error, ErrorKind};
 use std::net::Net;
 use std::process::{ExitCode, Processes};
 use std::random::RandomSource;
 use std::sync::Wait;
 use std::time::Clock;
-use world_ports::{Reading, Sink, Source, Writing};
+use world_ports::{Reading, ScriptWorld, Sink, Source, Writing};
 
 // The status where a call of the system failed.
 fn status_of(error: &Error, otherwise: Status) -> Status {
@@ -29,28 +32,72 @@ fn status_of(error: &Error, otherwise: Status) -> Status {
     }
 }
 
-// Runs the command over the real outside, and takes away the files of the sockets that it bound.
-fn run<R, I: Source, O: Sink>(rt: &R, input: &mut I, output: &mut O) -> Result<Status, Status>
+// The words behind the program's name. Such as can't be read are no form of the program's.
+fn words_of<R: Env + AllocGlobal>(rt: &R) -> Result<Vec<String>, Status> {
+    let mut given = env::args(rt).map_err(|error| status_of(&error, Status::Usage))?;
+    given
+        .skip(1)
+        .collect(rt.alloc())
+        .map_err(|_| Status::Memory)
+}
+
+// Serves over the real outside, and takes away the files of the sockets that it bound.
+fn serve<R, W: Wait, I: Source, O: Sink>(
+    rt: &R,
+    wait: &W,
+    words: &[String],
+    served: ServeWords,
+    input: &mut I,
+    output: &mut O,
+) -> Result<Status, Status>
 where
-    R: Wait + Files + Net + Processes + RandomSource + Clock + Env + AllocGlobal,
+    R: Files<File = File> + Net + Processes + RandomSource + Clock + Env + AllocGlobal,
 {
     let alloc = rt.alloc();
-    // Words that can't be read are no form of the program's.
-    let mut given = env::args(rt).map_err(|error| status_of(&error, Status::Usage))?;
-    let words: Vec<String> = given.skip(1).collect(alloc).map_err(|_| Status::Memory)?;
-    let mut world = world_of(rt, alloc, &words).map_err(|error| status_of(
+    let mut world = world_of(rt, alloc, served).map_err(|error| status_of(
         &error,
         Status::PollFault,
     ))?;
-    let status = agent_main(rt, alloc, &words, &mut world, input, output);
+    let status = agent_main(wait, alloc, words, &mut world, input, output);
     world.remove_files();
     Ok(status)
+}
+
+// Runs any other command, or refuses the words: without a socket, a descriptor or a program.
+fn run_alone<W: Wait, I: Source, O: Sink>(
+    wait: &W,
+    alloc: Global,
+    words: &[String],
+    input: &mut I,
+    output: &mut O,
+) -> Status {
+    let mut world = ScriptWorld::new(alloc, Vec::new(alloc), Vec::new(alloc));
+    agent_main(wait, alloc, words, &mut world, input, output)
+}
+
+// The runtime is handed in twice: only `main`'s own may wait.
+fn run<W: Wait, I: Source, O: Sink>(
+    rt: &HostRuntime,
+    wait: &W,
+    input: &mut I,
+    output: &mut O,
+) -> Result<Status, Status> {
+    let alloc = rt.alloc();
+    let words = words_of(rt)?;
+    match read_serve(alloc, &words) {
+        Ok(served) => {
+            close_inherited(rt, alloc);
+            serve(rt, wait, &words, served, input, output)
+        }
+        Err(ServeFault::Memory) => Err(Status::Memory),
+        Err(ServeFault::Usage) => Ok(run_alone(wait, alloc, &words, input, output)),
+    }
 }
 
 fn main(rt: HostRuntime) -> ExitCode {
     let mut input = Reading::new(rt.stdin());
     let mut output = Writing::new(rt.stdout());
-    let status = match run(&rt, &mut input, &mut output) {
+    let status = match run(&rt, &rt, &mut input, &mut output) {
         Ok(status) => status,
         Err(status) => status,
     };

@@ -2,43 +2,82 @@
 ghost use Rattle.std.specs.Prelude.{◌≡◌, IfOk};
 
 use ready_loop::children_path;
-use serve_words::{ServeFault, read_serve};
+use serve_words::ServeWords;
 use std::alloc::{AllocGlobal, Global};
+use std::env;
 use std::env::Env;
-use std::fs::Files;
+use std::fs::{File, Files};
 use std::io::{Error, ErrorKind, Result as IoResult};
 use std::net::Net;
 use std::process::Processes;
 use unix_world::{Programs, UnixWorld};
 
-/// The world of the command's words. Where they aren't those of `serve`, no program is named and no path.
-pub fn world_of<'a, R: Files + Net + Processes + Env + AllocGlobal>(
+// The path from the root, where it is one of this folder.
+fn absolute(alloc: Global, folder: &Option<String>, path: &str) -> IoResult<String> {
+    if path.starts_with('/') {
+        return Ok(String::from_str(alloc, path)?);
+    }
+    match folder {
+        Some(folder) => Ok(format!(in alloc; "{}/{}", folder.as_str(), path)?),
+        None => Err(Error::from(ErrorKind::NotFound)),
+    }
+}
+
+// A program: a bare name is searched in PATH.
+fn program(alloc: Global, folder: &Option<String>, word: &str) -> IoResult<String> {
+    if word.contains('/') {
+        absolute(alloc, folder, word)
+    } else {
+        Ok(String::from_str(alloc, word)?)
+    }
+}
+
+fn programs_of(alloc: Global, folder: &Option<String>, served: &ServeWords) -> IoResult<Programs> {
+    let helper_data = match &served.helper_data {
+        Some(path) => Some(absolute(alloc, folder, path.as_str())?),
+        None => None,
+    };
+    let relay = match &served.relay {
+        Some(word) => Some(program(alloc, folder, word.as_str())?),
+        None => None,
+    };
+    let askpass = match &served.askpass {
+        Some(word) => Some(program(alloc, folder, word.as_str())?),
+        None => None,
+    };
+    Ok(Programs {
+        helper: program(alloc, folder, served.helper.as_str())?,
+        helper_data,
+        relay,
+        askpass,
+    })
+}
+
+// The folder in which the program was started, where it can be told.
+fn working_folder<R: Env + AllocGlobal>(rt: &R, alloc: Global) -> IoResult<Option<String>> {
+    match env::current_dir(rt) {
+        Ok(folder) => Ok(Some(String::from_str(alloc, folder.as_str())?)),
+        Err(_) => Ok(None),
+    }
+}
+
+/// The world of the command's words. The program's working folder is the root from then on, so that none is kept from
+/// being removed or unmounted; relative paths of the words are those of the folder in which it was started.
+pub fn world_of<'a, R: Files<File = File> + Net + Processes + Env + AllocGlobal>(
     rt: &'a R,
     alloc: Global,
-    words: &[String],
+    served: ServeWords,
 ) -> IoResult<UnixWorld<'a, R>>
     ensures { IfOk result (λ world. world.last_port ≡ 0) }
 {
-    match read_serve(alloc, words) {
-        Ok(served) => {
-            let socket = children_path(alloc, served.path.as_str())?;
-            let programs = Programs {
-                helper: served.helper,
-                helper_data: served.helper_data,
-                relay: served.relay,
-                askpass: served.askpass,
-            };
-            UnixWorld::new(rt, alloc, socket, programs)
-        }
-        Err(ServeFault::Memory) => Err(Error::from(ErrorKind::OutOfMemory)),
-        Err(ServeFault::Usage) => {
-            let programs = Programs {
-                helper: String::new(alloc),
-                helper_data: None,
-                relay: None,
-                askpass: None,
-            };
-            UnixWorld::new(rt, alloc, String::new(alloc), programs)
-        }
+    let folder = working_folder(rt, alloc)?;
+    let path = absolute(alloc, &folder, served.path.as_str())?;
+    let socket = children_path(alloc, path.as_str())?;
+    let programs = programs_of(alloc, &folder, &served)?;
+    let mut world = UnixWorld::new(rt, alloc, socket, programs)?;
+    if let Some(folder) = folder {
+        world.set_folder(folder);
     }
+    env::set_current_dir(rt, "/")?;
+    Ok(world)
 }

@@ -1,10 +1,12 @@
 //! The relay that asks the user: `confirm_relay SOCKET JOB TICKET ASKPASS` connects to the agent, runs
-//! ASKPASS with the agent's prompt, and tells the agent what the user said. `relay_main` of relay_core is
-//! the program; here are its words, its connection, and what it says on standard error.
+//! ASKPASS with the agent's prompt, and tells the agent what the user said. A TICKET of `-` stands in the
+//! environment, of which ASKPASS is given all else; ASKPASS is killed where the agent closes the connection.
+//! `relay_main` of relay_core is the program; here are its words, its connection, and what it says on
+//! standard error.
 #![tactic(auto)]
 
 use child_peer::NoPeer;
-use real_edge::{RealSpawner, connect};
+use real_edge::{RealSpawner, connect_watched, put_ticket};
 use relay_core::{RelayStatus, relay_main};
 use std::env;
 use std::io::{ErrorKind, Result as IoResult};
@@ -12,13 +14,15 @@ use std::process::ExitCode;
 
 fn run(rt: &HostRuntime) -> IoResult<RelayStatus> {
     let alloc = rt.alloc();
-    let words: Vec<String> = env::args(rt)?.skip(1).collect(alloc)?;
-    let mut spawner = RealSpawner::new(rt);
+    let mut words: Vec<String> = env::args(rt)?.skip(1).collect(alloc)?;
+    put_ticket(rt, words.as_mut_slice())?;
     if let Some(path) = words.first() {
-        if let Ok(mut peer) = connect(rt, path.as_str()) {
+        if let Ok((mut peer, connection)) = connect_watched(rt, path.as_str()) {
+            let mut spawner = RealSpawner::watching(rt, connection);
             return Ok(relay_main(alloc, &words, &mut spawner, &mut peer));
         }
     }
+    let mut spawner = RealSpawner::new(rt);
     Ok(relay_main(alloc, &words, &mut spawner, &mut NoPeer::new()))
 }
 

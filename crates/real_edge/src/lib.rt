@@ -9,7 +9,10 @@ mod room;
 mod spawner;
 #[cfg(test)]
 mod tests;
+mod ticket;
+mod watched;
 
 pub use files::RealFiles;
-pub use peer::{Peer, connect};
+pub use peer::{Peer, connect, connect_watched};
 pub use spawner::RealSpawner;
+pub use ticket::put_ticket;

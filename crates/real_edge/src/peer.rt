@@ -46,7 +46,17 @@ pub fn connect<N: Net>(
     net: &N,
     path: &str,
 ) -> IoResult<Peer<Reading<UnixStream>, Writing<UnixStream>>> {
+    let (peer, _) = connect_watched(net, path)?;
+    Ok(peer)
+}
+
+/// As `connect`, and the connection once more, to see its end while neither a read nor a write waits.
+pub fn connect_watched<N: Net>(
+    net: &N,
+    path: &str,
+) -> IoResult<(Peer<Reading<UnixStream>, Writing<UnixStream>>, UnixStream)> {
     let stream = UnixStream::connect(net, path)?;
     let copy = stream.try_clone()?;
-    Ok(Peer::new(Reading::new(copy), Writing::new(stream)))
+    let watched = stream.try_clone()?;
+    Ok((Peer::new(Reading::new(copy), Writing::new(stream)), watched))
 }

@@ -2,19 +2,27 @@
 ghost use Rattle.std.specs.Prelude.{◌≡◌, None};
 
 use crate::errors::is_own_want;
+use crate::ticket::TICKET;
+use crate::watched::run_to_end;
 use plain_lists::Bytes;
 use std::alloc::Global;
+use std::fs::Files;
+use std::io;
 use std::io::Result as IoResult;
+use std::os::fd::AsRawFd;
+use std::os::unix::net::UnixStream;
 use std::process::{Command, Processes, Stdio};
 use world_ports::{Ran, SpawnFault, Spawner};
 
 /// Runs programs of the system, of which nothing is told. Failed runs are counted.
 ///
 /// A program is searched as the system does, has an empty standard input, and shares our standard
-/// error and environment.
+/// error and environment, a ticket there excepted. Where a connection is watched and its peer shuts
+/// its end, the program that runs is killed, and the run has failed: nobody waits for its answer.
 #[derive(Drop)]
 pub struct RealSpawner<'a, R> {
     rt: &'a R,
+    watched: Option<UnixStream>,
     faults: u64,
 }
 
@@ -22,15 +30,34 @@ impl<'a, R> RealSpawner<'a, R> {
     pub fn new(rt: &'a R) -> Self
         ensures { result.faults ≡ 0 }
     {
-        RealSpawner { rt, faults: 0 }
+        RealSpawner {
+            rt,
+            watched: None,
+            faults: 0,
+        }
+    }
+
+    /// Programs run for as long as the peer of this connection holds its end open.
+    pub fn watching(rt: &'a R, connection: UnixStream) -> Self
+        ensures { result.faults ≡ 0 }
+    {
+        RealSpawner {
+            rt,
+            watched: Some(connection),
+            faults: 0,
+        }
     }
 }
 
-impl<R: Processes> Spawner for RealSpawner<'_, R> {
+impl<R: Files + Processes> Spawner for RealSpawner<'_, R> {
     ghost seen = { λ s. record { runs = None; faults = s.faults } };
 
     fn run(&mut self, alloc: Global, program: &str, word: &str) -> Result<Ran, SpawnFault> {
-        match run_program(self.rt, alloc, program, word) {
+        let watched = match &self.watched {
+            Some(connection) => Some(connection.as_raw_fd()),
+            None => None,
+        };
+        match run_program(self.rt, alloc, program, word, watched) {
             Ok(ran) => Ok(ran),
             Err(error) if is_own_want(&error) => Err(SpawnFault::Memory),
             Err(_) => {
@@ -41,13 +68,25 @@ impl<R: Processes> Spawner for RealSpawner<'_, R> {
     }
 }
 
-fn run_program<R: Processes>(rt: &R, alloc: Global, program: &str, word: &str) -> IoResult<Ran> {
+fn run_program<R: Files + Processes>(
+    rt: &R,
+    alloc: Global,
+    program: &str,
+    word: &str,
+    watched: Option<i32>,
+) -> IoResult<Ran> {
+    let (mut output, theirs) = io::pipe(rt)?;
     let mut command = Command::new(alloc, program)?;
     command.arg(word)?;
-    command.stderr(Stdio::inherit());
-    let output = command.output(rt)?;
+    command.env_remove(TICKET)?;
+    command.stdin(Stdio::null());
+    command.stdout(Stdio::from(theirs));
+    let mut child = command.spawn(rt)?;
+    // Our copy of the program's end of the pipe is closed, so that its output can end.
+    drop(command);
+    let (status, heard) = run_to_end(alloc, &mut child, &mut output, watched)?;
     Ok(Ran {
-        status: output.status.code().unwrap_or(-1),
-        output: Bytes::from_vec(output.stdout),
+        status: status.code().unwrap_or(-1),
+        output: Bytes::from_vec(heard),
     })
 }

@@ -1,10 +1,10 @@
 //! A helper that signs with stand-in keys, for tests: `standin_helper SOCKET JOB TICKET [DATA]` connects
-//! to the agent, and answers its requests. `helper_main` of standin_core is the program; here are its
+//! to the agent, and answers its requests. A TICKET of `-` stands in the environment. `helper_main` of standin_core is the program; here are its
 //! words, its files, its connection, and what it says on standard error.
 #![tactic(auto)]
 
 use child_peer::NoPeer;
-use real_edge::{RealFiles, connect};
+use real_edge::{RealFiles, connect, put_ticket};
 use standin_core::{HelperStatus, helper_main};
 use std::env;
 use std::io::{ErrorKind, Result as IoResult};
@@ -14,7 +14,8 @@ use std::sync::Wait;
 // The runtime is handed in twice: only `main`'s own may wait.
 fn run<W: Wait>(rt: &HostRuntime, wait: &W) -> IoResult<HelperStatus> {
     let alloc = rt.alloc();
-    let words: Vec<String> = env::args(rt)?.skip(1).collect(alloc)?;
+    let mut words: Vec<String> = env::args(rt)?.skip(1).collect(alloc)?;
+    put_ticket(rt, words.as_mut_slice())?;
     let mut files = RealFiles::new(rt);
     if let Some(path) = words.first() {
         if let Ok(mut peer) = connect(rt, path.as_str()) {

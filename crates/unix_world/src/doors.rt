@@ -1,25 +1,103 @@
 // The files at which the agent listens.
+use crate::lock::hold;
 use libc::net::listen;
 use mio::net::{UnixListener, UnixStream};
-use std::fs::{Files, Permissions};
+use std::fs::{File, Files, Permissions};
 use std::io::{Error, ErrorKind};
 use std::net::Net;
 use std::os::fd::{AsFd, AsRawFd, OwnedFd};
-use std::os::unix::fs::{FileTypeExt, PermissionsExt};
+use std::os::unix::fs::{FileTypeExt, MetadataExt, PermissionsExt};
 use std::os::unix::net;
 use std::os::unix::net::SocketAddr;
+use std::time::Clock;
 use std::{fs, io};
 
-/// A listener. Where a connection could not be taken for want of descriptors, epoll doesn't report it again, so
-/// it is to be tried once more.
+// How many connections a listener gives between two polls: whoever else waits isn't kept out by a flood of them.
+const MOST_A_ROUND: u32 = 16;
+
+/// A listener, and what the next poll has to tell of it.
 #[derive(Drop)]
 pub struct Door {
     pub listener: UnixListener,
+    // A connection couldn't be taken, as for want of descriptors. epoll doesn't report it again, so it is to be tried
+    // once more.
     pub is_stuck: bool,
+    // There may be a connection that epoll doesn't report again: the next poll tells of the listener, and doesn't wait.
+    pub is_owed: bool,
+    // A connection was left waiting while as many were open as may be.
+    pub is_withheld: bool,
+    // How many connections were taken since the last poll.
+    taken: u32,
 }
 
-/// A listener at a path whose file only the user may open. A file that nobody listens at any more is replaced.
-pub fn listen_at<R: Files + Net>(rt: &R, path: &str) -> io::Result<Door> {
+impl Door {
+    /// The next connection. None where none waits, or as many were taken in this round as may be.
+    pub fn next(&mut self) -> io::Result<Option<UnixStream>> {
+        if self.taken >= MOST_A_ROUND {
+            self.is_owed = true;
+            return Ok(None);
+        }
+        match self.listener.accept() {
+            Ok((stream, _)) => {
+                self.taken += 1;
+                Ok(Some(stream))
+            }
+            Err(error) if error.kind() == ErrorKind::WouldBlock => Ok(None),
+            Err(error) => {
+                self.is_stuck = true;
+                Err(error)
+            }
+        }
+    }
+
+    /// A poll told of what there is: a round begins. Whether it has to tell of this listener.
+    pub fn renew(&mut self) -> bool {
+        let tells = self.is_stuck || self.is_owed;
+        self.is_stuck = false;
+        self.is_owed = false;
+        self.taken = 0;
+        tells
+    }
+}
+
+/// A file that was made, and which file of its system it is.
+#[derive(Drop)]
+pub struct BoundFile {
+    pub path: String,
+    pub lock: String,
+    pub device: u64,
+    pub inode: u64,
+}
+
+/// Removes a file that was made, where it is still the one that was made. Where its lock can't be had it stays: nobody
+/// listens there, so the next that comes replaces it.
+pub fn remove_bound<R: Files<File = File> + Clock>(rt: &R, file: &BoundFile) {
+    let Ok(held) = hold(rt, file.lock.as_str()) else {
+        return;
+    };
+    if let Ok(metadata) = fs::symlink_metadata(rt, file.path.as_str()) {
+        if metadata.dev() == file.device && metadata.ino() == file.inode {
+            let _ = fs::remove_file(rt, file.path.as_str());
+        }
+    }
+    drop(held);
+}
+
+/// A listener at a path whose file only the user may open, and that file's device and inode. A file that nobody listens
+/// at any more is replaced. All of it is done while the lock is held, so no other agent finds the file half made.
+pub fn listen_at<R: Files<File = File> + Net + Clock>(
+    rt: &R,
+    path: &str,
+    lock: &str,
+) -> io::Result<(Door, u64, u64)> {
+    let held = hold(rt, lock)?;
+    let made = replace_at(rt, path)?;
+    let metadata = fs::symlink_metadata(rt, path)?;
+    drop(held);
+    Ok((made, metadata.dev(), metadata.ino()))
+}
+
+fn replace_at<R: Files + Net>(rt: &R, path: &str) -> io::Result<Door> {
     match bind_at(rt, path) {
         Ok(door) => Ok(door),
         Err(error) => {
@@ -56,6 +134,9 @@ fn listen_on<R: Files + Net>(rt: &R, fd: OwnedFd, path: &str) -> io::Result<Door
     Ok(Door {
         listener: UnixListener::from_std(listener),
         is_stuck: false,
+        is_owed: false,
+        is_withheld: false,
+        taken: 0,
     })
 }
 

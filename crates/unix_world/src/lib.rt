@@ -3,9 +3,14 @@
 //! What the system does isn't claimed: counts, numbers, bounds and what stays of a buffer are.
 #![tactic(auto)]
 
+mod children;
+mod clock;
 mod doors;
+mod lock;
+mod marks;
 mod port;
 mod programs;
+mod started;
 mod unix;
 
 pub use programs::Programs;

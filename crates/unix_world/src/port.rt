@@ -2,32 +2,44 @@
 ghost use Rattle.std.specs.Prelude.{◌≡◌, ◌<◌, length, IfOk, OnErr};
 ghost use Rattle.world_ports.specs.Worlds.{KeepsRest, GotWithin, TookWithin};
 
+use crate::marks::Marks;
 use mio::net::UnixStream;
 use mio::{Interest, Registry, Token};
 use std::io;
 use std::io::{ErrorKind, Read, Write};
-use world_ports::{Got, Wrote};
+use world_ports::{Door, Got, Wrote};
 
-/// A connection, and whether epoll is to report room for writing: only from the first write on that found none.
+/// A connection, at which listener it came, what may wait there, and whether epoll is to report room for writing: only
+/// from the first write on that found none.
 #[derive(Drop)]
 pub struct Port {
     stream: UnixStream,
+    pub door: Door,
+    pub marks: Marks,
     waits_for_room: bool,
 }
 
 impl Port {
     /// Registers the connection for reading.
-    pub fn new(registry: &Registry, token: Token, stream: UnixStream) -> io::Result<Port> {
+    pub fn new(
+        registry: &Registry,
+        token: Token,
+        stream: UnixStream,
+        door: Door,
+    ) -> io::Result<Port> {
         let mut stream = stream;
         registry.register(&mut stream, token, Interest::READABLE)?;
         Ok(Port {
             stream,
+            door,
+            marks: Marks::new(),
             waits_for_room: false,
         })
     }
 
-    /// Reads by way of `inbox`, so that the rest of `room` stays whatever the system does to a buffer.
-    pub fn read(&mut self, inbox: &mut [u8], room: &mut [u8]) -> io::Result<Got>
+    /// Asks the system for bytes, by way of `inbox`, so that the rest of `room` stays whatever the system does to a
+    /// buffer.
+    pub fn read(&mut self, round: u64, inbox: &mut [u8], room: &mut [u8]) -> io::Result<Got>
         requires { 0 < length room.old }
         ensures within { IfOk result (λ got. GotWithin (Ok got) (length room.old)) }
         ensures rest { IfOk result (λ got. KeepsRest (Ok got) room.old room.new) }
@@ -35,14 +47,24 @@ impl Port {
     {
         let most = room.len().min(inbox.len()).min(65536);
         match self.stream.read(&mut inbox[..most]) {
-            Ok(0) => Ok(Got::End),
+            Ok(0) => {
+                self.marks.finish();
+                Ok(Got::End)
+            }
             Ok(count) => {
+                self.marks.gave(round, count == most);
                 room[..count].copy_from_slice(&inbox[..count]);
                 inbox[..count].fill(0);
                 Ok(Got::Bytes(count as u32))
             }
-            Err(error) if error.kind() == ErrorKind::WouldBlock => Ok(Got::NotNow),
-            Err(error) => Err(error),
+            Err(error) if error.kind() == ErrorKind::WouldBlock => {
+                self.marks.had_none(round);
+                Ok(Got::NotNow)
+            }
+            Err(error) => {
+                self.marks.finish();
+                Err(error)
+            }
         }
     }
 

@@ -2,12 +2,13 @@
 use std::alloc::{AllocGlobal, Global};
 use std::env::Env;
 use std::io::{Error, ErrorKind};
+use std::os::fd::OwnedFd;
 use std::process::{Child, Command, Processes, Stdio};
 use std::{env, io};
 use world_ports::{Job, JobKind};
 
 /// The programs that are started as child processes, and what they are told behind the socket, the job's number
-/// and the ticket: the helper a path of its own, where there is one, the relay the program that asks the user.
+/// and the ticket's place: the helper a path of its own, where there is one, the relay the program that asks the user.
 #[derive(Drop)]
 pub struct Programs {
     pub helper: String,
@@ -15,6 +16,13 @@ pub struct Programs {
     pub relay: Option<String>,
     pub askpass: Option<String>,
 }
+
+// The variable that holds a child process's ticket. Words can be read by every process of the machine; the environment
+// of a program that its user can't read, by none of that user.
+const TICKET: &str = "MORTARLEEK_TICKET";
+
+// The word that stands where the ticket stood in the words.
+const IN_THE_ENVIRONMENT: &str = "-";
 
 /// What a child process sees of the agent's environment.
 pub const KEPT: [&str; 9] = [
@@ -44,8 +52,8 @@ pub fn kept_environment<R: Env + AllocGlobal>(
 }
 
 impl Programs {
-    /// Starts the child process of a job, and doesn't wait for it. It gets nothing of the agent's but the kept
-    /// variables and standard error.
+    /// Starts the child process of a job with this standard input, and doesn't wait for it. It gets nothing of the
+    /// agent's but the kept variables and standard error, and its ticket in the environment.
     pub fn start<R: Processes>(
         &self,
         rt: &R,
@@ -54,6 +62,7 @@ impl Programs {
         socket: &str,
         job: Job,
         ticket: &[u8; 16],
+        input: OwnedFd,
     ) -> io::Result<Child<R::Started>> {
         let (program, last) = match job.kind {
             JobKind::Helper => (&self.helper, &self.helper_data),
@@ -67,13 +76,14 @@ impl Programs {
         for (name, value) in kept {
             command.env(name.as_str(), value.as_str())?;
         }
+        command.env(TICKET, hex::encode(alloc, *ticket)?.as_str())?;
         command.arg(socket)?;
         command.arg(format!(in alloc; "{}", job.number)?.as_str())?;
-        command.arg(hex::encode(alloc, *ticket)?.as_str())?;
+        command.arg(IN_THE_ENVIRONMENT)?;
         if let Some(word) = last {
             command.arg(word.as_str())?;
         }
-        command.stdin(Stdio::null());
+        command.stdin(Stdio::from(input));
         command.stdout(Stdio::null());
         command.spawn(rt)
     }

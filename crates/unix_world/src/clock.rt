@@ -1,0 +1,23 @@
+// The clock that goes on while the machine sleeps.
+use libc::clock_gettime;
+use libc::types::timespec;
+use std::time::Clock;
+
+// Linux's clock since the machine was started, which the C library's list of clocks has under this number.
+const CLOCK_BOOTTIME: i32 = 7;
+
+// Whole seconds since the machine was started, with those that it slept; where the system has no such clock, of the
+// monotonic one, which stands still meanwhile.
+pub fn seconds<R: Clock>(rt: &R) -> Option<u64> {
+    let mut time = timespec {
+        tv_sec: 0,
+        tv_nsec: 0,
+    };
+    if clock_gettime(CLOCK_BOOTTIME, &mut time) == 0 {
+        return u64::try_from(time.tv_sec).ok();
+    }
+    match rt.monotonic() {
+        Ok(since) => Some(since.as_secs()),
+        Err(_) => None,
+    }
+}

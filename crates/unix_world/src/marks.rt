@@ -1,0 +1,71 @@
+// What is known of the bytes that may wait at a port. epoll tells of a change once, so what is left unread is kept here.
+ghost use Rattle.std.specs.Prelude.{◌≡◌};
+
+/// Whether a read is to ask the system, and whether the next poll has to tell of the port. Rounds are counted from 1: a
+/// round ends with each poll.
+#[derive(Clone, Copy)]
+pub struct Marks {
+    // Bytes may wait, or the end.
+    maybe_more: bool,
+    // The peer has shut its end, and that wasn't read yet.
+    has_ended: bool,
+    // The round in which the system was last asked for bytes.
+    read_in: u64,
+    // The round behind which a poll was last made to tell of the port.
+    owed_in: u64,
+}
+
+impl Marks {
+    /// Of a new connection.
+    pub fn new() -> Marks {
+        Marks {
+            maybe_more: true,
+            has_ended: false,
+            read_in: 0,
+            owed_in: 0,
+        }
+    }
+
+    /// A poll told that there is something to read.
+    pub fn wake(&mut self) {
+        self.maybe_more = true;
+    }
+
+    /// A poll told that the peer shut its end, or that the connection failed.
+    pub fn shut(&mut self) {
+        self.maybe_more = true;
+        self.has_ended = true;
+    }
+
+    /// Whether a read asks the system: something may wait, and it is the first read of this round.
+    pub fn asks(&self, round: u64) -> bool {
+        self.maybe_more && self.read_in != round
+    }
+
+    /// Whether the next poll has to tell of the port, since a read of this round was put off. Answered once a round.
+    pub fn owes(&mut self, round: u64) -> bool {
+        if !self.maybe_more || self.owed_in == round {
+            return false;
+        }
+        self.owed_in = round;
+        true
+    }
+
+    /// The system was asked, and gave bytes. What comes behind bytes that left room is told by epoll anew.
+    pub fn gave(&mut self, round: u64, filled: bool) {
+        self.read_in = round;
+        self.maybe_more = filled || self.has_ended;
+    }
+
+    /// The system was asked, and had nothing.
+    pub fn had_none(&mut self, round: u64) {
+        self.read_in = round;
+        self.maybe_more = self.has_ended;
+    }
+
+    /// The end was read, or an error.
+    pub fn finish(&mut self) {
+        self.maybe_more = false;
+        self.has_ended = false;
+    }
+}
