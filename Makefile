@@ -47,7 +47,9 @@ bench: $(PROGRAMS:%=bin/%)
 	bench/run
 
 # A person types `mortarleek`; the programs that it starts stand in a folder of their own. Agent and helpers can be run
-# and not be read: their user's other programs can't trace them then, where root installs.
+# and not be read: their user's other programs can't trace them then. Where a user installs, that user is their owner,
+# and must not read them either.
+MODE := $(if $(DESTDIR),711,$(shell [ "$$(id -u)" = 0 ] && echo 711 || echo 111))
 BIN := $(DESTDIR)$(PREFIX)/bin
 LIBEXEC := $(DESTDIR)$(PREFIX)/libexec/mortarleek
 SHARE := $(DESTDIR)$(PREFIX)/share
@@ -58,10 +60,10 @@ SCRIPTS := $(notdir $(wildcard scripts/mortarleek scripts/mortarleek-*))
 
 install: $(INSTALLED:%=bin/%)
 	install -d $(BIN) $(LIBEXEC) $(SHARE)/man/man1 $(SHARE)/man/man8 $(COMPLETIONS) $(UNITS)
-	$(if $(INSTALLED),install -m 711 $(INSTALLED:%=bin/%) $(LIBEXEC))
+	$(if $(INSTALLED),install -m $(MODE) $(INSTALLED:%=bin/%) $(LIBEXEC))
 	install -m 755 $(SCRIPTS:%=scripts/%) $(BIN)
 	for name in $(HELPERS); do \
-	    if [ -x bin/$$name ]; then install -m 711 bin/$$name $(LIBEXEC) || exit 1; fi; \
+	    if [ -x bin/$$name ]; then install -m $(MODE) bin/$$name $(LIBEXEC) || exit 1; fi; \
 	done
 	install -m 644 man/*.1 $(SHARE)/man/man1
 	install -m 644 man/*.8 $(SHARE)/man/man8

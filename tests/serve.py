@@ -296,7 +296,7 @@ def a_stale_socket_is_replaced_and_a_live_one_never(folder):
 
 @check
 def what_isn_t_a_socket_is_left_alone(folder):
-    path = folder / "ours.sock"
+    path, lock = folder / "ours.sock", folder / "ours.sock.lock"
     for place in (path, folder / "ours.sock.children"):
         for make in (
             lambda: place.write_text("kept\n"),
@@ -306,7 +306,7 @@ def what_isn_t_a_socket_is_left_alone(folder):
             make()
             run([PROGRAM, "serve", "-a", path, "--helper", "/bin/false"], 3, timeout=10)
             assert place.is_symlink() or place.is_dir() or place.read_text() == "kept\n"
-            assert sorted(folder.iterdir()) == [place], list(folder.iterdir())
+            assert sorted(folder.iterdir()) == sorted([place, lock]), list(folder.iterdir())
             place.rmdir() if place.is_dir() and not place.is_symlink() else place.unlink()
 
 
@@ -379,19 +379,11 @@ def a_hundred_and_twenty_eight_clients_at_once(folder):
                 peer.send(bytes([LIST]), b"\xc8")
             for peer in peers:
                 assert blob in peer.reply() and peer.reply() == bytes([FAILURE])
-        # one more is turned away, and has room again once one has left
+        # one more waits, and has room once one has left
         with agent.peer() as more:
-            assert more.has_ended()
-        peers.pop().close()
-
-        def comes_in():
-            with agent.peer() as more:
-                try:
-                    return more.ask(LIST)[0] == IDENTITIES
-                except (Ended, ConnectionError):
-                    return False
-
-        until(comes_in, what="room for one more client")
+            more.send(bytes([LIST]))
+            peers.pop().close()
+            assert more.reply()[0] == IDENTITIES
         for peer in peers:
             peer.close()
 

@@ -6,11 +6,12 @@ use std::test::*;
 use unix_world::{Programs, UnixWorld};
 use world_ports::{Job, JobKind, Ready, World};
 
-const KEPT: [&str; 9] = [
+const KEPT: [&str; 10] = [
     "DBUS_SESSION_BUS_ADDRESS",
     "DISPLAY",
     "HOME",
     "LANG",
+    "MORTARLEEK_TICKET",
     "PATH",
     "TERM",
     "WAYLAND_DISPLAY",
@@ -40,10 +41,10 @@ fn wait_for<R: Abort + Files, W: World>(rt: &R, world: &mut W, ready: &mut Vec<R
     }
 }
 
-// What a child process told: its words, its descriptors, of which 3 is that of ls, and its variables' names.
+// What a child process told: its words, its ticket, its descriptors, of which 3 is that of ls, and its variables' names.
 fn check(rt: &impl Abort, words: &str, ticket: &str) {
     let mut lines = words.lines();
-    assert_eq!(rt; lines.next(), Some("words.sh 7 the data 3"));
+    assert_eq!(rt; lines.next(), Some("words.sh 7 - the data 3"));
     assert_eq!(rt; lines.next(), Some(ticket));
     assert_eq!(rt; lines.next(), Some("0, 1, 2, 3"));
     for name in lines {
@@ -58,7 +59,7 @@ fn check(rt: &impl Abort, words: &str, ticket: &str) {
 fn a_helper_gets_its_words_and_nothing_of_the_agents(rt: HostRuntime) -> Result<(), Fail> {
     let alloc = rt.alloc();
     let script =
-        "{ echo \"$0 $1 $3 $#\"; echo \"$2\"; ls -m /proc/self/fd; env | sed s/=.*// | sort; } > words.txt.new\nmv words.txt.new words.txt\n";
+        "{ echo \"$0 $1 $2 $3 $#\"; echo $MORTARLEEK_TICKET; cat; ls -m /proc/self/fd; env | sed s/=.*// | sort; } > words.txt.new\nmv words.txt.new words.txt\n";
     fs::write(&rt, "words.sh", script)?;
     let socket = String::from_str(alloc, "words.sh")?;
     let programs = shells(alloc)?;

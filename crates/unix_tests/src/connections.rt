@@ -35,6 +35,22 @@ fn a_client_is_reported_and_heard_to_its_end(rt: HostRuntime) -> Result<(), Fail
         room == [97, 98, 99, 7, 7, 7, 7, 7, 7],
         "as they were sent",
     );
+    reads(
+        &rt,
+        &mut world,
+        1,
+        &mut room,
+        Got::NotNow,
+        "no second read before a wait",
+    );
+    polls(
+        &rt,
+        &mut world,
+        None,
+        &mut ready,
+        Polled::Some,
+        "its end came",
+    );
     reads(&rt, &mut world, 1, &mut room, Got::End, "its end");
     world.remove_files();
     Ok(())

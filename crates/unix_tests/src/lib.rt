@@ -11,6 +11,8 @@ mod clocks;
 #[cfg(test)]
 mod connections;
 #[cfg(test)]
+mod ended;
+#[cfg(test)]
 mod files;
 #[cfg(test)]
 mod no_programs;
