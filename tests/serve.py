@@ -666,14 +666,16 @@ def a_helper_gets_its_words_the_kept_variables_and_three_descriptors(folder):
             pid, socket_path, job, ticket, data = (folder / "told").read_text().splitlines()
             assert children(agent.process.pid) == [int(pid)]
             assert socket_path == agent.path + ".children" and job == "1" and data == "/some/data"
-            assert re.fullmatch("[0-9a-f]{32}", ticket)
+            assert ticket == "-"
             entries = pathlib.Path(f"/proc/{pid}/environ").read_bytes().decode().rstrip("\0").split("\0")
-            assert dict(entry.split("=", 1) for entry in entries) == kept, entries
+            shown = dict(entry.split("=", 1) for entry in entries)
+            assert re.fullmatch("[0-9a-f]{32}", shown.pop("MORTARLEEK_TICKET")) and shown == kept, entries
             fds = pathlib.Path(f"/proc/{pid}/fd")
             places = {int(fd.name): os.readlink(fd) for fd in fds.iterdir()}
             # beside the script, which the shell reads
             places = {fd: place for fd, place in places.items() if place != str(helper)}
-            assert sorted(places) == [0, 1, 2] and places[0] == places[1] == "/dev/null", places
+            assert sorted(places) == [0, 1, 2] and places[1] == "/dev/null", places
+            assert places[0].startswith("socket:"), places
             os.kill(int(pid), signal.SIGKILL)
     finally:
         os.close(opened)
@@ -681,7 +683,7 @@ def a_helper_gets_its_words_the_kept_variables_and_three_descriptors(folder):
 
 @check
 def a_false_ticket_is_turned_away(folder):
-    helper = rig.script(folder / "helper", f'printf "%s\\n" "$3" > {folder}/ticket; sleep 5')
+    helper = rig.script(folder / "helper", f'printf "%s\\n" "$MORTARLEEK_TICKET" > {folder}/ticket; sleep 5')
     with serve(folder, helper=helper) as agent, agent.peer() as peer:
         blob = added(peer, key=stand_in_key)
         peer.send(bytes([SIGN]) + string(blob) + string(b"message") + bytes(4))
