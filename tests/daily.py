@@ -19,8 +19,8 @@ import time
 sys.dont_write_bytecode = True
 TOP = pathlib.Path(__file__).resolve().parents[1]
 
+import front_words
 import rig
-import words
 from hosts import Hosts
 from installed import PROGRAM, Installed, Keys, agent_of, both, check, keygen, plain
 from rig import Skip, children, is_alive, openssh_agent, run, until, zombies
@@ -1069,4 +1069,5 @@ if __name__ == "__main__":
     except Skip as reason:
         print(f"daily: not run: {reason}")
         sys.exit(1)
-    check.run(sys.argv[1:])
+    # Those of front_words come first.
+    front_words.check.run(sys.argv[1:])

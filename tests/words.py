@@ -1,1 +1,0 @@
-from installed import check
