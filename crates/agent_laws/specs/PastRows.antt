@@ -58,11 +58,6 @@ abbrev pub number_at : ℕ → ℕ → List Stamped → Option ℕ
 number_at second tag past = option_map (λ (one : PastAddition). one.number)
     (held_by (last_addition (blob tag) past) None second)
 
--- the past behind events at second 0, from the first state on
-abbrev pub past_of : List Happening → List Stamped
-past_of events = onto [] (history (first_state None)
-    (map (λ event. let one : Timed = record { moment = moment_at 0; event = event } in one) events))
-
 -- the claim of a request of port 1, and of a consent
 abbrev pub claim : ℕ → Option ℕ → Claim
 claim tag number = record { port = 1; addition = number; signing = signing tag }

@@ -26,10 +26,6 @@ no_replay (word ∷ option ∷ []) is = refl
 no_replay (word ∷ option ∷ life ∷ []) is = rw (not_both word is) refl
 no_replay (word ∷ option ∷ life ∷ more ∷ words) is = refl
 
--- words that begin otherwise are none of `serve`
-pub not_serve : (words : List (List ℕ)) → begins words ≡ false → is_usage words ≡ true
-not_serve words is = rw is refl
-
 -- each end says what its status says
 pub serves_by : (end : ServeEnd) (setting : Setting) (old new : Option (List Entry)) → Serves end setting Unbound old new → ServesExactly setting (status_of_serving end) old new
 serves_by ends.Over setting old new serves = inl serves

@@ -43,9 +43,6 @@ pub more : (identities : List (Bor (List ℕ) × Bor (List ℕ))) (i : ℕ) (one
 more identities i one inside is =
     ap (map lent) (drop_more identities i one inside ∙ ap (λ (k : Bor (List ℕ) × Bor (List ℕ)). k ∷ drop (i + 1) identities) (sym is))
 
-pub more_len : (identities : List (Bor (List ℕ) × Bor (List ℕ))) (i : ℕ) (one : Bor (List ℕ) × Bor (List ℕ)) → i < length identities → one ≡ get_or identities i one → entries_length (map lent (drop i identities)) ≡ 8 + length one.0.now + length one.1.now + entries_length (map lent (drop (i + 1) identities))
-more_len identities i one inside is = ap entries_length (more identities i one inside is)
-
 pub none_left : (identities : List (Bor (List ℕ) × Bor (List ℕ))) (i : ℕ) → length identities ≤ i → entries_length (map lent (drop i identities)) ≡ 0
 none_left identities i past = ap (λ (l : List (Bor (List ℕ) × Bor (List ℕ))). entries_length (map lent l)) (drop_all i identities past)
 

@@ -103,12 +103,6 @@ steps_closed event state number pair left found leaves =
     ap (λ f. at_pair f number event state) found
     ∙ ap (λ b. settled b number (told event state.listed pair).pair state) (sym leaves.stays)
 
--- it isn't there
-pub steps_absent : (event : Happening) (state : State) (number : ℕ) → find_pair number state.pairs ≡ None → state.closes ≡ []
-    → at_pair (find_pair number state.pairs) number event state ≡ state
-steps_absent event state number none quiet =
-    ap (λ f. at_pair f number event state) none ∙ ap (λ (c : List ℕ). let s : State = record state { closes = c } in s) (sym quiet)
-
 -- ---- the state of the storage
 
 abbrev pub state_of : List (List ℕ) → List Slot → ℕ → List ℕ → State

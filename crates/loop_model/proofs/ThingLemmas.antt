@@ -40,14 +40,3 @@ same_thing-true (Write port) (Write other) same = ap Write ((Decides-eqb port ot
 pub false_by : (test : Bool) → (test ≡ true → ⊥) → test ≡ false
 false_by true never = absurd (never refl)
 false_by false never = refl
-
--- what is the same as one of two equal things is the same as the other
-pub same_thing-alike : (thing other third : Thing) → same_thing thing other ≡ true → same_thing other third ≡ same_thing thing third
-same_thing-alike thing other third same = ap (λ (t : Thing). same_thing t third) (sym (same_thing-true thing other same))
-
--- what is the same as one of two different things isn't the same as the other
-pub same_thing-apart : (thing other third : Thing) → same_thing thing other ≡ false → same_thing thing third ≡ true → same_thing other third ≡ false
-same_thing-apart thing other third apart same = false_by (same_thing other third) (λ also.
-    let is : thing ≡ other = same_thing-true thing third same ∙ sym (same_thing-true other third also) in
-    let here : same_thing thing other ≡ true = ap (λ (t : Thing). same_thing thing t) (sym is) ∙ same_thing-refl thing in
-    cc)

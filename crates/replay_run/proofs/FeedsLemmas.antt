@@ -103,25 +103,9 @@ halts_more WriteFault old a b run w0 w1 halts = record { front = front_more b ha
 
 -- ---- at one place
 
--- nothing was written, since memory ran out
-pub nothing_written : (old : Feeding) (bytes : List ℕ) (seen : StreamView) → WritesFront old bytes seen seen
-nothing_written old bytes seen = record {
-  text = [];
-  wrote = Appends-nil seen.written;
-  front = λ ended more. record { more = old.out ++ printed ended old.run (parts_of ((old.pending ++ bytes) ++ more)); is = refl };
-}
-
 -- nothing had to be written
 pub feeds_same : (feeding : Feeding) (seen : StreamView) → Feeds feeding [] feeding seen seen
 feeds_same feeding seen = feeds_by seen (rw (append-nil feeding.pending) (goes_on-same feeding.out feeding.run feeding.pending))
-
--- all that was printed is written
-pub feeds_written : (feeding : Feeding) (before after : StreamView) → Wrote before after feeding.out → Feeds feeding [] (record feeding { out = [] }) before after
-feeds_written feeding before after wrote = record {
-  text = feeding.out;
-  wrote = wrote;
-  goes = rw (append-nil feeding.pending, append-nil feeding.out) (goes_on-same feeding.out feeding.run feeding.pending);
-}
 
 -- some of it is written
 pub front_written : (feeding : Feeding) (bytes : List ℕ) (before after : StreamView) → WritesPart feeding.out before after → WritesFront feeding bytes before after

@@ -40,19 +40,6 @@ holds_at_end left bytes P end holds = record { read = holds; whole = end_of_inpu
 
 -- ---- before the first read
 
-pub under_way-start : (life : Option ℕ) (seen : Seen) → IsUnderWay life seen seen (start_feeding life)
-under_way-start life seen = record {
-  bytes = [];
-  read = record { taken = Appends-nil seen.input.taken; left = Consumes-nil seen.input.left };
-  feeds = feeds_by seen.output (goes_on-same [] (start_run life) []);
-  ready = record {
-    counted = record { accepted = refl; ports = omega arith; lines = omega arith; within = omega arith };
-    begun = record { part = tt; short = omega arith; within = omega arith };
-  };
-  empty = refl;
-  reads = refl;
-}
-
 -- memory ran out before it
 pub ends-start : (life : Option ℕ) (seen : Seen) → Ends life Memory seen seen
 unfolding Ends
