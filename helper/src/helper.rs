@@ -98,7 +98,11 @@ mod tests {
     fn a_ticket_of_the_environment_stands_where_a_dash_does() {
         let ticket = OsString::from("0123456789abcdefABCDEF0123456789");
         for (word, given, wanted) in [
-            ("-", Some(ticket.clone()), "0123456789abcdefABCDEF0123456789"),
+            (
+                "-",
+                Some(ticket.clone()),
+                "0123456789abcdefABCDEF0123456789",
+            ),
             ("-", None, "-"),
             ("00", Some(ticket), "00"),
         ] {

@@ -38,7 +38,7 @@ def verify_body(number, host_key, signature, session):
 class Helper:
     """A running helper, connected, whose HELLO was read."""
 
-    def __init__(self, program=PROGRAM, job=1, ticket=bytes(16), data=None, **more):
+    def __init__(self, program=PROGRAM, job=1, ticket=bytes(16), word=None, data=None, **more):
         self.folder = tempfile.TemporaryDirectory()
         os.chmod(self.folder.name, 0o755)
         path = self.folder.name + "/children"
@@ -47,7 +47,7 @@ class Helper:
             os.chmod(path, 0o777)
             listener.listen()
             listener.settimeout(20)
-            words = [program, path, str(job), ticket.hex()] + ([data] if data else [])
+            words = [program, path, str(job), word or ticket.hex()] + ([data] if data else [])
             more.setdefault("env", {})
             more.setdefault("stderr", subprocess.DEVNULL)
             self.process = subprocess.Popen(words, **more)

@@ -53,6 +53,15 @@ class Process(unittest.TestCase):
             self.assertTrue(opens_memory(other.pid, **user))
             other.kill()
 
+    def test_a_ticket_stands_in_the_environment_and_not_in_the_words(self):
+        ticket = bytes(range(16))
+        with Helper(word="-", env={"MORTARLEEK_TICKET": ticket.hex()}) as helper:
+            self.assertTrue(helper.hello.endswith(ticket))
+            words = pathlib.Path(f"/proc/{helper.process.pid}/cmdline").read_bytes()
+            self.assertNotIn(ticket.hex().encode(), words)
+        run = subprocess.run([PROGRAM, "none", "1", "-"], env={}, stderr=subprocess.DEVNULL)
+        self.assertEqual(run.returncode, 2)
+
     def test_no_configuration_of_libcrypto_is_read(self):
         with tempfile.TemporaryDirectory() as folder:
             path = pathlib.Path(folder) / "openssl.cnf"
