@@ -14,7 +14,7 @@ import sys
 from functools import partial
 from random import Random
 
-from .agent import LIMITS, STAGES
+from .agent import LIMITS
 from .differential import Result, run_program, shorten, show
 from .formats import CERTIFIED, PRIVATE, added_key
 from .generate import Schedule
@@ -108,7 +108,7 @@ def differs(program: str, life: int | None, text: bytes) -> bool:
 
 def try_pair(program: str, seed: str) -> tuple[bool, bool, bytes, int | None]:
     """Whether the two runs differ, and whether the schedule has a secret at all."""
-    text, life, _ = Schedule(seed, STAGES).case()
+    text, life, _ = Schedule(seed).case()
     return differs(program, life, text), with_other_secrets(text) != text, text, life
 
 

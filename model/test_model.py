@@ -1,12 +1,20 @@
 """The model alone, without a built program: python3 -m unittest model.test_model, from the top."""
 
+import importlib
 import unittest
+from pathlib import Path
 
 from .differential import read_wrong
 from .generate import Schedule
 from .replay import replay
 from .rows_logins import EVERY_ROW
 from .wire import Fault, matches, string, take_frame, uint32, uint64
+
+
+class Modules(unittest.TestCase):
+    def test_each_is_imported(self):
+        for path in Path(__file__).parent.glob("*.py"):
+            importlib.import_module(f"model.{path.stem}")
 
 
 class Rows(unittest.TestCase):
