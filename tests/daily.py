@@ -995,6 +995,35 @@ def copy_of_the_repository(folder):
 
 
 @check
+def what_a_user_installed_is_closed_to_that_user_s_programs(folder):
+    if os.geteuid() != 0:
+        raise Skip("it takes root to be another user")
+    folder.chmod(0o755)
+    source, home = folder / "source", folder / "home"
+    source.mkdir()
+    home.mkdir()
+    copy_of_the_repository(source)
+    for name in ("agent_prog", "confirm_relay"):
+        shutil.copy(rig.built(name), source / "bin")
+    run(["chown", "-R", f"{NOBODY}:{NOBODY}", source, home])
+    other = ["setpriv", f"--reuid={NOBODY}", f"--regid={NOBODY}", "--clear-groups", "sh", "-c", 'exec "$@"', "sh"]
+    environment = {"PATH": os.environ["PATH"], "HOME": str(home)}
+    make = ["make", "--no-print-directory", "-o", "bin/agent_prog", "install", f"PREFIX={home}/.local"]
+    for _ in range(2):
+        run([*other, *make], cwd=source, env=environment)
+    program = home / ".local/bin/agent_prog"
+    for file in (program, home / ".local/libexec/mortarleek/confirm_relay"):
+        assert file.stat().st_mode & 0o7777 == 0o111, file
+    words = [program, "serve", "-a", home / "s", "--helper", "/bin/false"]
+    with subprocess.Popen([*other, *words], stdin=subprocess.DEVNULL, env=environment) as agent:
+        until(lambda: (home / "s.children").exists(), what="the agent's socket")
+        assert os.stat(f"/proc/{agent.pid}/mem").st_uid == 0
+        for file in ("mem", "environ", "maps"):
+            assert "Permission denied" in run([*other, "cat", f"/proc/{agent.pid}/{file}"], 1)
+        agent.terminate()
+
+
+@check
 def a_new_user_installs_it_and_logs_in(folder):
     """What README says to type, but for the build, and a line in the profile of a home that has nothing else."""
     home, source = folder / "home", folder / "source"

@@ -90,8 +90,10 @@ fn encoded(info: &[u8], length: usize) -> Result<Vec<u8>, Refused> {
 /// How many bits the modulus of a key blob has, plain or certified, where it is one of RSA.
 pub fn bits(fields: &mut Reader<'_>) -> Option<i32> {
     match fields.string().ok()? {
-        NAME => (),
-        CERTIFIED => drop(fields.string().ok()?),
+        NAME => {}
+        CERTIFIED => {
+            fields.string().ok()?;
+        }
         _ => return None,
     }
     fields.string().ok()?;
