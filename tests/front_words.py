@@ -477,7 +477,7 @@ def errors_of_a_first_minute_name_cause_and_remedy(folder):
     said = run([installed.agent], 1, env=dict(installed.environment, TMPDIR=str(long)))
     assert "107 bytes" in said and "TMPDIR" in said, said
     said = run([installed.agent, "-a", "/proc/s"], 1, env=installed.environment)
-    assert "name a folder of yours by -a" in said, said
+    assert said == "mortarleek-agent: /proc: no folder can be made there: name a folder of yours by -a\n", said
     said = run([installed.agent], 1, env=bare)
     assert "timeout isn't there: install coreutils" in said, said
     # the build: no toolchain, no packages of the helper
