@@ -363,7 +363,8 @@ def after_SIGTERM_the_front_end_takes_both_sockets_away(folder):
     process.terminate()
     assert process.wait(10) == 2
     process.stdout.close()
-    assert sorted(folder.iterdir()) == [bin]
+    # the lock of its path stays
+    assert sorted(folder.iterdir()) == [bin, folder / "s.lock"]
 
 
 # Many clients, and slow ones.
