@@ -1,0 +1,119 @@
+-- What each call leaves of a reading, by its answer.
+use Rattle.std.proofs.Common.{◌≡◌, ◌∙◌, ℕ, ◌+◌, ◌-◌, ◌^◌, ◌<◌, Bool, true, false, List, [], ◌∷◌, length, drop, get_or, Option, Some, None, Result, Ok, Err, refl, sym, ap, not, ◌&&◌, ◌==◌, if◌then◌else◌, add-one, arith}
+use Rattle.std.proofs.Math.Seq.{drop-cons}
+use Rattle.std.specs.Prelude.{IsSome, OnOk, is_some}
+use Rattle.std.specs.declared.alloc.AllocError.{AllocError}
+use Rattle.std.specs.Str.{bytes_eq}
+use Rattle.std.specs.Cmp.Lexicographic.{bytes_decides}
+use Rattle.std.proofs.lemmas.Bool.Decides.{Decides-eqb, Decides-ltb}
+use Rattle.world_ports.specs.declared.answers.Accepted.{Accepted}
+use Rattle.world_ports.specs.declared.answers.Got.{Got}
+use Rattle.world_ports.specs.declared.answers.Polled.{Polled}
+use Rattle.world_ports.specs.declared.answers.WorldFault.{WorldFault}
+use Rattle.world_ports.specs.declared.answers.Wrote.{Wrote}
+use Rattle.pair_ports.specs.declared.entry.PairEntry.TheVariants as entry
+use Rattle.pair_ports.specs.declared.entry.PairReady.{PairReady}
+use Rattle.pair_ports.specs.declared.side.Side.{Side}
+use Rattle.pair_ports.specs.declared.side.Side.TheVariants.{Client, Upstream}
+use Rattle.filter_model.specs.declared.thing.Thing.{Thing}
+use Rattle.filter_model.specs.declared.thing.Thing.TheVariants.{Accept, Read, Write}
+use Rattle.filter_model.specs.Pairs.{Pair, is_some_bytes}
+use Rattle.filter_model.specs.Filters.{Ended, Happening, Heard, Joined, State, Took, find_pair, owed_by, owed_of, step, wants_by}
+use Rattle.filter_model.specs.Lines.{first_servable, is_idle, is_next, is_servable, is_thing, same_side, same_thing}
+use Rattle.filter_model.specs.Answered.{Binding, Closing, Due, Free, after_accept, after_bind, after_close, after_poll, after_read, after_write, at, due_of, only_if}
+use Rattle.filter_model.specs.LegalPairs.{allowed, read_room}
+use Rattle.filter_model.proofs.WatchLemmas.{last-at, last-joined}
+
+-- ---- things
+
+same_side-refl : (side : Side) → same_side side side ≡ true
+same_side-refl Client = refl
+same_side-refl Upstream = refl
+
+both : (here there : Bool) → here ≡ true → there ≡ true → (here && there) ≡ true
+both true there is also = also
+both false there is also = cc
+
+same_thing-refl : (thing : Thing) → same_thing thing thing ≡ true
+same_thing-refl Accept = refl
+same_thing-refl (Read pair side) = both (pair == pair) (same_side side side) ((Decides-eqb pair pair).1 refl) (same_side-refl side)
+same_thing-refl (Write pair side) = both (pair == pair) (same_side side side) ((Decides-eqb pair pair).1 refl) (same_side-refl side)
+
+-- ---- the first thing that can be served
+
+next_is : (state : State) (line : List Thing) (thing : Thing) → first_servable state line ≡ Some thing → is_next state line thing ≡ true
+next_is state line thing found = ap (is_thing thing) found ∙ same_thing-refl thing
+
+servable_by : (test : Bool) (state : State) (first : Thing) (line : List Thing) (thing : Thing) → is_servable state first ≡ test → (first_servable state line ≡ Some thing → is_servable state thing ≡ true) → (if test then Some first else first_servable state line) ≡ Some thing → is_servable state thing ≡ true
+servable_by true state first line thing is rest found = let same : first ≡ thing = cc in ap (is_servable state) (sym same) ∙ is
+servable_by false state first line thing is rest found = rest found
+
+can_serve : (state : State) (line : List Thing) (thing : Thing) → first_servable state line ≡ Some thing → is_servable state thing ≡ true
+can_serve state [] thing found = cc
+can_serve state (first ∷ line) thing found = servable_by (is_servable state first) state first line thing refl (can_serve state line thing) found
+
+pub nothing_is : (state : State) (line : List Thing) → first_servable state line ≡ None → is_idle state line ≡ true
+nothing_is state line none = ap (λ (o : Option Thing). not (is_some o)) none
+
+-- ---- what fits
+
+pub joined_fits : (state : State) (line : List Thing) → first_servable state line ≡ Some Accept → state.last_pair < 2 ^ 64 - 1
+joined_fits state line found = (Decides-ltb state.last_pair (2 ^ 64 - 1)).0 (can_serve state line Accept found)
+
+wanted_is_open : (found : Option Pair) (side : Side) → wants_by found side ≡ true → IsSome found
+wanted_is_open None side wanted = cc
+wanted_is_open (Some pair) side wanted = refl
+
+owed_is_open : (found : Option Pair) (side : Side) → is_some_bytes (owed_by found side) ≡ true → IsSome found
+owed_is_open None side owed = cc
+owed_is_open (Some pair) side owed = refl
+
+pub read_open : (state : State) (line : List Thing) (pair : ℕ) (side : Side) → first_servable state line ≡ Some (Read pair side) → IsSome (find_pair pair state.pairs)
+read_open state line pair side found = wanted_is_open (find_pair pair state.pairs) side (can_serve state line (Read pair side) found)
+
+pub write_open : (state : State) (line : List Thing) (pair : ℕ) (side : Side) → first_servable state line ≡ Some (Write pair side) → IsSome (find_pair pair state.pairs)
+write_open state line pair side found = owed_is_open (find_pair pair state.pairs) side (can_serve state line (Write pair side) found)
+
+pub write_some : (state : State) (line : List Thing) (pair : ℕ) (side : Side) → first_servable state line ≡ Some (Write pair side) → 0 < length (owed_of pair side state)
+write_some state line pair side found = (Decides-ltb 0 (length (owed_of pair side state))).0 (can_serve state line (Write pair side) found)
+
+-- ---- the number of the last pair
+
+pub last_joined : (state : State) → (step state Joined).last_pair ≡ state.last_pair + 1
+last_joined state = last-joined _ state ∙ sym (add-one state.last_pair)
+
+pub last_heard : (state : State) (pair : ℕ) (side : Side) (piece : List ℕ) → (step state (Heard pair side piece)).last_pair ≡ state.last_pair
+last_heard state pair side piece = last-at (find_pair pair state.pairs) pair (Heard pair side piece) state
+
+pub last_took : (state : State) (pair : ℕ) (side : Side) (count : ℕ) → (step state (Took pair side count)).last_pair ≡ state.last_pair
+last_took state pair side count = last-at (find_pair pair state.pairs) pair (Took pair side count) state
+
+pub last_ended : (state : State) (pair : ℕ) → (step state (Ended pair)).last_pair ≡ state.last_pair
+last_ended state pair = last-at (find_pair pair state.pairs) pair (Ended pair) state
+
+-- ---- calls
+
+pub bind_any : (state : State) (line : List Thing) (path upstream : List ℕ) (answer : Result Unit WorldFault) → allowed (at state line (Binding path upstream)) (entry.Bind path upstream answer) ≡ Some (after_bind answer state line)
+bind_any state line path upstream answer =
+    ap (λ (b : Bool). only_if b (after_bind answer state line)) (both (bytes_eq path path) (bytes_eq upstream upstream) ((bytes_decides path path).1 refl) ((bytes_decides upstream upstream).1 refl))
+
+pub poll_any : (state : State) (line : List Thing) (items : List PairReady) (answer : Result Polled WorldFault) → is_idle state line ≡ true → allowed (at state line Free) (entry.Poll items answer) ≡ Some (after_poll items state line answer)
+poll_any state line items answer idle = ap (λ (b : Bool). only_if b (after_poll items state line answer)) idle
+
+pub accept_any : (state : State) (line : List Thing) (answer : Result Accepted WorldFault) → first_servable state line ≡ Some Accept → allowed (at state line Free) (entry.Accept answer) ≡ Some (after_accept state line answer)
+accept_any state line answer found = ap (λ (b : Bool). only_if b (after_accept state line answer)) (next_is state line Accept found)
+
+pub read_any : (state : State) (line : List Thing) (pair : ℕ) (side : Side) (room : ℕ) (bytes : List ℕ) (answer : Result Got WorldFault) → first_servable state line ≡ Some (Read pair side) → room ≡ read_room → allowed (at state line Free) (entry.Read pair side room bytes answer) ≡ Some (after_read pair side bytes state line answer)
+read_any state line pair side room bytes answer found is =
+    ap (λ (b : Bool). only_if b (after_read pair side bytes state line answer)) (both (is_next state line (Read pair side)) (room == read_room) (next_is state line (Read pair side) found) ((Decides-eqb room read_room).1 is))
+
+pub write_any : (state : State) (line : List Thing) (pair : ℕ) (side : Side) (offered : List ℕ) (answer : Result Wrote WorldFault) → first_servable state line ≡ Some (Write pair side) → offered ≡ owed_of pair side state → allowed (at state line Free) (entry.Write pair side offered answer) ≡ Some (after_write pair side state line answer)
+write_any state line pair side offered answer found is =
+    ap (λ (b : Bool). only_if b (after_write pair side state line answer)) (both (is_next state line (Write pair side)) (bytes_eq offered (owed_of pair side state)) (next_is state line (Write pair side) found) ((bytes_decides offered (owed_of pair side state)).1 is))
+
+pub close_any : (state : State) (line : List Thing) (pair : ℕ) (later : List ℕ) (answer : Result Unit AllocError) → allowed (at state line (Closing pair later)) (entry.Close pair answer) ≡ Some (after_close pair later state line answer)
+close_any state line pair later answer = ap (λ (b : Bool). only_if b (after_close pair later state line answer)) ((Decides-eqb pair pair).1 refl)
+
+-- what is left to close, from an index on
+pub due-drop : (pairs : List ℕ) (index : ℕ) → index < length pairs → due_of (drop index pairs) ≡ Closing (get_or pairs index 0) (drop (index + 1) pairs)
+due-drop pairs index below = ap due_of (drop-cons pairs index 0 below) ∙ ap (λ (n : ℕ). Closing (get_or pairs index 0) (drop n pairs)) (sym (add-one index))

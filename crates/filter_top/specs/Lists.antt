@@ -1,0 +1,43 @@
+-- The list of keys (ours): a public key's line each, and empty lines.
+use Rattle.std.specs.Prelude.{◌≡◌, ℕ, suc, List, [], ◌∷◌, ◌++◌, Option, Some, None, Result, Ok, Err}
+use Rattle.key_file.specs.PublicLines.{line_key, parts}
+use Rattle.key_file.specs.declared.fault.PubFault.{PubFault}
+use Rattle.filter_top.specs.declared.list.ListFault.{ListFault}
+use Rattle.filter_top.specs.declared.list.ListFault.TheVariants as faults
+use denote.Ref.{Bor}
+
+-- the lines of what is left of a text, where something is
+abbrev pub lines_left : Option (Bor (List ℕ)) → List (List ℕ)
+lines_left None = []
+lines_left (Some rest) = parts 10 rest.now
+
+-- by what a line of this number is
+abbrev pub blobs_by : (List ℕ → Result (List (List ℕ)) (ℕ × PubFault)) → ℕ → Result (List ℕ) PubFault → Result (List (List ℕ)) (ℕ × PubFault)
+blobs_by next number (Ok blob) = next blob
+blobs_by next number (Err fault) = Err (number, fault)
+
+-- the blobs so far, with those of these lines, the first of which has this number; or the number of the first line that
+-- is no public key's, and why. An empty line is passed over
+abbrev pub blobs_onto : List (List ℕ) → ℕ → List (List ℕ) → Result (List (List ℕ)) (ℕ × PubFault)
+blobs_onto blobs number [] = Ok blobs
+blobs_onto blobs number ([] ∷ lines) = blobs_onto blobs (suc number) lines
+blobs_onto blobs number ((byte ∷ bytes) ∷ lines) =
+    blobs_by (λ blob. blobs_onto (blobs ++ blob ∷ []) (suc number) lines) number (line_key (byte ∷ bytes))
+
+-- the blobs that a list has, its lines counted from 1
+abbrev pub blobs_in : List ℕ → Result (List (List ℕ)) (ℕ × PubFault)
+blobs_in text = blobs_onto [] 1 (parts 10 text)
+
+-- the most bytes of a list
+abbrev pub longest_list : ℕ
+longest_list = 1048576
+
+-- memory ran out, or this is the first line that is refused, and why
+abbrev pub IsRefusal : ListFault → Result (List (List ℕ)) (ℕ × PubFault) → Type 0
+IsRefusal (faults.Line line fault) read = read ≡ Err (line, fault)
+IsRefusal faults.Memory read = Unit {0}
+
+-- a line was read: what is left gives the same, or it is refused
+abbrev pub Puts : {T : Type 0} → Result T ListFault → Result (List (List ℕ)) (ℕ × PubFault) → Result (List (List ℕ)) (ℕ × PubFault) → Type 0
+Puts (Ok done) all left = left ≡ all
+Puts (Err fault) all left = IsRefusal fault all

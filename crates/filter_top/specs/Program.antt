@@ -1,0 +1,112 @@
+-- What the program does (ours). Read from the end.
+use Rattle.std.specs.Prelude.{◌≡◌, ◌⊎◌, ◌≤◌, ℕ, List, [], ◌∷◌, Option, Some, None, Result, Ok, Err, Vec, length, map}
+use Rattle.std.specs.String.{string_bytes}
+use Rattle.std.specs.declared.string.String.{String}
+use Rattle.std.specs.declared.alloc.Global.{Global}
+use Rattle.key_file.specs.declared.fault.PubFault.{PubFault}
+use Rattle.world_ports.specs.declared.answers.Polled.TheVariants as polled
+use Rattle.world_ports.specs.declared.answers.WorldFault.TheVariants as fault
+use Rattle.pair_ports.specs.declared.entry.PairEntry.{PairEntry}
+use Rattle.filter_model.specs.Answered.{Reading}
+use Rattle.filter_model.specs.LegalPairs.{first_reading}
+use Rattle.filter_core.specs.Slots.{blobs_of}
+use Rattle.filter_top.specs.declared.words.Words.{Words}
+use Rattle.filter_top.specs.declared.status.FilterStatus.{FilterStatus}
+use Rattle.filter_top.specs.declared.status.FilterStatus.TheVariants as status
+use Rattle.filter_top.specs.Lists.{blobs_in, longest_list}
+use Rattle.filter_top.specs.Moves.{BindEnds, PollEnds, Stops}
+
+-- the words, as text
+abbrev pub texts_of : List (String Global) → List (List ℕ)
+texts_of words = map string_bytes words
+
+-- what the program is asked for: the file of the list, the agent behind, and where to listen
+pub record Asked : Type 0 where
+  pub list : List ℕ
+  pub upstream : List ℕ
+  pub path : List ℕ
+
+-- what these words ask for, where there are three
+abbrev pub asked_in : List (List ℕ) → Option Asked
+asked_in [] = None
+asked_in (list ∷ []) = None
+asked_in (list ∷ upstream ∷ []) = None
+asked_in (list ∷ upstream ∷ path ∷ []) = Some record { list = list; upstream = upstream; path = path }
+asked_in (list ∷ upstream ∷ path ∷ other ∷ others) = None
+
+-- the words ask for this
+abbrev pub IsAsked : List (String Global) → Asked → Type 0
+IsAsked words asked = asked_in (texts_of words) ≡ Some asked
+
+-- there aren't three words
+abbrev pub IsUsage : List (String Global) → Type 0
+IsUsage words = asked_in (texts_of words) ≡ None
+
+-- the words of the code
+abbrev pub asked_of : Words → Asked
+asked_of words = record { list = words.list.now; upstream = words.upstream.now; path = words.path.now }
+
+-- what the end of the loop says of the calls that it made
+abbrev pub Serves : FilterStatus → Reading → Option (List PairEntry) → Option (List PairEntry) → Type 0
+-- the pairs told that nothing will become ready any more
+Serves status.Done from old new = PollEnds from old new (Ok polled.Over)
+Serves (status.BadList line fault) from old new = ⊥
+Serves status.Usage from old new = ⊥
+Serves status.BindFault from old new = BindEnds from old new
+Serves status.PollFault from old new = PollEnds from old new (Err fault.Failed)
+Serves status.Memory from old new = Stops from old new
+Serves status.FileFault from old new = ⊥
+
+-- the file of the list is held, short enough, and these are its blobs
+abbrev pub IsListOf : Option (List ℕ) → List (List ℕ) → Type 0
+IsListOf None blobs = ⊥
+IsListOf (Some text) blobs = (length text ≤ longest_list) × (blobs_in text ≡ Ok blobs)
+
+-- the same, and this line is the first of it that is refused
+abbrev pub IsBadAt : Option (List ℕ) → ℕ → PubFault → Type 0
+IsBadAt None line fault = ⊥
+IsBadAt (Some text) line fault = (length text ≤ longest_list) × (blobs_in text ≡ Err (line, fault))
+
+-- so the program may end before its loop
+abbrev pub IsRefusedBy : FilterStatus → Option (List ℕ) → Type 0
+IsRefusedBy status.Done held = ⊥
+IsRefusedBy (status.BadList line fault) held = IsBadAt held line fault
+IsRefusedBy status.Usage held = ⊥
+IsRefusedBy status.BindFault held = ⊥
+IsRefusedBy status.PollFault held = ⊥
+IsRefusedBy status.Memory held = Unit {0}
+IsRefusedBy status.FileFault held = Unit {0}
+
+-- the program ends so without its loop, whatever is held
+abbrev pub IsListEnd : FilterStatus → Type 0
+IsListEnd status.Done = ⊥
+IsListEnd (status.BadList line fault) = Unit {0}
+IsListEnd status.Usage = ⊥
+IsListEnd status.BindFault = ⊥
+IsListEnd status.PollFault = ⊥
+IsListEnd status.Memory = Unit {0}
+IsListEnd status.FileFault = Unit {0}
+
+-- by what a text was read as
+abbrev pub IsReadAs : List ℕ → Result (Vec (Vec ℕ Global) Global) FilterStatus → Type 0
+IsReadAs text (Ok blobs) = blobs_in text ≡ Ok (blobs_of blobs.items)
+IsReadAs text (Err (status.BadList line fault)) = blobs_in text ≡ Err (line, fault)
+IsReadAs text (Err status.Memory) = Unit {0}
+IsReadAs text (Err other) = ⊥
+
+-- the list was read, and the loop began with its blobs
+pub record Begins (held : List ℕ → Option (List ℕ)) (asked : Asked) (result : FilterStatus) (old new : Option (List PairEntry)) : Type 0 where
+  pub blobs : List (List ℕ)
+  pub listed : IsListOf (held asked.list) blobs
+  pub serves : Serves result (first_reading blobs asked.path asked.upstream) old new
+
+-- by how the program ended, where there are three words and the files tell what they hold: no call was made before the
+-- list was read
+abbrev pub Runs : (List ℕ → Option (List ℕ)) → Asked → FilterStatus → Option (List PairEntry) → Option (List PairEntry) → Type 0
+Runs held asked status.Done old new = Begins held asked status.Done old new
+Runs held asked (status.BadList line fault) old new = IsBadAt (held asked.list) line fault × (new ≡ old)
+Runs held asked status.Usage old new = ⊥
+Runs held asked status.BindFault old new = Begins held asked status.BindFault old new
+Runs held asked status.PollFault old new = Begins held asked status.PollFault old new
+Runs held asked status.Memory old new = (new ≡ old) ⊎ Begins held asked status.Memory old new
+Runs held asked status.FileFault old new = new ≡ old

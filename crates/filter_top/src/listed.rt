@@ -1,0 +1,51 @@
+// The file of the list.
+ghost use Rattle.std.specs.Prelude.{◌≡◌, ◌⊎◌, ℕ, List, Option, Some, Err, IfErr, MatchResult};
+ghost use Rattle.filter_core.specs.Slots.{blobs_of};
+ghost use Rattle.filter_top.specs.Lists.{longest_list};
+ghost use Rattle.filter_top.specs.Program.{IsListEnd, IsListOf, IsReadAs, IsRefusedBy};
+ghost use Rattle.filter_top.specs.declared.status.FilterStatus.TheVariants as status;
+ghost use Rattle.world_ports.specs.Causes.{Rose};
+ghost use Rattle.world_ports.specs.Files.{HoldsMore};
+
+use crate::list::{ListFault, read_list};
+use crate::status::FilterStatus;
+use std::alloc::Global;
+use world_ports::{FileFault, Files};
+
+/// The most bytes of a list.
+const LONGEST_LIST: u64 = 1_048_576;
+
+// The blobs of the keys of a file, or how the program ends without them.
+pub fn read_blobs<F: Files>(
+    alloc: Global,
+    files: &mut F,
+    path: &str,
+) -> Result<Vec<Vec<u8>>, FilterStatus>
+    ensures read { (held : List ℕ → Option (List ℕ)) → (F.seen files.old).held ≡ Some held
+        → MatchResult result
+        (λ blobs. IsListOf (held path.now) (blobs_of blobs.items))
+        (λ status. IsRefusedBy status (held path.now)) }
+    ensures own { IfErr result (λ status. IsListEnd status) }
+    ensures file { result ≡ Err status.FileFault
+        → Rose (F.seen files.old).faults (F.seen files.new).faults
+        ⊎ HoldsMore (F.seen files.old) path.now longest_list }
+{
+    match files.read(alloc, path, LONGEST_LIST) {
+        Ok(text) => blobs_in(alloc, &text),
+        Err(FileFault::Memory) => Err(FilterStatus::Memory),
+        Err(FileFault::Failed) => Err(FilterStatus::FileFault),
+        Err(FileFault::TooLong) => Err(FilterStatus::FileFault),
+    }
+}
+
+// The blobs of the keys of a text, or how the program ends without them.
+fn blobs_in(alloc: Global, text: &[u8]) -> Result<Vec<Vec<u8>>, FilterStatus>
+    ensures read { IsReadAs text.now result }
+    ensures own { IfErr result (λ status. IsListEnd status) }
+{
+    match read_list(alloc, text) {
+        Ok(blobs) => Ok(blobs),
+        Err(ListFault::Line { line, fault }) => Err(FilterStatus::BadList { line, fault }),
+        Err(ListFault::Memory) => Err(FilterStatus::Memory),
+    }
+}

@@ -1,0 +1,58 @@
+// The program over any files and any pairs.
+ghost use Rattle.std.specs.Prelude.{◌≡◌, ◌⊎◌, ◌≤◌, ℕ, List, Option, Some};
+ghost use Rattle.filter_top.specs.Lists.{longest_list};
+ghost use Rattle.filter_top.specs.Program.{Asked, IsAsked, IsUsage, Runs};
+ghost use Rattle.filter_top.specs.declared.status.FilterStatus.TheVariants as status;
+ghost use Rattle.world_ports.specs.Causes.{Rose};
+ghost use Rattle.world_ports.specs.Files.{HoldsMore};
+
+use crate::listed::read_blobs;
+use crate::serving::serve;
+use crate::status::FilterStatus;
+use crate::words::read_words;
+use filter_core::Filter;
+use pair_ports::Pairs;
+use std::alloc::Global;
+use std::sync::Wait;
+use world_ports::Files;
+
+/// The program: `words` are those of the command line after the program's name, `LIST UPSTREAM PATH`.
+///
+/// Reads the public keys of the file LIST, listens at PATH, and connects each client to an agent at UPSTREAM with a
+/// connection of its own: of its keys the client sees and uses only those of the list. With any other number of words
+/// it touches nothing. It ends only where a fault ends it, or where nothing will become ready any more.
+///
+/// Where the files tell what they hold, `runs` says of each end which calls were made; each prefix of them may come as
+/// filter_model says (specs/LegalPairs.antt).
+pub fn filter_main<R: Wait, F: Files, P: Pairs>(
+    rt: &R,
+    alloc: Global,
+    words: &[String],
+    files: &mut F,
+    pairs: &mut P,
+) -> FilterStatus
+    requires { P.last_pair pairs.old ≡ 0 }
+    ensures runs { (held : List ℕ → Option (List ℕ)) (asked : Asked) → IsAsked words.now asked
+        → (F.seen files.old).held ≡ Some held
+        → Runs held asked result (P.journal pairs.old) (P.journal pairs.new) }
+    ensures usage { result ≡ status.Usage → IsUsage words.now }
+    ensures refused { IsUsage words.now
+        → (result ≡ status.Usage) × ((pairs.new ≡ pairs.old) × (files.new ≡ files.old)) }
+    ensures file { (asked : Asked) → IsAsked words.now asked → result ≡ status.FileFault
+        → Rose (F.seen files.old).faults (F.seen files.new).faults
+        ⊎ HoldsMore (F.seen files.old) asked.list longest_list }
+    ensures bind { result ≡ status.BindFault → Rose (P.faults pairs.old) (P.faults pairs.new) }
+    ensures poll { result ≡ status.PollFault → Rose (P.faults pairs.old) (P.faults pairs.new) }
+    ensures later { P.faults pairs.old ≤ P.faults pairs.new }
+{
+    let Some(asked) = read_words(words) else {
+        return FilterStatus::Usage;
+    };
+    match read_blobs(alloc, files, asked.list) {
+        Ok(blobs) => {
+            let mut filter = Filter::new(alloc, blobs);
+            serve(rt, alloc, &mut filter, pairs, asked.path, asked.upstream)
+        }
+        Err(status) => status,
+    }
+}

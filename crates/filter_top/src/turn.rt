@@ -1,0 +1,244 @@
+// The parts of a turn: each makes one call on the pairs, tells the filter what came of it, and closes what that closed.
+ghost use Rattle.std.specs.Prelude.{◌≡◌, ◌≤◌, OnOk, Some, length, true};
+ghost use Rattle.filter_model.specs.Filters.{Fits, step};
+ghost use Rattle.filter_model.specs.declared.thing.Thing.TheVariants.{Accept, Read, Write};
+ghost use Rattle.filter_model.specs.Answered.{Free, after_event, at, due_of};
+ghost use Rattle.filter_model.specs.LegalPairs.{read_room};
+ghost use Rattle.filter_model.specs.Lines.{first_servable, is_idle};
+ghost use Rattle.filter_core.specs.Happenings.{happening};
+ghost use Rattle.filter_top.specs.Moves.{Goes, Turns, served_by};
+ghost use Rattle.filter_top.specs.declared.turn.Turn.TheVariants as turns;
+ghost use Rattle.world_ports.specs.Causes.{Rose};
+
+use crate::line::Line;
+use filter_core::{Filter, FilterEvent};
+use filter_model::Thing;
+use pair_ports::{PairReady, Pairs, Side};
+use std::alloc::AllocError;
+use world_ports::{Accepted, Got, Polled, WorldFault, Wrote};
+
+/// How a turn ended.
+#[derive(Clone, Copy, Debug, PartialEq, Eq)]
+pub enum Turn {
+    /// Something was served, or a poll told what is ready.
+    Served,
+    /// Nothing will become ready any more.
+    Over,
+    /// The outside refused a poll.
+    Refused,
+    /// Memory ran out. Says nothing of the outside.
+    Memory,
+}
+
+// Closes the pairs that the last event closed.
+fn close_all<P: Pairs>(line: &mut Line, filter: &Filter, pairs: &mut P) -> Result<(), AllocError>
+    ensures legal { Goes result (at filter.now line.old (due_of filter.now.closes))
+        (P.journal pairs.old) (P.journal pairs.new) (at filter.now line.new Free) }
+    ensures pairs { P.last_pair pairs.new ≡ P.last_pair pairs.old }
+    ensures later { P.faults pairs.old ≤ P.faults pairs.new }
+{
+    'closing: for pair in filter.closes() {
+        let Ok(()) = pairs.close(*pair) else {
+            return Err(AllocError);
+        };
+        line.close(*pair);
+    }
+    Ok(())
+}
+
+// Tells the filter of an event, and closes the pairs that this closes.
+fn happen<P: Pairs>(
+    line: &mut Line,
+    filter: &mut Filter,
+    pairs: &mut P,
+    event: &FilterEvent<'_>,
+) -> Result<(), AllocError>
+    requires fits { Fits (happening event.now) filter.old }
+    requires pairs { P.last_pair pairs.old ≡ (step filter.old (happening event.now)).last_pair }
+    ensures legal { Goes result (after_event (happening event.now) filter.old line.old)
+        (P.journal pairs.old) (P.journal pairs.new) (at filter.new line.new Free) }
+    ensures pairs { OnOk result (P.last_pair pairs.new ≡ filter.new.last_pair) }
+    ensures later { P.faults pairs.old ≤ P.faults pairs.new }
+{
+    let Ok(()) = filter.step(event) else {
+        return Err(AllocError);
+    };
+    close_all(line, filter, pairs)
+}
+
+// Accepts a client, whose pair is ready on both sides.
+fn accept<P: Pairs>(line: &mut Line, filter: &mut Filter, pairs: &mut P) -> Result<(), AllocError>
+    requires next { first_servable filter.old line.old ≡ Some Accept }
+    requires pairs { P.last_pair pairs.old ≡ filter.old.last_pair }
+    ensures legal { Goes result (at filter.old line.old Free)
+        (P.journal pairs.old) (P.journal pairs.new) (at filter.new line.new Free) }
+    ensures pairs { OnOk result (P.last_pair pairs.new ≡ filter.new.last_pair) }
+    ensures later { P.faults pairs.old ≤ P.faults pairs.new }
+{
+    match pairs.accept() {
+        Ok(Accepted::Port(number)) => {
+            let Ok(()) = line.accept(number) else {
+                return Err(AllocError);
+            };
+            happen(line, filter, pairs, &FilterEvent::Joined)
+        }
+        Ok(Accepted::NotNow) => {
+            line.remove(Thing::Accept);
+            Ok(())
+        }
+        Err(WorldFault::Failed) => {
+            line.remove(Thing::Accept);
+            Ok(())
+        }
+        Err(WorldFault::Memory) => Err(AllocError),
+    }
+}
+
+// Reads from a side into this room, of which nothing that was read is left.
+fn read<P: Pairs>(
+    line: &mut Line,
+    filter: &mut Filter,
+    pairs: &mut P,
+    pair: u64,
+    side: Side,
+    room: &mut [u8],
+) -> Result<(), AllocError>
+    requires next { first_servable filter.old line.old ≡ Some (Read pair side) }
+    requires pairs { P.last_pair pairs.old ≡ filter.old.last_pair }
+    requires room { length room.old ≡ read_room }
+    ensures legal { Goes result (at filter.old line.old Free)
+        (P.journal pairs.old) (P.journal pairs.new) (at filter.new line.new Free) }
+    ensures pairs { OnOk result (P.last_pair pairs.new ≡ filter.new.last_pair) }
+    ensures room { length room.new ≡ length room.old }
+    ensures later { P.faults pairs.old ≤ P.faults pairs.new }
+{
+    match pairs.read(pair, side, room) {
+        Ok(Got::Bytes(n)) => {
+            let Ok(()) = line.send_back(Thing::Read(pair, side)) else {
+                return Err(AllocError);
+            };
+            let piece = &room[..n as usize];
+            let heard = happen(
+                line,
+                filter,
+                pairs,
+                &FilterEvent::Heard { pair, side, piece },
+            );
+            room[..n as usize].fill(0);
+            heard
+        }
+        Ok(Got::End) => {
+            line.remove(Thing::Read(pair, side));
+            happen(line, filter, pairs, &FilterEvent::Ended { pair })
+        }
+        Ok(Got::NotNow) => {
+            line.remove(Thing::Read(pair, side));
+            Ok(())
+        }
+        Err(WorldFault::Failed) => {
+            line.remove(Thing::Read(pair, side));
+            happen(line, filter, pairs, &FilterEvent::Ended { pair })
+        }
+        Err(WorldFault::Memory) => Err(AllocError),
+    }
+}
+
+// Writes to a side what it is owed.
+fn write<P: Pairs>(
+    line: &mut Line,
+    filter: &mut Filter,
+    pairs: &mut P,
+    pair: u64,
+    side: Side,
+) -> Result<(), AllocError>
+    requires next { first_servable filter.old line.old ≡ Some (Write pair side) }
+    requires pairs { P.last_pair pairs.old ≡ filter.old.last_pair }
+    ensures legal { Goes result (at filter.old line.old Free)
+        (P.journal pairs.old) (P.journal pairs.new) (at filter.new line.new Free) }
+    ensures pairs { OnOk result (P.last_pair pairs.new ≡ filter.new.last_pair) }
+    ensures later { P.faults pairs.old ≤ P.faults pairs.new }
+{
+    match pairs.write(pair, side, filter.owed(pair, side)) {
+        Ok(Wrote::Took(n)) => {
+            let Ok(()) = line.send_back(Thing::Write(pair, side)) else {
+                return Err(AllocError);
+            };
+            let count = n as usize;
+            happen(
+                line,
+                filter,
+                pairs,
+                &FilterEvent::Took { pair, side, count },
+            )
+        }
+        Ok(Wrote::NotNow) => {
+            line.remove(Thing::Write(pair, side));
+            Ok(())
+        }
+        Err(WorldFault::Failed) => {
+            line.remove(Thing::Write(pair, side));
+            happen(line, filter, pairs, &FilterEvent::Ended { pair })
+        }
+        Err(WorldFault::Memory) => Err(AllocError),
+    }
+}
+
+// Waits until something is ready.
+fn poll<P: Pairs>(
+    line: &mut Line,
+    filter: &Filter,
+    pairs: &mut P,
+    ready: &mut Vec<PairReady>,
+) -> Turn
+    requires idle { is_idle filter.now line.old ≡ true }
+    ensures legal { Turns result (at filter.now line.old Free)
+        (P.journal pairs.old) (P.journal pairs.new) (at filter.now line.new Free) }
+    ensures pairs { P.last_pair pairs.new ≡ P.last_pair pairs.old }
+    ensures cause { result ≡ turns.Refused → Rose (P.faults pairs.old) (P.faults pairs.new) }
+    ensures later { P.faults pairs.old ≤ P.faults pairs.new }
+{
+    match pairs.poll(ready) {
+        Ok(Polled::Some) => match line.add_all(filter, ready) {
+            Ok(()) => Turn::Served,
+            Err(_) => Turn::Memory,
+        },
+        Ok(Polled::Over) => Turn::Over,
+        Err(WorldFault::Failed) => Turn::Refused,
+        Err(WorldFault::Memory) => Turn::Memory,
+    }
+}
+
+// The turn served something, where memory sufficed.
+fn served(outcome: Result<(), AllocError>) -> Turn
+    ensures { result ≡ served_by outcome }
+{
+    match outcome {
+        Ok(()) => Turn::Served,
+        Err(_) => Turn::Memory,
+    }
+}
+
+/// Serves the first thing that can be served, or polls where there is none.
+pub fn serve_next<P: Pairs>(
+    line: &mut Line,
+    filter: &mut Filter,
+    pairs: &mut P,
+    room: &mut [u8],
+    ready: &mut Vec<PairReady>,
+) -> Turn
+    requires pairs { P.last_pair pairs.old ≡ filter.old.last_pair }
+    requires room { length room.old ≡ read_room }
+    ensures legal { Turns result (at filter.old line.old Free)
+        (P.journal pairs.old) (P.journal pairs.new) (at filter.new line.new Free) }
+    ensures pairs { result ≡ turns.Served → P.last_pair pairs.new ≡ filter.new.last_pair }
+    ensures cause { result ≡ turns.Refused → Rose (P.faults pairs.old) (P.faults pairs.new) }
+    ensures room { length room.new ≡ length room.old }
+    ensures later { P.faults pairs.old ≤ P.faults pairs.new }
+{
+    match line.first(filter) {
+        Some(Thing::Accept) => served(accept(line, filter, pairs)),
+        Some(Thing::Read(pair, side)) => served(read(line, filter, pairs, pair, side, room)),
+        Some(Thing::Write(pair, side)) => served(write(line, filter, pairs, pair, side)),
+        None => poll(line, filter, pairs, ready),
+    }
+}

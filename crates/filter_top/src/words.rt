@@ -1,0 +1,28 @@
+// The words of the command line.
+ghost use Rattle.std.specs.Prelude.{◌≡◌, option_map};
+ghost use Rattle.filter_top.specs.Program.{asked_in, asked_of, texts_of};
+
+/// What the words say.
+#[derive(Clone, Copy)]
+pub struct Words<'a> {
+    /// The file of the public keys.
+    pub list: &'a str,
+    /// The path of the agent behind the filter.
+    pub upstream: &'a str,
+    /// Where the filter is to listen.
+    pub path: &'a str,
+}
+
+// Reads `LIST UPSTREAM PATH`.
+pub fn read_words(words: &[String]) -> Option<Words<'_>>
+    ensures { option_map asked_of result ≡ asked_in (texts_of words.now) }
+{
+    match words {
+        [list, upstream, path] => Some(Words {
+            list: list.as_str(),
+            upstream: upstream.as_str(),
+            path: path.as_str(),
+        }),
+        _ => None,
+    }
+}
