@@ -1011,7 +1011,7 @@ def what_a_user_installed_is_closed_to_that_user_s_programs(folder):
     make = ["make", "--no-print-directory", "-o", "bin/agent_prog", "install", f"PREFIX={home}/.local"]
     for _ in range(2):
         run([*other, *make], cwd=source, env=environment)
-    program = home / ".local/bin/agent_prog"
+    program = home / ".local/libexec/mortarleek/agent_prog"
     for file in (program, home / ".local/libexec/mortarleek/confirm_relay"):
         assert file.stat().st_mode & 0o7777 == 0o111, file
     words = [program, "serve", "-a", home / "s", "--helper", "/bin/false"]

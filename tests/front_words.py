@@ -239,8 +239,11 @@ def a_helper_that_hangs_is_refused_within_two_seconds(folder):
     helper.unlink()
     rig.script(helper, "trap '' TERM; exec sleep 100")
     begin = time.monotonic()
-    said = run([installed.agent], 1, env=installed.environment, timeout=30)
-    assert time.monotonic() - begin < 12 and said.count("\n") == 1 and "two seconds" in said, said
+    said = run([installed.agent], 1, env=installed.environment, timeout=60)
+    # a busy machine is given ten
+    limit = re.fullmatch(r".* didn't end within (2|10) seconds, .*\n", said)
+    assert limit and (limit[1] == "2" or os.getloadavg()[0] > 1), (said, os.getloadavg())
+    assert time.monotonic() - begin < int(limit[1]) + 10
     assert installed.folders() == []
 
 
