@@ -1065,7 +1065,7 @@ def the_package_has_no_faults(folder):
         shutil.copy(rig.BUILT / name if (rig.BUILT / name).exists() else folder / "none", folder / "bin" / name)
     run(["make", "--no-print-directory", "-o", "bin/agent_prog", "deb"], cwd=folder, timeout=900)
     (package,) = (folder / "bin").glob("*.deb")
-    said = run(["lintian", "--allow-root", "--fail-on", "error,warning", package])
+    said = run(["lintian", "--allow-root", "--fail-on", "error,warning", package], timeout=900)
     assert "E:" not in said and "W:" not in said, said
     listed = run(["dpkg", "-c", package])
     for name in ("agent_prog", "mortarleek-helper"):
