@@ -44,8 +44,7 @@ fn one_key(alloc: Global) -> Option<Table> {
 }
 
 // An ask of the client of port 7 for a signature of two bytes with that key.
-fn ask(under_way: &mut UnderWay, table: &Table) -> Option<u64>
-{
+fn ask(under_way: &mut UnderWay, table: &Table) -> Option<u64> {
     let key = table.find(BLOB)?;
     if key.private().len() > 1000 || key.blob().len() > 1000 {
         return None;
@@ -78,8 +77,7 @@ fn the_first_ask_starts_a_helper(rt: HostRuntime) -> Result<(), Fail> {
 }
 
 // An ask of the client of port 7 for the verification of a signature of two bytes by that key, which is a host's here.
-fn verify(under_way: &mut UnderWay) -> Option<u64>
-{
+fn verify(under_way: &mut UnderWay) -> Option<u64> {
     match under_way.put_verify(7, BLOB, &[1, 2, 3], &[4, 5], true, true) {
         Ok(ask) => ask,
         Err(JobMemory) => None,

@@ -70,7 +70,14 @@ fn a_hello_is_said_for_a_child_that_ended(rt: HostRuntime) -> Result<(), Fail> {
     let mut room = [9; 40];
     reads(&rt, &mut world, 1, &mut room, Got::Bytes(33), "its hello");
     check(&rt, &room, &ticket);
-    reads(&rt, &mut world, 1, &mut room, Got::NotNow, "not its end yet");
+    reads(
+        &rt,
+        &mut world,
+        1,
+        &mut room,
+        Got::NotNow,
+        "not its end yet",
+    );
     writes(&rt, &mut world, 1, b"key", Wrote::NotNow, "nobody is there");
     polls(&rt, &mut world, None, &mut ready, Polled::Some, "no wait");
     holds(&rt, is_ready(&ready, Spot::Port(1)), "its end");
@@ -78,7 +85,14 @@ fn a_hello_is_said_for_a_child_that_ended(rt: HostRuntime) -> Result<(), Fail> {
     holds(&rt, world.close(1).is_ok(), "a close");
     let refused = is_failed(world.read(1, &mut room));
     holds(&rt, refused, "a read behind the close");
-    polls(&rt, &mut world, Some(0), &mut ready, Polled::Some, "no more");
+    polls(
+        &rt,
+        &mut world,
+        Some(0),
+        &mut ready,
+        Polled::Some,
+        "no more",
+    );
     holds(&rt, ready.is_empty(), "nothing is said twice");
     world.remove_files();
     Ok(())
