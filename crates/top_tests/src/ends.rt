@@ -2,7 +2,7 @@
 ghost use Rattle.std.specs.Prelude.{◌<◌, None, length};
 ghost use Rattle.world_ports.specs.Streams.{reading_view};
 
-use crate::play::{ROOM, run};
+use crate::play::{ROOM, agent_over};
 use agent_top::Status;
 use schedule_text::LineFault;
 use std::alloc::Global;
@@ -59,7 +59,7 @@ fn leaves<R: Abort + Wait>(
         reads_after: 0,
     };
     let mut sink = VecSink::new(alloc, ROOM, Vec::new(alloc)).expect(rt, "a sink");
-    let ended = run(rt, alloc, "replay", &mut source, &mut sink);
+    let ended = agent_over(rt, alloc, "replay", &mut source, &mut sink);
     assert_eq!(rt; ended, status, "of {schedule:?}");
     assert_eq!(rt; sink.written(), written, "of {schedule:?}");
     assert_eq!(rt; source.bytes, left, "of {schedule:?}");

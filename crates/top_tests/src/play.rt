@@ -31,7 +31,7 @@ pub fn calls(rt: &impl Abort, alloc: Global, number: u64) -> Vec<u64> {
 }
 
 /// The program over a world that nobody is at.
-pub fn run<R: Abort + Wait, I: Source, O: Sink>(
+pub fn agent_over<R: Abort + Wait, I: Source, O: Sink>(
     rt: &R,
     alloc: Global,
     line: &str,
@@ -82,7 +82,7 @@ pub fn plays<R: Abort + Wait>(
     let mut source = SliceSource::new(run_of.schedule, run_of.cut, failing);
     let failing = calls(rt, alloc, run_of.failing_write);
     let mut sink = VecSink::with_cut(alloc, ROOM, run_of.sink_cut, failing).expect(rt, "a sink");
-    let ended = run(rt, alloc, run_of.line, &mut source, &mut sink);
+    let ended = agent_over(rt, alloc, run_of.line, &mut source, &mut sink);
     assert_eq!(rt; ended, status, "{label}");
     assert_eq!(rt; sink.written(), written, "{label}");
 }

@@ -43,14 +43,8 @@ fn a_client_is_reported_and_heard_to_its_end(rt: HostRuntime) -> Result<(), Fail
         Got::NotNow,
         "no second read before a wait",
     );
-    polls(
-        &rt,
-        &mut world,
-        None,
-        &mut ready,
-        Polled::Some,
-        "its end came",
-    );
+    let answer = world.poll(None, &mut ready);
+    polled(&rt, answer, Polled::Some, "its end came");
     reads(&rt, &mut world, 1, &mut room, Got::End, "its end");
     world.remove_files();
     Ok(())

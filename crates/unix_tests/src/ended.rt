@@ -1,5 +1,5 @@
 //! A child process that ends before it said who it is: the world says it in its place.
-use crate::calls::{accepts, holds, polls, reads, writes};
+use crate::calls::{accepted, holds, polled, reads, writes};
 use std::alloc::Global;
 use std::process::Abort;
 use std::test::*;
@@ -52,21 +52,14 @@ fn a_hello_is_said_for_a_child_that_ended(rt: HostRuntime) -> Result<(), Fail> {
     };
     let ticket = world.start(job).expect(&rt, "a helper");
     let mut ready = Vec::new(alloc);
-    polls(&rt, &mut world, None, &mut ready, Polled::Some, "it ended");
+    let answer = world.poll(None, &mut ready);
+    polled(&rt, answer, Polled::Some, "it ended");
     let at_door = is_ready(&ready, Spot::Door(Door::Children));
     holds(&rt, at_door, "its connection");
-    accepts(
-        &rt,
-        world.accept(Door::Children),
-        Accepted::Port(1),
-        "its connection",
-    );
-    accepts(
-        &rt,
-        world.accept(Door::Children),
-        Accepted::NotNow,
-        "there is one alone",
-    );
+    let answer = world.accept(Door::Children);
+    assert!(rt; matches!(answer, Ok(Accepted::Port(1))), "its connection");
+    let answer = world.accept(Door::Children);
+    accepted(&rt, answer, Accepted::NotNow, "there is one alone");
     let mut room = [9; 40];
     reads(&rt, &mut world, 1, &mut room, Got::Bytes(33), "its hello");
     check(&rt, &room, &ticket);
@@ -79,20 +72,15 @@ fn a_hello_is_said_for_a_child_that_ended(rt: HostRuntime) -> Result<(), Fail> {
         "not its end yet",
     );
     writes(&rt, &mut world, 1, b"key", Wrote::NotNow, "nobody is there");
-    polls(&rt, &mut world, None, &mut ready, Polled::Some, "no wait");
+    let answer = world.poll(None, &mut ready);
+    polled(&rt, answer, Polled::Some, "no wait");
     holds(&rt, is_ready(&ready, Spot::Port(1)), "its end");
     reads(&rt, &mut world, 1, &mut room, Got::End, "its end");
     holds(&rt, world.close(1).is_ok(), "a close");
     let refused = is_failed(world.read(1, &mut room));
     holds(&rt, refused, "a read behind the close");
-    polls(
-        &rt,
-        &mut world,
-        Some(0),
-        &mut ready,
-        Polled::Some,
-        "no more",
-    );
+    let answer = world.poll(Some(0), &mut ready);
+    polled(&rt, answer, Polled::Some, "no more");
     holds(&rt, ready.is_empty(), "nothing is said twice");
     world.remove_files();
     Ok(())
