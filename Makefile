@@ -25,6 +25,8 @@ proofs:
 # A program is linked by a run; its words make it end at once. The check before it tells whether all is proved.
 define program
 crates/$(1)/out/$(1): $$(SOURCES)
+	@command -v '$$(RT)' > /dev/null || \
+	    { echo 'make: no $$(RT), the command of the toolchain: README.md says where it comes from' >&2; exit 1; }
 	cd crates/$(1) && rm -f out/$(1) && $$(RT) check > /dev/null && { $$(RT) run -- 0 < /dev/null > /dev/null 2>&1 || true; }
 	test -x $$@ && touch $$@
 
@@ -55,13 +57,17 @@ LIBEXEC := $(DESTDIR)$(PREFIX)/libexec/mortarleek
 SHARE := $(DESTDIR)$(PREFIX)/share
 UNITS := $(DESTDIR)$(PREFIX)/lib/systemd/user
 COMPLETIONS := $(SHARE)/bash-completion/completions $(SHARE)/zsh/site-functions $(SHARE)/fish/vendor_completions.d
-HELPERS := mortarleek-helper standin_helper confirm_relay add_tool
+HELPERS := mortarleek-helper standin_helper confirm_relay add_tool filter_proxy
 SCRIPTS := $(notdir $(wildcard scripts/mortarleek scripts/mortarleek-*))
+# What these start and source beside the programs.
+PARTS := agent_guard front_end.sh
 
 install: $(INSTALLED:%=bin/%)
 	install -d $(BIN) $(LIBEXEC) $(SHARE)/man/man1 $(SHARE)/man/man8 $(COMPLETIONS) $(UNITS)
 	$(if $(INSTALLED),install -m $(MODE) $(INSTALLED:%=bin/%) $(LIBEXEC))
 	install -m 755 $(SCRIPTS:%=scripts/%) $(BIN)
+	install -m 755 scripts/agent_guard $(LIBEXEC)
+	install -m 644 scripts/front_end.sh $(LIBEXEC)
 	for name in $(HELPERS); do \
 	    if [ -x bin/$$name ]; then install -m $(MODE) bin/$$name $(LIBEXEC) || exit 1; fi; \
 	done
@@ -76,7 +82,7 @@ install: $(INSTALLED:%=bin/%)
 	chmod 644 $(UNITS)/mortarleek-agent.service
 
 uninstall:
-	rm -f $(SCRIPTS:%=$(BIN)/%) $(INSTALLED:%=$(LIBEXEC)/%) $(HELPERS:%=$(LIBEXEC)/%)
+	rm -f $(SCRIPTS:%=$(BIN)/%) $(INSTALLED:%=$(LIBEXEC)/%) $(HELPERS:%=$(LIBEXEC)/%) $(PARTS:%=$(LIBEXEC)/%)
 	rm -f $(patsubst man/%,$(SHARE)/man/man1/%,$(wildcard man/*.1))
 	rm -f $(patsubst man/%,$(SHARE)/man/man8/%,$(wildcard man/*.8))
 	rm -f $(SCRIPTS:%=$(SHARE)/bash-completion/completions/%)

@@ -5,7 +5,7 @@
 set -eu
 cd "$(dirname "$0")/.."
 agent=$PWD/bin/agent_prog
-shapes=${*:-cut long many keys aged signs}
+shapes=${*:-cut long many keys aged ends signs}
 [ -x "$agent" ] || { echo "bench: run make first" >&2; exit 1; }
 work=$(mktemp -d)
 trap 'rm -rf "$work"' EXIT
@@ -93,6 +93,16 @@ with open(f"{folder}/keys", "w") as out:
 # the same with a moment before each draw, and lifetimes of up to 50,000 seconds
 with open(f"{folder}/aged", "w") as out:
     keys(out, True)
+
+# 1,000 keys with 1,000 different lifetimes: at each second one of them ends, and is added for 1,000 seconds
+with open(f"{folder}/ends", "w") as out:
+    for _ in range(100):
+        out.write("join client\n")
+    for key in range(1_000):
+        hear(out, constrained, addition(key, 0), struct.pack(">BI", 1, key + 1))
+    for moment in range(1, 20_001):
+        out.write(f"at {moment} 0\n")
+        hear(out, constrained, addition((moment - 1) % 1_000, moment), struct.pack(">BI", 1, 1_000))
 
 # 16 clients that sign without pause over one helper, which answers once each of them has asked
 with open(f"{folder}/signs", "w") as out:

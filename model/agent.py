@@ -211,6 +211,7 @@ class Agent:
         self, number: int, client: Port, blob: bytes, private: bytes, comment: bytes, rest: bytes
     ) -> bytes:
         terms = within("constraints", formats.constraints, rest)
+        demand("uses" not in terms, "constraints: uses")
         held = self.identities.get(blob)
         demand(held is None or self.may_see(client, held), "add: not visible")
         comments = {each: identity.comment for each, identity in self.identities.items()}

@@ -16,6 +16,7 @@ CURVES = {b"ecdsa-sha2-" + name: name for name in (b"nistp256", b"nistp384", b"n
 CERTIFIED = b"-cert-v01@openssh.com"
 BIND = b"session-bind@openssh.com"
 RESTRICT = b"restrict-destination-v00@openssh.com"
+USES = b"uses-v00@example.com"
 
 # A field has so many bytes, is these bytes, or (None) is any string.
 Forms = dict[bytes, list[int | bytes | None]]
@@ -172,17 +173,23 @@ def destination(text: bytes) -> tuple[Hop, Hop]:
 
 
 def constraints(text: bytes) -> dict[str, Any]:
-    """The lifetime, the wish for confirmation and the rules, as far as they are there."""
+    """The lifetime, the wish for confirmation, the uses and the rules, as far as they are there."""
     reader, terms = Reader(text), {}
     while reader.left:
         kind = reader.byte()
-        demand(kind in (1, 2) or kind == 255 and reader.string() == RESTRICT, "Unknown")
-        name = {1: "life", 2: "confirm", 255: "rules"}[kind]
+        if kind == 255:
+            name = {RESTRICT: "rules", USES: "uses"}.get(reader.string())
+        else:
+            name = {1: "life", 2: "confirm"}.get(kind)
+        demand(name is not None, "Unknown")
         demand(name not in terms, "Twice")
-        if kind == 1:
+        if name == "life":
             terms[name] = reader.uint32()
-        elif kind == 2:
+        elif name == "confirm":
             terms[name] = True
+        elif name == "uses":
+            terms[name] = reader.uint32()
+            demand(terms[name] != 0, "NoUses")
         else:
             terms[name] = [destination(each) for each in strings(reader.string())]
             demand(terms[name] != [], "NoRules")

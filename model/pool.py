@@ -6,7 +6,7 @@ from dataclasses import dataclass
 from random import Random
 
 from .formats import BEHIND_CERTIFICATE, BIND, CERTIFIED, CURVES, ED25519, PRIVATE, PUBLIC
-from .formats import RESTRICT, RSA, STAND_IN
+from .formats import RESTRICT, RSA, STAND_IN, USES
 from .wire import string, uint32, uint64
 
 
@@ -184,6 +184,11 @@ def terms(random: Random) -> bytes:
         parts.append(random.choice([b"\x03", b"\x01\x00", b"\x02", b"\x00", b"\x01" + uint32(7)]))
     if random.random() < 0.15:
         parts.append(faulty_restrict(random))
+    if random.random() < 0.15:
+        parts.append(b"\xff" + string(USES) + uint32(random.choice([1, 1, 2, 3, 2**32 - 1])))
+    if random.random() < 0.1:
+        faulty = [uint32(0), uint32(1) + b"\xff" + string(USES), uint32(0)[:3], b""]
+        parts.append(b"\xff" + string(USES) + random.choice(faulty))
     random.shuffle(parts)
     return b"".join(parts)
 

@@ -75,6 +75,7 @@ S1, S2 = b"\xc1" * 32, b"\xc2" * 32
 ONE = (K1, b"one")
 ADD1, ADD1B = b"\x11" + added(0x11, b"one"), b"\x11" + added(0x11, b"uno")
 TERMS1 = b"\x19" + added(0x11, b"one")
+USES = b"\xff" + st(b"uses-v00@example.com")
 
 
 ED25519_CERT = st(b"ssh-ed25519-cert-v01@openssh.com")
@@ -222,6 +223,18 @@ row(
     + hear(1, TERMS1 + b"\x03", TERMS1 + b"\x00", TERMS1 + b"\x01\x00", TERMS1 + b"\xff")
     + hear(1, LIST, TERMS1 + b"\x02\x01" + u32(9), LIST),
     [*[to(1, NO)] * 6, to(1, NOTHING), to(1, OK), to(1, listing(ONE))],
+)
+row(
+    "a number of uses of 0, twice, cut off, and one that is read: none is held",
+    ["join client", *hear(1, TERMS1 + USES + u32(0), TERMS1 + USES + u32(1) + USES + u32(1))]
+    + hear(1, TERMS1 + USES + b"\x00\x00\x01", TERMS1 + USES + u32(1), LIST),
+    [*[to(1, NO)] * 4, to(1, NOTHING)],
+)
+row(
+    "a number of uses while the agent is locked, and of a key that is held",
+    ["join client", *hear(1, ADD1, lock(b"pw"), TERMS1 + USES + u32(1), unlock(b"pw"))]
+    + hear(1, TERMS1 + USES + u32(1), LIST),
+    [to(1, OK), to(1, OK), to(1, NO), to(1, OK), to(1, NO), to(1, listing(ONE))],
 )
 row(
     "a lifetime of 0",

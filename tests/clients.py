@@ -18,7 +18,6 @@ import tempfile
 import time
 
 sys.dont_write_bytecode = True
-TOP = pathlib.Path(__file__).resolve().parents[1]
 
 import rig
 from hosts import SSHD, USER, Hosts, certify, keygen
@@ -56,6 +55,15 @@ def log_in(folder, keys, names=("one",), words=("one", "echo in"), added=(), **m
 
 
 # ssh.
+@contextlib.contextmanager
+def a_host_to_log_in(folder):
+    """A key, and a host at which it may log in."""
+    key = keygen(folder / "key")
+    with Hosts(folder, "one") as hosts:
+        hosts.allow(key)
+        yield key, hosts
+
+
 check.part = "ssh"
 
 
@@ -98,9 +106,7 @@ def logins_by_every_algorithm_of_rsa(folder):
 
 @check
 def sixteen_logins_at_once(folder):
-    key = keygen(folder / "key")
-    with Hosts(folder, "one") as hosts:
-        hosts.allow(key)
+    with a_host_to_log_in(folder) as (key, hosts):
 
         def case(agent):
             agent.run("ssh-add", "-q", key)
@@ -121,9 +127,7 @@ def sixteen_logins_at_once(folder):
 
 @check
 def a_locked_agent_logs_nobody_in(folder):
-    key = keygen(folder / "key")
-    with Hosts(folder, "one") as hosts:
-        hosts.allow(key)
+    with a_host_to_log_in(folder) as (key, hosts):
 
         def lock(agent, word, typed):
             done = subprocess.run(
@@ -153,9 +157,7 @@ def a_locked_agent_logs_nobody_in(folder):
 
 @check
 def a_key_that_ran_out_logs_nobody_in(folder):
-    key = keygen(folder / "key")
-    with Hosts(folder, "one") as hosts:
-        hosts.allow(key)
+    with a_host_to_log_in(folder) as (key, hosts):
 
         def case(agent):
             agent.run("ssh-add", "-q", "-t", "8", key)
@@ -237,9 +239,7 @@ def jumps_and_shared_connections(folder):
 
 @check
 def a_client_that_dies_in_the_middle_disturbs_nobody(folder):
-    key = keygen(folder / "key")
-    with Hosts(folder, "one") as hosts:
-        hosts.allow(key)
+    with a_host_to_log_in(folder) as (key, hosts):
 
         def case(agent):
             agent.run("ssh-add", "-q", key)
@@ -333,9 +333,7 @@ check.part = "programs"
 
 @check
 def scp_sftp_and_rsync(folder):
-    key = keygen(folder / "key")
-    with Hosts(folder, "one") as hosts:
-        hosts.allow(key)
+    with a_host_to_log_in(folder) as (key, hosts):
         (folder / "file").write_bytes(bytes(range(256)) * 400)
 
         def case(agent):
@@ -482,6 +480,16 @@ def system_python(module):
     return python
 
 
+def with_each(agent, keys, *command):
+    """What a command says with each of the keys alone in the agent."""
+    answers = []
+    for key in keys:
+        agent.run("ssh-add", "-q", key)
+        answers.append(agent.run(*command))
+        agent.run("ssh-add", "-q", "-D")
+    return answers
+
+
 @check
 def paramiko_logs_in(folder):
     python = system_python("paramiko")
@@ -500,12 +508,7 @@ print([key.get_name() for key in paramiko.Agent().get_keys()])
         hosts.allow(*keys)
 
         def case(agent):
-            answers = []
-            for key in keys:
-                agent.run("ssh-add", "-q", key)
-                answers.append(agent.run(python, "-W", "ignore", script))
-                agent.run("ssh-add", "-q", "-D")
-            return answers
+            return with_each(agent, keys, python, "-W", "ignore", script)
 
         assert all(answer.startswith("in\n") for answer in alike(folder, case))
 
@@ -527,21 +530,14 @@ asyncio.run(main())
         hosts.allow(*keys)
 
         def case(agent):
-            answers = []
-            for key in keys:
-                agent.run("ssh-add", "-q", key)
-                answers.append(agent.run(python, "-W", "ignore", script))
-                agent.run("ssh-add", "-q", "-D")
-            return answers
+            return with_each(agent, keys, python, "-W", "ignore", script)
 
         assert alike(folder, case) == ["in\n"] * len(keys)
 
 
 @check
 def plink_and_dbclient_log_in(folder):
-    key = keygen(folder / "key")
-    with Hosts(folder, "one") as hosts:
-        hosts.allow(key)
+    with a_host_to_log_in(folder) as (key, hosts):
         finger = run(["ssh-keygen", "-lf", folder / "host_one.pub"]).split()[1]
 
         def case(agent):
@@ -730,8 +726,8 @@ def regress():
     bin = folder / "bin"
     bin.mkdir()
     helper = rig.built("mortarleek-helper")
-    front = TOP / "scripts/mortarleek-agent"
-    for name, source in (("agent_prog", PROGRAM), ("mortarleek-helper", helper), ("mortarleek-agent", front)):
+    rig.lay_scripts(bin)
+    for name, source in (("agent_prog", PROGRAM), ("mortarleek-helper", helper)):
         shutil.copy(source, bin / name)
         (bin / name).chmod(0o755)
     # DSA is left out of the kinds of key: it is refused, by choice.
@@ -781,7 +777,7 @@ def openssh_script(folder, name, change=lambda text: text):
         # a script that failed leaves its agents behind
         for guard in pathlib.Path("/proc").glob("[0-9]*/cmdline"):
             with contextlib.suppress(OSError):
-                if f"{bin}/mortarleek-agent\0--guard" in guard.read_text(errors="replace"):
+                if f"\0{bin}/agent_guard\0" in guard.read_text(errors="replace"):
                     os.kill(int(guard.parent.name), signal.SIGTERM)
     return answers
 
@@ -826,8 +822,7 @@ def other_programs_of_the_user_can_t_trace_it(folder):
     place = folder / "place"
     place.mkdir()
     place.chmod(0o777)
-    # A shell between, since setpriv itself could still read every file when it starts a program.
-    user = ["setpriv", "--reuid=65534", "--regid=65534", "--clear-groups", "sh", "-c", 'exec "$@"', "sh"]
+    user = rig.AS_NOBODY
     environment = {"PATH": os.environ["PATH"], "HOME": str(place), "TMPDIR": str(place)}
 
     def tracing(program, words):
@@ -856,27 +851,21 @@ def other_programs_of_the_user_can_t_trace_it(folder):
 
 
 if __name__ == "__main__":
-    try:
-        rig.there(PROGRAM)
-        rig.built("mortarleek-helper")
-        rig.install(
-            "clients",
-            "openssh-client",
-            "openssh-server",
-            "git",
-            "rsync",
-            "python3-paramiko",
-            "python3-asyncssh",
-            "putty-tools",
-            "dropbear-bin",
-            "gcc",
-            "libssh2-1-dev",
-            "golang-go",
-            "golang-golang-x-crypto-dev",
-            "gdb",
-            "util-linux",
-        )
-    except Skip as reason:
-        print(f"clients: not run: {reason}")
-        sys.exit(1)
-    check.run(sys.argv[1:])
+    rig.built("mortarleek-helper")
+    check.main(
+        PROGRAM,
+        "openssh-client",
+        "openssh-server",
+        "git",
+        "rsync",
+        "python3-paramiko",
+        "python3-asyncssh",
+        "putty-tools",
+        "dropbear-bin",
+        "gcc",
+        "libssh2-1-dev",
+        "golang-go",
+        "golang-golang-x-crypto-dev",
+        "gdb",
+        "util-linux",
+    )

@@ -350,19 +350,13 @@ def one_client_above_the_bound_waits_until_another_leaves(folder):
         peers = [agent.peer() for _ in range(CLIENTS)]
         for peer in peers:
             assert peer.ask(LIST)[0] == IDENTITIES
-        with agent.peer() as more:
-            more.send(bytes([LIST]))
-            more.socket.settimeout(1)
-            with contextlib.suppress(TimeoutError):
-                assert False, f"answered {more.socket.recv(64)}"
+
+        def is_idle():
             spent = rig.spent(agent.process.pid)
             time.sleep(1)
             assert rig.spent(agent.process.pid) - spent <= 0.05, "it is busy while nobody leaves"
-            peers.pop().close()
-            more.socket.settimeout(20)
-            assert more.reply()[0] == IDENTITIES
-        for peer in peers:
-            peer.close()
+
+        rig.one_more_waits(agent, peers, is_idle)
 
 
 @check
@@ -546,10 +540,4 @@ def a_replay_takes_no_descriptor(folder):
 
 
 if __name__ == "__main__":
-    try:
-        rig.there(PROGRAM)
-        rig.install("edge", "util-linux")
-    except Skip as reason:
-        print(f"edge: not run: {reason}")
-        sys.exit(1)
-    check.run(sys.argv[1:])
+    check.main(PROGRAM, "util-linux", "strace")

@@ -22,8 +22,7 @@ class Installed:
         bin, libexec = self.prefix / "bin", self.prefix / "libexec/mortarleek"
         bin.mkdir(parents=True)
         libexec.mkdir(parents=True)
-        for script in ("mortarleek", "mortarleek-agent", "mortarleek-add"):
-            shutil.copy(rig.TOP / "scripts" / script, bin)
+        rig.lay_scripts(bin, libexec)
         shutil.copy(PROGRAM, libexec / "agent_prog")
         for name in ("mortarleek-helper", "standin_helper", "confirm_relay"):
             if not helper and name == "mortarleek-helper":

@@ -252,6 +252,39 @@ def our_agent(program, folder, *words, helper=None, name="ours", limits=(), **mo
     return Agent(process, path)
 
 
+# Another user, and the words before a program's that this one is to run. A shell stands between, since setpriv itself
+# could still read every file when it starts a program.
+NOBODY = 65534
+AS_NOBODY = ("setpriv", f"--reuid={NOBODY}", f"--regid={NOBODY}", "--clear-groups", "sh", "-c", 'exec "$@"', "sh")
+
+
+# What the front ends start and source.
+SHELL_PARTS = ("agent_guard", "front_end.sh")
+
+
+def lay_scripts(folder, libexec=None):
+    """Copies the front ends into a folder, and their parts beside them or into a folder of their own."""
+    for script in sorted((TOP / "scripts").glob("mortarleek*")):
+        shutil.copy(script, folder)
+    for script in SHELL_PARTS:
+        shutil.copy(TOP / "scripts" / script, libexec or folder)
+
+
+def one_more_waits(agent, peers, meanwhile=lambda: None):
+    """Beside the most clients that may be open one more is served once one of them has left, and not before. All leave."""
+    with agent.peer() as more:
+        more.send(bytes([LIST]))
+        more.socket.settimeout(1)
+        with contextlib.suppress(TimeoutError):
+            raise AssertionError(f"answered {more.socket.recv(64)}")
+        meanwhile()
+        peers.pop().close()
+        more.socket.settimeout(20)
+        assert more.reply()[0] == IDENTITIES
+    for peer in peers:
+        peer.close()
+
+
 class Child:
     """A program that an agent starts, of which this process is the agent: started with a socket, a job and a ticket."""
 
@@ -300,6 +333,16 @@ class Checks:
     def __call__(self, case):
         self.cases.append((self.part, case))
         return case
+
+    def main(self, program, *packages):
+        """Runs the checks that the process's words name, once a program is there, and Debian's packages."""
+        try:
+            there(program)
+            install(self.name, *packages)
+        except Skip as reason:
+            print(f"{self.name}: not run: {reason}")
+            sys.exit(1)
+        self.run(sys.argv[1:])
 
     def run(self, words):
         """Runs all checks, or those of the parts that the words name, and those that have another word in their names.

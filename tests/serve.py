@@ -20,7 +20,6 @@ import tempfile
 import time
 
 sys.dont_write_bytecode = True
-TOP = pathlib.Path(__file__).resolve().parents[1]
 
 import rig
 from frames import Ended, string
@@ -34,7 +33,6 @@ from rig import (
     SIGNATURE,
     SUCCESS,
     Peer,
-    Skip,
     children,
     connected,
     is_alive,
@@ -350,11 +348,8 @@ def until_idle_it_ends_with_0_and_takes_both_sockets_away(folder):
 def after_SIGTERM_the_front_end_takes_both_sockets_away(folder):
     bin = folder / "bin"
     bin.mkdir()
-    for name, source in (
-        ("agent_prog", PROGRAM),
-        ("mortarleek-helper", "/bin/true"),
-        ("mortarleek-agent", TOP / "scripts/mortarleek-agent"),
-    ):
+    rig.lay_scripts(bin)
+    for name, source in (("agent_prog", PROGRAM), ("mortarleek-helper", "/bin/true")):
         run(["cp", source, bin / name])
     path = folder / "s"
     process = subprocess.Popen([bin / "mortarleek-agent", "-D", "-a", path], stdout=subprocess.PIPE, text=True)
@@ -380,13 +375,7 @@ def a_hundred_and_twenty_eight_clients_at_once(folder):
                 peer.send(bytes([LIST]), b"\xc8")
             for peer in peers:
                 assert blob in peer.reply() and peer.reply() == bytes([FAILURE])
-        # one more waits, and has room once one has left
-        with agent.peer() as more:
-            more.send(bytes([LIST]))
-            peers.pop().close()
-            assert more.reply()[0] == IDENTITIES
-        for peer in peers:
-            peer.close()
+        rig.one_more_waits(agent, peers)
 
 
 @check
@@ -714,6 +703,18 @@ def the_helper_for_tests_signs(folder):
         assert agent.process.wait(10) == 0
 
 
+def asked_for(agent, key, question):
+    """A client that has a signature tried, once the user is asked: that writes the question to a file."""
+    client = subprocess.Popen(
+        ["ssh-add", "-T", f"{key}.pub"],
+        env=agent.environment,
+        stdout=subprocess.DEVNULL,
+        stderr=subprocess.DEVNULL,
+    )
+    until(question.exists, what="the question")
+    return client
+
+
 @check
 def a_confirmation_is_asked_and_holds_up_nobody(folder):
     rig.built("confirm_relay")
@@ -735,13 +736,7 @@ def a_confirmation_is_asked_and_holds_up_nobody(folder):
             ("echo no", 1),
             ("kill -9 $$", 1),
         ):
-            waiting = subprocess.Popen(
-                ["ssh-add", "-T", f"{key}.pub"],
-                env=agent.environment,
-                stdout=subprocess.DEVNULL,
-                stderr=subprocess.DEVNULL,
-            )
-            until(lambda: (folder / "asked").exists(), what="the question")
+            waiting = asked_for(agent, key, folder / "asked")
             for _ in range(20):
                 assert "key" in agent.run("ssh-add", "-l")
             (folder / "next").write_text(answer + "\n")
@@ -753,13 +748,7 @@ def a_confirmation_is_asked_and_holds_up_nobody(folder):
             (folder / "asked").unlink()
             (folder / "go").unlink()
         # a client that leaves while it is asked for
-        waiting = subprocess.Popen(
-            ["ssh-add", "-T", f"{key}.pub"],
-            env=agent.environment,
-            stdout=subprocess.DEVNULL,
-            stderr=subprocess.DEVNULL,
-        )
-        until(lambda: (folder / "asked").exists(), what="the question")
+        waiting = asked_for(agent, key, folder / "asked")
         waiting.kill()
         waiting.wait()
         assert "key" in agent.run("ssh-add", "-l")
@@ -767,10 +756,4 @@ def a_confirmation_is_asked_and_holds_up_nobody(folder):
 
 
 if __name__ == "__main__":
-    try:
-        rig.there(PROGRAM)
-        rig.install("serve", "openssh-client", "util-linux")
-    except Skip as reason:
-        print(f"serve: not run: {reason}")
-        sys.exit(1)
-    check.run(sys.argv[1:])
+    check.main(PROGRAM, "openssh-client", "util-linux")

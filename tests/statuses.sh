@@ -25,6 +25,10 @@ errors=$("$agent" replay 2>&1 < /dev/null >&-); judge 'a closed output' 7 1 $? "
 if [ -w /dev/full ]; then
     errors=$("$agent" replay 2>&1 < /dev/null > /dev/full); judge 'a full output' 7 1 $? "$errors"
 fi
+errors=$("$agent" drill 2 1 2>&1 < /dev/null > /dev/null); judge 'a drill' 0 0 $? "$errors"
+errors=$("$agent" drill 100001 1 2>&1 < /dev/null > /dev/null); judge 'a longer drill' 2 1 $? "$errors"
+errors=$("$agent" drill 2 1 2>&1 >&-); judge 'a drill and a closed output' 7 1 $? "$errors"
+errors=$("$agent" drill 2 1 2>&1 <&- > /dev/null); judge 'a drill and a closed input' 0 0 $? "$errors"
 
 # A schedule of 268435456 bytes is run, and one of a byte more is refused.
 comments() { yes "$(printf '%65535s' '' | tr ' ' '#')" | head -c "$1"; }

@@ -199,6 +199,10 @@ def try_helper(folder):
     run("a signature", helper_words(), sign(1, own, k1, b"Hi There"), 0, greeting + literal)
     run("flags are not read", helper_words(), sign(7, own, k1, b"", 0xffffffff), 0,
         greeting + signed(7, signature(b"\x21" * 32, b"")))
+    other = string(b"ssh-ed25519") + string(b"\x11" * 32)
+    run("a key of another kind", helper_words(), sign(1, other + string(b"\x21" * 64), other, b"x"), 0,
+        greeting + told(1, 102))
+    run("no key, as the last ask", helper_words(), verify(2**64 - 1, b"", b"", b""), 0, greeting + told(2**64 - 1, 104))
     run("bytes behind a private string", helper_words(), sign(1, own + b"\0", k1, b"x"), 0, greeting + told(1, 102))
     made = signature(one[0][1], b"\xc1" * 32)
     run("a host's signature", helper_words(data), verify(2, h1, made, b"\xc1" * 32), 0, greeting + told(2, 103))
@@ -277,7 +281,8 @@ def try_relay(folder):
     def run(what, ask, stream, status, sent, runs, **more):
         if os.path.exists(log):
             os.remove(log)
-        seen = talk(RELAY, helper_words(ask), stream, **more)
+        # An agent that ends its side while the user is asked has left, and the question goes with it.
+        seen = talk(RELAY, helper_words(ask), stream, end="wait" if status == 0 else "shut", **more)
         check(what, seen[:2], (status, sent))
         check(f"{what}: errors", seen[2].count(b"\n"), 0 if status == 0 else 1)
         made = open(log).read() if os.path.exists(log) else ""
@@ -298,7 +303,10 @@ def try_relay(folder):
     run("an empty line is a yes", asks("empty", "echo; echo no"), ok, 0, greeting + granted, ["ok"])
     run("YES with CR is a yes", asks("upper", "printf 'YES\\r\\nno'"), ok, 0, greeting + granted, ["ok"])
     run("no", asks("no", "echo no"), ok, 0, greeting + denied, ["ok"])
+    run("yes without a line feed", asks("unended", "printf yes"), ok, 0, greeting + granted, ["ok"])
     run("yes and more is no yes", asks("more", "echo yes please"), ok, 0, greeting + denied, ["ok"])
+    run("y is no yes", asks("y", "echo y"), ok, 0, greeting + denied, ["ok"])
+    run("a space and yes is no yes", asks("space", "echo ' yes'"), ok, 0, greeting + denied, ["ok"])
     run("yes with status 1 is no yes", asks("one", "echo yes; exit 1"), ok, 0, greeting + denied, ["ok"])
     run("a signal is no yes", asks("signal", "kill -9 $$"), ok, 0, greeting + denied, ["ok"])
     run("a program that isn't there", os.path.join(folder, "nobody"), ok, 0, greeting + denied, [])
@@ -306,7 +314,6 @@ def try_relay(folder):
     run("two lines", yes, confirm(1, key), 0, greeting + granted, [key.decode()])
     run("an empty prompt", yes, confirm(1, b""), 0, greeting + granted, [""])
     run("bytes behind the request", yes, ok + b"\0\0\0\0", 0, greeting + granted, ["ok"])
-    run("a request without an end", yes, ok, 0, greeting + granted, ["ok"], end="wait")
 
     for what, prompt in [("an escape", b"ok\x1b[2J"), ("a tab", b"a\tb"), ("a CR", b"ok\r"), ("a byte 7f", b"\x7f"),
                          ("a byte 80", b"\x80"), ("a zero byte", b"a\0b")]:

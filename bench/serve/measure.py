@@ -34,8 +34,9 @@ def spent(pid):
 
 
 def family(agent):
-    """The agent and the processes that it started."""
-    return [agent.process.pid, *children(agent.process.pid)]
+    """The agent and the processes that it started, and those of the agent behind a filter."""
+    behind = family(agent.behind) if isinstance(agent, Filter) else []
+    return [agent.process.pid, *children(agent.process.pid), *behind]
 
 
 def load(agent, clients, messages, seconds=SECONDS, count=10**12):
@@ -57,6 +58,18 @@ def cost(agent, clients, messages):
     return (sum(map(spent, pids)) - before) / replies / 1000
 
 
+class Filter(Agent):
+    """A filter before an agent."""
+
+    def __init__(self, behind):
+        keys, path = WORK / "filter.keys", WORK / "filter.sock"
+        keys.write_text(behind.run("ssh-add", "-L"))
+        process = subprocess.Popen([rig.BUILT / "filter_proxy", keys, behind.path, path], stdin=subprocess.DEVNULL)
+        super().__init__(process, path)
+        self.behind = behind
+        until(lambda: rig.listens(self.path, True), what="the filter")
+
+
 def null_agent():
     path = WORK / "null.sock"
     process = subprocess.Popen([WORK / "null", path])
@@ -64,12 +77,18 @@ def null_agent():
     return Agent(process, path)
 
 
-def fill(agent, numbers):
-    """Adds keys, one for each number."""
+def limit(seconds):
+    """The constraint that a key lives for so many seconds."""
+    return b"\x01" + seconds.to_bytes(4, "big")
+
+
+def fill(agent, numbers, life=None):
+    """Adds keys, one for each number; where a life is told, each lives for as many seconds more as its number says."""
     with agent.peer(seconds=60) as peer:
         for number in numbers:
             fields, comment, _ = plain_key(number.to_bytes(2, "big") * 16, b"key %d" % number)
-            assert peer.ask(ADD, fields, comment)[0] == SUCCESS
+            words = (ADD, fields, comment) if life is None else (ADD_LIMITED, fields, comment, limit(life + number))
+            assert peer.ask(*words)[0] == SUCCESS
 
 
 def memory(agent):
@@ -91,12 +110,20 @@ def compare(what, agents, clients, messages, unit="us"):
     )
 
 
+def tell_load(when):
+    """A line of what else runs on the machine, by which the numbers are to be read."""
+    minute, five, _ = os.getloadavg()
+    print(f"load at {when}: {minute:.1f}, {five:.1f} before, on {os.cpu_count()} processors", flush=True)
+
+
 # What is aimed at: of the ratio to ssh-agent's, or of our own number.
 GOALS = {
     "a refusal, 1 clients": ("ratio", 0.6),
     "a refusal, 16 clients": ("ratio", 0.6),
     "a refusal, 100 clients": ("ratio", 0.6),
-    "system calls a refusal, 16 clients": ("ours", 3),
+    "system calls a refusal, 1 clients": ("ours", 3),
+    "system calls a refusal, 16 clients": ("ours", 2.2),
+    "system calls a refusal, 100 clients": ("ours", 2.2),
     "instructions a refusal, 1 client": ("ours", 5000),
     "instructions a list of 100 keys": ("ratio", 0.05),
     "a signature of ed25519 256, 1 clients": ("ratio", 0.4),
@@ -111,7 +138,8 @@ def tell(what, found, unit, ratio=None):
     FOUND[what], RATIOS[what] = found, ratio
     others = ", ".join(f"{name} {value:.4g} {unit}".rstrip() for name, value in found.items())
     of, most = GOALS.get(what, (None, 0))
-    is_met = (ratio if of == "ratio" else found["ours"]) <= most
+    # to two decimals, since a few calls are those of the clients' coming
+    is_met = round(ratio if of == "ratio" else found["ours"], 2) <= most
     goal = f"; goal {of} at most {most}: {'met' if is_met else 'not met'}" if of else ""
     print(f"{what}: {others}; ours beside ssh-agent {ratio:.2g}{goal}", flush=True)
 
@@ -127,12 +155,12 @@ def table(path):
     pathlib.Path(path).write_text("\n".join(lines) + "\n")
 
 
-def system_calls(agent, clients):
-    """System calls a request, by tracepoints, which don't slow the agent."""
+def system_calls(agent, clients, message=b"\xc8"):
+    """System calls a request of the agent and of what it started, by tracepoints, which don't slow them."""
     words = [PERF, "stat", "-x,", "-e", "raw_syscalls:sys_enter", "-p", ",".join(map(str, family(agent)))]
     counter = subprocess.Popen(words, stderr=subprocess.PIPE, text=True)
     time.sleep(0.3)
-    replies = load(agent, clients, [b"\xc8"], 1)
+    replies = load(agent, clients, [message], 1)
     counter.send_signal(2)
     said = counter.communicate()[1]
     return int(said.split(",")[0]) / replies
@@ -200,14 +228,14 @@ def counted(text):
     return total, sum(int(count) for number, count in calls if number in asks)
 
 
-def instructions(start, messages, keys=0, few=1000, more=10000):
+def instructions(start, messages, keys=0, few=1000, more=10000, clients=1, life=None):
     """Instructions and allocations a reply, of many replies less those of few, so that the start doesn't count."""
     totals = []
     for count in (few, few + more):
         out = WORK / "callgrind"
         agent = start([VALGRIND, "--tool=callgrind", f"--callgrind-out-file={out}"])
-        fill(agent, range(keys))
-        load(agent, 1, messages, 600, count)
+        fill(agent, range(keys), life)
+        load(agent, clients, messages, 600, count)
         agent.process.terminate()
         agent.process.wait()
         if os.path.exists(agent.path):
@@ -233,8 +261,16 @@ def tell_instructions():
         "ours": lambda before: our_agent(PROGRAM, WORK, name="v", limits=before, stderr=subprocess.DEVNULL),
         "ssh-agent": theirs,
     }
+    fields, comment, blob = plain_key(b"\xff" * 32)
+    gone = bytes([REMOVE]) + string(blob)
+    pair = [bytes([ADD]) + fields + comment, gone]
+    limited = [bytes([ADD_LIMITED]) + fields + comment + limit(36_500), gone]
     for what, messages, more in (
         ("a refusal, 1 client", [b"\xc8"], dict()),
+        ("a refusal, 100 clients", [b"\xc8"], dict(clients=100)),
+        ("an addition or a removal, no keys", pair, dict()),
+        ("an addition or a removal, 1000 keys", pair, dict(keys=1000)),
+        ("an addition or a removal, 1000 keys of 1000 lifetimes", limited, dict(keys=1000, life=36_000)),
         ("a list of 1 key", [bytes([LIST])], dict(keys=1, few=500, more=2000)),
         ("a list of 100 keys", [bytes([LIST])], dict(keys=100, few=50, more=200)),
     ):
@@ -263,6 +299,11 @@ def calls(agents, null):
     for clients in (1, 16, 100):
         found = {name: system_calls(agent, clients) for name, agent in dict(agents, null=null).items()}
         tell(f"system calls a refusal, {clients} clients", found, "calls")
+    if (rig.BUILT / "mortarleek-helper").exists():
+        request = signs(agents, "ed25519", "256")
+        for clients in (1, 16, 100):
+            found = {name: system_calls(agent, clients, request) for name, agent in agents.items()}
+            tell(f"system calls a signature of ed25519 256, {clients} clients, of agent and helper", found, "calls")
 
 
 def keys(agents, null):
@@ -280,8 +321,24 @@ def keys(agents, null):
     compare("an addition or a removal, 1000 keys", agents, 1, pair)
     tell("memory with 1000 keys", {name: memory(agent) for name, agent in agents.items()}, "kB")
     for agent in agents.values():
+        fill(agent, range(1000), 36_000)
+    limited = [bytes([ADD_LIMITED]) + fields + comment + limit(36_500), pair[1]]
+    compare("an addition or a removal, 1000 keys of 1000 lifetimes", agents, 1, limited)
+    compare("a refusal, 1000 keys of 1000 lifetimes", agents, 1, [b"\xc8"])
+    for agent in agents.values():
         with agent.peer() as peer:
             peer.ask(REMOVE_ALL)
+
+
+def signs(agents, kind, bits, flags=0):
+    """A request that each agent answers with a signature, by a fresh key which it holds."""
+    key = openssh.generate(WORK, kind, bits)
+    request = bytes([SIGN]) + string(key.blob) + string(bytes(200)) + flags.to_bytes(4, "big")
+    for agent in agents.values():
+        with agent.peer() as peer:
+            assert peer.ask(ADD, key.private, string(b""))[0] == SUCCESS
+            assert peer.ask(SIGN, request[1:])[0] == SIGNATURE
+    return request
 
 
 def signatures(agents, null):
@@ -290,14 +347,38 @@ def signatures(agents, null):
         print("serve: no signatures: bin/mortarleek-helper isn't built")
         return
     for kind, bits, flags in (("ed25519", "256", 0), ("rsa", "2048", 4), ("ecdsa", "256", 0)):
-        key = openssh.generate(WORK, kind, bits)
-        request = bytes([SIGN]) + string(key.blob) + string(bytes(200)) + flags.to_bytes(4, "big")
-        for agent in agents.values():
-            with agent.peer() as peer:
-                assert peer.ask(ADD, key.private, string(b""))[0] == SUCCESS
-                assert peer.ask(SIGN, request[1:])[0] == SIGNATURE
-        for clients in (1, 16):
+        request = signs(agents, kind, bits, flags)
+        for clients in (1, 16, 100):
             compare(f"a signature of {kind} {bits}, {clients} clients", agents, clients, [request])
+
+
+MOST_THROUGH = 15
+
+
+def through(agents, null):
+    """What a list of 100 keys and a signature take through a filter that lets them all pass, beside the agent alone."""
+    if not (rig.BUILT / "filter_proxy").exists():
+        print("serve: no filter: bin/filter_proxy isn't built")
+        return
+    key = openssh.generate(WORK, "ed25519", "256")
+    request = bytes([SIGN]) + string(key.blob) + string(bytes(200)) + bytes(4)
+    for name, agent in agents.items():
+        fill(agent, range(99))
+        with agent.peer() as peer:
+            assert peer.ask(ADD, key.private, string(b""))[0] == SUCCESS
+        with Filter(agent) as before:
+            for what, message in (("a list of 100 keys", bytes([LIST])), ("a signature", request)):
+                for clients in (1, 16):
+                    pairs = [[cost(each, clients, [message]) for each in (agent, before)] for _ in range(ROUNDS)]
+                    alone, both = map(statistics.median, zip(*pairs))
+                    more = statistics.median(both - alone for alone, both in pairs)
+                    print(
+                        f"{what} through a filter, {clients} clients: {name} alone {alone:.4g} us, both {both:.4g} us, "
+                        f"{more:.3g} us more; goal at most {MOST_THROUGH}: {'met' if more <= MOST_THROUGH else 'not met'}",
+                        flush=True,
+                    )
+        with agent.peer() as peer:
+            peer.ask(REMOVE_ALL)
 
 
 def waits(agents, null):
@@ -317,6 +398,7 @@ PARTS = {
     "keys": keys,
     "waits": waits,
     "signatures": signatures,
+    "filter": through,
     "instructions": instruction_counts,
 }
 
@@ -328,11 +410,13 @@ def main():
     if set(CHOSEN) - set(PARTS):
         sys.exit(f"serve: the parts are {' '.join(PARTS)}")
     for name in CHOSEN or PARTS:
+        tell_load(name)
         silent = dict(stderr=subprocess.DEVNULL)
         with our_agent(PROGRAM, WORK, **silent) as ours, openssh_agent(WORK, **silent) as theirs, null_agent() as null:
             PARTS[name]({"ours": ours, "ssh-agent": theirs}, null)
         for socket in WORK.glob("*.sock*"):
             socket.unlink()
+    tell_load("the end")
     if "PLOTS" in os.environ:
         plots.draw(os.environ["PLOTS"], FOUND)
     if "TABLE" in os.environ:

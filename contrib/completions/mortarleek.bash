@@ -1,69 +1,53 @@
-# Completions of bash for mortarleek, mortarleek-agent and mortarleek-add.
+# Completions of bash for mortarleek, mortarleek-agent, mortarleek-add and mortarleek-filter.
+
+# The words of compgen that say what may stand here.
+_mortarleek_offer() { mapfile -t COMPREPLY < <(compgen "$@"); }
 
 _mortarleek_agent() {
-    local word=$2 before=$3
-    COMPREPLY=()
-    case $before in
-    -a)
-        mapfile -t COMPREPLY < <(compgen -f -- "$word")
-        return
-        ;;
-    -E)
-        mapfile -t COMPREPLY < <(compgen -W 'sha256' -- "$word")
-        return
-        ;;
-    -O)
-        mapfile -t COMPREPLY < <(compgen -W 'allow-remote-pkcs11 no-restrict-websafe' -- "$word")
-        return
-        ;;
-    -t)
-        mapfile -t COMPREPLY < <(compgen -W '30m 1h 8h 1d' -- "$word")
-        return
-        ;;
+    case $3:$2 in
+    -a:*) _mortarleek_offer -f -- "$2" ;;
+    -E:*) _mortarleek_offer -W 'sha256' -- "$2" ;;
+    -O:*) _mortarleek_offer -W 'allow-remote-pkcs11 no-restrict-websafe' -- "$2" ;;
+    -t:*) _mortarleek_offer -W '30m 1h 8h 1d' -- "$2" ;;
+    *:-*) _mortarleek_offer -W '--stand-in -a -c -D -d -E -k -O -P -s -T -t -U -u' -- "$2" ;;
+    *) _mortarleek_offer -c -- "$2" ;;
     esac
-    if [[ $word == -* ]]; then
-        mapfile -t COMPREPLY < <(compgen -W '--stand-in -a -c -D -d -E -k -O -P -s -T -t -U -u' -- "$word")
-    else
-        mapfile -t COMPREPLY < <(compgen -c -- "$word")
-    fi
 }
 
 _mortarleek_add() {
-    local word=$2 before=$3
-    COMPREPLY=()
-    case $before in
-    -E)
-        mapfile -t COMPREPLY < <(compgen -W 'md5 sha256' -- "$word")
-        return
-        ;;
-    -t)
-        mapfile -t COMPREPLY < <(compgen -W '30m 1h 8h 1d' -- "$word")
-        return
-        ;;
-    -h)
-        mapfile -t COMPREPLY < <(compgen -A hostname -- "$word")
-        return
-        ;;
+    case $3:$2 in
+    -E:*) _mortarleek_offer -W 'md5 sha256' -- "$2" ;;
+    -t:*) _mortarleek_offer -W '30m 1h 8h 1d' -- "$2" ;;
+    -h:*) _mortarleek_offer -A hostname -- "$2" ;;
+    *:-*) _mortarleek_offer -W '-c -D -d -E -H -h -k -L -l -N -q -T -t -v -X -x' -- "$2" ;;
+    *) _mortarleek_offer -f -- "$2" ;;
     esac
-    if [[ $word == -* ]]; then
-        mapfile -t COMPREPLY < <(compgen -W '-c -D -d -E -H -h -k -L -l -N -q -T -t -v -X -x' -- "$word")
-    else
-        mapfile -t COMPREPLY < <(compgen -f -- "$word")
-    fi
+}
+
+# Behind its own words stands a command, with the words of that command.
+_mortarleek_filter() {
+    case $3:$2 in
+    -k:*) mapfile -t COMPREPLY < <(compgen -f -X '!*.pub' -- "$2"; compgen -d -- "$2") ;;
+    *:-*) _mortarleek_offer -W '-k' -- "$2" ;;
+    *) mapfile -t COMPREPLY < <(compgen -c -- "$2"; compgen -f -- "$2") ;;
+    esac
 }
 
 _mortarleek() {
     if [ "$COMP_CWORD" = 1 ]; then
-        mapfile -t COMPREPLY < <(compgen -W 'add agent replay serve' -- "$2")
+        _mortarleek_offer -W 'add agent drill filter replay serve' -- "$2"
         return
     fi
     case ${COMP_WORDS[1]} in
     agent) _mortarleek_agent "$@" ;;
     add) _mortarleek_add "$@" ;;
-    *) mapfile -t COMPREPLY < <(compgen -f -- "$2") ;;
+    filter) _mortarleek_filter "$@" ;;
+    drill) _mortarleek_offer -W '1000 100000' -- "$2" ;;
+    *) _mortarleek_offer -f -- "$2" ;;
     esac
 }
 
 complete -o filenames -F _mortarleek mortarleek
 complete -o filenames -F _mortarleek_agent mortarleek-agent
 complete -o filenames -F _mortarleek_add mortarleek-add
+complete -o filenames -F _mortarleek_filter mortarleek-filter

@@ -1,11 +1,13 @@
-# Completions of fish for mortarleek, mortarleek-agent and mortarleek-add.
+# Completions of fish for mortarleek, mortarleek-agent, mortarleek-add and mortarleek-filter.
 
 complete -c mortarleek -f -n __fish_use_subcommand -a add -d 'Add, list and remove keys'
 complete -c mortarleek -f -n __fish_use_subcommand -a agent -d 'Start or end an agent'
+complete -c mortarleek -f -n __fish_use_subcommand -a drill -d 'Try the agent, and time it'
+complete -c mortarleek -f -n __fish_use_subcommand -a filter -d 'Run a command that uses some keys'
 complete -c mortarleek -f -n __fish_use_subcommand -a replay -d 'Run the agent over a schedule'
 complete -c mortarleek -f -n __fish_use_subcommand -a serve -d 'Run the agent itself at a socket'
 
-# `mortarleek agent` and `mortarleek add` take the same words as the programs of these names.
+# `mortarleek agent`, `mortarleek add` and `mortarleek filter` take the same words as the programs of these names.
 function __mortarleek_agent
     complete $argv -l stand-in -d 'Start the helper for tests'
     complete $argv -s a -r -F -d 'Listen at this path'
@@ -42,7 +44,13 @@ function __mortarleek_add
     complete $argv -s x -d 'Lock the agent'
 end
 
+function __mortarleek_filter
+    complete $argv -s k -r -F -d 'A public key that the command may use'
+end
+
 __mortarleek_agent -c mortarleek-agent
 __mortarleek_agent -c mortarleek -n '__fish_seen_subcommand_from agent'
 __mortarleek_add -c mortarleek-add
 __mortarleek_add -c mortarleek -n '__fish_seen_subcommand_from add'
+__mortarleek_filter -c mortarleek-filter
+__mortarleek_filter -c mortarleek -n '__fish_seen_subcommand_from filter'

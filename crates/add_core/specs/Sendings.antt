@@ -11,7 +11,7 @@ use Rattle.key_file.specs.PublicLines.{line_key}
 use Rattle.agent_msg.specs.Requests.{Add as AddRequest}
 use Rattle.agent_msg.specs.Writing.{request_body}
 use Rattle.constraint_rec.specs.declared.terms.Terms.{Terms}
-use Rattle.constraint_rec.specs.Hops.{IsDestination}
+use Rattle.constraint_rec.specs.Writing.{MeetsRules}
 use Rattle.add_core.specs.declared.fault.AddFault.{AddFault}
 use Rattle.add_core.specs.declared.fault.AddFault.TheVariants.{File, FileTooLong, Body, Public}
 use Rattle.add_core.specs.declared.fault.Stop.{Stop}
@@ -67,9 +67,9 @@ abbrev pub sent_for : FileTask → List ℕ → List ℕ → Result (List ℕ ×
 sent_for (Add terms) path text = addition_of terms path (file_of text)
 sent_for Remove path text = removal_of path (line_key text)
 
--- the destination constraints are such as can be written
+-- the constraints are such as can be written
 abbrev pub IsDoable : FileTask → Type 0
-IsDoable (Add terms) = All IsDestination terms.rules
+IsDoable (Add terms) = MeetsRules terms
 IsDoable Remove = Unit {0}
 
 -- ---- one file after another

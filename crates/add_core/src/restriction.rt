@@ -4,7 +4,7 @@ ghost use Rattle.add_core.specs.Exchanges.{Tells};
 ghost use Rattle.add_core.specs.Restrictions.{IsOwnOfTerms, hosts_held, terms_by, terms_for};
 ghost use Rattle.add_core.specs.Steps.{HasFileCause, IsOwn, IsOwnOfFiles};
 ghost use Rattle.add_words.specs.Words.{plain_words};
-ghost use Rattle.constraint_rec.specs.Hops.{IsDestination};
+ghost use Rattle.constraint_rec.specs.Writing.{MeetsRules};
 
 use crate::fault::{AddFault, Stop};
 use crate::files::read_text;
@@ -41,13 +41,14 @@ fn read_hosts<F: Files>(alloc: Global, files: &mut F, paths: &[&str]) -> Result<
 fn terms_by(alloc: Global, words: &AddWords<'_>, hosts: &[Bytes]) -> Result<Terms, Stop>
     ensures told { Tells (λ terms. terms) result
         (terms_by (plain_words words.now) (Ok hosts.now)) }
-    ensures writable { IfOk result (λ terms. All IsDestination terms.rules) }
+    ensures writable { IfOk result (λ terms. MeetsRules terms) }
     ensures own { IsOwn result }
 {
     match destination_rules(alloc, hosts, &words.destinations)? {
         Ok(rules) => Ok(Terms {
             life: words.life,
             confirm: words.confirm,
+            uses: None,
             rules,
         }),
         Err(fault) => Err(Stop::Fault(AddFault::Destination(fault))),
@@ -58,7 +59,7 @@ fn terms_by(alloc: Global, words: &AddWords<'_>, hosts: &[Bytes]) -> Result<Term
 pub fn terms<F: Files>(alloc: Global, files: &mut F, words: &AddWords<'_>) -> Result<Terms, Stop>
     ensures told { (held : List ℕ → Option (List ℕ)) → (F.seen files.old).held ≡ Some held
         → Tells (λ terms. terms) result (terms_for (plain_words words.now) held) }
-    ensures writable { IfOk result (λ terms. All IsDestination terms.rules) }
+    ensures writable { IfOk result (λ terms. MeetsRules terms) }
     ensures kept { (F.seen files.new).held ≡ (F.seen files.old).held }
     ensures cause { HasFileCause result (F.seen files.old) (F.seen files.new) }
     ensures own { IsOwnOfTerms result }

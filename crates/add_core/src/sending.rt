@@ -5,7 +5,7 @@ ghost use Rattle.add_core.specs.Sendings.{added_line, addition_of, body_stop, li
 ghost use Rattle.add_core.specs.Steps.{IsOwn};
 ghost use Rattle.agent_msg.specs.Requests.{Add};
 ghost use Rattle.agent_msg.specs.Writing.{request_body};
-ghost use Rattle.constraint_rec.specs.Hops.{IsDestination};
+ghost use Rattle.constraint_rec.specs.Writing.{MeetsRules};
 ghost use Rattle.key_blob.specs.AddedKeys.{IsAddedKey};
 ghost use Rattle.key_file.specs.BodyReading.{file_of};
 ghost use Rattle.key_file.specs.PublicLines.{line_key};
@@ -119,7 +119,7 @@ fn addition_frame(
     terms: &mut Terms,
 ) -> Result<ScrubBuf, Stop>
     requires key { IsAddedKey key }
-    requires terms { All IsDestination terms.old.rules }
+    requires terms { MeetsRules terms.old }
     ensures told { MatchResult result
         (λ frame. sized (request_body (Add record { key = key; comment = comment.now; terms = terms.old })) []
         ≡ Ok (frame.live, []))
@@ -146,7 +146,7 @@ fn addition_frame(
 
 /// The request to add the private key of this text.
 fn addition(alloc: Global, path: &str, text: &[u8], terms: &mut Terms) -> Result<Sending, Stop>
-    requires { All IsDestination terms.old.rules }
+    requires { MeetsRules terms.old }
     ensures told { Tells sending_of result (addition_of terms.old path.now (file_of text.now)) }
     ensures own { IsOwn result }
     ensures kept { OnOk result (terms.new ≡ terms.old) }

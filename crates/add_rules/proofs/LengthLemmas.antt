@@ -10,9 +10,9 @@ use Rattle.constraint_rec.specs.declared.key_spec.KeySpec.{KeySpec}
 use Rattle.constraint_rec.specs.declared.constraint.Hop.{Hop}
 use Rattle.constraint_rec.specs.declared.constraint.Constraint.{Constraint}
 use Rattle.constraint_rec.specs.declared.terms.Terms.{Terms}
-use Rattle.constraint_rec.specs.Constraints.{item_text, restrict_destination}
+use Rattle.constraint_rec.specs.Constraints.{item_text, restrict_destination, uses_name}
 use Rattle.constraint_rec.specs.Hops.{key_text, hop_text, constraint_text, list_text, IsDestination}
-use Rattle.constraint_rec.specs.Writing.{is_ca_byte, spelt_key, spelt_hop, spelt_constraint, life_items, confirm_items, rule_items, constraints_bytes, IsWritable}
+use Rattle.constraint_rec.specs.Writing.{is_ca_byte, spelt_key, spelt_hop, spelt_constraint, life_items, confirm_items, use_items, rule_items, constraints_bytes, IsWritable, MeetsRules}
 use Rattle.constraint_rec.proofs.WritingLemmas.{constraints_in_parts}
 
 -- one part more
@@ -96,19 +96,43 @@ some_rules (rule ∷ rules) some = length-rules rule rules
 pub length-life : (seconds : ℕ) → length (flat_map item_text (life_items (Some seconds))) ≡ 5
 length-life seconds = omega (arith, length-append (uint32 seconds) [], length-uint32 seconds)
 
+-- the name of the extension that holds a number of uses
+length-uses_name : length uses_name ≡ 20
+unfolding uses_name
+length-uses_name = refl
+
+pub length-uses : (uses : ℕ) → length (flat_map item_text (use_items (Some uses))) ≡ 29
+length-uses uses =
+    omega (
+      arith,
+      length-append (string uses_name ++ uint32 uses) [],
+      length-append (string uses_name) (uint32 uses),
+      length-string uses_name,
+      length-uint32 uses,
+      length-uses_name,
+    )
+
 -- all constraints
 pub length-constraints : (terms : Terms) → length (constraints_bytes terms)
-    ≡ length (flat_map item_text (life_items terms.life)) + length (flat_map item_text (confirm_items terms.confirm)) + length (flat_map item_text (rule_items terms.rules))
+    ≡ length (flat_map item_text (life_items terms.life)) + length (flat_map item_text (confirm_items terms.confirm))
+    + length (flat_map item_text (use_items terms.uses)) + length (flat_map item_text (rule_items terms.rules))
 length-constraints terms =
     let life : List ℕ = flat_map item_text (life_items terms.life) in
     let confirm : List ℕ = flat_map item_text (confirm_items terms.confirm) in
+    let uses : List ℕ = flat_map item_text (use_items terms.uses) in
     let rules : List ℕ = flat_map item_text (rule_items terms.rules) in
-    omega (arith, ap length (constraints_in_parts terms), length-append life (confirm ++ rules), length-append confirm rules)
+    omega (
+      arith,
+      ap length (constraints_in_parts terms),
+      length-append life (confirm ++ (uses ++ rules)),
+      length-append confirm (uses ++ rules),
+      length-append uses rules,
+    )
 
 list_within : (rules : List Constraint) → length (list_text (map spelt_constraint rules)) ≤ length (flat_map item_text (rule_items rules))
 list_within [] = omega arith
 list_within (rule ∷ rules) = omega (arith, length-rules rule rules)
 
 -- constraints that aren't too long can be written
-pub short_writable : (terms : Terms) → All IsDestination terms.rules → length (constraints_bytes terms) < 2 ^ 32 → IsWritable terms
-short_writable terms good short = record { rules = good; short = omega (arith, list_within terms.rules, length-constraints terms) }
+pub short_writable : (terms : Terms) → MeetsRules terms → length (constraints_bytes terms) < 2 ^ 32 → IsWritable terms
+short_writable terms meets short = record { uses = meets.uses; rules = meets.rules; short = omega (arith, list_within terms.rules, length-constraints terms) }

@@ -1,3 +1,4 @@
 pub mod KeyLemmas
 pub mod LengthLemmas
 pub mod RuleLemmas
+pub mod TypedLemmas

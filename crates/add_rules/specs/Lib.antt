@@ -1,3 +1,4 @@
 pub mod Destinations
 pub mod Lengths
 pub mod Rules
+pub mod Typed

@@ -3,7 +3,7 @@ ghost use Rattle.std.specs.Prelude.{◌≡◌, ◌<◌, ◌^◌, All, length, ma
 ghost use Rattle.std.specs.List.{flat_map};
 ghost use Rattle.constraint_rec.specs.Constraints.{item_text};
 ghost use Rattle.constraint_rec.specs.Hops.{IsDestination, constraint_text, hop_text, key_text, list_text};
-ghost use Rattle.constraint_rec.specs.Writing.{IsWritable, confirm_items, constraints_bytes, life_items, rule_items, spelt_constraint, spelt_hop, spelt_key};
+ghost use Rattle.constraint_rec.specs.Writing.{IsWritable, MeetsRules, confirm_items, constraints_bytes, life_items, rule_items, use_items, spelt_constraint, spelt_hop, spelt_key};
 ghost use Rattle.add_rules.specs.Lengths.{counted};
 ghost use Rattle.wire_text.specs.Wire.{string};
 
@@ -77,16 +77,27 @@ fn confirm_len(confirm: bool) -> usize
     if confirm { 1 } else { 0 }
 }
 
+/// The bytes of a number of uses, where it is there.
+fn uses_len(uses: Option<u32>) -> usize
+    ensures { result ≡ length (flat_map item_text (use_items uses)) }
+{
+    match uses {
+        Some(_) => 29,
+        None => 0,
+    }
+}
+
 /// How many bytes the constraints take as `write_constraints` writes them, or the greatest number
 /// where it doesn't fit.
 pub fn constraints_len(terms: &Terms) -> usize
     ensures value { result ≡ counted (length (constraints_bytes terms.now)) }
 
     // Constraints that fit a request can be written.
-    ensures writable { All IsDestination terms.now.rules
+    ensures writable { MeetsRules terms.now
         → length (constraints_bytes terms.now) < 2 ^ 32 → IsWritable terms.now }
 {
     rules_len(terms.rules.as_slice())
         .saturating_add(life_len(terms.life))
         .saturating_add(confirm_len(terms.confirm))
+        .saturating_add(uses_len(terms.uses))
 }

@@ -5,9 +5,11 @@
 
 mod destination;
 mod fault;
+mod laws;
 mod length;
 mod rules;
 
 pub use fault::DestFault;
+pub use laws::constraints_are_those_of_the_words;
 pub use length::constraints_len;
 pub use rules::destination_rules;

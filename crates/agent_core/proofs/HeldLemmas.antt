@@ -3,15 +3,15 @@ use Rattle.std.proofs.Common.{◌≡◌, ℕ, ◌+◌, ◌≤◌, List, [], ◌�
 use Rattle.std.specs.Prelude.{◌↔◌, IsSome, IsTrue, OnOk}
 use Rattle.agent_msg.specs.Requests.{Addition, ClientRequest, IsRequest, session_bind, ListIdentities, Sign, Add, Remove, RemoveAll, Lock, Unlock, Bind, OtherExtension, Unsupported}
 use Rattle.agent_msg.specs.Reading.{request_of}
-use Rattle.agent_model.specs.Binds.{and_host_key}
+use Rattle.agent_model.specs.Binds.{add_with, and_host_key}
 use Rattle.wire_text.specs.Bounds.{longest_body}
 use Rattle.agent_model.proofs.BoundLemmas.{private-within, text-within}
-use Rattle.agent_core.specs.Served.{IsShortRequest, IsStatus, asker_of, hides, served_body, served_by}
+use Rattle.agent_core.specs.Served.{IsShortRequest, IsStatus, asker_of, hides, keys_of, served_body, served_by}
 use Rattle.agent_core.specs.declared.asker.Asker.{Asker as CoreAsker}
 use Rattle.std.proofs.lemmas.List.{length-append}
 use Rattle.wire_text.specs.Wire.{string, uint32}
 use Rattle.wire_text.proofs.WireLemmas.{length-string}
-use Rattle.identity_table.specs.Identities.{HeldKey}
+use Rattle.identity_table.specs.Identities.{HeldKey, TableState}
 use Rattle.std.specs.Str.{bytes_eq}
 use Rattle.lists.proofs.FirstLemmas.{removed_nowhere}
 use Rattle.identity_table.specs.Identities.{AreShort, answer_len, entries_len, find_identity, has_blob, longest_private, remove_identity}
@@ -128,6 +128,11 @@ all_ok (Err e) f p q s = p
 -- what comes of a body is what comes of the request that it reads as
 pub served-body : (asker : CoreAsker) (body : List ℕ) (request : ClientRequest) (held : KeyState) (under_way : UnderWay) → request_of body ≡ Ok request → served_by asker request held under_way ≡ served_body asker body held under_way
 served-body asker body request held under_way is = ap (λ read. serve (and_host_key read) (asker_of asker held) held under_way) (sym is)
+
+-- an addition without a number of uses, where the agent isn't locked
+pub served-add : (asker : CoreAsker) (addition : Addition) (table : TableState) (under_way : UnderWay) → addition.terms.uses ≡ None → served_by asker (Add addition) (keys_of table None) under_way ≡ add_by (find_identity addition.key.blob table.identities) (asker_of asker (keys_of table None)) addition (keys_of table None) under_way
+served-add asker addition table under_way none =
+    ap (λ uses. serve (add_with addition uses) (asker_of asker (keys_of table None)) (keys_of table None) under_way) none
 
 -- what comes in a body that isn't long isn't long
 pub short_request : (body : List ℕ) (request : ClientRequest) → IsRequest body request → length body ≤ longest_body → IsShortRequest request

@@ -1,6 +1,5 @@
 -- Lists of the identities that are seen.
 use Rattle.std.proofs.Common.{◌≡◌, ℕ, ◌+◌, ◌<◌, ◌≤◌, List, [], ◌∷◌, ◌++◌, length, map, drop, get_or, refl, ap, sym, arith, ◌∙◌, filter, cond, Bool, true, false}
-use Rattle.std.proofs.lemmas.List.{drop_more, drop_all}
 use Rattle.identity_table.specs.Identities.{HeldKey, entries_len, entry_len}
 use Rattle.agent_msg.specs.Replies.{entries}
 use Rattle.agent_model.specs.KeyStates.{shown}
@@ -23,17 +22,21 @@ unfolding entries_len
 adds_by true key keys = (omega arith, refl, refl)
 adds_by false key keys = (omega arith, omega arith, refl)
 
--- from place i on they are that of the one there and those behind it
-pub seen-more : (f : HeldKey → Bool) (keys : List HeldKey) (i : ℕ) (key : HeldKey) → i < length keys → key ≡ get_or keys i key → Adds f key (drop (i + 1) keys) (drop i keys)
-seen-more f keys i key inside is =
-    let all : drop i keys ≡ key ∷ drop (i + 1) keys =
-    drop_more keys i key inside ∙ ap (λ (k : HeldKey). k ∷ drop (i + 1) keys) (sym is) in
-    let parts = adds_by (f key) key (filter f (drop (i + 1) keys)) in
+-- it adds to those behind it
+pub seen-more : (f : HeldKey → Bool) (key : HeldKey) (keys all : List HeldKey) → all ≡ key ∷ keys → Adds f key keys all
+seen-more f key keys all is =
+    let parts = adds_by (f key) key (filter f keys) in
     record {
-      count = ap (λ ks. length (filter f ks)) all ∙ parts.0;
-      len = ap (λ ks. entries_len (filter f ks)) all ∙ parts.1;
-      entries = ap (λ ks. entries (map shown (filter f ks))) all ∙ parts.2;
+      count = ap (λ ks. length (filter f ks)) is ∙ parts.0;
+      len = ap (λ ks. entries_len (filter f ks)) is ∙ parts.1;
+      entries = ap (λ ks. entries (map shown (filter f ks))) is ∙ parts.2;
     }
+
+-- so does its entry
+pub entries_len-more : (key : HeldKey) (keys all : List HeldKey) → all ≡ key ∷ keys →
+    entries_len all ≡ entry_len key + entries_len keys
+unfolding entries_len
+entries_len-more key keys all is = ap entries_len is
 
 -- what it adds isn't more than its entry, and some of it where it counts
 pub adds-bound : (test : Bool) (key : HeldKey) → (len_if test key ≤ entry_len key) × (count_if test ≤ len_if test key)
@@ -41,9 +44,9 @@ adds-bound true key = (omega arith, omega arith)
 adds-bound false key = (omega arith, omega arith)
 
 -- behind the last there are none
-pub seen-end : (f : HeldKey → Bool) (keys : List HeldKey) (i : ℕ) → length keys ≤ i → entries_len (filter f (drop i keys)) ≡ 0
+pub seen-end : (f : HeldKey → Bool) (keys : List HeldKey) → keys ≡ [] → entries_len (filter f keys) ≡ 0
 unfolding entries_len
-seen-end f keys i past = ap (λ ks. entries_len (filter f ks)) (drop_all i keys past)
+seen-end f keys none = ap (λ ks. entries_len (filter f ks)) none
 
 -- ---- all of them
 

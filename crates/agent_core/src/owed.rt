@@ -3,14 +3,14 @@
 ghost use Rattle.std.specs.Prelude.{◌≡◌, ◌+◌, ◌≤◌, [], ◌++◌, drop, length, map, OnOk, IfOk};
 ghost use Rattle.secret_buf.specs.Buffers.{KeepsRoom};
 ghost use Rattle.agent_msg.specs.Replies.{entries, identities_answer, sign_response, status};
-ghost use Rattle.identity_table.specs.Identities.{answer_len, max_answer};
+ghost use Rattle.identity_table.specs.Identities.{max_answer};
 ghost use Rattle.agent_model.specs.KeyStates.{shown};
 ghost use Rattle.agent_core.specs.Seen.{entry_if, is_seen, seen};
 
 use crate::asker::Asker;
 use crate::seen::{seen_size, sees};
 use agent_msg::{put_list_entry, put_list_head, put_signature, put_status};
-use identity_table::Identity;
+use identity_table::{Identity, Table};
 use secret_buf::ScrubBuf;
 use std::alloc::{AllocError, Global};
 use std::marker::Model;
@@ -105,17 +105,26 @@ impl Owed {
         put_signature(&mut self.bytes, signature)
     }
 
-    /// The list of those of these identities that the asker sees.
-    pub fn put_list(&mut self, asker: &Asker<'_>, identities: &[Identity]) -> Result<(), AllocError>
-        requires nothing { self.old ≡ [] }
-        requires fits { answer_len identities.now ≤ max_answer }
-        ensures { OnOk result (self.new ≡ identities_answer (map shown (seen asker.now identities.now))) }
+    /// A list without any identity.
+    pub fn put_empty_list(&mut self) -> Result<(), AllocError>
+        requires { self.old ≡ [] }
+        ensures { OnOk result (self.new ≡ identities_answer []) }
     {
-        let size = seen_size(asker, identities);
+        put_list_head(&mut self.bytes, 5, 0)?;
+        Ok(())
+    }
+
+    /// The list of those of the table's identities that the asker sees.
+    pub fn put_list(&mut self, asker: &Asker<'_>, table: &Table) -> Result<(), AllocError>
+        requires { self.old ≡ [] }
+        ensures { OnOk result
+            (self.new ≡ identities_answer (map shown (seen asker.now table.now.identities))) }
+    {
+        let size = seen_size(asker, table);
         let body = size.body as u32;
         self.is_long = body > LONG;
         put_list_head(&mut self.bytes, body, size.count as u32)?;
-        put_entries(&mut self.bytes, asker, identities)?;
+        put_entries(&mut self.bytes, asker, table)?;
         Ok(())
     }
 }
@@ -132,18 +141,13 @@ impl Owed {
     }
 }
 
-// Appends those of the identities that the asker sees.
-fn put_entries(
-    out: &mut ScrubBuf,
-    asker: &Asker<'_>,
-    identities: &[Identity],
-) -> Result<(), AllocError>
-    requires { answer_len identities.now ≤ max_answer }
+// Appends those of the table's identities that the asker sees.
+fn put_entries(out: &mut ScrubBuf, asker: &Asker<'_>, table: &Table) -> Result<(), AllocError>
     ensures ok { OnOk result (out.new.live
-        ≡ out.old.live ++ entries (map shown (seen asker.now identities.now))) }
+        ≡ out.old.live ++ entries (map shown (seen asker.now table.now.identities))) }
     ensures keeps_room { KeepsRoom out.old out.new }
 {
-    for identity in identities {
+    for identity in table.iter() {
         put_entry(out, asker, identity)?;
     }
     Ok(())

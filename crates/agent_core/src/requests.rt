@@ -253,7 +253,11 @@ fn take(
             key,
             comment,
             terms,
-        } => add(asker, table, key, comment, terms),
+        } => match terms.uses {
+            // No key is held for a number of uses.
+            Some(_) => Ok(false),
+            None => add(asker, table, key, comment, terms),
+        },
         Request::Remove { blob } => Ok(remove(asker, table, blob)),
         Request::RemoveAll => {
             table.remove_all();

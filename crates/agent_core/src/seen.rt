@@ -28,14 +28,14 @@ pub struct ListSize {
     pub body: usize,
 }
 
-/// The size of the list of those of these identities that the asker sees.
-pub fn seen_size(asker: &Asker<'_>, identities: &[Identity]) -> ListSize
-    requires { answer_len identities.now ≤ max_answer }
-    ensures count { result.count ≡ length (seen asker.now identities.now) }
-    ensures body { result.body ≡ answer_len (seen asker.now identities.now) }
+/// The size of the list of those of the table's identities that the asker sees.
+pub fn seen_size(asker: &Asker<'_>, table: &Table) -> ListSize
+    ensures fits { answer_len table.now.identities ≤ max_answer }
+    ensures count { result.count ≡ length (seen asker.now table.now.identities) }
+    ensures body { result.body ≡ answer_len (seen asker.now table.now.identities) }
 {
     let mut size = ListSize { count: 0, body: 5 };
-    for identity in identities {
+    for identity in table.iter() {
         size = with_entry(size, asker, identity);
     }
     size
@@ -71,9 +71,9 @@ pub fn list(
         (served_by asker.now ListIdentities (keys_of table.now lock.now) under_way).work.verdict) }
 {
     if lock.is_locked() {
-        owed.put_list(asker, &[])?;
+        owed.put_empty_list()?;
     } else {
-        owed.put_list(asker, table.as_slice())?;
+        owed.put_list(asker, table)?;
     }
     Ok(())
 }

@@ -13,3 +13,11 @@ pub mod ConsequenceLemmas
 pub mod ConsentLemmas
 pub mod HostLemmas
 pub mod AnsweredLemmas
+pub mod EndedLemmas
+pub mod ProvenLemmas
+pub mod ApartInsideLemmas
+pub mod ApartKeyLemmas
+pub mod ApartLemmas
+pub mod ApartPortLemmas
+pub mod ApartServeLemmas
+pub mod ApartSideLemmas

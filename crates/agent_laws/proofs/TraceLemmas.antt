@@ -95,7 +95,7 @@ noted-kept job {old = old} (altered at f faint) = noted-changed job at f faint.j
 -- ---- what an event does to one
 
 -- 1 where it is noted
-abbrev noted_by : Option Wanted → ℕ
+abbrev pub noted_by : Option Wanted → ℕ
 noted_by None = 0
 noted_by (Some one) = 1
 

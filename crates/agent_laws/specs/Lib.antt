@@ -5,3 +5,6 @@ pub mod History
 pub mod PastRows
 pub mod Deciding
 pub mod Answered
+pub mod Proven
+pub mod Apart
+pub mod ApartRows

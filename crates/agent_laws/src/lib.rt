@@ -3,6 +3,9 @@
 //! it checks by other words.
 #![tactic(auto)]
 
+mod answers;
+mod apart;
+mod apart_rows;
 mod consents;
 mod consequences;
 mod laws;
@@ -10,6 +13,9 @@ mod rows;
 mod runs;
 
 pub use agent_secrecy::secrecy;
+pub use answers::{a_proved_binding_was_asked_for, nothing_is_left_of_a_confirmation_that_ended};
+pub use apart::{an_insider_leaves_the_others_alone, what_is_hidden_changes_nothing_over_runs};
+pub use apart_rows::a_hidden_key_changes_no_reply_but_to_its_own_addition;
 pub use consents::{a_signature_has_a_consent_of_its_own, an_addition_that_left_is_never_used};
 pub use consequences::{
     a_confirmed_key_signs_with_consent, a_constrained_key_signs_where_permitted,

@@ -27,7 +27,8 @@ use Rattle.agent_model.proofs.JobLemmas.{in-by_port, in-found, linked-changed, l
 use Rattle.confirm_desk.proofs.CutLemmas.{consent-append, told-told}
 use Rattle.agent_model.proofs.LeadLemmas.{changes, same}
 use Rattle.agent_model.proofs.MakeLemmas.{role-confirmer, role-door}
-use Rattle.agent_model.proofs.PiecesLemmas.{Agree, agree-over, agree-waits, heard_next}
+use Rattle.agent_model.specs.Pieces.{Agree}
+use Rattle.agent_model.proofs.PiecesLemmas.{agree-over, agree-waits, heard_next}
 use Rattle.agent_model.proofs.PortsLemmas.{find_port-remove_port, found_number}
 use Rattle.agent_model.proofs.RunLemmas.{at_moment-twice, leads-absent}
 

@@ -22,7 +22,8 @@ use Rattle.agent_model.specs.State.{Port, State, Verification, change_port, find
 use Rattle.agent_model.specs.Step.{at_moment, handle, heard_at, heard_by_role, step}
 use Rattle.agent_model.proofs.FateLemmas.{AnswersAs, answers_as, fate-append, settled-fates}
 use Rattle.agent_model.proofs.LeadLemmas.{leads-answers, same}
-use Rattle.agent_model.proofs.PiecesLemmas.{Agree, agree-over, heard_next}
+use Rattle.agent_model.specs.Pieces.{Agree}
+use Rattle.agent_model.proofs.PiecesLemmas.{agree-over, heard_next}
 use Rattle.agent_model.proofs.PortsLemmas.{find_port-apart, find_port-change_port, found_number}
 use Rattle.agent_model.proofs.RunLemmas.{at_moment-twice, leads-rising, lost-closed}
 

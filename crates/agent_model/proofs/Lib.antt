@@ -43,3 +43,4 @@ pub mod BindableLemmas
 pub mod BoundOneLemmas
 pub mod UnseenLemmas
 pub mod UnseenEventLemmas
+pub mod RoleCutLemmas

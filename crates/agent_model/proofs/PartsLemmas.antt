@@ -22,7 +22,8 @@ use Rattle.agent_model.proofs.PortsLemmas.{change_port-by, change_port-twice, fi
 use Rattle.agent_model.proofs.RunLemmas.{at_moment-twice}
 use Rattle.agent_model.proofs.ServeLemmas.{serve-ends}
 use Rattle.agent_model.proofs.ToldLemmas.{told_more}
-use Rattle.agent_model.proofs.PiecesLemmas.{Agree, after_nothing, agree-over, found_more, heard_next}
+use Rattle.agent_model.specs.Pieces.{Agree}
+use Rattle.agent_model.proofs.PiecesLemmas.{after_nothing, agree-over, found_more, heard_next}
 
 -- ---- the first part holds a whole request
 

@@ -9,17 +9,12 @@ use Rattle.agent_model.specs.Actions.{Outcome, stay}
 use Rattle.agent_model.specs.Children.{changed, heard_more}
 use Rattle.agent_model.specs.Events.{Heard}
 use Rattle.agent_model.specs.Looks.{due}
+use Rattle.agent_model.specs.Pieces.{Agree}
 use Rattle.agent_model.specs.State.{Port, State, change_port, find_port}
 use Rattle.agent_model.specs.Step.{at_moment, handle, heard_at, looked}
 use Rattle.agent_model.proofs.ClientLemmas.{handle-heard, looked-found}
 use Rattle.agent_model.proofs.PortsLemmas.{change_port-by, change_port-twice, find_port-change_port}
 use Rattle.agent_model.proofs.RunLemmas.{at_moment-twice}
-
--- what a piece brings as a whole is what its parts bring, as the next event at the same moment begins
-pub record Agree (moment : Moment) (whole first second : Outcome) : Type 0 where
-  pub state : at_moment moment whole.state ≡ at_moment moment second.state
-  pub actions : whole.actions ≡ first.actions ++ second.actions
-  pub put : whole.put ≡ first.put ++ second.put
 
 -- ---- two ways to agree
 

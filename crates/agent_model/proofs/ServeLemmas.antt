@@ -14,7 +14,7 @@ use Rattle.dest_rule.specs.declared.fault.Next.{Next as Judgement}
 use Rattle.dest_rule.specs.declared.fault.Next.TheVariants.{New, Refuse, Same}
 use Rattle.dest_rule.specs.Rules.{denial_under}
 use Rattle.dest_rule.specs.declared.denial.Denial.{Denial}
-use Rattle.agent_model.specs.Binds.{agent_request_of, and_host_key, bind_with, with_host_key}
+use Rattle.agent_model.specs.Binds.{add_with, agent_request_of, and_host_key, bind_with, with_host_key}
 use Rattle.agent_model.specs.KeyStates.{KeyState}
 use Rattle.agent_model.specs.Sound.{judged}
 use Rattle.agent_model.specs.Limits.{last_number}
@@ -67,10 +67,14 @@ readable-bind : (read : Result KeyParts KeyFault) (bind : BindRequest) → publi
 readable-bind (Ok key) bind is = subst IsOk (sym is) refl
 readable-bind (Err fault) bind is = tt
 
+readable-add : (addition : Addition) (uses : Option ℕ) → AreReadable (add_with addition uses)
+readable-add addition None = tt
+readable-add addition (Some uses) = tt
+
 readable-with : (request : ClientRequest) → AreReadable (with_host_key request)
 readable-with ListIdentities = tt
 readable-with (Sign signing) = tt
-readable-with (Add addition) = tt
+readable-with (Add addition) = readable-add addition addition.terms.uses
 readable-with (Remove blob) = tt
 readable-with RemoveAll = tt
 readable-with (Lock passphrase) = tt

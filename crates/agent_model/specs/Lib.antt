@@ -28,3 +28,4 @@ pub mod Bindings
 pub mod Bindable
 pub mod Unseen
 pub mod BindRows
+pub mod Pieces

@@ -1,7 +1,6 @@
 -- What holds of every state that events lead to: the ports' numbers rise and not too many are open,
 -- who waits is tied to the asks, and bindings that are verified are judged yet as they were.
 use Rattle.std.specs.Prelude.{◌≡◌, ℕ, ◌≤◌, Bool, true, false, List, [], ◌∷◌, Some, None, IsSome, IsOk}
-use Rattle.std.specs.Option.{IfSome}
 use Rattle.lists.specs.Keyed.{RiseBy}
 use Rattle.world_ports.specs.declared.Door.TheVariants.{Clients, Children}
 use Rattle.helper_link.specs.HelperLink.{ask_of}
@@ -24,10 +23,6 @@ use Rattle.agent_model.specs.State.{OnAsk, Port, State, Verification, client_cou
 -- bounds them
 abbrev pub IsRising : ℕ → ℕ → List Port → Type 0
 IsRising low high ports = RiseBy number_of low ports high
-
--- a port of this number, where one is open, is a client's
-abbrev pub IsClient : ℕ → State → Type 0
-IsClient number state = IfSome (find_port number state.ports) (λ port. port.door ≡ Clients)
 
 -- the numbers of the open ports rise up to the last one, and no more than 128 clients are open
 pub record IsSound (state : State) : Type 0 where

@@ -88,26 +88,3 @@ pub fn a_signature_is_asked_for_exactly_where_it_may_be()
         (under_way : UnderWay) → ((serve (Ok (Sign signing)) asker held under_way).work.verdict
         ≡ Refuses cause) ↔ IsRefusedFor cause signing asker held under_way }
 {}
-
-/// Where the helper's bytes are cut does not matter: a piece in two parts leads to the state of the
-/// whole piece, as the next event at the same moment begins, and the same is done and put to the
-/// helper.
-pub fn a_piece_of_the_helper_in_two_parts()
-    ensures state { (state : State) (moment : Moment) (number : ℕ) (a b : List ℕ) (port : Port)
-        → IsSound state → find_port number state.ports ≡ Some port → port.door ≡ Children
-        → state.under_way.link.state ≡ states.Linked number
-        → at_moment moment (step state moment (Heard number (a ++ b))).state
-        ≡ at_moment moment (step (step state moment (Heard number a)).state moment
-        (Heard number b)).state }
-    ensures actions { (state : State) (moment : Moment) (number : ℕ) (a b : List ℕ) (port : Port)
-        → IsSound state → find_port number state.ports ≡ Some port → port.door ≡ Children
-        → state.under_way.link.state ≡ states.Linked number
-        → (step state moment (Heard number (a ++ b))).actions
-        ≡ (step state moment (Heard number a)).actions
-        ++ (step (step state moment (Heard number a)).state moment (Heard number b)).actions }
-    ensures put { (state : State) (moment : Moment) (number : ℕ) (a b : List ℕ) (port : Port)
-        → IsSound state → find_port number state.ports ≡ Some port → port.door ≡ Children
-        → state.under_way.link.state ≡ states.Linked number
-        → (step state moment (Heard number (a ++ b))).put ≡ (step state moment (Heard number a)).put
-        ++ (step (step state moment (Heard number a)).state moment (Heard number b)).put }
-{}

@@ -32,31 +32,6 @@ pub fn who_waits_for_the_user_is_open()
         → IsAsking number job port state.under_way.confirmations }
 {}
 
-/// Where the bytes of a child process that asks the user are cut does not matter: a piece in two
-/// parts leads to the state of the whole piece, as the next event at the same moment begins, and
-/// the same is done and put to the helper.
-pub fn a_piece_of_a_confirmer_in_two_parts()
-    ensures state { (state : State) (moment : Moment) (number : ℕ) (a b : List ℕ) (port : Port)
-        (confirmation : Confirmation) → IsTied state → IsAttended state
-        → find_port number state.ports ≡ Some port → role_of port.door port.number state.under_way
-        ≡ Confirmer confirmation
-        → at_moment moment (step state moment (Heard number (a ++ b))).state
-        ≡ at_moment moment (step (step state moment (Heard number a)).state moment
-        (Heard number b)).state }
-    ensures actions { (state : State) (moment : Moment) (number : ℕ) (a b : List ℕ) (port : Port)
-        (confirmation : Confirmation) → IsTied state → IsAttended state
-        → find_port number state.ports ≡ Some port → role_of port.door port.number state.under_way
-        ≡ Confirmer confirmation → (step state moment (Heard number (a ++ b))).actions
-        ≡ (step state moment (Heard number a)).actions
-        ++ (step (step state moment (Heard number a)).state moment (Heard number b)).actions }
-    ensures put { (state : State) (moment : Moment) (number : ℕ) (a b : List ℕ) (port : Port)
-        (confirmation : Confirmation) → IsTied state → IsAttended state
-        → find_port number state.ports ≡ Some port → role_of port.door port.number state.under_way
-        ≡ Confirmer confirmation → (step state moment (Heard number (a ++ b))).put
-        ≡ (step state moment (Heard number a)).put
-        ++ (step (step state moment (Heard number a)).state moment (Heard number b)).put }
-{}
-
 /// Whatever happened before, and while its port stays: a client that waits for the user is owed
 /// nothing and goes on waiting until its own confirmation ends, whatever others do. Where that ends
 /// without consent it is told SSH_AGENT_FAILURE; at consent it waits for the ask that is put for it

@@ -11,7 +11,8 @@ ghost use Rattle.agent_model.specs.Closings.{closed_between};
 ghost use Rattle.agent_model.specs.Errands.{Errand, put_unless};
 ghost use Rattle.agent_model.specs.Events.{Ended, Happening, Heard, Timed};
 ghost use Rattle.agent_model.specs.Runs.{AllFit, run};
-ghost use Rattle.agent_model.specs.Sound.{IsClient, IsRising, IsSound};
+ghost use Rattle.agent_model.specs.Pieces.{Agree, MayBeCut};
+ghost use Rattle.agent_model.specs.Sound.{IsRising, IsSound};
 ghost use Rattle.agent_model.specs.State.{Nothing, OnAsk, Port, State, UnderWay, find_port, first_state};
 ghost use Rattle.agent_model.specs.Step.{at_moment, handle, step};
 ghost use Rattle.agent_model.specs.Verdicts.{Awaits, Cause, HelperLost, Refuses, Replies, Reply, verdict_text};
@@ -24,22 +25,15 @@ pub fn a_moment_is_taken_in_once()
         → at_moment moment (at_moment moment state) ≡ at_moment moment state }
 {}
 
-/// Where a client's bytes are cut does not matter: a piece in two parts leads to the state of the
-/// whole piece, and the same is done and put to the helper. An identity that was added with no
-/// lifetime left leaves as the next event begins, so that the states are compared as one begins.
+/// Where bytes are cut does not matter, whoever sends them: a client, the helper or a child process
+/// that asks the user, faulty bytes included. A piece in two parts leads to the state of the whole
+/// piece, and the same is done and put to the helper. An identity that was added with no lifetime
+/// left leaves as the next event begins, so that the states are compared as one begins.
 pub fn a_piece_in_two_parts()
-    ensures state { (state : State) (moment : Moment) (port : ℕ) (a b : List ℕ) → IsSound state
-        → IsClient port state → at_moment moment (step state moment (Heard port (a ++ b))).state
-        ≡ at_moment moment (step (step state moment (Heard port a)).state moment
-        (Heard port b)).state }
-    ensures actions { (state : State) (moment : Moment) (port : ℕ) (a b : List ℕ) → IsSound state
-        → IsClient port state → (step state moment (Heard port (a ++ b))).actions
-        ≡ (step state moment (Heard port a)).actions
-        ++ (step (step state moment (Heard port a)).state moment (Heard port b)).actions }
-    ensures put { (state : State) (moment : Moment) (port : ℕ) (a b : List ℕ) → IsSound state
-        → IsClient port state → (step state moment (Heard port (a ++ b))).put
-        ≡ (step state moment (Heard port a)).put ++ (step (step state moment (Heard port a)).state
-        moment (Heard port b)).put }
+    ensures { (state : State) (moment : Moment) (port : ℕ) (a b : List ℕ)
+        → MayBeCut (find_port port state.ports) state
+        → Agree moment (step state moment (Heard port (a ++ b))) (step state moment (Heard port a))
+        (step (step state moment (Heard port a)).state moment (Heard port b)) }
 {}
 
 /// The ports that an event closed are those that were open or joined and aren't open after, rising.

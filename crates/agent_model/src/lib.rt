@@ -14,8 +14,8 @@ mod laws;
 mod rows;
 
 pub use asks::{
-    a_client_gets_its_own_answer, a_piece_of_the_helper_in_two_parts,
-    a_signature_is_asked_for_exactly_where_it_may_be, an_ask_is_answered_at_most_once,
+    a_client_gets_its_own_answer, a_signature_is_asked_for_exactly_where_it_may_be,
+    an_ask_is_answered_at_most_once,
 };
 pub use bind_rows::{
     a_binding_is_its_connections_own, a_binding_is_refused_for_its_cause,
@@ -35,8 +35,8 @@ pub use consent_rows::{
     a_signature_waits_for_the_user, confirmations_are_bounded, consent_is_tested_again,
 };
 pub use consents::{
-    a_client_waits_for_its_own_consent, a_piece_of_a_confirmer_in_two_parts,
-    consent_counts_exactly_where_it_may, who_waits_for_the_user_is_open,
+    a_client_waits_for_its_own_consent, consent_counts_exactly_where_it_may,
+    who_waits_for_the_user_is_open,
 };
 pub use laws::{
     a_closed_port_brings_nothing, a_failure_has_a_cause, a_lost_helper_answers_nothing,

@@ -27,3 +27,4 @@ term_fault of_terms.ToHalf = Terms of_terms.ToHalf
 term_fault of_terms.NoRules = Terms of_terms.NoRules
 term_fault of_terms.Key = Terms of_terms.Key
 term_fault of_terms.Memory = Memory
+term_fault of_terms.NoUses = Terms of_terms.NoUses

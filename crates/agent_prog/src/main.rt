@@ -1,6 +1,7 @@
 //! An SSH agent. `agent_prog serve` listens on Unix sockets until a signal ends it; `agent_prog replay` reads events
-//! from standard input and writes what the agent does to standard output. `agent_main` of agent_top is the program;
-//! here are its words, its sockets and streams, and what it says on standard error.
+//! from standard input and writes what the agent does to standard output; `agent_prog drill` makes events from a seed,
+//! and sums up what came of them. `agent_main` of agent_top is the program; here are its words, its sockets and streams,
+//! and what it says on standard error.
 #![tactic(auto)]
 
 mod descriptors;

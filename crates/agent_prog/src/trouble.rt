@@ -10,7 +10,7 @@ use thiserror::Error;
 pub enum Trouble {
     #[error("line {line} is refused: {fault}")]
     Refused { line: u64, fault: FaultText },
-    #[error("usage: agent_prog serve -a PATH --helper PROGRAM [--helper-data PATH] [--relay PROGRAM --askpass PROGRAM] [-t LIFE] [--until-idle], or agent_prog replay [-t LIFE]")]
+    #[error("usage: agent_prog serve -a PATH --helper PROGRAM [--helper-data PATH] [--relay PROGRAM --askpass PROGRAM] [-t LIFE] [--until-idle], or agent_prog replay [-t LIFE], or agent_prog drill N SEED")]
     Usage,
     #[error("a socket could not be bound")]
     Bind,

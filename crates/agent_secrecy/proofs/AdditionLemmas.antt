@@ -24,7 +24,7 @@ use Rattle.dest_rule.specs.declared.denial.Denial.{Denial}
 use Rattle.dest_rule.specs.declared.fault.Next.{Next as Judgement}
 use Rattle.dest_rule.specs.declared.fault.Next.TheVariants.{New, Refuse, Same}
 use Rattle.confirm_desk.specs.Confirmations.{Confirmation}
-use Rattle.agent_model.specs.Binds.{agent_request_of, and_host_key, bind_with, with_host_key}
+use Rattle.agent_model.specs.Binds.{add_with, agent_request_of, and_host_key, bind_with, with_host_key}
 use Rattle.agent_model.specs.Consents.{grant_by, grant_unless, grant_with, signing_of}
 use Rattle.agent_model.specs.Dispatch.{Asker, Served, add_by, add_fault, add_seen, add_unless, bind_by, length_with, lock_by, remove_by, remove_seen, sees, serve, serve_by, serve_locked, serve_unlocked, sign_by, sign_unless, sign_with, unlock_by}
 use Rattle.agent_model.specs.Errands.{Errand, Signs, Verifies, ask_fault, put_unless, raise_fault, raise_unless}
@@ -101,13 +101,17 @@ with_bind : (bind : BindRequest) (read : Result KeyParts KeyFault) → AddsWhere
 with_bind bind (Ok key) = tt
 with_bind bind (Err fault) = tt
 
+with_add : (addition : Addition) (uses : Option ℕ) → Adds (Add addition) → AddsWhereRead (add_with addition uses)
+with_add addition None adds = adds
+with_add addition (Some uses) adds = tt
+
 adds_key : (body : List ℕ) (request : ClientRequest) → IsRequest body request → AddsWhereRead (with_host_key request)
 adds_key body ListIdentities is = tt
 adds_key body (Sign signing) is = tt
-adds_key body (Add added) is = elim is [
+adds_key body (Add added) is = with_add added added.terms.uses (elim is [
   | inl plain ↦ plain.key
   | inr constrained ↦ constrained.key
-]
+])
 adds_key body (Remove blob) is = tt
 adds_key body RemoveAll is = tt
 adds_key body (Lock passphrase) is = tt

@@ -1,5 +1,6 @@
 pub mod Words
 pub mod Program
+pub mod DrillProgram
 pub mod ServeProgram
 pub mod ServeLaw
 pub mod ServeFair

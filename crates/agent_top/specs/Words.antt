@@ -1,5 +1,5 @@
 -- The words of the command line (ours: README.md).
-use Rattle.std.specs.Prelude.{◌≡◌, ◌&&◌, true, false, ℕ, List, [], ◌∷◌, Option, Some, None, if◌then◌else◌, map, option_map, codes}
+use Rattle.std.specs.Prelude.{◌≡◌, ◌&&◌, true, false, ℕ, List, [], ◌∷◌, Option, Some, None, nat_le, if◌then◌else◌, map, option_and_then, option_map, codes}
 use Rattle.std.specs.Str.{bytes_eq}
 use Rattle.std.specs.String.{string_bytes}
 use Rattle.std.specs.declared.string.String.{String}
@@ -7,6 +7,7 @@ use Rattle.std.specs.declared.alloc.Global.{Global}
 use Rattle.world_ports.specs.Life.{life_of}
 use Rattle.agent_model.specs.State.{first_state}
 use Rattle.ready_loop.specs.Serving.{Setting}
+use Rattle.schedule_text.specs.Numbers.{number_of}
 use Rattle.serve_words.specs.Serve.{begins, is_set, is_usage, life_in, some_life, value_of}
 
 -- the words, as text
@@ -19,6 +20,37 @@ replay_life (command ∷ []) = if bytes_eq command (codes "replay") then Some No
 replay_life (command ∷ option ∷ life ∷ []) =
     if bytes_eq command (codes "replay") && bytes_eq option (codes "-t") then option_map some_life (life_of life) else None
 replay_life _ = None
+
+-- what a drill is asked for: how many rounds, and what they are drawn from
+pub record Drilling : Type 0 where
+  pub rounds : ℕ
+  pub seed : ℕ
+
+-- a number of rounds: a number as those of a schedule, and at most 100000
+abbrev pub most_rounds : ℕ
+most_rounds = 100000
+
+abbrev pub if_few : ℕ → Option ℕ
+if_few rounds = if nat_le rounds most_rounds then Some rounds else None
+
+abbrev pub rounds_in : List ℕ → Option ℕ
+rounds_in text = option_and_then if_few (number_of text)
+
+-- both numbers, where there are both
+abbrev pub drilling : Option ℕ → Option ℕ → Option Drilling
+drilling None seed = None
+drilling (Some rounds) None = None
+drilling (Some rounds) (Some seed) = Some record { rounds = rounds; seed = seed }
+
+-- where the words are `drill N SEED`: both numbers
+abbrev pub drill_words : List (List ℕ) → Option Drilling
+drill_words (command ∷ rounds ∷ seed ∷ []) =
+    if bytes_eq command (codes "drill") then drilling (rounds_in rounds) (number_of seed) else None
+drill_words _ = None
+
+-- the words ask for a drill
+abbrev pub IsDrill : List (String Global) → Drilling → Type 0
+IsDrill words asked = drill_words (texts_of words) ≡ Some asked
 
 -- the words ask for the run of a schedule, with this lifetime
 abbrev pub IsReplay : List (String Global) → Option ℕ → Type 0
@@ -39,4 +71,5 @@ BeginsServe words = begins (texts_of words) ≡ true
 -- the words are none of the forms
 pub record IsUsage (words : List (String Global)) : Type 0 where
   pub no_replay : replay_life (texts_of words) ≡ None
+  pub no_drill : drill_words (texts_of words) ≡ None
   pub no_serve : is_usage (texts_of words) ≡ true

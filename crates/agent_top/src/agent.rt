@@ -12,7 +12,7 @@ use std::alloc::Global;
 use world_ports::{Sink, Source};
 
 // The status of a run that ended so.
-fn status_of_end(end: RunEnd) -> Status
+pub fn status_of_end(end: RunEnd) -> Status
     ensures { result ≡ status_of end }
 {
     match end {

@@ -4,6 +4,7 @@
 #![tactic(auto)]
 
 mod agent;
+mod drilling;
 mod serving;
 mod status;
 mod top;

@@ -1,10 +1,11 @@
 // The program over any input, output and world.
 ghost use Rattle.std.specs.Prelude.{◌≡◌, ◌⊎◌, ℕ, None, Option};
+ghost use Rattle.agent_top.specs.DrillProgram.{DrillCompletes, DrillsExactly};
 ghost use Rattle.agent_top.specs.Program.{ReplaysExactly, Completes, RunsLawfully};
 ghost use Rattle.agent_top.specs.ServeFair.{ServesFairly};
 ghost use Rattle.agent_top.specs.ServeLaw.{ServesLawfully};
 ghost use Rattle.agent_top.specs.ServeProgram.{ServesExactly};
-ghost use Rattle.agent_top.specs.Words.{BeginsServe, IsReplay, IsServe, IsUsage, replay_life, texts_of};
+ghost use Rattle.agent_top.specs.Words.{BeginsServe, Drilling, IsDrill, IsReplay, IsServe, IsUsage, drill_words, replay_life, texts_of};
 ghost use Rattle.ready_loop.specs.Serving.{Setting};
 ghost use Rattle.replay_run.specs.Claims.{Seen};
 ghost use Rattle.serve_words.specs.Serve.{life_in};
@@ -12,8 +13,10 @@ ghost use Rattle.world_ports.specs.Causes.{Rose};
 ghost use Rattle.world_ports.specs.Streams.{OnlyReads, OnlyWrites};
 
 use crate::agent::replay_main;
+use crate::drilling::drill_by;
 use crate::serving::serve_by;
 use crate::status::Status;
+use crate::words::read_drill;
 use serve_words::begins_with_serve;
 use std::alloc::Global;
 use std::sync::Wait;
@@ -24,15 +27,16 @@ use world_ports::{Sink, Source, World};
 /// With the word `replay` it runs the schedule that the input gives, and writes to the output what that
 /// prints. With `replay -t LIFE` identities that are added without a lifetime live so long: parts as in
 /// `1h30m`, or seconds; 0 stands for no lifetime. With `serve` and its options (crate serve_words) it
-/// serves clients over the world until that fails or, where it is asked to, until it is idle. With any
-/// other words it touches none of the three.
+/// serves clients over the world until that fails or, where it is asked to, until it is idle. With
+/// `drill N SEED` it makes N requests that are drawn from a seed, and writes a line that sums up what came
+/// of them. With any other words it touches none of the three.
 ///
 /// With both commands a signature is put to the helper exactly where what was done before says so, while
 /// neither the numbers of asks nor those of jobs are spent: `lawful` and `serves_lawfully`. With `serve` each thing that is
 /// ready and can be served is served between two services of any other: `serves_fairly`.
 ///
-/// What the clauses say stands in specs/Program.antt, ServeProgram.antt, ServeLaw.antt and ServeFair.antt, whose heads
-/// name where to read on, down to the table of requests.
+/// What the clauses say stands in specs/Program.antt, DrillProgram.antt, ServeProgram.antt, ServeLaw.antt and
+/// ServeFair.antt, whose heads name where to read on, down to the table of requests.
 pub fn agent_main<R: Wait, W: World, I: Source, O: Sink>(
     rt: &R,
     alloc: Global,
@@ -63,8 +67,14 @@ pub fn agent_main<R: Wait, W: World, I: Source, O: Sink>(
     ensures unused { IsUsage words.now
         → (input.new ≡ input.old) × (output.new ≡ output.old) × (world.new ≡ world.old) }
     ensures replay_alone { (life : Option ℕ) → IsReplay words.now life → world.new ≡ world.old }
+    ensures drills { (asked : Drilling) → IsDrill words.now asked → DrillsExactly asked result
+        (O.seen output.old) (O.seen output.new) }
+    ensures drill_completes { (asked : Drilling) → IsDrill words.now asked
+        → DrillCompletes result (O.seen output.old) (O.seen output.new) }
+    ensures drill_alone { (asked : Drilling) → IsDrill words.now asked
+        → (input.new ≡ input.old) × (world.new ≡ world.old) }
     ensures serve_alone { replay_life (texts_of words.now) ≡ None
-        → (input.new ≡ input.old) × (output.new ≡ output.old) }
+        → (input.new ≡ input.old) × (drill_words (texts_of words.now) ≡ None → output.new ≡ output.old) }
     ensures bind { result ≡ Status.BindFault → Rose (W.faults world.old) (W.faults world.new) }
     ensures poll { result ≡ Status.PollFault → Rose (W.faults world.old) (W.faults world.new) }
     ensures input_only { OnlyReads (I.seen input.old) (I.seen input.new) }
@@ -72,6 +82,9 @@ pub fn agent_main<R: Wait, W: World, I: Source, O: Sink>(
 {
     if begins_with_serve(words) {
         return serve_by(rt, alloc, words, world);
+    }
+    if let Some(words) = read_drill(words) {
+        return drill_by(alloc, words, output);
     }
     replay_main(alloc, words, input, output)
 }

@@ -1,32 +1,33 @@
 -- Reading one constraint: what is read is a constraint in front of what follows, and a constraint is read.
-use Rattle.std.proofs.Common.{◌≡◌, ◌≢◌, ℕ, ◌^◌, ◌<◌, Bool, true, false, cond, eqb, List, [], ◌∷◌, ◌++◌, map, length, All, Option, Some, None, Result, Ok, Err, refl, sym, ap, subst, ◌∙◌, append_assoc, lit<}
-use Rattle.std.proofs.lemmas.Bool.{eqb-true}
+use Rattle.std.proofs.Common.{◌≡◌, ◌≢◌, ℕ, zero, suc, ◌^◌, ◌<◌, ◌≤◌, Bool, true, false, cond, eqb, List, [], ◌∷◌, ◌++◌, map, length, All, Option, Some, None, Result, Ok, Err, refl, sym, ap, subst, ◌∙◌, append_assoc, arith, lit<}
+use Rattle.std.proofs.lemmas.Bool.{eqb-true, ne_eqb}
 use Rattle.std.specs.Option.{ok_or}
 use Rattle.std.specs.Str.{bytes_eq}
 use Rattle.std.proofs.lemmas.Slice.Eq.{bytes_eq-Decides}
 use Rattle.std.proofs.lemmas.List.Elements.{All-tail}
-use Rattle.wire_text.specs.Wire.{IsBytes, string}
+use Rattle.wire_text.specs.Wire.{IsBytes, string, uint32}
 use Rattle.wire_core.specs.Fields.{uint32_at}
 use Rattle.wire_core.proofs.Theorems.{uint32_at-uint32, uint32_is_front}
 use Rattle.constraint_rec.specs.declared.fault.TermFault.{TermFault}
-use Rattle.constraint_rec.specs.declared.fault.TermFault.TheVariants.{Short, Unknown, Twice}
+use Rattle.constraint_rec.specs.declared.fault.TermFault.TheVariants.{Short, Unknown, Twice, NoUses}
 use Rattle.constraint_rec.specs.declared.kind.Kind.{Kind}
-use Rattle.constraint_rec.specs.declared.kind.Kind.TheVariants.{Lifetime, Confirm, Destinations}
+use Rattle.constraint_rec.specs.declared.kind.Kind.TheVariants.{Lifetime, Confirm, Uses, Destinations}
 use Rattle.constraint_rec.specs.declared.terms.Terms.{Terms}
 use Rattle.constraint_rec.specs.declared.constraint.Constraint.{Constraint}
 use Rattle.constraint_rec.specs.Hops.{SpeltConstraint, list_text, constraint_of, IsDestination}
-use Rattle.constraint_rec.specs.Constraints.{Item, Life, Confirmation, Rules, restrict_destination, AreRules, item_text, IsItem, with_item}
+use Rattle.constraint_rec.specs.Constraints.{Item, Life, Confirmation, UseCount, Rules, restrict_destination, uses_name, AreRules, IsUseCount, item_text, IsItem, with_item}
 use Rattle.wire_core.specs.Readings.{◌>>=◌}
 use Rattle.constraint_rec.specs.HopReading.{field_at, rules_in}
-use Rattle.constraint_rec.specs.Reading.{kind_named, extension_at, kind_at, has_kind, with_life, with_rules, contents_at, new_contents_at, next_at}
+use Rattle.constraint_rec.specs.Reading.{kind_named, extension_at, kind_at, has_kind, with_life, some_uses, with_uses, with_rules, contents_at, new_contents_at, next_at}
 use Rattle.wire_core.proofs.ReadingLemmas.{bind_ok}
-use Rattle.constraint_rec.proofs.FieldLemmas.{unguarded, guarded, field_is, field_again}
+use Rattle.constraint_rec.proofs.FieldLemmas.{unguarded, field_is, field_again}
 use Rattle.constraint_rec.proofs.DestinationLemmas.{rules_are, rules_again}
 
 -- the kind of a constraint
 abbrev pub kind_of : Item → Kind
 kind_of (Life seconds) = Lifetime
 kind_of Confirmation = Confirm
+kind_of (UseCount uses) = Uses
 kind_of (Rules rules) = Destinations
 
 -- a constraint that the terms have none of the kind of stands in front of the rest
@@ -83,39 +84,97 @@ confirm_is terms bytes after rest small read =
     }
 
 -- destination constraints are read from a name and contents
-rules_are_next : (terms : Terms) (bytes : List ℕ) (after : Terms) (rest : List ℕ) → IsBytes bytes →
-    (extension_at bytes >>= new_contents_at terms) ≡ Ok (after, rest) → IsNext terms (255 ∷ bytes) after rest
+rules_are_next : (terms : Terms) (bytes contents : List ℕ) (after : Terms) (rest : List ℕ) → bytes ≡ string restrict_destination ++ contents → IsBytes contents →
+    new_contents_at terms (Destinations, contents) ≡ Ok (after, rest) → IsNext terms (255 ∷ bytes) after rest
 unfolding contents_at
-rules_are_next terms bytes after rest small read =
-    let kind = bind_ok (extension_at bytes) (new_contents_at terms) (after, rest) read in
-    let name = bind_ok (field_at bytes) kind_named kind.0 kind.1 in
-    let named = guarded (bytes_eq name.0.0 restrict_destination) (Ok (Destinations, name.0.1)) kind.0 Unknown name.2 in
-    let front = field_is bytes name.0.0 name.0.1 small name.1 in
-    let known : name.0.0 ≡ restrict_destination = (bytes_eq-Decides name.0.0 restrict_destination).0 named.0 in
-    let as_named : (Destinations, name.0.1) ≡ kind.0 = let e = named.1 in cc in
-    let open_ = unguarded (has_kind terms Destinations) (contents_at Destinations terms name.0.1) (after, rest) Twice (ap (new_contents_at terms) as_named ∙ kind.2) in
-    let text = bind_ok (field_at name.0.1) (with_rules terms) (after, rest) open_.1 in
+rules_are_next terms bytes contents after rest named small read =
+    let open_ = unguarded (has_kind terms Destinations) (contents_at Destinations terms contents) (after, rest) Twice read in
+    let text = bind_ok (field_at contents) (with_rules terms) (after, rest) open_.1 in
     let rules = bind_ok (rules_in text.0.0) (λ rules. Ok (record terms { rules = rules }, text.0.1)) (after, rest) text.2 in
-    let contents = field_is name.0.1 text.0.0 text.0.1 front.left text.1 in
-    let is = rules_are text.0.0 rules.0 contents.inside rules.1 in
+    let inner = field_is contents text.0.0 text.0.1 small text.1 in
+    let is = rules_are text.0.0 rules.0 inner.inside rules.1 in
     let whole : Terms × List ℕ = (record terms { rules = rules.0 }, text.0.1) in
     let same : whole ≡ (after, rest) = let e = rules.2 in cc in
     let behind : text.0.1 ≡ rest = ap (λ (x : Terms × List ℕ). x.1) same in
-    let listed : name.0.1 ≡ string (list_text is.spelt) ++ rest =
-    contents.parts ∙ ap (λ (list : List ℕ). string list ++ text.0.1) is.text ∙ ap (λ (tail : List ℕ). string (list_text is.spelt) ++ tail) behind in
+    let listed : contents ≡ string (list_text is.spelt) ++ rest =
+    inner.parts ∙ ap (λ (list : List ℕ). string list ++ text.0.1) is.text ∙ ap (λ (tail : List ℕ). string (list_text is.spelt) ++ tail) behind in
     record {
       item = Rules is.spelt;
-      text = ap (λ (tail : List ℕ). 255 ∷ tail) (front.parts ∙ ap (λ (n : List ℕ). string n ++ name.0.1) known
-          ∙ ap (λ (tail : List ℕ). string restrict_destination ++ tail) listed ∙ sym (append_assoc (string restrict_destination) (string (list_text is.spelt)) rest));
-      left = subst IsBytes behind contents.left;
+      text = ap (λ (tail : List ℕ). 255 ∷ tail) (named ∙ ap (λ (tail : List ℕ). string restrict_destination ++ tail) listed
+          ∙ sym (append_assoc (string restrict_destination) (string (list_text is.spelt)) rest));
+      left = subst IsBytes behind inner.left;
       fit = record {
         some = λ none. is.some (is.values ∙ ap (map constraint_of) none);
         each = subst (All IsDestination) is.values is.good;
-        short = subst (λ (list : List ℕ). length list < 2 ^ 32) is.text contents.short;
+        short = subst (λ (list : List ℕ). length list < 2 ^ 32) is.text inner.short;
       };
       is_new = open_.0;
       added = ap (λ (x : Terms × List ℕ). x.0) (sym same) ∙ ap (λ (list : List Constraint). record terms { rules = list }) is.values;
     }
+
+-- where there is no fault, the number is there, and it isn't 0
+uses_read : (o : Option (ℕ × List ℕ)) (terms after : Terms) (rest : List ℕ) →
+    ((ok_or o Short >>= some_uses) >>= with_uses terms) ≡ Ok (after, rest) →
+    (uses : ℕ) × (o ≡ Some (uses, rest)) × (eqb uses 0 ≡ false) × (after ≡ with_item terms (UseCount uses))
+uses_read None terms after rest read = absurd cc
+uses_read (Some found) terms after rest read =
+    let number = bind_ok (some_uses found) (with_uses terms) (after, rest) read in
+    let some = unguarded (eqb found.0 0) (Ok found) number.0 NoUses number.1 in
+    let kept : found ≡ number.0 = let e = some.1 in cc in
+    let whole : Terms × List ℕ = (record terms { uses = Some number.0.0 }, number.0.1) in
+    let same : whole ≡ (after, rest) = let e = number.2 in cc in
+    let behind : found.1 ≡ rest = ap (λ (x : ℕ × List ℕ). x.1) kept ∙ ap (λ (x : Terms × List ℕ). x.1) same in (
+      found.0,
+      ap (λ (left : List ℕ). Some (found.0, left)) behind,
+      some.0,
+      ap (λ (x : Terms × List ℕ). x.0) (sym same) ∙ ap (λ (x : ℕ × List ℕ). record terms { uses = Some x.0 }) (sym kept),
+    )
+
+-- a number that isn't 0 is at least 1
+at_least_one : (number : ℕ) → eqb number 0 ≡ false → 1 ≤ number
+at_least_one zero test = absurd cc
+at_least_one (suc number) test = omega arith
+
+-- a number of uses is read from a name and contents
+uses_are_next : (terms : Terms) (bytes contents : List ℕ) (after : Terms) (rest : List ℕ) → bytes ≡ string uses_name ++ contents → IsBytes contents →
+    new_contents_at terms (Uses, contents) ≡ Ok (after, rest) → IsNext terms (255 ∷ bytes) after rest
+unfolding contents_at
+uses_are_next terms bytes contents after rest named small read =
+    let open_ = unguarded (has_kind terms Uses) (contents_at Uses terms contents) (after, rest) Twice read in
+    let number = uses_read (uint32_at contents) terms after rest open_.1 in
+    let front = uint32_is_front contents number.0 rest small number.1 in
+    record {
+      item = UseCount number.0;
+      text = ap (λ (tail : List ℕ). 255 ∷ tail) (named ∙ ap (λ (tail : List ℕ). string uses_name ++ tail) front.0.parts
+          ∙ sym (append_assoc (string uses_name) (uint32 number.0) rest));
+      left = front.0.left;
+      fit = record { some = at_least_one number.0 number.2; short = front.1 };
+      is_new = open_.0;
+      added = number.3;
+    }
+
+-- by the name of the extension
+extension_by_name : (terms : Terms) (bytes name contents : List ℕ) (after : Terms) (rest : List ℕ) (is_rules is_uses : Bool) →
+    bytes_eq name restrict_destination ≡ is_rules → bytes_eq name uses_name ≡ is_uses → bytes ≡ string name ++ contents → IsBytes contents →
+    (cond is_rules (Ok (Destinations, contents)) (cond is_uses (Ok (Uses, contents)) (Err Unknown)) >>= new_contents_at terms) ≡ Ok (after, rest) →
+    IsNext terms (255 ∷ bytes) after rest
+extension_by_name terms bytes name contents after rest true is_uses rules uses parts small read =
+    let known : name ≡ restrict_destination = (bytes_eq-Decides name restrict_destination).0 rules in
+    rules_are_next terms bytes contents after rest (parts ∙ ap (λ (n : List ℕ). string n ++ contents) known) small read
+extension_by_name terms bytes name contents after rest false true rules uses parts small read =
+    let known : name ≡ uses_name = (bytes_eq-Decides name uses_name).0 uses in
+    uses_are_next terms bytes contents after rest (parts ∙ ap (λ (n : List ℕ). string n ++ contents) known) small read
+extension_by_name terms bytes name contents after rest false false rules uses parts small read = absurd cc
+
+-- an extension is read from a name and contents
+extension_is_next : (terms : Terms) (bytes : List ℕ) (after : Terms) (rest : List ℕ) → IsBytes bytes →
+    (extension_at bytes >>= new_contents_at terms) ≡ Ok (after, rest) → IsNext terms (255 ∷ bytes) after rest
+extension_is_next terms bytes after rest small read =
+    let kind = bind_ok (extension_at bytes) (new_contents_at terms) (after, rest) read in
+    let name = bind_ok (field_at bytes) kind_named kind.0 kind.1 in
+    let front = field_is bytes name.0.0 name.0.1 small name.1 in
+    extension_by_name terms bytes name.0.0 name.0.1 after rest (bytes_eq name.0.0 restrict_destination) (bytes_eq name.0.0 uses_name) refl refl
+    front.parts front.left (ap (λ (r : Result (Kind × List ℕ) TermFault). r >>= new_contents_at terms) name.2 ∙ kind.2)
 
 -- by the byte at the front
 next_by_byte : (terms : Terms) (byte : ℕ) (bytes : List ℕ) (after : Terms) (rest : List ℕ) (is_one is_two is_last : Bool) →
@@ -127,7 +186,7 @@ next_by_byte terms byte bytes after rest true is_two is_last one two last small 
 next_by_byte terms byte bytes after rest false true is_last one two last small read =
     subst (λ (b : ℕ). IsNext terms (b ∷ bytes) after rest) (sym (eqb-true byte 2 two)) (confirm_is terms bytes after rest small read)
 next_by_byte terms byte bytes after rest false false true one two last small read =
-    subst (λ (b : ℕ). IsNext terms (b ∷ bytes) after rest) (sym (eqb-true byte 255 last)) (rules_are_next terms bytes after rest small read)
+    subst (λ (b : ℕ). IsNext terms (b ∷ bytes) after rest) (sym (eqb-true byte 255 last)) (extension_is_next terms bytes after rest small read)
 next_by_byte terms byte bytes after rest false false false one two last small read = absurd cc
 
 -- what is read is a constraint
@@ -138,16 +197,31 @@ next_is terms [] after rest small read = absurd cc
 next_is terms (byte ∷ bytes) after rest small read =
     next_by_byte terms byte bytes after rest (eqb byte 1) (eqb byte 2) (eqb byte 255) refl refl refl (All-tail (λ b. b < 256) byte bytes small) read
 
--- the name is short
+-- the names are short
 pub name_is_short : length restrict_destination < 2 ^ 32
 unfolding restrict_destination
 name_is_short = lit< tt
 
--- an extension of the name holds destination constraints
+pub uses_name_is_short : length uses_name < 2 ^ 32
+unfolding uses_name
+uses_name_is_short = lit< tt
+
+-- the names differ
+names_differ : bytes_eq uses_name restrict_destination ≡ false
+unfolding uses_name restrict_destination
+names_differ = refl
+
+-- an extension of the one name holds destination constraints
 named_again : (rest : List ℕ) → extension_at (string restrict_destination ++ rest) ≡ Ok (Destinations, rest)
 named_again rest =
     ap (λ (r : Result (List ℕ × List ℕ) TermFault). r >>= kind_named) (field_again restrict_destination rest name_is_short)
     ∙ rw ((bytes_eq-Decides restrict_destination restrict_destination).1 refl) refl
+
+-- an extension of the other name holds a number of uses
+uses_named_again : (rest : List ℕ) → extension_at (string uses_name ++ rest) ≡ Ok (Uses, rest)
+uses_named_again rest =
+    ap (λ (r : Result (List ℕ × List ℕ) TermFault). r >>= kind_named) (field_again uses_name rest uses_name_is_short)
+    ∙ rw (names_differ, (bytes_eq-Decides uses_name uses_name).1 refl) refl
 
 -- only no elements are seen as none
 pub unmapped : (rules : List SpeltConstraint) → map constraint_of rules ≡ [] → rules ≡ []
@@ -163,12 +237,25 @@ contents_again terms rules rest is =
     ap (λ (r : Result (List ℕ × List ℕ) TermFault). r >>= with_rules terms) (field_again (list_text rules) rest is.short)
     ∙ ap (λ (r : Result (List Constraint) TermFault). r >>= λ list. Ok (record terms { rules = list }, rest)) (rules_again rules is.each some is.short)
 
+-- contents that are a number of uses are read
+uses_again : (terms : Terms) (uses : ℕ) (rest : List ℕ) → IsUseCount uses →
+    contents_at Uses terms (uint32 uses ++ rest) ≡ Ok (with_item terms (UseCount uses), rest)
+unfolding contents_at
+uses_again terms uses rest is =
+    let some : eqb uses 0 ≡ false = ne_eqb uses 0 (λ none. omega (arith, none, is.some)) in
+    rw (uint32_at-uint32 uses rest is.short, some) refl
+
 -- a constraint is read
 pub next_at-item : (terms : Terms) (item : Item) (rest : List ℕ) → IsItem item → has_kind terms (kind_of item) ≡ false →
     next_at terms (item_text item ++ rest) ≡ Ok (with_item terms item, rest)
 unfolding next_at kind_at contents_at
 next_at-item terms (Life seconds) rest fit is_new = rw (is_new, uint32_at-uint32 seconds rest fit) refl
 next_at-item terms Confirmation rest fit is_new = rw is_new refl
+next_at-item terms (UseCount uses) rest fit is_new =
+    ap (λ (tail : List ℕ). extension_at tail >>= new_contents_at terms) (append_assoc (string uses_name) (uint32 uses) rest)
+    ∙ ap (λ (r : Result (Kind × List ℕ) TermFault). r >>= new_contents_at terms) (uses_named_again (uint32 uses ++ rest))
+    ∙ ap (λ (b : Bool). cond b (Err Twice) (contents_at Uses terms (uint32 uses ++ rest))) is_new
+    ∙ uses_again terms uses rest fit
 next_at-item terms (Rules rules) rest fit is_new =
     ap (λ (tail : List ℕ). extension_at tail >>= new_contents_at terms) (append_assoc (string restrict_destination) (string (list_text rules)) rest)
     ∙ ap (λ (r : Result (Kind × List ℕ) TermFault). r >>= new_contents_at terms) (named_again (string (list_text rules) ++ rest))

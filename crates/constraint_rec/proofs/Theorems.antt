@@ -7,7 +7,7 @@ use Rattle.constraint_rec.specs.declared.fault.TermFault.{TermFault}
 use Rattle.constraint_rec.specs.declared.fault.TermFault.TheVariants.{Memory}
 use Rattle.constraint_rec.specs.declared.terms.Terms.{Terms}
 use Rattle.constraint_rec.specs.Hops.{constraint_of}
-use Rattle.constraint_rec.specs.Constraints.{no_terms, Item, Life, Confirmation, Rules, item_text, IsItem, is_alike, with_item, with_items, IsConstraints}
+use Rattle.constraint_rec.specs.Constraints.{no_terms, Item, Life, Confirmation, UseCount, Rules, item_text, IsItem, is_alike, with_item, with_items, IsConstraints}
 use Rattle.wire_core.specs.Readings.{◌>>=◌}
 use Rattle.constraint_rec.specs.Reading.{has_kind, next_at, terms_up_to, terms_of}
 use Rattle.constraint_rec.proofs.FieldLemmas.{nonempty_test}
@@ -87,6 +87,7 @@ read_is (Err fault) count after all = absurd cc
 some_text : (item : Item) → 1 ≤ length (item_text item)
 some_text (Life seconds) = omega arith
 some_text Confirmation = omega arith
+some_text (UseCount uses) = omega arith
 some_text (Rules rules) = omega arith
 
 -- by the number of constraints
@@ -124,12 +125,19 @@ has_kind-with : (terms : Terms) (item added : Item) → IsItem added →
     has_kind (with_item terms added) (kind_of item) ≡ (is_alike item added || has_kind terms (kind_of item))
 has_kind-with terms (Life seconds) (Life others) fit = refl
 has_kind-with terms (Life seconds) Confirmation fit = refl
+has_kind-with terms (Life seconds) (UseCount uses) fit = refl
 has_kind-with terms (Life seconds) (Rules rules) fit = refl
-has_kind-with terms Confirmation (Life others) fit = refl
+has_kind-with terms Confirmation (Life seconds) fit = refl
 has_kind-with terms Confirmation Confirmation fit = refl
+has_kind-with terms Confirmation (UseCount uses) fit = refl
 has_kind-with terms Confirmation (Rules rules) fit = refl
-has_kind-with terms (Rules rules) (Life others) fit = refl
+has_kind-with terms (UseCount uses) (Life seconds) fit = refl
+has_kind-with terms (UseCount uses) Confirmation fit = refl
+has_kind-with terms (UseCount uses) (UseCount others) fit = refl
+has_kind-with terms (UseCount uses) (Rules rules) fit = refl
+has_kind-with terms (Rules rules) (Life seconds) fit = refl
 has_kind-with terms (Rules rules) Confirmation fit = refl
+has_kind-with terms (Rules rules) (UseCount uses) fit = refl
 has_kind-with terms (Rules rules) (Rules others) fit =
     rw (nonempty_test (map constraint_of others) (λ none. fit.some (unmapped others none))) refl
 
@@ -137,18 +145,26 @@ has_kind-with terms (Rules rules) (Rules others) fit =
 alike_kinds : (item other : Item) → is_alike item other ≡ true → kind_of item ≡ kind_of other
 alike_kinds (Life seconds) (Life others) same = refl
 alike_kinds (Life seconds) Confirmation same = absurd cc
+alike_kinds (Life seconds) (UseCount uses) same = absurd cc
 alike_kinds (Life seconds) (Rules rules) same = absurd cc
-alike_kinds Confirmation (Life others) same = absurd cc
+alike_kinds Confirmation (Life seconds) same = absurd cc
 alike_kinds Confirmation Confirmation same = refl
+alike_kinds Confirmation (UseCount uses) same = absurd cc
 alike_kinds Confirmation (Rules rules) same = absurd cc
-alike_kinds (Rules rules) (Life others) same = absurd cc
+alike_kinds (UseCount uses) (Life seconds) same = absurd cc
+alike_kinds (UseCount uses) Confirmation same = absurd cc
+alike_kinds (UseCount uses) (UseCount others) same = refl
+alike_kinds (UseCount uses) (Rules rules) same = absurd cc
+alike_kinds (Rules rules) (Life seconds) same = absurd cc
 alike_kinds (Rules rules) Confirmation same = absurd cc
+alike_kinds (Rules rules) (UseCount uses) same = absurd cc
 alike_kinds (Rules rules) (Rules others) same = refl
 
 -- a constraint is like itself
 alike_itself : (item : Item) → is_alike item item ≡ true
 alike_itself (Life seconds) = refl
 alike_itself Confirmation = refl
+alike_itself (UseCount uses) = refl
 alike_itself (Rules rules) = refl
 
 -- one more constraint of a new kind counts once
@@ -248,4 +264,5 @@ terms_are_read bytes terms is =
     none_had : (item : Item) → alike item is.items ≤ 1 → had no_terms item + alike item is.items ≤ 1
     none_had (Life seconds) once = omega arith
     none_had Confirmation once = omega arith
+    none_had (UseCount uses) once = omega arith
     none_had (Rules rules) once = omega arith

@@ -1,7 +1,7 @@
 -- What is written is in the grammar and says the terms, and what is read can be written.
-use Rattle.std.proofs.Common.{◌≡◌, ℕ, ◌^◌, ◌<◌, ◌≤◌, Bool, true, false, List, [], ◌∷◌, ◌++◌, map, length, filter, All, Option, Some, None, IfSome, refl, sym, ap, subst, ◌∙◌, arith}
+use Rattle.std.proofs.Common.{◌≡◌, ℕ, ◌+◌, ◌^◌, ◌<◌, ◌≤◌, Bool, true, false, cond, List, [], ◌∷◌, ◌++◌, map, length, filter, All, Option, Some, None, IfSome, refl, sym, ap, subst, ◌∙◌, arith, length-append}
 use Rattle.std.specs.List.{flat_map}
-use Rattle.std.proofs.lemmas.List.Elements.{All-nil, All-cons, All-head, All-tail}
+use Rattle.std.proofs.lemmas.List.Elements.{All-nil, All-cons, All-head, All-tail, All-append, filter-append}
 use Rattle.std.proofs.lemmas.Grind.{flat_map-append}
 use Rattle.wire_text.specs.Wire.{boolean_of}
 use Rattle.constraint_rec.specs.declared.key_spec.KeySpec.{KeySpec}
@@ -9,9 +9,9 @@ use Rattle.constraint_rec.specs.declared.constraint.Hop.{Hop}
 use Rattle.constraint_rec.specs.declared.constraint.Constraint.{Constraint}
 use Rattle.constraint_rec.specs.declared.terms.Terms.{Terms}
 use Rattle.constraint_rec.specs.Hops.{list_text, key_of, hop_of, constraint_of, IsDestination}
-use Rattle.constraint_rec.specs.Constraints.{no_terms, Item, Life, Confirmation, Rules, AreRules, item_text, IsItem, is_alike, with_item, with_items, IsConstraints}
+use Rattle.constraint_rec.specs.Constraints.{no_terms, Item, Life, Confirmation, UseCount, Rules, AreRules, IsUseCount, item_text, IsItem, is_alike, with_item, with_items, IsConstraints}
 use Rattle.constraint_rec.proofs.SizeLemmas.{list_len}
-use Rattle.constraint_rec.specs.Writing.{is_ca_byte, spelt_key, spelt_hop, spelt_constraint, life_items, confirm_items, rule_items, items_of, constraints_bytes, IsWritable}
+use Rattle.constraint_rec.specs.Writing.{is_ca_byte, spelt_key, spelt_hop, spelt_constraint, life_items, confirm_items, use_items, rule_items, items_of, constraints_bytes, IsWritable}
 
 -- ---- what is spelled says what was to be said
 
@@ -37,13 +37,18 @@ rules_say (rule ∷ rules) =
 
 -- ---- the text of terms
 
--- the text in three parts
+-- the text in four parts
 pub constraints_in_parts : (terms : Terms) → constraints_bytes terms
-    ≡ flat_map item_text (life_items terms.life) ++ (flat_map item_text (confirm_items terms.confirm) ++ flat_map item_text (rule_items terms.rules))
+    ≡ flat_map item_text (life_items terms.life) ++ (flat_map item_text (confirm_items terms.confirm)
+    ++ (flat_map item_text (use_items terms.uses) ++ flat_map item_text (rule_items terms.rules)))
 unfolding constraints_bytes
 constraints_in_parts terms =
-    flat_map-append item_text (life_items terms.life) (confirm_items terms.confirm ++ rule_items terms.rules)
-    ∙ ap (λ (tail : List ℕ). flat_map item_text (life_items terms.life) ++ tail) (flat_map-append item_text (confirm_items terms.confirm) (rule_items terms.rules))
+    let last : List Item = use_items terms.uses ++ rule_items terms.rules in
+    flat_map-append item_text (life_items terms.life) (confirm_items terms.confirm ++ last)
+    ∙ ap (λ (tail : List ℕ). flat_map item_text (life_items terms.life) ++ tail)
+    (flat_map-append item_text (confirm_items terms.confirm) last
+    ∙ ap (λ (tail : List ℕ). flat_map item_text (confirm_items terms.confirm) ++ tail)
+    (flat_map-append item_text (use_items terms.uses) (rule_items terms.rules)))
 
 -- the destination constraints that are written are some that fit
 rules_fit : (rule : Constraint) (rules : List Constraint) → All IsDestination (rule ∷ rules) → length (list_text (map spelt_constraint (rule ∷ rules))) < 2 ^ 32 →
@@ -51,85 +56,148 @@ rules_fit : (rule : Constraint) (rules : List Constraint) → All IsDestination 
 rules_fit rule rules good short =
     record { some = λ none. absurd cc; each = subst (All IsDestination) (sym (rules_say (rule ∷ rules))) good; short = short }
 
--- one constraint of each kind, by cases
-items_fit : (life : Option ℕ) (confirm : Bool) (rules : List Constraint) → IfSome life (λ s. s < 2 ^ 32) → All IsDestination rules →
-    length (list_text (map spelt_constraint rules)) < 2 ^ 32 → All IsItem (life_items life ++ (confirm_items confirm ++ rule_items rules))
-items_fit life confirm rules short good fits = by_life life short
-  where
-    last : (rules : List Constraint) → All IsDestination rules → length (list_text (map spelt_constraint rules)) < 2 ^ 32 → All IsItem (rule_items rules)
-    last [] good fits = All-nil IsItem
-    last (rule ∷ rules) good fits = All-cons IsItem (Rules (map spelt_constraint (rule ∷ rules))) [] (rules_fit rule rules good fits) (All-nil IsItem)
+-- ---- one constraint of each kind
 
-    by_confirm : (confirm : Bool) → All IsItem (confirm_items confirm ++ rule_items rules)
-    by_confirm true = All-cons IsItem Confirmation (rule_items rules) tt (last rules good fits)
-    by_confirm false = last rules good fits
+-- each fits
+life_fits : (life : Option ℕ) → IfSome life (λ s. s < 2 ^ 32) → All IsItem (life_items life)
+life_fits None short = All-nil IsItem
+life_fits (Some seconds) short = All-cons IsItem (Life seconds) [] short (All-nil IsItem)
 
-    by_life : (life : Option ℕ) → IfSome life (λ s. s < 2 ^ 32) → All IsItem (life_items life ++ (confirm_items confirm ++ rule_items rules))
-    by_life None short = by_confirm confirm
-    by_life (Some seconds) short = All-cons IsItem (Life seconds) (confirm_items confirm ++ rule_items rules) short (by_confirm confirm)
+confirm_fits : (confirm : Bool) → All IsItem (confirm_items confirm)
+confirm_fits true = All-cons IsItem Confirmation [] tt (All-nil IsItem)
+confirm_fits false = All-nil IsItem
+
+uses_fit : (uses : Option ℕ) → IfSome uses IsUseCount → All IsItem (use_items uses)
+uses_fit None fit = All-nil IsItem
+uses_fit (Some uses) fit = All-cons IsItem (UseCount uses) [] fit (All-nil IsItem)
+
+each_rule_fits : (rules : List Constraint) → All IsDestination rules → length (list_text (map spelt_constraint rules)) < 2 ^ 32 → All IsItem (rule_items rules)
+each_rule_fits [] good fits = All-nil IsItem
+each_rule_fits (rule ∷ rules) good fits =
+    All-cons IsItem (Rules (map spelt_constraint (rule ∷ rules))) [] (rules_fit rule rules good fits) (All-nil IsItem)
+
+items_fit : (terms : Terms) → IsWritable terms → IfSome terms.life (λ s. s < 2 ^ 32) → All IsItem (items_of terms)
+items_fit terms is life =
+    All-append IsItem (life_items terms.life) _ (life_fits terms.life life)
+    (All-append IsItem (confirm_items terms.confirm) _ (confirm_fits terms.confirm)
+    (All-append IsItem (use_items terms.uses) _ (uses_fit terms.uses is.uses) (each_rule_fits terms.rules is.rules is.short)))
+
+-- how many of the constraints are of this one's kind
+abbrev alike : Item → List Item → ℕ
+alike item items = length (filter (is_alike item) items)
+
+alike-append : (item : Item) (xs ys : List Item) → alike item (xs ++ ys) ≡ alike item xs + alike item ys
+alike-append item xs ys =
+    ap length (filter-append (is_alike item) xs ys) ∙ length-append (filter (is_alike item) xs) (filter (is_alike item) ys)
+
+-- one of these comes at most once, and only where it is of its own kind
+abbrev once : Item → Item → ℕ
+once item own = cond (is_alike item own) 1 0
+
+life_once : (life : Option ℕ) (item : Item) → alike item (life_items life) ≤ once item (Life 0)
+life_once None item = omega arith
+life_once (Some n) (Life s) = omega arith
+life_once (Some n) Confirmation = omega arith
+life_once (Some n) (UseCount u) = omega arith
+life_once (Some n) (Rules r) = omega arith
+
+confirm_once : (confirm : Bool) (item : Item) → alike item (confirm_items confirm) ≤ once item Confirmation
+confirm_once false item = omega arith
+confirm_once true (Life s) = omega arith
+confirm_once true Confirmation = omega arith
+confirm_once true (UseCount u) = omega arith
+confirm_once true (Rules r) = omega arith
+
+uses_once : (uses : Option ℕ) (item : Item) → alike item (use_items uses) ≤ once item (UseCount 1)
+uses_once None item = omega arith
+uses_once (Some n) (Life s) = omega arith
+uses_once (Some n) Confirmation = omega arith
+uses_once (Some n) (UseCount u) = omega arith
+uses_once (Some n) (Rules r) = omega arith
+
+rules_once : (rules : List Constraint) (item : Item) → alike item (rule_items rules) ≤ once item (Rules [])
+rules_once [] item = omega arith
+rules_once (rule ∷ rules) (Life s) = omega arith
+rules_once (rule ∷ rules) Confirmation = omega arith
+rules_once (rule ∷ rules) (UseCount u) = omega arith
+rules_once (rule ∷ rules) (Rules r) = omega arith
+
+-- it is of one kind
+one_kind : (item : Item) → once item (Life 0) + (once item Confirmation + (once item (UseCount 1) + once item (Rules []))) ≡ 1
+one_kind (Life s) = refl
+one_kind Confirmation = refl
+one_kind (UseCount u) = refl
+one_kind (Rules r) = refl
 
 -- none comes twice
-items_once : (life : Option ℕ) (confirm : Bool) (rules : List Constraint) (item : Item) →
-    length (filter (is_alike item) (life_items life ++ (confirm_items confirm ++ rule_items rules))) ≤ 1
-items_once None true [] (Life s) = omega arith
-items_once None true [] Confirmation = omega arith
-items_once None true [] (Rules r) = omega arith
-items_once None false [] (Life s) = omega arith
-items_once None false [] Confirmation = omega arith
-items_once None false [] (Rules r) = omega arith
-items_once (Some n) true [] (Life s) = omega arith
-items_once (Some n) true [] Confirmation = omega arith
-items_once (Some n) true [] (Rules r) = omega arith
-items_once (Some n) false [] (Life s) = omega arith
-items_once (Some n) false [] Confirmation = omega arith
-items_once (Some n) false [] (Rules r) = omega arith
-items_once None true (rule ∷ rules) (Life s) = omega arith
-items_once None true (rule ∷ rules) Confirmation = omega arith
-items_once None true (rule ∷ rules) (Rules r) = omega arith
-items_once None false (rule ∷ rules) (Life s) = omega arith
-items_once None false (rule ∷ rules) Confirmation = omega arith
-items_once None false (rule ∷ rules) (Rules r) = omega arith
-items_once (Some n) true (rule ∷ rules) (Life s) = omega arith
-items_once (Some n) true (rule ∷ rules) Confirmation = omega arith
-items_once (Some n) true (rule ∷ rules) (Rules r) = omega arith
-items_once (Some n) false (rule ∷ rules) (Life s) = omega arith
-items_once (Some n) false (rule ∷ rules) Confirmation = omega arith
-items_once (Some n) false (rule ∷ rules) (Rules r) = omega arith
+items_once : (terms : Terms) (item : Item) → alike item (items_of terms) ≤ 1
+items_once terms item =
+    let last : List Item = use_items terms.uses ++ rule_items terms.rules in
+    let a = alike-append item (life_items terms.life) (confirm_items terms.confirm ++ last) in
+    let b = alike-append item (confirm_items terms.confirm) last in
+    let c = alike-append item (use_items terms.uses) (rule_items terms.rules) in
+    omega (
+      arith,
+      a,
+      b,
+      c,
+      life_once terms.life item,
+      confirm_once terms.confirm item,
+      uses_once terms.uses item,
+      rules_once terms.rules item,
+      one_kind item,
+    )
 
--- terms of these three
-abbrev three : Option ℕ → Bool → List Constraint → Terms
-three life confirm rules = record { life = life; confirm = confirm; rules = rules }
+-- terms of these four
+abbrev four : Option ℕ → Bool → Option ℕ → List Constraint → Terms
+four life confirm uses rules = record { life = life; confirm = confirm; uses = uses; rules = rules }
+
+-- each says what it was made from, whatever follows
+life_says : (life : Option ℕ) (items : List Item) → with_items no_terms (life_items life ++ items) ≡ with_items (four life false None []) items
+life_says None items = refl
+life_says (Some n) items = refl
+
+confirm_says : (life : Option ℕ) (confirm : Bool) (items : List Item) →
+    with_items (four life false None []) (confirm_items confirm ++ items) ≡ with_items (four life confirm None []) items
+confirm_says life true items = refl
+confirm_says life false items = refl
+
+uses_say : (life : Option ℕ) (confirm : Bool) (uses : Option ℕ) (items : List Item) →
+    with_items (four life confirm None []) (use_items uses ++ items) ≡ with_items (four life confirm uses []) items
+uses_say life confirm None items = refl
+uses_say life confirm (Some n) items = refl
+
+last_say : (life : Option ℕ) (confirm : Bool) (uses : Option ℕ) (rules : List Constraint) →
+    with_items (four life confirm uses []) (rule_items rules) ≡ four life confirm uses rules
+last_say life confirm uses [] = refl
+last_say life confirm uses (rule ∷ rules) = ap (four life confirm uses) (rules_say (rule ∷ rules))
 
 -- they say the terms
-items_say : (life : Option ℕ) (confirm : Bool) (rules : List Constraint) →
-    three life confirm rules ≡ with_items no_terms (life_items life ++ (confirm_items confirm ++ rule_items rules))
-items_say None true [] = refl
-items_say None false [] = refl
-items_say (Some n) true [] = refl
-items_say (Some n) false [] = refl
-items_say None true (rule ∷ rules) = ap (three None true) (sym (rules_say (rule ∷ rules)))
-items_say None false (rule ∷ rules) = ap (three None false) (sym (rules_say (rule ∷ rules)))
-items_say (Some n) true (rule ∷ rules) = ap (three (Some n) true) (sym (rules_say (rule ∷ rules)))
-items_say (Some n) false (rule ∷ rules) = ap (three (Some n) false) (sym (rules_say (rule ∷ rules)))
+items_say : (terms : Terms) → with_items no_terms (items_of terms) ≡ terms
+items_say terms =
+    let last : List Item = use_items terms.uses ++ rule_items terms.rules in
+    life_says terms.life (confirm_items terms.confirm ++ last) ∙ confirm_says terms.life terms.confirm last
+    ∙ uses_say terms.life terms.confirm terms.uses (rule_items terms.rules) ∙ last_say terms.life terms.confirm terms.uses terms.rules
 
 -- what is written is constraints
 pub written_are_constraints : (terms : Terms) → IsWritable terms → IfSome terms.life (λ s. s < 2 ^ 32) → IsConstraints (constraints_bytes terms) terms
 unfolding constraints_bytes
-written_are_constraints terms is short =
+written_are_constraints terms is life =
     record {
       items = items_of terms;
       text = refl;
-      fit = items_fit terms.life terms.confirm terms.rules short is.rules is.short;
-      once = items_once terms.life terms.confirm terms.rules;
-      values = items_say terms.life terms.confirm terms.rules;
+      fit = items_fit terms is life;
+      once = items_once terms;
+      values = sym (items_say terms);
     }
 
 -- ---- what was read can be written
 
 with_item_writable : (terms : Terms) (item : Item) → IsItem item → IsWritable terms → IsWritable (with_item terms item)
-with_item_writable terms (Life seconds) fit is = record { rules = is.rules; short = is.short }
-with_item_writable terms Confirmation fit is = record { rules = is.rules; short = is.short }
-with_item_writable terms (Rules rules) fit is = record { rules = fit.each; short = omega (arith, fit.short, list_len rules) }
+with_item_writable terms (Life seconds) fit is = record { uses = is.uses; rules = is.rules; short = is.short }
+with_item_writable terms Confirmation fit is = record { uses = is.uses; rules = is.rules; short = is.short }
+with_item_writable terms (UseCount uses) fit is = record { uses = fit; rules = is.rules; short = is.short }
+with_item_writable terms (Rules rules) fit is = record { uses = is.uses; rules = fit.each; short = omega (arith, fit.short, list_len rules) }
 
 with_items_writable : (items : List Item) (terms : Terms) → All IsItem items → IsWritable terms → IsWritable (with_items terms items)
 with_items_writable [] terms fit is = is
@@ -140,4 +208,4 @@ with_items_writable (item ∷ items) terms fit is =
 -- constraints can be written
 pub constraints_are_writable : (bytes : List ℕ) (terms : Terms) → IsConstraints bytes terms → IsWritable terms
 constraints_are_writable bytes terms is =
-    subst IsWritable (sym is.values) (with_items_writable is.items no_terms is.fit (record { rules = All-nil IsDestination; short = omega arith }))
+    subst IsWritable (sym is.values) (with_items_writable is.items no_terms is.fit (record { uses = tt; rules = All-nil IsDestination; short = omega arith }))

@@ -4,11 +4,11 @@ use Rattle.std.specs.Option.{ok_or}
 use Rattle.std.specs.Str.{bytes_eq}
 use Rattle.wire_core.specs.Fields.{uint32_at}
 use Rattle.constraint_rec.specs.declared.fault.TermFault.{TermFault}
-use Rattle.constraint_rec.specs.declared.fault.TermFault.TheVariants.{Short, Unknown, Twice}
+use Rattle.constraint_rec.specs.declared.fault.TermFault.TheVariants.{Short, Unknown, Twice, NoUses}
 use Rattle.constraint_rec.specs.declared.kind.Kind.{Kind}
-use Rattle.constraint_rec.specs.declared.kind.Kind.TheVariants.{Lifetime, Confirm, Destinations}
+use Rattle.constraint_rec.specs.declared.kind.Kind.TheVariants.{Lifetime, Confirm, Uses, Destinations}
 use Rattle.constraint_rec.specs.declared.terms.Terms.{Terms}
-use Rattle.constraint_rec.specs.Constraints.{no_terms, restrict_destination}
+use Rattle.constraint_rec.specs.Constraints.{no_terms, restrict_destination, uses_name}
 use Rattle.wire_core.specs.Readings.{◌>>=◌}
 use Rattle.constraint_rec.specs.HopReading.{is_empty, field_at, rules_in}
 
@@ -18,6 +18,7 @@ use Rattle.constraint_rec.specs.HopReading.{is_empty, field_at, rules_in}
 abbrev pub kind_named : List ℕ × List ℕ → Result (Kind × List ℕ) TermFault
 kind_named name =
     if bytes_eq name.0 restrict_destination then Ok (Destinations, name.1)
+    else if bytes_eq name.0 uses_name then Ok (Uses, name.1)
     else Err Unknown
 
 -- the kind of the extension whose name is at the front, and the bytes that follow
@@ -37,11 +38,24 @@ kind_at (byte ∷ rest) =
 abbrev pub has_kind : Terms → Kind → Bool
 has_kind terms Lifetime = is_some terms.life
 has_kind terms Confirm = terms.confirm
+has_kind terms Uses = is_some terms.uses
 has_kind terms Destinations = not (is_empty terms.rules)
 
 -- the terms with this lifetime, and the bytes that follow
 abbrev pub with_life : Terms → ℕ × List ℕ → Result (Terms × List ℕ) TermFault
 with_life terms seconds = Ok (record terms { life = Some seconds.0 }, seconds.1)
+
+-- a number that was read, where it is a number of uses: 0 is none
+abbrev pub some_uses : ℕ × List ℕ → Result (ℕ × List ℕ) TermFault
+some_uses number = if number.0 == 0 then Err NoUses else Ok number
+
+-- a number of uses, and the bytes that follow
+abbrev pub uses_at : List ℕ → Result (ℕ × List ℕ) TermFault
+uses_at bytes = ok_or (uint32_at bytes) Short >>= some_uses
+
+-- the terms with this number of uses, and the bytes that follow
+abbrev pub with_uses : Terms → ℕ × List ℕ → Result (Terms × List ℕ) TermFault
+with_uses terms uses = Ok (record terms { uses = Some uses.0 }, uses.1)
 
 -- the terms with the destination constraints that the contents are, and the bytes that follow
 abbrev pub with_rules : Terms → List ℕ × List ℕ → Result (Terms × List ℕ) TermFault
@@ -51,6 +65,7 @@ with_rules terms contents = rules_in contents.0 >>= λ rules. Ok (record terms {
 unfoldable pub contents_at : Kind → Terms → List ℕ → Result (Terms × List ℕ) TermFault
 contents_at Lifetime terms bytes = ok_or (uint32_at bytes) Short >>= with_life terms
 contents_at Confirm terms bytes = Ok (record terms { confirm = true }, bytes)
+contents_at Uses terms bytes = uses_at bytes >>= with_uses terms
 contents_at Destinations terms bytes = field_at bytes >>= with_rules terms
 
 -- ---- one after another

@@ -1,13 +1,13 @@
--- Constraints as they are written: lifetime, confirmation, destination constraints, each where it is
--- there.
-use Rattle.std.specs.Prelude.{ℕ, ◌^◌, ◌<◌, Bool, true, false, List, [], ◌∷◌, ◌++◌, map, length, All, Option, Some, None}
+-- Constraints as they are written: lifetime, confirmation, number of uses, destination constraints, each
+-- where it is there.
+use Rattle.std.specs.Prelude.{ℕ, ◌^◌, ◌<◌, Bool, true, false, List, [], ◌∷◌, ◌++◌, map, length, All, Option, Some, None, IfSome}
 use Rattle.std.specs.List.{flat_map}
 use Rattle.constraint_rec.specs.declared.key_spec.KeySpec.{KeySpec}
 use Rattle.constraint_rec.specs.declared.constraint.Hop.{Hop}
 use Rattle.constraint_rec.specs.declared.constraint.Constraint.{Constraint}
 use Rattle.constraint_rec.specs.declared.terms.Terms.{Terms}
 use Rattle.constraint_rec.specs.Hops.{SpeltKey, SpeltHop, SpeltConstraint, list_text, IsDestination}
-use Rattle.constraint_rec.specs.Constraints.{Item, Life, Confirmation, Rules, item_text}
+use Rattle.constraint_rec.specs.Constraints.{Item, Life, Confirmation, UseCount, Rules, IsUseCount, item_text}
 
 -- ---- how they are spelled
 
@@ -41,6 +41,11 @@ abbrev pub confirm_items : Bool → List Item
 confirm_items true = Confirmation ∷ []
 confirm_items false = []
 
+-- the number of uses, where there is one
+abbrev pub use_items : Option ℕ → List Item
+use_items None = []
+use_items (Some uses) = UseCount uses ∷ []
+
 -- the destination constraints in one extension, where there are any
 abbrev pub rule_items : List Constraint → List Item
 rule_items [] = []
@@ -48,14 +53,21 @@ rule_items (rule ∷ rules) = Rules (map spelt_constraint (rule ∷ rules)) ∷ 
 
 -- the constraints of the terms, in the order in which they are written
 abbrev pub items_of : Terms → List Item
-items_of terms = life_items terms.life ++ (confirm_items terms.confirm ++ rule_items terms.rules)
+items_of terms =
+    life_items terms.life ++ (confirm_items terms.confirm ++ (use_items terms.uses ++ rule_items terms.rules))
 
 -- the text of the terms
 unfoldable pub constraints_bytes : Terms → List ℕ
 constraints_bytes terms = flat_map item_text (items_of terms)
 
--- each destination constraint meets the rules of the format, and the text of all fits its field, so
--- that each text in it does
+-- the number of uses and the destination constraints, each by itself, meet the rules of the format
+pub record MeetsRules (terms : Terms) : Type 0 where
+  pub uses : IfSome terms.uses IsUseCount
+  pub rules : All IsDestination terms.rules
+
+-- the number of uses is one that a constraint may have, each destination constraint meets the rules of the format, and the
+-- text of all fits its field, so that each text in it does
 pub record IsWritable (terms : Terms) : Type 0 where
+  pub uses : IfSome terms.uses IsUseCount
   pub rules : All IsDestination terms.rules
   pub short : length (list_text (map spelt_constraint terms.rules)) < 2 ^ 32

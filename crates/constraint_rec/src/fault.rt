@@ -27,6 +27,8 @@ pub enum TermFault {
     Key = 9,
     /// Memory ran out. Says nothing of the bytes.
     Memory = 10,
+    /// The number of uses is 0.
+    NoUses = 11,
 }
 
 impl From<Short> for TermFault {

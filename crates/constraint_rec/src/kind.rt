@@ -1,5 +1,5 @@
 ghost use Rattle.std.specs.Prelude.{◌≡◌, ◌<◌, length, OnOk, MatchResult, Ok, Err};
-ghost use Rattle.constraint_rec.specs.Constraints.{restrict_destination};
+ghost use Rattle.constraint_rec.specs.Constraints.{restrict_destination, uses_name};
 ghost use Rattle.constraint_rec.specs.Reading.{extension_at, kind_at};
 
 use crate::fault::TermFault;
@@ -10,6 +10,7 @@ use wire_core::Cursor;
 pub enum Kind {
     Lifetime,
     Confirm,
+    Uses,
     Destinations,
 }
 
@@ -21,14 +22,25 @@ pub fn restrict_destination() -> &'static [u8]
     b"restrict-destination-v00@openssh.com".as_slice()
 }
 
+/// The name of the extension that holds a number of uses.
+#[tactic(auto, unfolding(crate::specs::Constraints::uses_name))]
+pub fn uses_name() -> &'static [u8]
+    ensures { result.now ≡ uses_name }
+{
+    b"uses-v00@example.com".as_slice()
+}
+
 /// Takes the name of an extension. A refused call may have moved the cursor.
 fn take_extension(from: &mut Cursor<'_>) -> Result<Kind, TermFault>
     ensures exact { MatchResult result (λ kind. extension_at from.old ≡ Ok (kind, from.new))
         (λ fault. extension_at from.old ≡ Err fault) }
     ensures shorter { OnOk result (length from.new < length from.old) }
 {
-    if from.take_string()? == restrict_destination() {
+    let name = from.take_string()?;
+    if name == restrict_destination() {
         Ok(Kind::Destinations)
+    } else if name == uses_name() {
+        Ok(Kind::Uses)
     } else {
         Err(TermFault::Unknown)
     }

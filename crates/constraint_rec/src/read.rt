@@ -2,7 +2,7 @@ ghost use Rattle.std.specs.Prelude.{◌≡◌, ◌<◌, length, OnOk, List, [], 
 ghost use Rattle.constraint_rec.specs.declared.fault.TermFault.TheVariants.{Memory};
 ghost use Rattle.constraint_rec.specs.declared.terms.Terms.{Terms};
 ghost use Rattle.constraint_rec.specs.Constraints.{IsConstraints};
-ghost use Rattle.constraint_rec.specs.Reading.{has_kind, next_at, terms_of};
+ghost use Rattle.constraint_rec.specs.Reading.{has_kind, uses_at, next_at, terms_of};
 ghost use Rattle.constraint_rec.specs.Writing.{IsWritable};
 
 use crate::destination::read_destinations;
@@ -19,7 +19,20 @@ fn has(terms: &Terms, kind: Kind) -> bool
     match kind {
         Kind::Lifetime => terms.life.is_some(),
         Kind::Confirm => terms.confirm,
+        Kind::Uses => terms.uses.is_some(),
         Kind::Destinations => !terms.rules.is_empty(),
+    }
+}
+
+/// Takes a number of uses. A refused call may have moved the cursor.
+fn take_uses(from: &mut Cursor<'_>) -> Result<u32, TermFault>
+    ensures exact { MatchResult result (λ uses. uses_at from.old ≡ Ok (uses, from.new))
+        (λ fault. uses_at from.old ≡ Err fault) }
+    ensures shorter { OnOk result (length from.new < length from.old) }
+{
+    match from.take_u32()? {
+        0 => Err(TermFault::NoUses),
+        uses => Ok(uses),
     }
 }
 
@@ -37,6 +50,7 @@ fn take_constraint(alloc: Global, from: &mut Cursor<'_>, terms: &mut Terms) -> R
     match kind {
         Kind::Lifetime => terms.life = Some(from.take_u32()?),
         Kind::Confirm => terms.confirm = true,
+        Kind::Uses => terms.uses = Some(take_uses(from)?),
         Kind::Destinations => terms.rules = read_destinations(alloc, from.take_string()?)?,
     }
     Ok(())

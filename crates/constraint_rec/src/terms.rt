@@ -12,6 +12,8 @@ pub struct Terms {
     pub life: Option<u32>,
     /// Whether each use is to be confirmed.
     pub confirm: bool,
+    /// How often the key may be used. At least 1 where it is there.
+    pub uses: Option<u32>,
     /// Where the key may be used. Empty where it may be used anywhere.
     pub rules: PlainList<Constraint>,
 }
@@ -24,6 +26,7 @@ impl Terms {
         Terms {
             life: None,
             confirm: false,
+            uses: None,
             rules: PlainList::new(alloc),
         }
     }

@@ -6,11 +6,11 @@ ghost use Rattle.wire_text.specs.Wire.{string};
 ghost use Rattle.constraint_rec.specs.Hops.{key_text, hop_text, constraint_text, list_text};
 ghost use Rattle.constraint_rec.specs.Constraints.{IsConstraints, item_text};
 ghost use Rattle.constraint_rec.specs.Reading.{terms_of};
-ghost use Rattle.constraint_rec.specs.Writing.{spelt_key, spelt_hop, spelt_constraint, life_items, confirm_items, rule_items, constraints_bytes, IsWritable};
+ghost use Rattle.constraint_rec.specs.Writing.{spelt_key, spelt_hop, spelt_constraint, life_items, confirm_items, use_items, rule_items, constraints_bytes, IsWritable};
 
 use crate::constraint::{Constraint, Hop};
 use crate::key_spec::KeySpec;
-use crate::kind::restrict_destination;
+use crate::kind::{restrict_destination, uses_name};
 use crate::terms::Terms;
 use std::alloc::{AllocError, Global};
 use wire_core::{put_string, put_u8, put_u32};
@@ -101,6 +101,18 @@ fn put_confirm(out: &mut Vec<u8>, confirm: bool) -> Result<(), AllocError>
     Ok(())
 }
 
+fn put_uses(out: &mut Vec<u8>, uses: Option<u32>) -> Result<(), AllocError>
+    ensures { OnOk result (out.new.items
+        ≡ out.old.items ++ flat_map item_text (use_items uses)) }
+{
+    if let Some(count) = uses {
+        put_u8(out, 255)?;
+        put_string(out, uses_name())?;
+        put_u32(out, count)?;
+    }
+    Ok(())
+}
+
 fn put_rules(out: &mut Vec<u8>, rules: &[Constraint]) -> Result<(), AllocError>
     requires { length (list_text (map spelt_constraint rules.now)) < 2 ^ 32 }
     ensures { OnOk result (out.new.items
@@ -123,11 +135,13 @@ fn constraints_text(alloc: Global, terms: &Terms) -> Result<Vec<u8>, AllocError>
     let mut text = Vec::new(alloc);
     put_life(&mut text, terms.life)?;
     put_confirm(&mut text, terms.confirm)?;
+    put_uses(&mut text, terms.uses)?;
     put_rules(&mut text, terms.rules.as_slice())?;
     Ok(text)
 }
 
-/// Appends the lifetime, confirmation and the destination constraints, each where it is there.
+/// Appends the lifetime, confirmation, the number of uses and the destination constraints, each
+/// where it is there.
 pub fn write_constraints(out: &mut Vec<u8>, terms: &Terms) -> Result<(), AllocError>
     requires { IsWritable terms.now }
     ensures ok { OnOk result (out.new.items ≡ out.old.items ++ constraints_bytes terms.now) }

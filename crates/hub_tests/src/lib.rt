@@ -7,6 +7,8 @@ mod counted;
 #[cfg(test)]
 mod crowd_tests;
 #[cfg(test)]
+mod failing_tests;
+#[cfg(test)]
 mod helper_tests;
 #[cfg(test)]
 mod scripts;

@@ -6,7 +6,7 @@ use Rattle.lists.specs.Firsts.{IsOnly}
 use Rattle.lists.proofs.FirstLemmas.{find-filter, find-filter_none, find-remove_apart, find-remove_none, find-removed, found_passes, if_kept}
 use Rattle.identity_table.specs.Deaths.{lives_at}
 use Rattle.identity_table.specs.Identities.{HeldKey, find_identity, has_blob, put_identity, remove_identity, alive_at, HaveOwnBlobs}
-use Rattle.identity_table.proofs.PlaceLemmas.{same_bytes, other_bytes, equal}
+use Rattle.identity_table.proofs.AdditionLemmas.{equal, other_bytes, same_bytes}
 
 -- ---- what is found
 

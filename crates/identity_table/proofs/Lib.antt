@@ -1,7 +1,15 @@
-pub mod PlaceLemmas
+pub mod AdditionLemmas
+pub mod ChangeLemmas
 pub mod DeathLemmas
 pub mod FindLemmas
-pub mod NumberLemmas
+pub mod IndexLemmas
 pub mod NumberLaws
+pub mod NumberLemmas
+pub mod PushedLemmas
+pub mod QueueLemmas
+pub mod RecordLemmas
+pub mod RemovedLemmas
+pub mod ReplacedLemmas
 pub mod TableLemmas
 pub mod Theorems
+pub mod UpdateLemmas

@@ -6,9 +6,9 @@ use Rattle.lists.specs.Keyed.{has_key}
 use Rattle.lists.proofs.FirstLemmas.{find-filter, found_too, if_kept, remove-filter, some_or_later}
 use Rattle.identity_table.specs.Deaths.{lives_at}
 use Rattle.identity_table.specs.Identities.{HeldKey, find_identity, find_number, has_blob, number_of, put_identity, remove_identity, alive_at, HaveOwnBlobs, HaveOwnNumbers}
-use Rattle.identity_table.proofs.PlaceLemmas.{same_bytes, equal}
 use Rattle.identity_table.proofs.FindLemmas.{if_alive, only_blob}
 use Rattle.identity_table.proofs.NumberLemmas.{found_within, only_number}
+use Rattle.identity_table.proofs.AdditionLemmas.{equal, same_bytes}
 
 -- an identity that was found, unless it has this blob
 abbrev pub unless_blob : List ℕ → Option HeldKey → Option HeldKey

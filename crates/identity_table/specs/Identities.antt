@@ -122,7 +122,7 @@ pub record IsSound (keys : List HeldKey) (last : ℕ) : Type 0 where
 
 -- ---- additions
 
--- an identity of these parts
+-- an identity of these parts; a number of uses isn't kept
 abbrev pub identity_of : ℕ → AddedKey → List ℕ → Option ℕ → Terms → HeldKey
 identity_of number key comment death terms = record {
   number = number;

@@ -54,6 +54,7 @@ impl Identity {
         let Terms {
             life: _,
             confirm,
+            uses: _,
             rules,
         } = terms;
         Identity {

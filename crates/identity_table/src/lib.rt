@@ -8,8 +8,8 @@ mod deadline;
 mod fault;
 mod identity;
 mod laws;
-mod list;
 mod lock;
+mod records;
 mod table;
 
 pub use fault::AddFault;
@@ -18,6 +18,5 @@ pub use laws::{
     addition_numbers_never_begin_again, blob_and_number_find_the_same, tables_stay_sound,
     what_is_held_is_short,
 };
-pub use list::listed_len;
 pub use lock::Lock;
 pub use table::Table;

@@ -1,16 +1,18 @@
 ghost use Rattle.std.specs.Prelude.{◌≡◌, ◌+◌, ◌≤◌, ◌↔◌, IsSome, IsTrue, IfOk, MatchResult, None, OnOk, OnErr, length, slice_get};
 ghost use Rattle.std.specs.Option.{option_copied};
-ghost use Rattle.identity_table.specs.Identities.{IsSound, added, find_identity, find_number, longest_private, next_death};
+ghost use Rattle.std.specs.Map.Iter.{ShowsInOrder, deref};
+ghost use Rattle.identity_table.specs.Identities.{HeldKey, IsSound, added, answer_len, find_identity, find_number, longest_private, next_death};
 ghost use Rattle.identity_table.specs.Tables.{IsRefusedWith, add_fault, emptied, empty_table, expired, without};
 
 use crate::deadline::Deadline;
 use crate::fault::AddFault;
 use crate::identity::Identity;
-use crate::list::{first_death, has_room, place_of, place_of_number, put, remove, remove_dead};
+use crate::records::Records;
 use constraint_rec::Terms;
 use key_blob::AddedKey;
 use plain_lists::Bytes;
 use std::alloc::Global;
+use std::collections::btree_map::Values;
 use std::marker::Model;
 
 /// The identities that an agent holds, in order of first addition.
@@ -18,29 +20,25 @@ use std::marker::Model;
 /// Seconds are those of one clock that never goes back.
 #[derive(Drop)]
 pub struct Table {
-    identities: Vec<Identity>,
+    records: Records,
     greatest: u64,
-    last: u64,
     life: Option<u32>,
-    // Of the identities, so that nothing is looked at where none is due.
-    first_death: Option<u64>,
 }
 
 impl Model for Table {
-    ghost use Rattle.std.specs.Prelude.{◌≡◌};
-    ghost use Rattle.identity_table.specs.Identities.{TableState, next_death, IsSound};
+    ghost use Rattle.identity_table.specs.Identities.{TableState};
+    ghost use Rattle.identity_table.specs.Indices.{IsIndexed, held};
 
     ghost Value = { TableState };
 
     ghost view = { λ table. record {
-      identities = table.identities.items;
+      identities = held table.records;
       greatest = table.greatest;
-      last = table.last;
+      last = table.records.last;
       life = table.life;
     } };
 
-    ghost invariant = { λ table. IsSound table.identities.items table.last
-        × (table.first_death ≡ next_death table.identities.items) };
+    ghost invariant = { λ table. IsIndexed table.records };
 }
 
 impl Table {
@@ -49,11 +47,9 @@ impl Table {
         ensures { result ≡ empty_table default_life }
     {
         Table {
-            identities: Vec::new(alloc),
+            records: Records::new(alloc),
             greatest: 0,
-            last: 0,
             life: default_life,
-            first_death: None,
         }
     }
 
@@ -62,7 +58,7 @@ impl Table {
         requires { self.old.greatest ≤ now }
         ensures { self.new ≡ expired now self.old }
     {
-        self.first_death = remove_dead(&mut self.identities, self.first_death, now);
+        self.records.remove_dead(now);
         self.greatest = now;
     }
 
@@ -85,21 +81,17 @@ impl Table {
             (IsRefusedWith (add_fault self.old key terms comment.now now)) }
         ensures unchanged { OnErr result (self.new ≡ self.old) }
     {
-        if !has_room(&self.identities, key.blob.as_slice(), comment) {
+        if !self.records.has_room(key.blob.as_slice(), comment) {
             return Err(AddFault::ListFull);
         }
-        if self.last == u64::MAX {
+        if self.records.last == u64::MAX {
             return Err(AddFault::NumbersSpent);
         }
-        let number = self.last + 1;
-        let comment = Bytes::from_vec(Vec::from_slice(*self.identities.allocator(), comment)?);
+        let number = self.records.last + 1;
+        let comment = Bytes::from_vec(Vec::from_slice(self.records.alloc, comment)?);
         let deadline = Deadline::of(now, terms.life, self.life);
-        put(
-            &mut self.identities,
-            Identity::of(number, key, comment, deadline, terms),
-        )?;
-        self.first_death = first_death(&self.identities);
-        self.last = number;
+        self.records
+            .put(Identity::of(number, key, comment, deadline, terms))?;
         self.greatest = now;
         Ok(number)
     }
@@ -109,8 +101,7 @@ impl Table {
         ensures value { option_copied result ≡ find_identity blob.now self.now.identities }
         ensures sound { IsSound self.now.identities self.now.last }
     {
-        let place = place_of(&self.identities, blob)?;
-        Some(&self.identities[place])
+        self.records.find(blob)
     }
 
     /// The identity of this addition, where it is held and wasn't replaced.
@@ -118,15 +109,14 @@ impl Table {
         ensures value { option_copied result ≡ find_number addition self.now.identities }
         ensures sound { IsSound self.now.identities self.now.last }
     {
-        let place = place_of_number(&self.identities, addition)?;
-        Some(&self.identities[place])
+        self.records.find_number(addition)
     }
 
-    /// The identity at this place, counted from 0.
+    /// The identity at this place, counted from 0. Goes over those before it.
     pub fn at(&self, place: usize) -> Option<&Identity>
         ensures { option_copied result ≡ slice_get self.now.identities place }
     {
-        self.identities.get(place)
+        self.records.places.values().nth(place)
     }
 
     /// How many seconds identities live that come without a lifetime.
@@ -136,12 +126,20 @@ impl Table {
         self.life
     }
 
-    /// The identities, lent. One message lists them all.
-    pub fn as_slice(&self) -> &[Identity]
-        ensures value { result.now ≡ self.now.identities }
+    /// The identities, one after another. One message lists them all.
+    pub fn iter(&self) -> Values<'_, u64, Identity>
+        ensures value { result ≡ self.now.identities }
+        ensures runs { ShowsInOrder (deref {X = HeldKey}) }
         ensures sound { IsSound self.now.identities self.now.last }
     {
-        self.identities.as_slice()
+        self.records.places.values()
+    }
+
+    /// How many bytes the body of the answer has that lists all.
+    pub fn listed_len(&self) -> usize
+        ensures { result ≡ answer_len self.now.identities }
+    {
+        self.records.listed
     }
 
     /// The greatest second so far.
@@ -156,7 +154,7 @@ impl Table {
         ensures value { result ≡ length self.now.identities }
         ensures sound { IsSound self.now.identities self.now.last }
     {
-        self.identities.len()
+        self.records.places.len()
     }
 
     /// Removes and wipes the identity with this blob, and tells whether there was one.
@@ -164,23 +162,20 @@ impl Table {
         ensures there { IsTrue result ↔ IsSome (find_identity blob.now self.old.identities) }
         ensures removed { self.new ≡ without blob.now self.old }
     {
-        let removed = remove(&mut self.identities, blob);
-        self.first_death = first_death(&self.identities);
-        removed
+        self.records.remove(blob)
     }
 
     /// Removes and wipes all identities.
     pub fn remove_all(&mut self)
         ensures { self.new ≡ emptied self.old }
     {
-        self.identities.clear();
-        self.first_death = None;
+        self.records.clear();
     }
 
     /// The first second from which an identity is dead, or `None` where the clock comes to none.
     pub fn next_death(&self) -> Option<u64>
         ensures { result ≡ next_death self.now.identities }
     {
-        self.first_death
+        self.records.first_death()
     }
 }

@@ -31,7 +31,7 @@ find-joined port last door (first ∷ ports) other =
     grind (arith, nat_tests)
 
 -- whether or not there is room for it
-find-admitted : (is_in : Bool) (port last : ℕ) (door : Door) (ports : List Port) → (last == port) ≡ false
+pub find-admitted : (is_in : Bool) (port last : ℕ) (door : Door) (ports : List Port) → (last == port) ≡ false
     → find_port port (admitted is_in last door ports) ≡ find_port port ports
 find-admitted false port last door ports other = refl
 find-admitted true port last door ports other = find-joined port last door ports (λ equal. grind (arith, nat_tests))
@@ -39,15 +39,15 @@ find-admitted true port last door ports other = find-joined port last door ports
 -- ---- what is to be read
 
 -- a change of a port that leaves its door, and what it has sent
-record IsSilent (f : Port → Port) : Type 0 where
-  door : (p : Port) → (f p).door ≡ p.door
-  heard : (p : Port) → (f p).heard ≡ p.heard
+pub record IsSilent (f : Port → Port) : Type 0 where
+  pub door : (p : Port) → (f p).door ≡ p.door
+  pub heard : (p : Port) → (f p).heard ≡ p.heard
 
 -- what a client is told, and what its connection is bound to, is such a change
-silent-tell : (verdict : Verdict) → IsSilent (tell verdict)
+pub silent-tell : (verdict : Verdict) → IsSilent (tell verdict)
 silent-tell verdict = record { door = λ p. refl; heard = λ p. refl }
 
-silent-prove : (verification : Verification) → IsSilent (prove verification)
+pub silent-prove : (verification : Verification) → IsSilent (prove verification)
 silent-prove verification = record { door = λ p. refl; heard = λ p. refl }
 
 -- such a change leaves which ports are to be read
@@ -137,13 +137,13 @@ found-spared port low high old (removes number ports spares) rising at found =
     (find_port-left port number low high ports at (spares-rising NoChange port old low high spares rising) found)
 
 -- what a client is owed stands at its port
-owed-client : (door : Door) (number : ℕ) (port : Port) (under_way : UnderWay) → is_client door ≡ true
+pub owed-client : (door : Door) (number : ℕ) (port : Port) (under_way : UnderWay) → is_client door ≡ true
     → owed_as (role_of door number under_way) port under_way ≡ port.owed
 owed-client Clients number port under_way client = refl
 owed-client Children number port under_way client = absurd (cc)
 
 -- and it is told as one
-role-client : (door : Door) (number : ℕ) (under_way : UnderWay) → is_client door ≡ true
+pub role-client : (door : Door) (number : ℕ) (under_way : UnderWay) → is_client door ≡ true
     → role_of door number under_way ≡ Client
 role-client Clients number under_way client = refl
 role-client Children number under_way client = absurd (cc)

@@ -5,6 +5,13 @@ pub mod JournalLemmas
 pub mod FrontLemmas
 pub mod SparedLemmas
 pub mod ElsewhereLemmas
+pub mod LeftLemmas
+pub mod StaffLemmas
+pub mod OpenLemmas
+pub mod ChildLemmas
+pub mod ChildEventLemmas
+pub mod OwedLemmas
+pub mod StandLemmas
 pub mod AddingLemmas
 pub mod QuietLemmas
 pub mod BackLemmas

@@ -92,7 +92,7 @@ module _ (IsQuiet : (Port → Port) → Type 0) (port : ℕ) (start : List Port)
   spared-waits (OnAsk ask) at state other spared = spared
   spared-waits (OnConfirmation job) at state other spared = spared
 
-  spared-look : (number : ℕ) (found : Option Port) (state : State) → find_port number state.ports ≡ found
+  pub spared-look : (number : ℕ) (found : Option Port) (state : State) → find_port number state.ports ≡ found
       → port ≢ number → Spared state → Spared (look_port found state).state
   spared-look number None state is other spared = spared
   spared-look number (Some at) state is other spared =
@@ -149,7 +149,7 @@ module _ (IsQuiet : (Port → Port) → Type 0) (port : ℕ) (start : List Port)
 
       -- the helper's answers, and its loss
 
-      spared-lose : (state : State) → Spared state → Spared (lose state).state
+      pub spared-lose : (state : State) → Spared state → Spared (lose state).state
       spared-lose state spared =
           spares-tell_each (Refuses HelperLost) (askers state.under_way.link.asks) _
           (spares-close_helper state.under_way.link.state state.ports spared)
@@ -187,13 +187,13 @@ module _ (IsQuiet : (Port → Port) → Type 0) (port : ℕ) (start : List Port)
 
       -- a confirmation's end
 
-      spared-over : (confirmation : Confirmation) (state : State) → Spared state
+      pub spared-over : (confirmation : Confirmation) (state : State) → Spared state
           → Spared (over confirmation state).state
       spared-over confirmation state spared =
           spares-tell (Refuses NotConfirmed) confirmation.asker _
           (spares-close_confirmer confirmation.port state.ports spared)
 
-      spared-over_if : (found : Option Confirmation) (state : State) → Spared state → Spared (over_if found state).state
+      pub spared-over_if : (found : Option Confirmation) (state : State) → Spared state → Spared (over_if found state).state
       spared-over_if None state spared = spared
       spared-over_if (Some confirmation) state spared = spared-over confirmation state spared
 

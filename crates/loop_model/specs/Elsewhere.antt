@@ -1,7 +1,10 @@
--- Which port an event is of, and when clients at other ports are told something (ours).
+-- Which port an event is of, when clients at other ports are told something, and what it may end that can be served
+-- (ours).
 use Rattle.std.specs.Prelude.{ℕ, suc, Bool, true, false, Option, Some, None, not, ◌==◌}
 use Rattle.agent_model.specs.Events.{Happening, Joined, Heard, Ended, Took, Started, StartFailed, Tick}
-use Rattle.agent_model.specs.State.{Port, State, find_port, is_client}
+use Rattle.agent_model.specs.State.{Port, State, find_port, is_client, is_open}
+use Rattle.loop_model.specs.declared.thing.Thing.{Thing}
+use Rattle.loop_model.specs.declared.thing.Thing.TheVariants.{Accept, Read, Write}
 
 -- the event is of this port: the one that joins, by the number of the last that joined before it, or that it names
 abbrev pub is_of : Happening → ℕ → ℕ → Bool
@@ -27,3 +30,50 @@ tells_others (Took port count) state = false
 tells_others (Started job ticket) state = false
 tells_others (StartFailed job) state = true
 tells_others Tick state = false
+
+-- the event is that bytes came at this port
+abbrev pub brings_bytes : Happening → ℕ → Bool
+brings_bytes (Joined door) port = false
+brings_bytes (Heard number piece) port = number == port
+brings_bytes (Ended number) port = false
+brings_bytes (Took number count) port = false
+brings_bytes (Started job ticket) port = false
+brings_bytes (StartFailed job) port = false
+brings_bytes Tick port = false
+
+-- the event is that bytes went at this port
+abbrev pub takes_bytes : Happening → ℕ → Bool
+takes_bytes (Joined door) port = false
+takes_bytes (Heard number piece) port = false
+takes_bytes (Ended number) port = false
+takes_bytes (Took number count) port = number == port
+takes_bytes (Started job ticket) port = false
+takes_bytes (StartFailed job) port = false
+takes_bytes Tick port = false
+
+-- the event is that a port joined
+abbrev pub is_joining : Happening → Bool
+is_joining (Joined door) = true
+is_joining (Heard number piece) = false
+is_joining (Ended number) = false
+is_joining (Took number count) = false
+is_joining (Started job ticket) = false
+is_joining (StartFailed job) = false
+is_joining Tick = false
+
+-- the event came of this thing's own service, or it may have taken the last number, so that no listener can be served
+abbrev pub may_end : Happening → Thing → Bool
+may_end event (Accept door) = is_joining event
+may_end event (Read port) = brings_bytes event port
+may_end event (Write port) = takes_bytes event port
+
+-- the port is open, and a child process's
+abbrev pub is_child : Option Port → Bool
+is_child None = false
+is_child (Some port) = not (is_client port.door)
+
+-- the thing is a listener, or its port is open
+abbrev pub stands : Thing → State → Bool
+stands (Accept door) state = true
+stands (Read port) state = is_open port state
+stands (Write port) state = is_open port state

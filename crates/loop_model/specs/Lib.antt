@@ -9,4 +9,5 @@ pub mod LegalJournal
 pub mod Rows
 pub mod Fronts
 pub mod Elsewhere
+pub mod Orderly
 pub mod Fairness

@@ -9,13 +9,16 @@ ghost use Rattle.world_ports.specs.declared.entry.Entry.TheVariants as entry;
 ghost use Rattle.world_ports.specs.declared.events.Moment.{Moment};
 ghost use Rattle.agent_model.specs.Events.{Happening};
 ghost use Rattle.agent_model.specs.Sound.{IsRising};
-ghost use Rattle.agent_model.specs.State.{State, find_port, is_some_bytes, owed_of, wants};
+ghost use Rattle.agent_model.specs.State.{State, find_port, first_state, is_some_bytes, owed_of, wants};
 ghost use Rattle.agent_model.specs.Step.{step};
 ghost use Rattle.loop_model.specs.Dues.{Free};
-ghost use Rattle.loop_model.specs.Elsewhere.{is_clients, is_of, tells_others};
+ghost use Rattle.loop_model.specs.Elsewhere.{is_clients, is_of, may_end, stands, tells_others};
 ghost use Rattle.loop_model.specs.Fronts.{HasFront, RestsAfter};
 ghost use Rattle.loop_model.specs.LegalJournal.{Turning, in_state, turned};
 ghost use Rattle.loop_model.specs.Lines.{Line};
+ghost use Rattle.loop_model.specs.Orderly.{IsOrderly};
+ghost use Rattle.loop_model.specs.Servable.{is_servable};
+ghost use Rattle.loop_model.specs.declared.thing.Thing.{Thing};
 
 /// Every front of a legal journal is legal, and the rest is legal from where it leads to.
 pub fn every_front_is_legal()
@@ -48,4 +51,20 @@ pub fn an_event_of_a_client_owes_no_other_client()
         → is_clients (find_port port (step state moment event).state.ports) ≡ true
         → is_some_bytes (owed_of port (step state moment event).state) ≡ true
         → is_some_bytes (owed_of port state) ≡ true }
+{}
+
+/// What can be served can be served after an event, unless it was closed, or its own service brought the event; a
+/// listener can't be once the last number is taken.
+pub fn an_event_leaves_what_can_be_served()
+    ensures { (state : State) (moment : Moment) (event : Happening) (thing : Thing) → IsOrderly state
+        → may_end event thing ≡ false → is_servable state thing ≡ true
+        → stands thing (step state moment event).state ≡ true
+        → is_servable (step state moment event).state thing ≡ true }
+{}
+
+/// The jobs of child processes fit what is under way, before the first event and after each.
+pub fn an_event_leaves_an_orderly_agent()
+    ensures first { (life : Option ℕ) → IsOrderly (first_state life) }
+    ensures later { (state : State) (moment : Moment) (event : Happening) → IsOrderly state
+        → IsOrderly (step state moment event).state }
 {}

@@ -1,6 +1,6 @@
 //! The readiness loop's definitions: which journals of a world are legal for the abstract agent, each thing being served
-//! in its turn. Stands on agent_model (the state and its steps), lists (what is set aside) and world_ports (the
-//! entries of a journal).
+//! in its turn. Stands on agent_model (the state and its steps), under_way (how jobs fit what is under way), lists (what
+//! is set aside) and world_ports (the entries of a journal).
 #![tactic(auto)]
 
 mod laws;
@@ -9,6 +9,7 @@ mod rows;
 mod thing;
 
 pub use laws::{
+    an_event_leaves_an_orderly_agent, an_event_leaves_what_can_be_served,
     an_event_of_a_client_owes_no_other_client, an_event_wants_no_other_port, every_front_is_legal,
     nothing_waits_at_a_poll,
 };
@@ -18,8 +19,8 @@ pub use order::{
 };
 pub use rows::{
     a_call_out_of_turn_is_refused, a_client_that_joined_is_served_first, a_wait_follows_a_look,
-    only_what_is_ready_is_tried, what_can_be_served_again_comes_back,
-    what_cant_be_served_is_set_aside, what_is_owed_is_written, what_is_ready_stands_once,
-    what_was_served_stands_last,
+    an_event_ends_what_was_served, only_what_is_ready_is_tried,
+    what_can_be_served_again_comes_back, what_cant_be_served_is_set_aside, what_is_owed_is_written,
+    what_is_ready_stands_once, what_was_served_stands_last,
 };
 pub use thing::Thing;

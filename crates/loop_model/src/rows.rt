@@ -1,10 +1,12 @@
 //! Literal lines and journals, each a law that is proved by computing.
 #![tactic(auto, unfolding(wire_text::specs::Frames::front, wire_text::specs::Frames::split_up_to, wire_text::specs::Frames::split, wire_text::specs::Wire::uint32, wire_text::specs::Wire::string, wire_text::specs::Wire::announced_len, agent_msg::specs::Reading::request_of_number, agent_msg::specs::Reading::request_of, agent_msg::specs::Reading::is_addition, agent_msg::specs::Requests::session_bind, agent_msg::specs::Requests::bind_front, agent_msg::specs::Requests::names_bind, identity_table::specs::Identities::alive_at, identity_table::specs::Identities::next_death, identity_table::specs::Identities::find_identity, identity_table::specs::Identities::remove_identity,))]
 
-ghost use Rattle.std.specs.Prelude.{◌≡◌, [], ◌∷◌, None, Some, false, true};
+ghost use Rattle.std.specs.Prelude.{◌≡◌, [], ◌∷◌, ℕ, List, None, Some, false, true};
 ghost use Rattle.world_ports.specs.declared.answers.Got.TheVariants as got;
 ghost use Rattle.world_ports.specs.declared.events.Door.TheVariants.{Clients};
+ghost use Rattle.agent_model.specs.Events.{Ended, Heard, Joined, Tick, Took};
 ghost use Rattle.loop_model.specs.Calls.{after_got};
+ghost use Rattle.loop_model.specs.Elsewhere.{may_end};
 ghost use Rattle.loop_model.specs.Lines.{queued, recalled, sent_back, settled, without};
 ghost use Rattle.loop_model.specs.Rows.{accept_as, accept_none, close_of, comes_in_turn, is_legal, joins, line_of, no_ports, now_at, one_client, poll_client, poll_nothing, queue_of, read_none, read_of, two_clients, write_of};
 ghost use Rattle.loop_model.specs.declared.thing.Thing.TheVariants.{Accept, Read, Write};
@@ -99,4 +101,18 @@ pub fn a_call_out_of_turn_is_refused()
 pub fn a_client_that_joined_is_served_first()
     ensures listener_first { is_legal (joins (accept_none ∷ [])) ≡ false }
     ensures client_first { is_legal (joins (read_none 1 ∷ accept_none ∷ now_at 2 ∷ poll_nothing ∷ [])) ≡ true }
+{}
+
+/// An event ends at most what its own call served, and the listeners where a port joined.
+pub fn an_event_ends_what_was_served()
+    ensures read { (piece : List ℕ) → may_end (Heard 1 piece) (Read 1) ≡ true }
+    ensures other_port { (piece : List ℕ) → may_end (Heard 1 piece) (Read 2) ≡ false }
+    ensures other_way { (piece : List ℕ) → may_end (Heard 1 piece) (Write 1) ≡ false }
+    ensures written { may_end (Took 1 5) (Write 1) ≡ true }
+    ensures written_other { may_end (Took 1 5) (Write 2) ≡ false }
+    ensures written_read { may_end (Took 1 5) (Read 1) ≡ false }
+    ensures joined { may_end (Joined Clients) (Accept Clients) ≡ true }
+    ensures joined_read { may_end (Joined Clients) (Read 1) ≡ false }
+    ensures ended { may_end (Ended 1) (Write 2) ≡ false }
+    ensures looked { may_end Tick (Accept Clients) ≡ false }
 {}

@@ -9,6 +9,7 @@ use key_blob::AddedKey;
 use plain_lists::{Bytes, PlainList};
 use secret_buf::SecretBytes;
 use std::alloc::Global;
+use std::process::Abort;
 use std::test::Fail;
 
 fn key(alloc: Global, blob: &[u8], private: &[u8]) -> Result<AddedKey, Fail>
@@ -24,6 +25,7 @@ fn terms(alloc: Global, life: Option<u32>, confirm: bool) -> Terms {
     Terms {
         life,
         confirm,
+        uses: None,
         rules: PlainList::new(alloc),
     }
 }
@@ -66,9 +68,21 @@ fn a_key_that_is_added_again_keeps_its_place(rt: HostRuntime) -> Result<(), Fail
     table.remove_all();
     assert!(rt; table.at(0).is_none());
     assert_eq!(rt; add(alloc, &mut table, b"k1", b"new")?, 4);
-    assert_eq!(rt; listed_len(table.as_slice()), 18);
+    assert_eq!(rt; table.listed_len(), 18);
+    assert_eq!(rt; table.iter().count(), 1);
     assert!(rt; table.default_life().is_none());
     Ok(())
+}
+
+// The one key that is held is there until the second before, and then no more.
+fn dies_at(rt: &impl Abort, table: &mut Table, death: u64) {
+    assert!(rt; table.greatest() <= death);
+    if table.greatest() < death {
+        table.expire(death - 1);
+        assert_eq!(rt; table.len(), 1);
+    }
+    table.expire(death);
+    assert_eq!(rt; table.len(), 0);
 }
 
 #[test]
@@ -89,15 +103,70 @@ fn a_lifetime_counts_from_the_addition(rt: HostRuntime) -> Result<(), Fail> {
         assert_eq!(rt; added, Ok(1));
         assert_eq!(rt; table.next_death(), death, "at {default:?} {own:?} {now}");
         if let Some(death) = death {
-            if now < death {
-                table.expire(death - 1);
-                assert_eq!(rt; table.len(), 1);
-            }
-            table.expire(death);
-            assert_eq!(rt; table.len(), 0);
+            dies_at(&rt, &mut table, death);
         }
     }
     Ok(())
+}
+
+// Adds a key without constraints, where memory may be refused.
+fn try_to_add(alloc: Global, table: &mut Table, blob: &[u8]) -> Option<u64>
+    requires { table.old.greatest ≡ 0 }
+    ensures { table.new.greatest ≡ 0 }
+{
+    let key = AddedKey {
+        blob: Bytes::from_vec(Vec::from_slice(alloc, blob).ok()?),
+        private: SecretBytes::from_slice(alloc, b"private").ok()?,
+    };
+    table
+        .add(key, terms(alloc, None, false), b"comment", 0)
+        .ok()
+}
+
+// What finds the key, and what counts it: all of it or nothing.
+fn is_whole(rt: &impl Abort, table: &Table, blob: &[u8], added: Option<u64>, before: usize) {
+    let Some(number) = added else {
+        assert_eq!(rt; table.len(), before);
+        return;
+    };
+    let found = table.find(blob).map(|identity| identity.addition());
+    assert_eq!(rt; found, Some(number));
+    let found = table.by_number(number).map(|identity| identity.addition());
+    assert_eq!(rt; found, Some(number));
+    assert_eq!(rt; table.next_death(), Some(5));
+    assert_eq!(rt; table.iter().count(), table.len());
+}
+
+// Adds a key, and looks whether all of it is there, or nothing.
+fn add_whole(rt: &impl Abort, alloc: Global, table: &mut Table, blob: &[u8])
+    requires { table.old.greatest ≡ 0 }
+    ensures { table.new.greatest ≡ 0 }
+{
+    let before = table.len();
+    let added = try_to_add(alloc, table, blob);
+    is_whole(rt, table, blob, added, before);
+}
+
+// With `--fail-alloc N` the Nth allocation is refused.
+#[test]
+fn a_refused_addition_leaves_the_table_as_it_was(rt: HostRuntime) {
+    let alloc = rt.alloc();
+    let mut table = Table::new(alloc, Some(5));
+    add_whole(&rt, alloc, &mut table, b"k1");
+    add_whole(&rt, alloc, &mut table, b"k2");
+    add_whole(&rt, alloc, &mut table, b"k1");
+    add_whole(&rt, alloc, &mut table, b"k3");
+    let held = table.len();
+    let removed = table.remove(b"k1");
+    let left = if removed {
+        held.saturating_sub(1)
+    } else {
+        held
+    };
+    assert_eq!(rt; table.len(), left);
+    table.expire(5);
+    assert_eq!(rt; table.len(), 0);
+    assert_eq!(rt; table.next_death(), None);
 }
 
 #[test]

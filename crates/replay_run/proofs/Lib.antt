@@ -10,3 +10,5 @@ pub mod FeedsLemmas
 pub mod EndLemmas
 pub mod RoundLemmas
 pub mod BroughtLemmas
+pub mod TallyLemmas
+pub mod DrillLemmas

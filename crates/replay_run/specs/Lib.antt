@@ -4,6 +4,10 @@ pub mod Replay
 pub mod Brought
 pub mod Settling
 pub mod Holding
+-- what a drill draws, what comes of it, and how it ends
+pub mod Draws
+pub mod Drill
+pub mod DrillClaims
 -- of private functions
 pub mod Counts
 pub mod GoesOn

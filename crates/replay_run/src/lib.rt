@@ -1,8 +1,10 @@
 //! The run of a schedule: lines of events are read from a source, run by the agent's core, and what
 //! they bring is written to a sink. The format is this repository's own: docs/PROTOCOL.md, "Schedules".
-//! Stands on agent_core, schedule_text and world_ports.
+//! A drill draws its lines from a seed, and sums up what came of them: docs/PROTOCOL.md, "The drill".
+//! Stands on agent_core, schedule_text and world_ports, and on wire_core, frame_core and child_msg for the drill's messages.
 #![tactic(auto)]
 
+mod drill;
 mod feed;
 mod held;
 mod lawful;
@@ -13,6 +15,7 @@ mod run;
 mod run_end;
 mod settle;
 
+pub use drill::run_drill;
 use feed::Feed;
 pub use lawful::a_schedule_is_lawful;
 pub use laws::nothing_is_owed_after_settling;

@@ -5,7 +5,7 @@ use Rattle.std.proofs.lemmas.Bool.Decides.{nat_tests}
 use Rattle.std.proofs.lemmas.List.{length-replicate}
 use Rattle.secret_buf.specs.Buffers.{Buffer}
 use Rattle.standin_core.specs.Hosts.{Host, hosts_of}
-use Rattle.standin_core.specs.Reading.{HoldsHosts, HoldsNone, HoldsPairs, ReadsData, ReadsText}
+use Rattle.standin_core.specs.Reading.{HoldsHosts, HoldsLong, HoldsNone, HoldsPairs, ReadsData, ReadsText}
 use Rattle.standin_core.specs.Transcript.{hosts_at, hosts_or_fault, text_held}
 use Rattle.standin_core.specs.declared.fault.DataFault.{DataFault}
 use Rattle.standin_core.specs.declared.fault.DataFault.TheVariants as fault
@@ -81,16 +81,24 @@ holds_bad path name text old named holds within none =
       read = file_text path name text at.0 named at.2 within ∙ ap (λ (h : Option (List Host)). ok_or h BadFile) none;
     }
 
-pub holds_long : (path : Option (List ℕ)) (name : List ℕ) (old : FilesView) → path ≡ Some name → HoldsMore old name 1048576 → HoldsNone path old FileFault
-unfolding hosts_at
+pub holds_long : (path : Option (List ℕ)) (name : List ℕ) (old : FilesView) → path ≡ Some name → HoldsMore old name 1048576 → HoldsLong path old
 holds_long path name old named more =
     let long = longer 1048576 in
     let at = agreed old.held (λ held. IsSomeAnd (held name) (λ text. 1048576 < length text)) more (λ n. Some long.0) long.1 in
     record {
       held = at.0;
       told = at.1;
-      read = ap (λ (p : Option (List ℕ)). hosts_at p at.0) named ∙ ap hosts_or_fault (text_held-long (at.0 name) at.2);
+      name = name;
+      named = named;
+      more = at.2;
     }
+
+-- a file that is too long gives no hosts
+pub no_hosts_of_long : (path : Option (List ℕ)) (name : List ℕ) (held : List ℕ → Option (List ℕ)) → path ≡ Some name → IsSomeAnd (held name) (λ text. 1048576 < length text)
+    → hosts_at path held ≡ Err FileFault
+unfolding hosts_at
+no_hosts_of_long path name held named more =
+    ap (λ (p : Option (List ℕ)). hosts_at p held) named ∙ ap hosts_or_fault (text_held-long (held name) more)
 
 -- what a reading of the text says of the file
 pub reads_by_text : (result : Result Buffer DataFault) (path : Option (List ℕ)) (name text : List ℕ) (old new : FilesView) → path ≡ Some name → Holds old name text

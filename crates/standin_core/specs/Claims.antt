@@ -1,5 +1,5 @@
 -- How a stand-in helper may end, a record an end (ours). The file is read from its end, `Answers`.
-use Rattle.std.specs.Prelude.{◌≡◌, ◌⊎◌, ℕ, List, [], ◌∷◌, Option, Some, IfSome}
+use Rattle.std.specs.Prelude.{◌≡◌, ◌⊎◌, ◌<◌, ℕ, List, [], ◌∷◌, length, Option, Some, IfSome, IsSomeAnd}
 use Rattle.std.specs.Io.KnownBytes.{Appends}
 use Rattle.child_peer.specs.Talk.{HasRead, HoldsOfInput, IsFront}
 use Rattle.child_peer.specs.Words.{ChildWords, words_of}
@@ -81,6 +81,16 @@ pub record EndsUnsaid (status : HelperStatus) (words : List (List ℕ)) (old new
   pub peer : new.peer ≡ old.peer
   pub faults : new.files.faults ≡ old.files.faults
 
+-- the data file has more bytes than it may have, by what files hold, where that is told; nothing was read from the
+-- agent and nothing sent, and no file failed
+pub record FindsLongFile (words : List (List ℕ)) (old new : Seen) : Type 0 where
+  pub unsaid : EndsUnsaid FileFault words old new
+  pub read : ChildWords
+  pub of_words : words_of words ≡ Some read
+  pub path : List ℕ
+  pub named : read.last ≡ Some path
+  pub more : IsSomeAnd (unsaid.held path) (λ bytes. 1048576 < length bytes)
+
 -- the data file could not be read, and nothing was read from the agent and nothing sent
 pub record FailsAtFile (words : List (List ℕ)) (old new : Seen) : Type 0 where
   pub read : ChildWords
@@ -96,7 +106,7 @@ abbrev pub Answers : HelperStatus → List (List ℕ) → Seen → Seen → Type
 Answers Done words old new = EndsTalk Done words old new
 Answers BadFrame words old new = EndsTalk BadFrame words old new
 Answers Usage words old new = EndsUnsaid Usage words old new
-Answers FileFault words old new = EndsUnsaid FileFault words old new ⊎ FailsAtFile words old new
+Answers FileFault words old new = FindsLongFile words old new ⊎ FailsAtFile words old new
 Answers BadFile words old new = EndsUnsaid BadFile words old new
 -- memory ran out in the talk or before it
 Answers Memory words old new = EndsTalk Memory words old new ⊎ (new.peer ≡ old.peer)

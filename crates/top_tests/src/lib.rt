@@ -1,5 +1,5 @@
-//! Tests of the program over inputs, outputs and worlds in memory: pieces, failures, words, and what stays unread.
-//! Stands on agent_top, schedule_text and world_ports.
+//! Tests of the programs over inputs, outputs and worlds in memory: pieces, failures, words, what stays unread, and what
+//! clients and a helper get. Stands on agent_top, relay_core, schedule_text, plain_lists and world_ports.
 #![tactic(auto)]
 
 #[cfg(test)]
@@ -7,6 +7,10 @@ mod ends;
 #[cfg(test)]
 mod play;
 #[cfg(test)]
+mod relay;
+#[cfg(test)]
 mod runs;
+#[cfg(test)]
+mod serving;
 #[cfg(test)]
 mod worlds;

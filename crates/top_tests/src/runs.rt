@@ -120,6 +120,15 @@ fn other_words_write_nothing(rt: HostRuntime) {
         "replay -l 1",
         "replay -t 1 x",
         "reply -t 1",
+        "drill",
+        "drill 1",
+        "drill 1 1 1",
+        "drill 01 1",
+        "drill 1 01",
+        "drill 1 -1",
+        "drill 100001 1",
+        "drill 1 18446744073709551616",
+        "drills 1 1",
     ];
     for line in lines {
         let run = Run {
@@ -156,4 +165,49 @@ fn a_lifetime_of_the_words_is_for_keys_without_one(rt: HostRuntime) {
         listed,
         "for 90 seconds",
     );
+}
+
+/// The lines of drills of no round, and of the first draws of seed 1, which were worked out by hand: client 7 asks for
+/// the identities, and then to remove key 26.
+const DRILLS: [(&str, &[u8]); 3] = [
+    (
+        "drill 0 1",
+        b"drill 0 1: requests 0, successes 0, failures 0, lists 0, signatures 0, held 0\n",
+    ),
+    (
+        "drill 1 1",
+        b"drill 1 1: requests 1, successes 0, failures 0, lists 1, signatures 0, held 0\n",
+    ),
+    (
+        "drill 2 1",
+        b"drill 2 1: requests 2, successes 0, failures 1, lists 1, signatures 0, held 0\n",
+    ),
+];
+
+#[test]
+fn drills_write_their_line(rt: HostRuntime) {
+    for (line, written) in DRILLS {
+        let run = Run {
+            line,
+            sink_cut: 7,
+            ..whole(b"join client\n")
+        };
+        plays(&rt, rt.alloc(), &run, Status::Done, written, line);
+    }
+}
+
+#[test]
+fn a_drill_ends_where_the_sink_fails(rt: HostRuntime) {
+    for (failing_write, status, written) in [
+        (1, Status::WriteFault, b"".as_slice()),
+        (2, Status::WriteFault, b"drill 2 1: requests 2,".as_slice()),
+    ] {
+        let run = Run {
+            line: "drill 2 1",
+            sink_cut: 22,
+            failing_write,
+            ..whole(b"")
+        };
+        plays(&rt, rt.alloc(), &run, status, written, "a failed write");
+    }
 }

@@ -17,7 +17,7 @@ const MOST_A_ROUND: u32 = 16;
 
 /// A listener, and what the next poll has to tell of it.
 #[derive(Drop)]
-pub struct Door {
+pub struct Listener {
     pub listener: UnixListener,
     // A connection couldn't be taken, as for want of descriptors. epoll doesn't report it again, so it is to be tried
     // once more.
@@ -30,7 +30,7 @@ pub struct Door {
     taken: u32,
 }
 
-impl Door {
+impl Listener {
     /// The next connection. None where none waits, or as many were taken in this round as may be.
     pub fn next(&mut self) -> io::Result<Option<UnixStream>> {
         if self.taken >= MOST_A_ROUND {
@@ -89,7 +89,7 @@ pub fn listen_at<R: Files<File = File> + Net + Clock>(
     rt: &R,
     path: &str,
     lock: &str,
-) -> io::Result<(Door, u64, u64)> {
+) -> io::Result<(Listener, u64, u64)> {
     let held = hold(rt, lock)?;
     let made = replace_at(rt, path)?;
     let metadata = fs::symlink_metadata(rt, path)?;
@@ -97,7 +97,7 @@ pub fn listen_at<R: Files<File = File> + Net + Clock>(
     Ok((made, metadata.dev(), metadata.ino()))
 }
 
-fn replace_at<R: Files + Net>(rt: &R, path: &str) -> io::Result<Door> {
+fn replace_at<R: Files + Net>(rt: &R, path: &str) -> io::Result<Listener> {
     match bind_at(rt, path) {
         Ok(door) => Ok(door),
         Err(error) => {
@@ -111,7 +111,7 @@ fn replace_at<R: Files + Net>(rt: &R, path: &str) -> io::Result<Door> {
 }
 
 // A file that was made goes again where listening at it fails.
-fn bind_at<R: Files + Net>(rt: &R, path: &str) -> io::Result<Door> {
+fn bind_at<R: Files + Net>(rt: &R, path: &str) -> io::Result<Listener> {
     let fd = rt.unix_socket()?;
     rt.bind_unix(fd.as_fd(), &SocketAddr::from_pathname(path)?)?;
     match listen_on(rt, fd, path) {
@@ -124,14 +124,14 @@ fn bind_at<R: Files + Net>(rt: &R, path: &str) -> io::Result<Door> {
 }
 
 // The file has its mode before anybody can connect.
-fn listen_on<R: Files + Net>(rt: &R, fd: OwnedFd, path: &str) -> io::Result<Door> {
+fn listen_on<R: Files + Net>(rt: &R, fd: OwnedFd, path: &str) -> io::Result<Listener> {
     fs::set_permissions(rt, path, Permissions::from_mode(0o600))?;
     if listen(fd.as_raw_fd(), -1) < 0 {
         return Err(Error::from(ErrorKind::Other));
     }
     let listener = net::UnixListener::from(fd);
     listener.set_nonblocking(true)?;
-    Ok(Door {
+    Ok(Listener {
         listener: UnixListener::from_std(listener),
         is_stuck: false,
         is_owed: false,

@@ -13,5 +13,7 @@ mod programs;
 mod started;
 mod unix;
 
+pub use doors::{BoundFile, Listener, listen_at, remove_bound};
+pub use port::Port;
 pub use programs::Programs;
-pub use unix::UnixWorld;
+pub use unix::{UnixWorld, is_memory};

@@ -16,8 +16,10 @@ returns-clause-value c =
       length-constraints c.args.terms.now,
       c.life_len.ensures,
       c.confirm_len.ensures,
+      c.uses_len.ensures,
       c.saturating_add.ensures,
       c.saturating_add-2.ensures,
+      c.saturating_add-3.ensures,
     )
 
 pub returns-clause-writable : goal.returns-clause-writable

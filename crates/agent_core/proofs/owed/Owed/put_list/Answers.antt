@@ -11,25 +11,25 @@ use Rattle.agent_core.proofs.owed.Owed.put_list.Goals as goal
 pub overflow_cast-body : goal.overflow_cast-body
 overflow_cast-body c =
     let f = is_seen c.args.asker.now in
-    omega (arith, seen-shorter f c.args.identities.now, c.requires.fits, c.seen_size-size.ensures.body)
+    omega (arith, seen-shorter f c.args.table.now.identities, c.seen_size-size.ensures.fits, c.seen_size-size.ensures.body)
 
 pub put_list_head-requires : goal.put_list_head-requires
 put_list_head-requires c =
     let f = is_seen c.args.asker.now in
-    omega (arith, seen-shorter f c.args.identities.now, c.requires.fits, c.seen_size-size.ensures.body)
+    omega (arith, seen-shorter f c.args.table.now.identities, c.seen_size-size.ensures.fits, c.seen_size-size.ensures.body)
 
 pub overflow_cast-size : goal.overflow_cast-size
 overflow_cast-size c =
     let f = is_seen c.args.asker.now in
-    let keys = seen c.args.asker.now c.args.identities.now in
-    omega (arith, seen-shorter f c.args.identities.now, c.requires.fits, length-entries_len keys, c.seen_size-size.ensures.count)
+    let keys = seen c.args.asker.now c.args.table.now.identities in
+    omega (arith, seen-shorter f c.args.table.now.identities, c.seen_size-size.ensures.fits, length-entries_len keys, c.seen_size-size.ensures.count)
 
 pub returns : goal.returns
 returns c =
-    let keys = seen c.args.asker.now c.args.identities.now in
+    let keys = seen c.args.asker.now c.args.table.now.identities in
     let rest = entries (map shown keys) in
     let head = list_head c.seen_size-size.result.body c.seen_size-size.result.count in
-    let empty : c.self.inside.bytes.live ≡ [] = rw (← c.self.view_is) at c.requires.nothing in
+    let empty : c.self.inside.bytes.live ≡ [] = rw (← c.self.view_is) at c.requires in
     c.in_ok-put_entries.ensures.ok
     ∙ ap (λ bytes. bytes ++ rest) (c.in_ok-put_list_head.ensures.ok ∙ ap (λ bytes. bytes ++ head) empty)
     ∙ list_head-entries (map shown keys) c.seen_size-size.result.body c.seen_size-size.result.count

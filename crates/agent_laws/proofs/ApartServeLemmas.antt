@@ -1,0 +1,234 @@
+-- Lemmas on specs/Apart.antt: what an outsider is replied.
+use Rattle.std.proofs.Common.{◌≡◌, ℕ, List, [], ◌∷◌, refl, ap, sym, subst, ◌∙◌, Option, Some, None, Bool, true, false, Result, Ok, Err, ◌==◌, ◌+◌, nat_lt}
+use Rattle.std.specs.Option.{IfSome}
+use Rattle.std.specs.Str.{bytes_eq}
+use Rattle.agent_msg.specs.Requests.{Addition, BindRequest, ClientRequest, Signing, ListIdentities, Sign, Add, Remove, RemoveAll, Lock, Unlock, Bind, OtherExtension, Unsupported}
+use Rattle.agent_msg.specs.declared.fault.MsgFault.{MsgFault}
+use Rattle.dest_rule.specs.Chains.{judge}
+use Rattle.dest_rule.specs.Rules.{denial_under}
+use Rattle.dest_rule.specs.declared.denial.Denial.{Denial}
+use Rattle.dest_rule.specs.declared.fault.Next.{Next as Judgement}
+use Rattle.dest_rule.specs.declared.fault.Next.TheVariants.{New, Refuse, Same}
+use Rattle.identity_table.specs.Deaths.{death_of}
+use Rattle.identity_table.specs.Identities.{HeldKey, find_identity, identity_of, max_answer}
+use Rattle.world_ports.specs.declared.Moment.{Moment}
+use Rattle.agent_model.specs.Actions.{Work, settles}
+use Rattle.agent_model.specs.Dispatch.{Asker, Served, add_by, add_fault, add_seen, add_unless, bind_by, keeps, length_with, lock_by, refuses, remove_by, remove_seen, sees, serve, serve_by, serve_locked, serve_unlocked, sign_by, sign_unless, sign_with, unlock_by}
+use Rattle.agent_model.specs.Errands.{Errand, Signs, ask_fault, put_unless}
+use Rattle.agent_model.specs.KeyStates.{KeyState}
+use Rattle.agent_model.specs.Limits.{last_number}
+use Rattle.agent_model.specs.State.{Port, UnderWay}
+use Rattle.agent_model.specs.Step.{asker_at}
+use Rattle.agent_model.specs.Unseen.{IsSameReply}
+use Rattle.agent_model.specs.Verdicts.{Cause, DestinationDenied, Identities, NotHeld, Refuses, Replies, verdict_text}
+use Rattle.agent_model.proofs.UnseenLemmas.{same_work}
+use Rattle.agent_laws.specs.Apart.{AreUnseen, Insiders, IsAlikeHeld, SaysNoMore, none}
+use Rattle.agent_laws.proofs.ApartKeyLemmas.{FindsAlike, finds-alike, found, listed-alike, neither, put-alike, removed-alike, renumbered, unseen-denied, unseen-found}
+
+-- the client gets the same, the same is under way, what is held is alike, and nothing more is to be confirmed
+pub record ServesAlike (who : Insiders) (under_way : UnderWay) (one two : Served) : Type 0 where
+  pub held : IsAlikeHeld who one.held two.held
+  pub reply : IsSameReply one.work two.work
+  pub calm : one.work.under_way.confirmations ≡ under_way.confirmations
+
+-- two failures are told alike
+both_fail : (cause other : Cause) (under_way : UnderWay) → IsSameReply (settles (Refuses cause) under_way) (settles (Refuses other) under_way)
+both_fail cause other under_way = record { text = refl; waits = refl; under_way = refl; put = refl }
+
+-- an ask leaves what is to be confirmed
+put_unless-calm : (fault : Option Cause) (errand : Errand) (asker : ℕ) (under_way : UnderWay) → (put_unless fault errand asker under_way).under_way.confirmations ≡ under_way.confirmations
+put_unless-calm None errand asker under_way = refl
+put_unless-calm (Some cause) errand asker under_way = refl
+
+module _ (who : Insiders) (moment : Moment) (port : Port) (one two : KeyState) (under_way : UnderWay) (alike : IsAlikeHeld who one two) (unseen : AreUnseen who port moment.wall one.table.identities) (unseen_two : AreUnseen who port moment.wall two.table.identities) where
+  abbrev asker : Asker
+  asker = asker_at moment port
+
+  abbrev Alike : Served → Served → Type 0
+  Alike first second = ServesAlike who under_way first second
+
+  -- what is held stays, and this comes of both
+  stays-alike : (work : Work) → work.under_way.confirmations ≡ under_way.confirmations → Alike (keeps one work) (keeps two work)
+  stays-alike work calm = record { held = alike; reply = same_work work; calm = calm }
+
+  refuses-alike : (cause other : Cause) → Alike (refuses cause one under_way) (refuses other two under_way)
+  refuses-alike cause other = record { held = alike; reply = both_fail cause other under_way; calm = refl }
+
+  -- ---- requests to sign
+
+  -- what comes of a key that isn't seen, or of none
+  unsigned : (found_key : Option HeldKey) → IfSome found_key (λ key. sees asker key ≡ false) → (signing : Signing) → (cause : Cause) × (sign_by found_key asker signing under_way ≡ settles (Refuses cause) under_way)
+  unsigned None hidden signing = (NotHeld, refl)
+  unsigned (Some key) hidden signing = by_denial (denial_under key.rules signing.blob port.chain signing.message moment.wall) refl
+    where
+      by_denial : (result : Option Denial) → denial_under key.rules signing.blob port.chain signing.message moment.wall ≡ result → (cause : Cause) × (sign_unless result asker key signing under_way ≡ settles (Refuses cause) under_way)
+      by_denial None is = absurd (unseen-denied key.rules signing.blob port.chain signing.message moment.wall port.attempted hidden is)
+      by_denial (Some denial) is = (DestinationDenied denial, refl)
+
+  both_unsigned : (first second : Work) (a b : Cause) → first ≡ settles (Refuses a) under_way → second ≡ settles (Refuses b) under_way → Alike (keeps one first) (keeps two second)
+  both_unsigned first second a b is_first is_second =
+      subst (λ w. Alike (keeps one w) (keeps two second)) (sym is_first)
+      (subst (λ w. Alike (keeps one (settles (Refuses a) under_way)) (keeps two w)) (sym is_second)
+      record { held = alike; reply = both_fail a b under_way; calm = refl })
+
+  signed_with : (confirm : Bool) (key : HeldKey) (number : ℕ) (signing : Signing) → confirm ≡ false → Alike (keeps one (sign_with confirm asker key signing under_way)) (keeps two (sign_with confirm asker (renumbered number key) signing under_way))
+  signed_with true key number signing plain = absurd (cc)
+  signed_with false key number signing plain = by_fault (ask_fault under_way)
+    where
+      by_fault : (fault : Option Cause) → Alike (keeps one (put_unless fault (Signs key signing) port.number under_way)) (keeps two (put_unless fault (Signs (renumbered number key) signing) port.number under_way))
+      by_fault None = record { held = alike; reply = record { text = refl; waits = refl; under_way = refl; put = refl }; calm = refl }
+      by_fault (Some cause) = record { held = alike; reply = both_fail cause cause under_way; calm = refl }
+
+  signed_unless : (result : Option Denial) (key : HeldKey) (number : ℕ) (signing : Signing) → key.confirm ≡ false → Alike (keeps one (sign_unless result asker key signing under_way)) (keeps two (sign_unless result asker (renumbered number key) signing under_way))
+  signed_unless (Some denial) key number signing plain = record { held = alike; reply = both_fail _ _ under_way; calm = refl }
+  signed_unless None key number signing plain = signed_with key.confirm key number signing plain
+
+  signed-by : {first second : Option HeldKey} (signing : Signing) → FindsAlike who first second → Alike (keeps one (sign_by first asker signing under_way)) (keeps two (sign_by second asker signing under_way))
+  signed-by signing neither = stays-alike _ refl
+  signed-by signing (found key number plain) = signed_unless (denial_under key.rules signing.blob port.chain signing.message moment.wall) key number signing plain
+
+  signs-alike : (signing : Signing) → Alike (serve_unlocked (Sign signing) asker one under_way) (serve_unlocked (Sign signing) asker two under_way)
+  signs-alike signing = by_hidden (who.is_hidden signing.blob) refl
+    where
+      by_hidden : (hidden : Bool) → who.is_hidden signing.blob ≡ hidden → Alike (serve_unlocked (Sign signing) asker one under_way) (serve_unlocked (Sign signing) asker two under_way)
+      by_hidden false is = signed-by signing (finds-alike who signing.blob is alike.keys)
+      by_hidden true is =
+          let first = unsigned (find_identity signing.blob one.table.identities) (unseen-found who port moment.wall signing.blob is one.table.identities unseen) signing in
+          let second = unsigned (find_identity signing.blob two.table.identities) (unseen-found who port moment.wall signing.blob is two.table.identities unseen_two) signing in
+          both_unsigned _ _ first.0 second.0 first.1 second.1
+
+  -- ---- removals
+
+  unremoved : (found_key : Option HeldKey) → IfSome found_key (λ key. sees asker key ≡ false) → (blob : List ℕ) (held : KeyState) → (cause : Cause) × (remove_by found_key asker blob held under_way ≡ refuses cause held under_way)
+  unremoved None hidden blob held = (NotHeld, refl)
+  unremoved (Some key) hidden blob held = (_, ap (λ seen. remove_seen seen blob held under_way) hidden)
+
+  removed_seen : (seen : Bool) (blob : List ℕ) → who.is_hidden blob ≡ false → Alike (remove_seen seen blob one under_way) (remove_seen seen blob two under_way)
+  removed_seen false blob open_one = refuses-alike _ _
+  removed_seen true blob open_one = record {
+    held = record { lock = alike.lock; life = alike.life; greatest = alike.greatest; keys = removed-alike who blob open_one alike.keys };
+    reply = same_work _;
+    calm = refl;
+  }
+
+  removed-by : {first second : Option HeldKey} (blob : List ℕ) → who.is_hidden blob ≡ false → FindsAlike who first second → Alike (remove_by first asker blob one under_way) (remove_by second asker blob two under_way)
+  removed-by blob open_one neither = refuses-alike NotHeld NotHeld
+  removed-by blob open_one (found key number plain) = removed_seen (sees asker key) blob open_one
+
+  removes-alike : (blob : List ℕ) → Alike (serve_unlocked (Remove blob) asker one under_way) (serve_unlocked (Remove blob) asker two under_way)
+  removes-alike blob = by_hidden (who.is_hidden blob) refl
+    where
+      by_hidden : (hidden : Bool) → who.is_hidden blob ≡ hidden → Alike (serve_unlocked (Remove blob) asker one under_way) (serve_unlocked (Remove blob) asker two under_way)
+      by_hidden false is = removed-by blob is (finds-alike who blob is alike.keys)
+      by_hidden true is =
+          let first = unremoved (find_identity blob one.table.identities) (unseen-found who port moment.wall blob is one.table.identities unseen) blob one in
+          let second = unremoved (find_identity blob two.table.identities) (unseen-found who port moment.wall blob is two.table.identities unseen_two) blob two in
+          subst (λ s. Alike s (serve_unlocked (Remove blob) asker two under_way)) (sym first.1)
+          (subst (Alike (refuses first.0 one under_way)) (sym second.1) (refuses-alike first.0 second.0))
+
+  -- ---- additions
+
+  module _ (addition : Addition) (no_more : SaysNoMore who addition moment.mono one.table two.table) where
+    abbrev new_of : Option ℕ → ℕ → HeldKey
+    new_of life number = identity_of number addition.key addition.comment (death_of moment.mono addition.terms.life life) addition.terms
+
+    add_with : (fault : Option Cause) → Alike (add_unless fault addition moment.mono one under_way) (add_unless fault addition moment.mono two under_way)
+    add_with (Some cause) = refuses-alike cause cause
+    add_with None = record {
+      held = record {
+        lock = alike.lock;
+        life = alike.life;
+        greatest = refl;
+        keys = rw alike.life (put-alike who (new_of one.table.life (one.table.last + 1)) (two.table.last + 1) no_more.shown no_more.plain alike.keys);
+      };
+      reply = same_work _;
+      calm = refl;
+    }
+
+    add_seen_so : (seen : Bool) → Alike (add_seen seen addition moment.mono one under_way) (add_seen seen addition moment.mono two under_way)
+    add_seen_so false = refuses-alike _ _
+    add_seen_so true =
+        let fault_of : Bool → Bool → Option Cause = λ full spent. add_fault full spent in
+        let full : Bool = nat_lt max_answer (length_with addition moment.mono two.table) in
+        let spent : Bool = two.table.last == last_number in
+        let same : fault_of (nat_lt max_answer (length_with addition moment.mono one.table)) (one.table.last == last_number) ≡ fault_of full spent =
+        ap (λ f. fault_of f (one.table.last == last_number)) no_more.room ∙ ap (fault_of full) no_more.numbers in
+        subst (λ f. Alike (add_unless f addition moment.mono one under_way) (add_unless (fault_of full spent) addition moment.mono two under_way)) (sym same) (add_with (fault_of full spent))
+
+    added-by : {first second : Option HeldKey} → FindsAlike who first second → Alike (add_by first asker addition one under_way) (add_by second asker addition two under_way)
+    added-by neither = add_seen_so true
+    added-by (found key number plain) = add_seen_so (sees asker key)
+
+    adds-alike : Alike (serve_unlocked (Add addition) asker one under_way) (serve_unlocked (Add addition) asker two under_way)
+    adds-alike = added-by (finds-alike who addition.key.blob no_more.shown alike.keys)
+
+  -- ---- the others
+
+  locks-alike : (passphrase : List ℕ) → Alike (lock_by passphrase one under_way) (lock_by passphrase two under_way)
+  locks-alike [] = refuses-alike _ _
+  locks-alike (byte ∷ bytes) = record {
+    held = record { lock = refl; life = alike.life; greatest = alike.greatest; keys = alike.keys };
+    reply = same_work _;
+    calm = refl;
+  }
+
+  unlocks-alike : (same : Bool) → Alike (unlock_by same one under_way) (unlock_by same two under_way)
+  unlocks-alike false = refuses-alike _ _
+  unlocks-alike true = record {
+    held = record { lock = refl; life = alike.life; greatest = alike.greatest; keys = alike.keys };
+    reply = same_work _;
+    calm = refl;
+  }
+
+  bound_calm : (judgement : Judgement) (bind : BindRequest) → (bind_by judgement asker bind under_way).under_way.confirmations ≡ under_way.confirmations
+  bound_calm (Refuse fault) bind = refl
+  bound_calm Same bind = put_unless-calm (ask_fault under_way) _ port.number under_way
+  bound_calm New bind = put_unless-calm (ask_fault under_way) _ port.number under_way
+
+  unlocked-alike : (request : ClientRequest) → ((addition : Addition) → request ≡ Add addition → SaysNoMore who addition moment.mono one.table two.table) → Alike (serve_unlocked request asker one under_way) (serve_unlocked request asker two under_way)
+  unlocked-alike ListIdentities no_more = record {
+    held = alike;
+    reply = record {
+      text = ap (λ all. verdict_text (Replies (Identities all))) (listed-alike who port moment.wall alike.keys unseen unseen_two);
+      waits = refl;
+      under_way = refl;
+      put = refl;
+    };
+    calm = refl;
+  }
+  unlocked-alike (Sign signing) no_more = signs-alike signing
+  unlocked-alike (Add addition) no_more = adds-alike addition (no_more addition refl)
+  unlocked-alike (Remove blob) no_more = removes-alike blob
+  unlocked-alike RemoveAll no_more = record {
+    held = record { lock = alike.lock; life = alike.life; greatest = alike.greatest; keys = none };
+    reply = same_work _;
+    calm = refl;
+  }
+  unlocked-alike (Lock passphrase) no_more = locks-alike passphrase
+  unlocked-alike (Unlock passphrase) no_more = refuses-alike _ _
+  unlocked-alike (Bind bind) no_more = stays-alike _ (bound_calm (judge bind.host_key bind.session port.chain) bind)
+  unlocked-alike (OtherExtension name) no_more = refuses-alike _ _
+  unlocked-alike (Unsupported number) no_more = refuses-alike _ _
+
+  locked-alike : (passphrase : List ℕ) (request : ClientRequest) → Alike (serve_locked passphrase request one under_way) (serve_locked passphrase request two under_way)
+  locked-alike passphrase ListIdentities = record { held = alike; reply = same_work _; calm = refl }
+  locked-alike passphrase (Sign signing) = refuses-alike _ _
+  locked-alike passphrase (Add addition) = refuses-alike _ _
+  locked-alike passphrase (Remove blob) = refuses-alike _ _
+  locked-alike passphrase RemoveAll = refuses-alike _ _
+  locked-alike passphrase (Lock other) = refuses-alike _ _
+  locked-alike passphrase (Unlock other) = unlocks-alike (bytes_eq passphrase other)
+  locked-alike passphrase (Bind bind) = refuses-alike _ _
+  locked-alike passphrase (OtherExtension name) = refuses-alike _ _
+  locked-alike passphrase (Unsupported number) = refuses-alike _ _
+
+  by_lock : (lock : Option (List ℕ)) (request : ClientRequest) → ((addition : Addition) → request ≡ Add addition → SaysNoMore who addition moment.mono one.table two.table) → Alike (serve_by lock request asker one under_way) (serve_by lock request asker two under_way)
+  by_lock None request no_more = unlocked-alike request no_more
+  by_lock (Some passphrase) request no_more = locked-alike passphrase request
+
+  -- a request, as its body reads
+  pub serves-alike : (read : Result ClientRequest MsgFault) → ((addition : Addition) → read ≡ Ok (Add addition) → SaysNoMore who addition moment.mono one.table two.table) → Alike (serve read asker one under_way) (serve read asker two under_way)
+  serves-alike (Err fault) no_more = refuses-alike _ _
+  serves-alike (Ok request) no_more =
+      subst (λ lock. Alike (serve_by one.lock request asker one under_way) (serve_by lock request asker two under_way)) (sym alike.lock)
+      (by_lock one.lock request (λ addition is. no_more addition (ap (λ r. Ok r) is)))

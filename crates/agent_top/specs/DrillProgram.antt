@@ -1,0 +1,44 @@
+-- What the end of the program says of the output of a drill (ours): `DrillsExactly`, a line a status. The summary is that
+-- of replay_run, specs/Drill.antt.
+use Rattle.std.specs.Prelude.{ℕ}
+use Rattle.world_ports.specs.Causes.{Rose}
+use Rattle.world_ports.specs.Streams.{StreamView, WritesPart}
+use Rattle.agent_top.specs.declared.status.Status.{Status}
+use Rattle.agent_top.specs.declared.status.Status.TheVariants as status
+use Rattle.agent_top.specs.Words.{Drilling}
+use Rattle.replay_run.specs.Drill.{summary}
+use Rattle.replay_run.specs.DrillClaims.{DrillEndsAtWriteFault}
+use Rattle.replay_run.specs.Feeding.{Wrote}
+
+abbrev pub DrillsExactly : Drilling → Status → StreamView → StreamView → Type 0
+-- the summary is written, and no write failed
+DrillsExactly asked status.Done old new = Wrote old new (summary asked.rounds asked.seed)
+-- no schedule is read
+DrillsExactly asked (status.ScheduleRefused line fault) old new = ⊥
+-- the words were those of `drill`
+DrillsExactly asked status.Usage old new = ⊥
+-- no socket is bound
+DrillsExactly asked status.BindFault old new = ⊥
+-- nothing is waited for
+DrillsExactly asked status.PollFault old new = ⊥
+-- a front of the summary is written
+DrillsExactly asked status.Memory old new = WritesPart (summary asked.rounds asked.seed) old new
+-- nothing is read
+DrillsExactly asked status.ReadFault old new = ⊥
+-- a write failed, and a front of the summary is written
+DrillsExactly asked status.WriteFault old new = DrillEndsAtWriteFault asked.rounds asked.seed old new
+
+-- the drill was run to its end, unless memory ran out
+abbrev pub IsDrilled : Status → Type 0
+IsDrilled status.Done = Unit {0}
+IsDrilled (status.ScheduleRefused line fault) = ⊥
+IsDrilled status.Usage = ⊥
+IsDrilled status.BindFault = ⊥
+IsDrilled status.PollFault = ⊥
+IsDrilled status.Memory = Unit {0}
+IsDrilled status.ReadFault = ⊥
+IsDrilled status.WriteFault = ⊥
+
+-- where no write failed, it was
+abbrev pub DrillCompletes : Status → StreamView → StreamView → Type 0
+DrillCompletes result old new = ¬ (Rose old.write_faults new.write_faults) → IsDrilled result

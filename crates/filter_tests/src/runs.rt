@@ -1,0 +1,194 @@
+//! Whole runs, whose deeds are written out by hand.
+use crate::fixtures::{BOTH, LIST, REMOVE_ALL, SIGN_FIRST, SIGN_SECOND, SIGNED};
+use crate::play::{Run, plays, sends};
+use filter_top::{FilterStatus, Side};
+use pair_script::PairCue;
+use plain_lists::Bytes;
+use std::alloc::Global;
+use std::test::*;
+
+/// A request for the list arrives upstream.
+const ASKED: &str = "1 upstream 000000010b\n";
+
+/// And the client is told of the first key alone.
+const ANSWERED: &str = "1 upstream 000000010b\n\
+    1 client 000000500c00000001\
+    00000040000000186b657965642d736861323536406578616d706c652e636f6d\
+    000000201111111111111111111111111111111111111111111111111111111111111111000000036f6e65\n";
+
+// A client connects and asks for the list of keys, and the agent behind tells of both.
+fn a_list(alloc: Global) -> Result<Vec<Vec<PairCue>>, Fail> {
+    let asked = sends(alloc, 1, Side::Client, LIST)?;
+    let answered = sends(alloc, 1, Side::Upstream, BOTH)?;
+    Ok(vec![in alloc;
+        vec![in alloc; PairCue::Connect]?,
+        vec![in alloc; asked]?,
+        vec![in alloc; answered]?,
+    ]?)
+}
+
+#[test]
+fn a_list_is_cut_to_the_listed_keys(rt: HostRuntime) -> Result<(), Fail> {
+    let alloc = rt.alloc();
+    let run = Run {
+        failing: 0,
+        status: FilterStatus::Done,
+        deeds: ANSWERED,
+        label: "a list",
+    };
+    plays(&rt, alloc, a_list(alloc)?, &run);
+    Ok(())
+}
+
+// The calls of that run are a bind, a wait, an accept, two reads and an accept that find nothing; a wait, the read of the
+// request, its write, a read that finds nothing; a wait, the read of the answer, its write, a read that finds nothing; and
+// the last wait.
+#[test]
+fn each_failing_call_has_its_end(rt: HostRuntime) -> Result<(), Fail> {
+    let alloc = rt.alloc();
+    let cases = [
+        (1, FilterStatus::BindFault, ""),
+        (2, FilterStatus::PollFault, ""),
+        (3, FilterStatus::Done, ""),
+        (4, FilterStatus::Done, "close 1\n"),
+        (5, FilterStatus::Done, "close 1\n"),
+        (6, FilterStatus::Done, ANSWERED),
+        (7, FilterStatus::PollFault, ""),
+        (8, FilterStatus::Done, "close 1\n"),
+        (9, FilterStatus::Done, "close 1\n"),
+        (10, FilterStatus::Done, "1 upstream 000000010b\nclose 1\n"),
+        (11, FilterStatus::PollFault, ASKED),
+        (12, FilterStatus::Done, "1 upstream 000000010b\nclose 1\n"),
+        (13, FilterStatus::Done, "1 upstream 000000010b\nclose 1\n"),
+    ];
+    for (failing, status, deeds) in cases {
+        let run = Run {
+            failing,
+            status,
+            deeds,
+            label: "a failing call",
+        };
+        plays(&rt, alloc, a_list(alloc)?, &run);
+    }
+    Ok(())
+}
+
+// The first pair's client takes so many bytes more.
+fn room(count: u32) -> PairCue {
+    PairCue::Room {
+        pair: 1,
+        side: Side::Client,
+        count,
+    }
+}
+
+// The client takes nothing at first, then one reply, and then the other.
+#[test]
+fn other_keys_are_refused_and_nothing_overtakes(rt: HostRuntime) -> Result<(), Fail> {
+    let alloc = rt.alloc();
+    let mut three = hex::decode(alloc, SIGN_SECOND)?;
+    three.extend_from_slice(&hex::decode(alloc, REMOVE_ALL)?)?;
+    three.extend_from_slice(&hex::decode(alloc, SIGN_FIRST)?)?;
+    let asked = PairCue::Send {
+        pair: 1,
+        side: Side::Client,
+        bytes: Bytes::from_vec(three),
+    };
+    let answered = sends(alloc, 1, Side::Upstream, SIGNED)?;
+    let turns = vec![in alloc;
+        vec![in alloc; PairCue::Connect, room(0)]?,
+        vec![in alloc; asked]?,
+        vec![in alloc; room(5)]?,
+        vec![in alloc; room(5)]?,
+        vec![in alloc; room(100), answered]?,
+    ]?;
+    let run = Run {
+        failing: 0,
+        status: FilterStatus::Done,
+        deeds: "1 client 0000000105\n1 client 0000000105\n\
+            1 upstream 000000500d00000040000000186b657965642d736861323536406578616d706c652e636f6d\
+            0000002011111111111111111111111111111111111111111111111111111111111111110000000361626300000000\n\
+            1 client 000000070e000000027367\n",
+        label: "three requests in a piece",
+    };
+    plays(&rt, alloc, turns, &run);
+    Ok(())
+}
+
+#[test]
+fn a_pair_is_closed_where_its_agent_leaves(rt: HostRuntime) -> Result<(), Fail> {
+    let alloc = rt.alloc();
+    let asked = sends(alloc, 1, Side::Client, SIGN_FIRST)?;
+    let ends = PairCue::Shut {
+        pair: 1,
+        side: Side::Upstream,
+    };
+    let turns = vec![in alloc;
+        vec![in alloc; PairCue::Connect]?,
+        vec![in alloc; asked]?,
+        vec![in alloc; ends]?,
+    ]?;
+    let run = Run {
+        failing: 0,
+        status: FilterStatus::Done,
+        deeds: "1 upstream 000000500d00000040000000186b657965642d736861323536406578616d706c652e636f6d\
+            0000002011111111111111111111111111111111111111111111111111111111111111110000000361626300000000\n\
+            close 1\n",
+        label: "an agent that leaves",
+    };
+    plays(&rt, alloc, turns, &run);
+    Ok(())
+}
+
+// The third pair's agent answers first.
+#[test]
+fn pairs_are_served_in_their_turn(rt: HostRuntime) -> Result<(), Fail> {
+    let alloc = rt.alloc();
+    let turns = vec![in alloc;
+        vec![in alloc; PairCue::Connect, PairCue::Connect, PairCue::Connect]?,
+        vec![in alloc;
+            sends(alloc, 1, Side::Client, LIST)?,
+            sends(alloc, 2, Side::Client, REMOVE_ALL)?,
+            sends(alloc, 3, Side::Client, SIGN_FIRST)?,
+        ]?,
+        vec![in alloc;
+            sends(alloc, 3, Side::Upstream, SIGNED)?,
+            sends(alloc, 1, Side::Upstream, "0000000105")?,
+        ]?,
+    ]?;
+    let run = Run {
+        failing: 0,
+        status: FilterStatus::Done,
+        deeds: "1 upstream 000000010b\n\
+            2 client 0000000105\n\
+            3 upstream 000000500d00000040000000186b657965642d736861323536406578616d706c652e636f6d\
+            0000002011111111111111111111111111111111111111111111111111111111111111110000000361626300000000\n\
+            3 client 000000070e000000027367\n\
+            1 client 0000000105\n",
+        label: "three pairs",
+    };
+    plays(&rt, alloc, turns, &run);
+    Ok(())
+}
+
+// The agent of the second pair sends what nobody asked for, and the third one's client a length over the bound.
+#[test]
+fn a_pair_alone_is_closed(rt: HostRuntime) -> Result<(), Fail> {
+    let alloc = rt.alloc();
+    let turns = vec![in alloc;
+        vec![in alloc; PairCue::Connect, PairCue::Connect, PairCue::Connect]?,
+        vec![in alloc;
+            sends(alloc, 2, Side::Upstream, "00")?,
+            sends(alloc, 3, Side::Client, "00040001")?,
+            sends(alloc, 1, Side::Client, REMOVE_ALL)?,
+        ]?,
+    ]?;
+    let run = Run {
+        failing: 0,
+        status: FilterStatus::Done,
+        deeds: "close 2\nclose 3\n1 client 0000000105\n",
+        label: "two that break the rules",
+    };
+    plays(&rt, alloc, turns, &run);
+    Ok(())
+}

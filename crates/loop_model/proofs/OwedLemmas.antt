@@ -1,0 +1,207 @@
+-- The agent stays orderly, and child processes that were owed bytes are owed some yet.
+use Rattle.std.proofs.Common.{◌≡◌, ◌≢◌, ℕ, suc, ◌≤◌, ◌<◌, Bool, true, false, Option, Some, None, is_some, refl, sym, ap, ◌∙◌, ◌==◌, subst, arith, not}
+use Rattle.std.proofs.lemmas.Bool.{eq-eqb}
+use Rattle.world_ports.specs.declared.events.Door.TheVariants.{Children, Clients}
+use Rattle.world_ports.specs.declared.events.Door.{Door}
+use Rattle.world_ports.specs.declared.events.Moment.{Moment}
+use Rattle.confirm_desk.specs.Confirmations.{Confirmation, find_linked}
+use Rattle.helper_link.specs.HelperLink.{sendable}
+use Rattle.helper_link.specs.declared.state.LinkState.TheVariants as states
+use Rattle.helper_link.specs.declared.state.LinkState.{LinkState}
+use Rattle.agent_model.specs.Events.{Ended, Happening, Heard, Joined, StartFailed, Started, Tick, Took}
+use Rattle.agent_model.specs.Sound.{IsRising}
+use Rattle.agent_model.specs.State.{Port, State, UnderWay, find_port, first_state, is_client, is_linked_to, is_some_bytes, owed_as, owed_by, owed_of, role_by_helper, role_by_link, role_of}
+use Rattle.agent_model.specs.Step.{at_moment, handle, has_room, step}
+use Rattle.agent_model.proofs.MakeLemmas.{role-helper}
+use Rattle.agent_model.proofs.PortsLemmas.{find_port-below, found_above, found_number}
+use Rattle.agent_model.proofs.RunLemmas.{first_is_sound, step_keeps-sound}
+use Rattle.loop_model.specs.Elsewhere.{is_child, takes_bytes}
+use Rattle.loop_model.specs.Orderly.{IsOrderly, IsStaffed}
+use Rattle.loop_model.proofs.ChildEventLemmas.{keeps-event}
+use Rattle.loop_model.proofs.ChildLemmas.{Owes, by_desk, by_link}
+use Rattle.loop_model.proofs.ElsewhereLemmas.{find-admitted}
+use Rattle.loop_model.proofs.LeftLemmas.{never_joins}
+use Rattle.loop_model.proofs.ThingLemmas.{false_by}
+
+-- ---- the agent stays orderly
+
+staffed_event : (event : Happening) (state : State) → IsRising 0 state.last_port state.ports
+    → IsStaffed state.under_way → ((door : Door) → event ≡ Joined door → ⊥)
+    → IsStaffed (handle event state).state.under_way
+staffed_event event state rising staffed never =
+    (keeps-event 0 state.last_port event state never
+    (λ other count at is found none.
+    let above : 0 < other = found_above other 0 state.last_port state.ports at rising found in omega (arith, above, none))
+    record {
+      rising = rising;
+      staffed = staffed;
+      owes = λ opened.
+          let none : find_port 0 state.ports ≡ None = find_port-below 0 0 state.last_port state.ports (omega arith) rising in
+          let no : false ≡ true = sym (ap is_some none) ∙ opened in
+          absurd (cc);
+    }).staffed
+
+staffed_by : (event : Happening) (state : State) → IsRising 0 state.last_port state.ports → IsStaffed state.under_way
+    → IsStaffed (handle event state).state.under_way
+staffed_by (Joined door) state rising staffed = staffed
+staffed_by (Heard other piece) state rising staffed =
+    staffed_event (Heard other piece) state rising staffed (λ door is. absurd (cc))
+staffed_by (Took other count) state rising staffed =
+    staffed_event (Took other count) state rising staffed (λ door is. absurd (cc))
+staffed_by (Ended other) state rising staffed =
+    staffed_event (Ended other) state rising staffed (λ door is. absurd (cc))
+staffed_by (Started job ticket) state rising staffed =
+    staffed_event (Started job ticket) state rising staffed (λ door is. absurd (cc))
+staffed_by (StartFailed job) state rising staffed =
+    staffed_event (StartFailed job) state rising staffed (λ door is. absurd (cc))
+staffed_by Tick state rising staffed = staffed
+
+pub orderly_after : (state : State) (moment : Moment) (event : Happening) → IsOrderly state
+    → IsOrderly (step state moment event).state
+orderly_after state moment event orderly = record {
+  sound = step_keeps-sound state moment event orderly.sound;
+  staffed = staffed_by event (at_moment moment state) orderly.sound.rising orderly.staffed;
+}
+
+pub orderly_first : (life : Option ℕ) → IsOrderly (first_state life)
+orderly_first life = record {
+  sound = first_is_sound life;
+  staffed = record {
+    jobs = record { order = omega arith; to_start = tt; started = tt; apart = λ number job found. absurd (cc) };
+    coming = let none : 0 ≤ 0 = omega arith in none;
+  };
+}
+
+-- ---- what a child process is owed, as its port tells
+
+linked_is : (port : ℕ) (u : UnderWay) → is_linked_to port u.link.state ≡ true → u.link.state ≡ states.Linked port
+linked_is port u is = role-helper Children port u (ap (λ b. role_by_helper b port u.confirmations) is)
+
+not_linked_is : (port : ℕ) (u : UnderWay) → is_linked_to port u.link.state ≡ false → u.link.state ≢ states.Linked port
+not_linked_is port u is linked =
+    let there : is_linked_to port u.link.state ≡ (port == port) = ap (is_linked_to port) linked in
+    let here : (port == port) ≡ true = eq-eqb port port refl in
+    let no : false ≡ true = sym is ∙ there ∙ here in
+    absurd (cc)
+
+owes_desk : (found : Option Confirmation) (port : ℕ) (at : Port) (u : UnderWay) → find_linked port u.confirmations ≡ found
+    → u.link.state ≢ states.Linked port → is_some_bytes (owed_as (role_by_link found) at u) ≡ true → Owes port u
+owes_desk None port at u is other some = absurd (cc)
+owes_desk (Some one) port at u is other some = by_desk one is some other
+
+owes_child : (linked : Bool) (port : ℕ) (at : Port) (u : UnderWay) → is_linked_to port u.link.state ≡ linked
+    → is_some_bytes (owed_as (role_by_helper linked port u.confirmations) at u) ≡ true → Owes port u
+owes_child true port at u is some =
+    let linked = linked_is port u is in
+    by_link linked (sym (ap (λ (s : LinkState). is_some_bytes (sendable s u.link.owed)) linked) ∙ some)
+owes_child false port at u is some =
+    owes_desk (find_linked port u.confirmations) port at u refl (not_linked_is port u is) some
+
+owes_port : (door : Door) (port : ℕ) (at : Port) (u : UnderWay) → is_client door ≡ false
+    → is_some_bytes (owed_as (role_of door port u) at u) ≡ true → Owes port u
+owes_port Clients port at u child some = absurd (cc)
+owes_port Children port at u child some = owes_child (is_linked_to port u.link.state) port at u refl some
+
+owed_desk : (found : Option Confirmation) (port : ℕ) (at : Port) (u : UnderWay) (one : Confirmation) → found ≡ Some one
+    → is_some_bytes one.owed ≡ true → is_some_bytes (owed_as (role_by_link found) at u) ≡ true
+owed_desk None port at u one is some = absurd (cc)
+owed_desk (Some other) port at u one is some =
+    let equal : other ≡ one = cc in ap (λ (c : Confirmation). is_some_bytes c.owed) equal ∙ some
+
+owed_child : (linked : Bool) (port : ℕ) (at : Port) (u : UnderWay) → is_linked_to port u.link.state ≡ linked → Owes port u
+    → is_some_bytes (owed_as (role_by_helper linked port u.confirmations) at u) ≡ true
+owed_child true port at u is (by_link linked some) =
+    ap (λ (s : LinkState). is_some_bytes (sendable s u.link.owed)) linked ∙ some
+owed_child true port at u is (by_desk one found some other) = absurd (other (linked_is port u is))
+owed_child false port at u is (by_link linked some) = absurd (not_linked_is port u is linked)
+owed_child false port at u is (by_desk one found some other) =
+    owed_desk (find_linked port u.confirmations) port at u one found some
+
+owed_port : (door : Door) (port : ℕ) (at : Port) (u : UnderWay) → is_client door ≡ false → Owes port u
+    → is_some_bytes (owed_as (role_of door port u) at u) ≡ true
+owed_port Clients port at u child owes = absurd (cc)
+owed_port Children port at u child owes = owed_child (is_linked_to port u.link.state) port at u refl owes
+
+-- ---- a child process that was owed bytes is owed some yet
+
+not_client : (door : Door) → not (is_client door) ≡ true → is_client door ≡ false
+not_client Clients child = absurd (cc)
+not_client Children child = refl
+
+child_before : (found : Option Port) (u : UnderWay) (port : ℕ) → ((at : Port) → found ≡ Some at → at.number ≡ port)
+    → is_child found ≡ true → is_some_bytes (owed_by found u) ≡ true → Owes port u
+child_before None u port number child some = absurd (cc)
+child_before (Some at) u port number child some =
+    owes_port at.door port at u (not_client at.door child)
+    (subst (λ n. is_some_bytes (owed_as (role_of at.door n u) at u) ≡ true) (number at refl) some)
+
+child_after : (found : Option Port) (u : UnderWay) (port : ℕ) → ((at : Port) → found ≡ Some at → at.number ≡ port)
+    → is_child found ≡ true → Owes port u → is_some_bytes (owed_by found u) ≡ true
+child_after None u port number child owes = absurd (cc)
+child_after (Some at) u port number child owes =
+    subst (λ n. is_some_bytes (owed_as (role_of at.door n u) at u) ≡ true) (sym (number at refl))
+    (owed_port at.door port at u (not_client at.door child) owes)
+
+child_open : (found : Option Port) → is_child found ≡ true → is_some found ≡ true
+child_open None child = absurd (cc)
+child_open (Some at) child = refl
+
+child_event : (event : Happening) (state : State) (port : ℕ) → IsRising 0 state.last_port state.ports
+    → IsStaffed state.under_way → ((door : Door) → event ≡ Joined door → ⊥) → takes_bytes event port ≡ false
+    → is_child (find_port port state.ports) ≡ true → is_some_bytes (owed_of port state) ≡ true
+    → is_child (find_port port (handle event state).state.ports) ≡ true
+    → is_some_bytes (owed_of port (handle event state).state) ≡ true
+child_event event state port rising staffed never silent child some still =
+    let owes = child_before (find_port port state.ports) state.under_way port
+    (λ at found. found_number port state.ports at found) child some in
+    let keeps = keeps-event port state.last_port event state never
+    (λ other count at is found here.
+    let takes : takes_bytes (Took other count) port ≡ false = ap (λ e. takes_bytes e port) (sym is) ∙ silent in
+    let same_port : (other == port) ≡ true = eq-eqb other port here in
+    let no : false ≡ true = sym takes ∙ same_port in
+    absurd (cc))
+    record { rising = rising; staffed = staffed; owes = λ opened. owes } in
+    child_after (find_port port (handle event state).state.ports) (handle event state).state.under_way port
+    (λ at found. found_number port (handle event state).state.ports at found) still
+    (keeps.owes (child_open (find_port port (handle event state).state.ports) still))
+
+child_joined : (door : Door) (state : State) (port : ℕ) → IsRising 0 state.last_port state.ports
+    → is_child (find_port port state.ports) ≡ true → is_some_bytes (owed_of port state) ≡ true
+    → is_some_bytes (owed_of port (handle (Joined door) state).state) ≡ true
+child_joined door state port rising child some =
+    let is_in = has_room door state.ports state.under_way in
+    let other : (suc state.last_port == port) ≡ false = false_by (suc state.last_port == port) (λ is.
+    let at = some_child (find_port port state.ports) child in
+    never_joins port state.last_port state.ports at.0 rising is at.1) in
+    ap (λ f. is_some_bytes (owed_by f state.under_way))
+    (find-admitted is_in port (suc state.last_port) door state.ports other) ∙ some
+  where
+    some_child : (found : Option Port) → is_child found ≡ true → (at : Port) × (found ≡ Some at)
+    some_child None child = absurd (cc)
+    some_child (Some at) child = (at, refl)
+
+child_by : (event : Happening) (state : State) (port : ℕ) → IsRising 0 state.last_port state.ports
+    → IsStaffed state.under_way → takes_bytes event port ≡ false
+    → is_child (find_port port state.ports) ≡ true → is_some_bytes (owed_of port state) ≡ true
+    → is_child (find_port port (handle event state).state.ports) ≡ true
+    → is_some_bytes (owed_of port (handle event state).state) ≡ true
+child_by (Joined door) state port rising staffed silent child some still = child_joined door state port rising child some
+child_by (Heard other piece) state port rising staffed silent child some still =
+    child_event (Heard other piece) state port rising staffed (λ door is. absurd (cc)) silent child some still
+child_by (Took other count) state port rising staffed silent child some still =
+    child_event (Took other count) state port rising staffed (λ door is. absurd (cc)) silent child some still
+child_by (Ended other) state port rising staffed silent child some still =
+    child_event (Ended other) state port rising staffed (λ door is. absurd (cc)) silent child some still
+child_by (Started job ticket) state port rising staffed silent child some still =
+    child_event (Started job ticket) state port rising staffed (λ door is. absurd (cc)) silent child some still
+child_by (StartFailed job) state port rising staffed silent child some still =
+    child_event (StartFailed job) state port rising staffed (λ door is. absurd (cc)) silent child some still
+child_by Tick state port rising staffed silent child some still = some
+
+pub child_owed_after : (state : State) (moment : Moment) (event : Happening) (port : ℕ) → IsOrderly state
+    → takes_bytes event port ≡ false → is_child (find_port port state.ports) ≡ true
+    → is_some_bytes (owed_of port state) ≡ true
+    → is_child (find_port port (step state moment event).state.ports) ≡ true
+    → is_some_bytes (owed_of port (step state moment event).state) ≡ true
+child_owed_after state moment event port orderly silent child some still =
+    child_by event (at_moment moment state) port orderly.sound.rising orderly.staffed silent child some still

@@ -1,0 +1,198 @@
+-- The drill: what comes of the requests that a seed draws, and the line that sums it up, `summary` (ours: docs/PROTOCOL.md,
+-- "The drill"). The file is read from its end. Requests are drawn by specs/Draws.antt; each line is an event of the
+-- abstract agent and a settling, as those of a schedule are (specs/Settling.antt).
+use Rattle.std.specs.Prelude.{ℕ, zero, suc, ◌+◌, ◌==◌, Bool, true, false, is_some, List, [], ◌∷◌, ◌++◌, length, replicate, count_by, Option, None, Some, Result, Ok, Err, codes, decimal}
+use Rattle.world_ports.specs.declared.Door.{Door}
+use Rattle.world_ports.specs.declared.Door.TheVariants.{Clients, Children}
+use Rattle.world_ports.specs.declared.Moment.{Moment}
+use Rattle.wire_text.specs.Frames.{split}
+use Rattle.wire_text.specs.Wire.{string, uint64}
+use Rattle.child_msg.specs.ChildFrames.{from_child_body}
+use Rattle.child_msg.specs.Messages.{Hello, Signed, Sign, ToChildMessage, Verify, Confirm}
+use Rattle.child_msg.specs.Reading.{to_child_of}
+use Rattle.child_msg.specs.declared.fault.ChildFault.{ChildFault}
+use Rattle.agent_core.specs.Owing.{is_client_at}
+use Rattle.agent_model.specs.Budget.{budget}
+use Rattle.agent_model.specs.Events.{Happening, Joined, Heard, Started, Tick}
+use Rattle.agent_model.specs.State.{State, find_port, find_to_start, first_state, next_owed, owed_of, starts}
+use Rattle.replay_run.specs.Draws.{Draws, Asking, asking_of, draws_of}
+use Rattle.replay_run.specs.Settling.{after_event, delivered}
+
+-- ---- what is counted
+
+-- how many replies clients took: SUCCESS, FAILURE, IDENTITIES_ANSWER and SIGN_RESPONSE
+pub record Tally : Type 0 where
+  pub successes : ℕ
+  pub failures : ℕ
+  pub lists : ℕ
+  pub signatures : ℕ
+
+-- nothing was taken
+abbrev pub no_counts : Tally
+no_counts = record { successes = 0; failures = 0; lists = 0; signatures = 0 }
+
+-- the body is a message of this number
+abbrev pub has_number : ℕ → List ℕ → Bool
+has_number number [] = false
+has_number number (first ∷ bytes) = first == number
+
+-- these bodies too
+abbrev pub counts_with : List (List ℕ) → Tally → Tally
+counts_with bodies counts = record {
+  successes = counts.successes + count_by (has_number 6) bodies;
+  failures = counts.failures + count_by (has_number 5) bodies;
+  lists = counts.lists + count_by (has_number 12) bodies;
+  signatures = counts.signatures + count_by (has_number 14) bodies;
+}
+
+-- ---- what the helper is asked
+
+-- the ask of a message to the helper, if it is one to sign
+abbrev pub ask_of : Result ToChildMessage ChildFault → Option ℕ → Option ℕ
+ask_of (Ok (Sign signing)) before = Some signing.ask
+ask_of (Ok (Verify verification)) before = before
+ask_of (Ok (Confirm job prompt)) before = before
+ask_of (Err fault) before = before
+
+-- the last ask to sign among these messages, or the one before them
+abbrev pub last_ask : List (List ℕ) → Option ℕ → Option ℕ
+last_ask [] before = before
+last_ask (body ∷ bodies) before = last_ask bodies (ask_of (to_child_of body) before)
+
+-- ---- a drill
+
+-- a drill so far: the agent, what clients took, the ask that the helper hasn't answered, and the last number drawn
+pub record Drilled : Type 0 where
+  pub agent : State
+  pub counts : Tally
+  pub ask : Option ℕ
+  pub number : ℕ
+
+-- before the first line
+abbrev pub start_drill : ℕ → Drilled
+start_drill seed = record {
+  agent = first_state None;
+  counts = no_counts;
+  ask = None;
+  number = seed;
+}
+
+-- ---- a line
+
+-- what a port takes is noted: replies by a client, asks by a child process. All messages to an agent and from it have at
+-- most 1048576 bytes
+unfoldable pub noted : Bool → List ℕ → Drilled → Drilled
+noted true bytes drill = record drill { counts = counts_with (split 1048576 bytes).bodies drill.counts }
+noted false bytes drill = record drill { ask = last_ask (split 1048576 bytes).bodies drill.ask }
+
+-- a port takes all that it is owed
+unfoldable pub taking : Moment → ℕ → Drilled → Drilled
+taking moment port drill =
+    record (noted (is_client_at (find_port port drill.agent.ports)) (owed_of port drill.agent) drill) {
+      agent = delivered moment port drill.agent;
+    }
+
+-- one taking of the next port, where there is one, and then what follows later
+abbrev pub takings_from : Moment → (Drilled → Drilled) → Drilled → Option ℕ → Drilled
+takings_from moment later drill None = drill
+takings_from moment later drill (Some port) = later (taking moment port drill)
+
+-- at most so many takings, each of the open port of the least number that is owed bytes
+abbrev pub takings_by : Moment → ℕ → Drilled → Drilled
+takings_by moment zero drill = drill
+takings_by moment (suc fuel) drill = takings_from moment (takings_by moment fuel) drill (next_owed 0 drill.agent)
+
+-- takings until no port is owed bytes
+unfoldable pub drill_settled : Moment → Drilled → Drilled
+drill_settled moment drill = takings_by moment (budget drill.agent) drill
+
+-- a line's event, and the settling after it
+unfoldable pub lined : Moment → Happening → Drilled → Drilled
+lined moment event drill = drill_settled moment (record drill { agent = after_event moment drill.agent event })
+
+-- the line `hear` with the frame of this body, where the port is open
+abbrev pub heard_by : Bool → Moment → ℕ → List ℕ → Drilled → Drilled
+heard_by true moment port body drill = lined moment (Heard port (string body)) drill
+heard_by false moment port body drill = drill
+
+unfoldable pub heard : Moment → ℕ → List ℕ → Drilled → Drilled
+heard moment port body drill = heard_by (is_some (find_port port drill.agent.ports)) moment port body drill
+
+-- ---- a round
+
+-- the port of the helper, behind eight clients
+abbrev pub helper_port : ℕ
+helper_port = 9
+
+-- the ticket of job 1
+abbrev pub ticket : List ℕ
+ticket = replicate 16 0
+
+-- where job 1 waits, the helper is started, joins, and says hello
+abbrev pub helped_by : Bool → Moment → Drilled → Drilled
+helped_by true moment drill =
+    heard moment helper_port (from_child_body (Hello 1 ticket))
+    (lined moment (Joined Children) (lined moment (Started 1 ticket) drill))
+helped_by false moment drill = drill
+
+unfoldable pub helped : Moment → Drilled → Drilled
+helped moment drill = helped_by (is_some (find_to_start 1 (starts drill.agent))) moment drill
+
+-- where the helper was asked, it signs with the bytes of the round
+abbrev pub signed_by : Option ℕ → Moment → ℕ → Drilled → Drilled
+signed_by None moment round drill = drill
+signed_by (Some ask) moment round drill =
+    heard moment helper_port (from_child_body (Signed ask (uint64 round))) (record drill { ask = None })
+
+unfoldable pub signed : Moment → ℕ → Drilled → Drilled
+signed moment round drill = signed_by drill.ask moment round drill
+
+-- the request of these draws, and all that comes of it
+abbrev pub asked : Moment → ℕ → Asking → ℕ → Drilled → Drilled
+asked moment round asking client drill =
+    signed moment round (helped moment (heard moment client asking.body (record drill { number = asking.number })))
+
+-- the request of three draws: a client, a key and a kind
+abbrev pub drawn_asking : ℕ → Draws → Asking
+drawn_asking round draws = asking_of draws.three draws.two round draws.number
+
+abbrev pub round_by : Moment → ℕ → Draws → Drilled → Drilled
+round_by moment round draws drill = asked moment round (drawn_asking round draws) (1 + draws.one) drill
+
+-- the moment of a round: its second, by the clock that never falls
+abbrev pub moment_of : ℕ → Moment
+moment_of round = record { mono = round; wall = 0 }
+
+-- behind the moment's line, by three draws below 8, 64 and 8
+abbrev pub round_at : Moment → ℕ → Drilled → Drilled
+round_at moment round drill = round_by moment round (draws_of 8 64 8 drill.number) drill
+
+unfoldable pub round_of : ℕ → Drilled → Drilled
+round_of round drill = round_at (moment_of round) round (lined (moment_of round) Tick drill)
+
+-- so many clients join
+abbrev pub joined : ℕ → Drilled → Drilled
+joined zero drill = drill
+joined (suc count) drill = lined (moment_of 0) (Joined Clients) (joined count drill)
+
+-- the drill after so many rounds, of this seed
+abbrev pub drilled : ℕ → ℕ → Drilled
+drilled zero seed = joined 8 (start_drill seed)
+drilled (suc round) seed = round_of (suc round) (drilled round seed)
+
+-- ---- the summary
+
+-- a word, and a number behind it
+abbrev pub told : List ℕ → ℕ → List ℕ
+told word number = word ++ decimal number
+
+-- the line that sums up so many rounds of a seed, which left this drill
+unfoldable pub summary_of : ℕ → ℕ → Drilled → List ℕ
+summary_of rounds seed drill =
+    told (codes "drill ") rounds ++ told (codes " ") seed ++ told (codes ": requests ") rounds
+    ++ told (codes ", successes ") drill.counts.successes ++ told (codes ", failures ") drill.counts.failures
+    ++ told (codes ", lists ") drill.counts.lists ++ told (codes ", signatures ") drill.counts.signatures
+    ++ told (codes ", held ") (length drill.agent.held.table.identities) ++ codes "\n"
+
+abbrev pub summary : ℕ → ℕ → List ℕ
+summary rounds seed = summary_of rounds seed (drilled rounds seed)

@@ -1,0 +1,101 @@
+// A wait: what epoll tells, and what is owed beside it.
+ghost use Rattle.std.specs.Prelude.{◌≡◌};
+
+use crate::UnixPairs;
+use crate::connected::{LISTENER, side_of};
+use pair_ports::{PairReady, Side};
+use std::fs::{File, Files};
+use std::io;
+use std::net::Net;
+use std::time::{Clock, Duration};
+
+// What epoll told of: the listener, or a side of a pair.
+fn item_of(event: &mio::event::Event) -> PairReady {
+    let (pair, side) = side_of(event.token());
+    PairReady {
+        pair: if event.token() == LISTENER {
+            None
+        } else {
+            Some(pair)
+        },
+        side,
+        readable: event.is_readable() || event.is_read_closed() || event.is_error(),
+        writable: event.is_writable() || event.is_write_closed(),
+    }
+}
+
+// There is something to be read at a side, or a connection at the listener.
+fn ready_at(pair: Option<u64>, side: Side) -> PairReady {
+    PairReady {
+        pair,
+        side,
+        readable: true,
+        writable: false,
+    }
+}
+
+impl<R: Files<File = File> + Net + Clock> UnixPairs<'_, R> {
+    // How long a poll waits: not at all where it has to tell of something, and a second at the most while the listener is
+    // stuck.
+    fn most_seconds(&self) -> Option<u64> {
+        let listener = self.listener.as_ref();
+        if !self.owed.is_empty() || listener.is_some_and(|listener| listener.is_owed) {
+            return Some(0);
+        }
+        if listener.is_some_and(|listener| listener.is_stuck) {
+            return Some(1);
+        }
+        None
+    }
+
+    // What epoll told of a side is kept.
+    fn note(&mut self)
+        ensures faults { self.new.faults ≡ self.old.faults }
+        ensures pairs { self.new.last_pair ≡ self.old.last_pair }
+    {
+        for event in self.events.iter() {
+            let (pair, side) = side_of(event.token());
+            if let Some(connected) = self.pairs.get_mut(&pair) {
+                let port = connected.side(side);
+                if event.is_read_closed() || event.is_error() {
+                    port.marks.shut();
+                } else if event.is_readable() {
+                    port.marks.wake();
+                }
+            }
+        }
+    }
+
+    // Tells of what epoll told, and of what is owed; a round begins.
+    fn tell(&mut self, out: &mut Vec<PairReady>) -> io::Result<()>
+        ensures faults { self.new.faults ≡ self.old.faults }
+        ensures pairs { self.new.last_pair ≡ self.old.last_pair }
+    {
+        for event in self.events.iter() {
+            out.push(item_of(event))?;
+        }
+        for (pair, side) in self.owed.iter() {
+            out.push(ready_at(Some(*pair), *side))?;
+        }
+        self.owed.clear();
+        self.round = self.round.wrapping_add(1);
+        if let Some(listener) = &mut self.listener {
+            if listener.renew() {
+                out.push(ready_at(None, Side::Client))?;
+            }
+        }
+        Ok(())
+    }
+
+    pub(crate) fn wait(&mut self, out: &mut Vec<PairReady>) -> io::Result<()>
+        ensures faults { self.new.faults ≡ self.old.faults }
+        ensures pairs { self.new.last_pair ≡ self.old.last_pair }
+    {
+        out.clear();
+        let most = self.most_seconds();
+        self.poll
+            .poll(&mut self.events, most.map(Duration::from_secs))?;
+        self.note();
+        self.tell(out)
+    }
+}

@@ -1,0 +1,278 @@
+#!/usr/bin/env python3
+"""Random clients and agents on both sides of the built filter, over sockets, beside the model: each side is sent the same
+bytes, and a pair is closed at the same piece.
+
+    model/differential_filter.py FILTER [RUNS [SEED]]
+    model/differential_filter.py --wrong [RUNS [SEED]]
+
+The second tries wrong models, each of which has to differ.
+"""
+
+from __future__ import annotations
+
+import base64
+import os
+import random
+import socket
+import subprocess
+import sys
+import tempfile
+import time
+from collections import Counter
+from pathlib import Path
+
+if not __package__:
+    sys.dont_write_bytecode = True
+    sys.path.insert(0, str(Path(__file__).resolve().parents[1]))
+
+from model.filter import BIND, Pair
+from model.wire import string, uint32
+
+PAIRS, PIECES, PATIENCE = 4, 60, 20.0
+
+# What a filter that waits for an answer leaves in the socket has to fit there.
+MOST_UNREAD = 50000
+
+
+def key(tag: int) -> bytes:
+    return string(b"ssh-ed25519") + string(bytes([tag]) * 32)
+
+
+LISTED, OTHER = [key(tag) for tag in range(1, 6)], [key(tag) for tag in range(6, 11)]
+
+
+def blob(dice: random.Random) -> bytes:
+    """A key that is listed, one that isn't, or one that begins or ends as a listed one does."""
+    listed = dice.choice(LISTED)
+    return dice.choice((listed, listed, dice.choice(OTHER), listed[:-1], listed + b"\0", b""))
+
+
+def request(dice: random.Random) -> bytes:
+    data, host = dice.randbytes(dice.choice((0, 3, 40, 20000))), dice.choice((blob(dice), b"host"))
+    sign = b"\x0d" + string(blob(dice)) + string(data) + uint32(dice.choice((0, 4)))
+    bind = b"\x1b" + string(BIND) + string(host) + string(b"session") + string(b"sg") + b"\1"
+    body = dice.choice(
+        (
+            b"\x0b",
+            b"\x0b",
+            sign,
+            sign,
+            bind,
+            b"\x13",
+            b"\x12" + string(blob(dice)),
+            b"\x16" + string(b"word"),
+            b"\x1b" + string(b"other@example.com") + b"text",
+            bytes([dice.randrange(256)]) + dice.randbytes(dice.randrange(30)),
+        )
+    )
+    change = dice.random()
+    if change < 0.05:
+        body += b"\0"
+    elif change < 0.1 and len(body) > 1:
+        body = body[:-1]
+    return string(body)
+
+
+def answer(dice: random.Random, waits: str) -> bytes:
+    """What an agent answers, mostly as it should."""
+    entries = [(blob(dice), b"c" * dice.choice((0, 3, 9000))) for _ in range(dice.randrange(12))]
+    count = uint32(max(0, len(entries) + dice.choice((0,) * 20 + (1, -1))))
+    listing = b"\x0c" + count + b"".join(string(key) + string(comment) for key, comment in entries)
+    signature = b"\x0e" + string(dice.randbytes(dice.choice((64, 5000))))
+    usual = listing if waits == "list" else signature
+    body = dice.choice((usual,) * 12 + (b"\x05", b"\x05", b"\x06", listing, signature))
+    said = string(body)
+    change = dice.random()
+    if change < 0.02:
+        return said + b"\0"
+    if change < 0.04:
+        return dice.choice((string(b""), uint32(262145), string(body + b"\0")))
+    return said
+
+
+class Played:
+    """A pair of the built filter, beside the model's."""
+
+    def __init__(self, path: str, listener: socket.socket) -> None:
+        client = socket.socket(socket.AF_UNIX)
+        client.settimeout(PATIENCE)
+        client.connect(path)
+        upstream = listener.accept()[0]
+        upstream.settimeout(PATIENCE)
+        self.ends = {"client": client, "upstream": upstream}
+        self.seen = {"client": b"", "upstream": b""}
+        self.kept = {"client": b"", "upstream": b""}
+        self.model = Pair(set(LISTED))
+
+    def close(self) -> None:
+        for end in self.ends.values():
+            end.close()
+
+    def send(self, side: str, piece: bytes) -> None:
+        """A side sends a piece, or ends where it is empty."""
+        if not piece:
+            self.ends[side].shutdown(socket.SHUT_RDWR)
+            self.model.end()
+            return
+        self.model.hear(side, piece)
+        try:
+            self.ends[side].sendall(piece)
+        except OSError as fault:
+            assert not self.model.is_open, f"{side}: {fault} at {piece[:40].hex()}, waits for {self.model.waits}"
+
+    def take(self, side: str) -> bool:
+        """Reads once. Whether the other side goes on."""
+        try:
+            more = self.ends[side].recv(1 << 20)
+        except ConnectionResetError:
+            more = b""
+        self.seen[side] += more
+        return bool(more)
+
+    def compare(self) -> None:
+        """What each side is sent is what the model says. In the piece that closes a pair it may be cut off anywhere."""
+        for side, end in self.ends.items():
+            wanted = self.model.sent[side]
+            if self.model.is_open:
+                while len(self.seen[side]) < len(wanted) and self.take(side):
+                    pass
+                assert self.seen[side] == wanted, f"{side}: {self.seen[side][-80:].hex()}, not {wanted[-80:].hex()}"
+                self.kept[side] = wanted
+            else:
+                while self.take(side):
+                    pass
+                assert self.kept[side] == self.seen[side][: len(self.kept[side])], side
+                assert wanted.startswith(self.seen[side]), f"{side}: {self.seen[side][-80:].hex()} before the end"
+
+
+class Script:
+    """What the peers of one pair do, as the model says that it is their turn."""
+
+    def __init__(self) -> None:
+        self.left = {"client": bytearray(), "upstream": bytearray()}
+
+    def next(self, dice: random.Random, model: Pair) -> tuple[str, bytes] | None:
+        """A side, and the bytes that it sends next, or none where it ends. Nothing where it has to wait."""
+        if model.waits and not self.left["upstream"] and not model.unread["upstream"] and dice.random() < 0.7:
+            self.left["upstream"] += answer(dice, model.waits)
+        side = "upstream" if self.left["upstream"] and dice.random() < 0.8 else "client"
+        if side == "client" and len(model.unread["client"]) > MOST_UNREAD:
+            return None
+        if side == "client" and not self.left["client"]:
+            self.left["client"] += b"".join(request(dice) for _ in range(dice.choice((1, 1, 2, 5))))
+            if dice.random() < 0.01:
+                self.left["client"] += dice.choice((bytes(4), uint32(262145)))
+        chance = dice.random()
+        if chance < 0.01 and model.wants(side):
+            return side, b""
+        if chance < 0.02 and not model.waits:
+            return "upstream", b"\0"
+        count = dice.choice((len(self.left[side]), len(self.left[side]), 1, 3, 16384))
+        piece = bytes(self.left[side][:count])
+        del self.left[side][:count]
+        return side, piece
+
+
+def play(dice: random.Random, path: str, listener: socket.socket, seen: Counter) -> None:
+    """Pairs beside each other, of which one after another gets a piece."""
+    played = [(Played(path, listener), Script()) for _ in range(PAIRS)]
+    for _ in range(PIECES):
+        number = dice.randrange(PAIRS)
+        pair, script = played[number]
+        if not pair.model.is_open:
+            seen["closed"] += 1
+            pair.close()
+            played[number] = Played(path, listener), Script()
+        elif step := script.next(dice, pair.model):
+            pair.send(*step)
+            pair.compare()
+            seen[f"waits for {pair.model.waits}"] += 1
+    for pair, _ in played:
+        pair.close()
+
+
+# Wrong models: a line of filter.py, and what stands in its place.
+WRONG = {
+    "passes every request": ("elif is_signature_request(body, self.listed) or is_bind(body):", "else:"),
+    "cuts nothing": ("if blob in self.listed]", "]"),
+    "passes a signature with any key": ("return found is not None and found[0] in listed", "return found is not None"),
+    "passes a signature with the front of a listed key": (
+        "return found is not None and found[0] in listed",
+        "return found is not None and any(blob.startswith(found[0]) for blob in listed)",
+    ),
+    "passes no bind": (" or is_bind(body):", ":"),
+    "passes every extension": ("return found is not None and found[0] == BIND", "return body[:1] == bytes([27])"),
+    "leaves the count of all": ("uint32(len(kept))", "uint32(len(entries))"),
+    "lists nothing for a failure": ("            return FAILURE\n", "            return b'\\x0c' + uint32(0)\n"),
+    "keeps what nobody asked for": ('raise Fault("unasked")', "return False"),
+    "keeps what stands behind an answer": ("self.answer() or self.request()", "self.request() or self.answer()"),
+    "takes a request before the answer": ("        if self.waits:\n            return False\n", ""),
+    "passes on what is no list": ('raise Fault("no list")', "return body"),
+    "refuses without an answer": ("string(body if self.waits else FAILURE)", "(string(body) if self.waits else b'')"),
+    "has no longest message": ("LONGEST = 262144", "LONGEST = 1 << 32"),
+}
+
+
+def differs(wrong: type[Pair], dice: random.Random) -> bool:
+    """Whether a wrong model does something else at one piece of a script."""
+    model, other, script = Pair(set(LISTED)), wrong(set(LISTED)), Script()
+    for _ in range(PIECES):
+        if (step := script.next(dice, model)) is None:
+            continue
+        side, piece = step
+        for each in (model, other):
+            each.hear(side, piece) if piece else each.end()
+        if (model.sent, model.is_open) != (other.sent, other.is_open):
+            return True
+        if not model.is_open:
+            return False
+    return False
+
+
+def try_wrong(runs: int, seed: str) -> int:
+    text = (Path(__file__).parent / "filter.py").read_text()
+    unseen = []
+    for name, (old, new) in WRONG.items():
+        assert text.count(old) == 1, name
+        found: dict = {"__name__": "model.wrong", "__package__": "model"}
+        exec(compile(text.replace(old, new), name, "exec"), found)
+        if not any(differs(found["Pair"], random.Random(f"{seed} {run}")) for run in range(runs)):
+            unseen.append(name)
+    print(f"filter: {len(WRONG) - len(unseen)} of {len(WRONG)} wrong models are told from the right one {unseen or ''}")
+    return len(unseen) > 0
+
+
+def main(program: str, runs: str = "200", seed: str = "") -> int:
+    seed = seed or str(random.SystemRandom().randrange(1 << 32))
+    if program == "--wrong":
+        return try_wrong(int(runs), seed)
+    seen: Counter = Counter()
+    with tempfile.TemporaryDirectory() as folder:
+        keys, path = f"{folder}/keys", f"{folder}/filter"
+        Path(keys).write_text("".join(f"ssh-ed25519 {base64.b64encode(key).decode()} c\n" for key in LISTED))
+        listener = socket.socket(socket.AF_UNIX)
+        listener.settimeout(PATIENCE)
+        listener.bind(f"{folder}/agent")
+        listener.listen()
+        process = subprocess.Popen([program, keys, f"{folder}/agent", path], stdin=subprocess.DEVNULL)
+        try:
+            end = time.monotonic() + PATIENCE
+            while not os.path.exists(path) and time.monotonic() < end and process.poll() is None:
+                time.sleep(0.02)
+            time.sleep(0.2)
+            for run in range(int(runs)):
+                try:
+                    play(random.Random(f"{seed} {run}"), path, listener, seen)
+                except (AssertionError, OSError) as fault:
+                    print(f"filter: run {run} of seed {seed}: {type(fault).__name__}: {fault}")
+                    return 1
+            assert process.poll() is None, "the filter ended"
+        finally:
+            process.terminate()
+            process.wait()
+    print(f"filter: {runs} runs of seed {seed} agree: {dict(sorted(seen.items()))}")
+    return 0
+
+
+if __name__ == "__main__":
+    sys.exit(main(*sys.argv[1:]))

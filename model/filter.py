@@ -1,0 +1,111 @@
+"""A filter before another agent, from docs/PROTOCOL.md: which requests of a pair of connections it passes on, what each
+side is sent, and when the pair is closed."""
+
+from __future__ import annotations
+
+from .wire import Fault, Reader, string, take_frame, uint32
+
+LONGEST = 262144
+FAILURE = b"\x05"
+BIND = b"session-bind@openssh.com"
+
+
+def reads(body: bytes, number: int, *fields: str) -> list | None:
+    """The fields of a message of this number, or None where they aren't the whole of it."""
+    reader = Reader(body)
+    try:
+        if reader.byte() != number:
+            return None
+        found = [getattr(reader, field)() for field in fields]
+        reader.end()
+    except Fault:
+        return None
+    return found
+
+
+def is_signature_request(body: bytes, listed: set[bytes]) -> bool:
+    found = reads(body, 13, "string", "string", "uint32")
+    return found is not None and found[0] in listed
+
+
+def is_bind(body: bytes) -> bool:
+    found = reads(body, 27, "string", "string", "string", "string", "byte")
+    return found is not None and found[0] == BIND
+
+
+def identities(body: bytes) -> list[tuple[bytes, bytes]] | None:
+    """The entries of an answer that lists keys."""
+    if body[:1] != b"\x0c" or len(body) < 5:
+        return None
+    count = int.from_bytes(body[1:5], "big")
+    if 8 * count > len(body):
+        return None
+    found = reads(body, 12, "uint32", *["string"] * (2 * count))
+    return None if found is None else list(zip(found[1::2], found[2::2]))
+
+
+class Pair:
+    """A client's connection, and one of its own to the agent behind. `sent` is what each side was sent."""
+
+    def __init__(self, listed: set[bytes]) -> None:
+        self.listed = listed
+        self.unread = {"client": bytearray(), "upstream": bytearray()}
+        self.sent = {"client": b"", "upstream": b""}
+        self.waits: str | None = None
+        self.is_open = True
+
+    def hear(self, side: str, piece: bytes) -> None:
+        """A side sends bytes, and each side takes what it is sent."""
+        if self.is_open:
+            self.unread[side] += piece
+            try:
+                # Bytes behind an answer are none to the next request.
+                while self.answer() or self.request():
+                    pass
+            except Fault:
+                self.is_open = False
+
+    def wants(self, side: str) -> bool:
+        """Whether a side is read: not while a whole message of it waits. Its end isn't noticed either then."""
+        return take_frame(bytearray(self.unread[side]), LONGEST) is None
+
+    def end(self) -> None:
+        """Either side sends no more."""
+        self.is_open = False
+
+    def request(self) -> bool:
+        """Takes the client's next request, where no reply is waited for. Whether there was one."""
+        if self.waits:
+            return False
+        body = take_frame(self.unread["client"], LONGEST)
+        if body is None:
+            return False
+        if body == b"\x0b":
+            self.waits = "list"
+        elif is_signature_request(body, self.listed) or is_bind(body):
+            self.waits = "reply"
+        self.sent["upstream" if self.waits else "client"] += string(body if self.waits else FAILURE)
+        return True
+
+    def answer(self) -> bool:
+        """Takes the answer of the agent behind. Whether there was one."""
+        if not self.unread["upstream"]:
+            return False
+        if not self.waits:
+            raise Fault("unasked")
+        body = take_frame(self.unread["upstream"], LONGEST)
+        if body is None:
+            return False
+        self.sent["client"] += string(self.cut(body) if self.waits == "list" else body)
+        self.waits = None
+        return True
+
+    def cut(self, body: bytes) -> bytes:
+        """The answer to a request for the list, as the client is to see it."""
+        if body == FAILURE:
+            return FAILURE
+        entries = identities(body)
+        if entries is None:
+            raise Fault("no list")
+        kept = [(blob, comment) for blob, comment in entries if blob in self.listed]
+        return b"\x0c" + uint32(len(kept)) + b"".join(string(blob) + string(comment) for blob, comment in kept)

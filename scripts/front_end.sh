@@ -1,0 +1,138 @@
+# shellcheck shell=sh
+# shellcheck disable=SC2154 # who sources it sets these variables
+# What mortarleek, mortarleek-agent with its guard, mortarleek-add and mortarleek-filter share, which
+# source it. `me` is the name that errors begin with, and `here` the folder beside which programs are
+# looked for.
+
+say() { printf '%s: %s\n' "$me" "$*" >&2; }
+die() { say "$@"; exit 1; }
+# The status and the words of OpenSSH's tools where an option's word is none, or words make no sense
+# together.
+fatal() { printf '%s\n' "$*" >&2; exit 255; }
+
+# Where a program lies: installed, or in the folder in which it was built.
+program() {
+    for place in "$here/../libexec/mortarleek" "$here/../libexec" "$here" "$here/../bin"; do
+        if [ -f "$place/$1" ] && [ -x "$place/$1" ]; then
+            printf '%s\n' "$(cd "$place" && pwd)/$1"
+            return
+        fi
+    done
+    return 1
+}
+
+# FILE: prints its mode and its owner, as `ls -n` shows them, and sets variables of these names.
+mode_and_owner() {
+    read -r mode _ owner _ << END
+$(ls -ldn -- "$1" 2> /dev/null)
+END
+    printf '%s %s\n' "$mode" "$owner"
+}
+
+# FOLDER belongs to this user, and nobody else can enter it.
+is_private() {
+    case $(mode_and_owner "$1/.") in
+    drwx------*" $(id -u)") return 0 ;;
+    *) return 1 ;;
+    esac
+}
+
+# FILE: the number that tells it from every other of its file system.
+inode() {
+    read -r number _ << END
+$(ls -di -- "$1" 2> /dev/null)
+END
+    printf '%s\n' "$number"
+}
+
+# A word with a control character can't be told to a shell in one line, and is nothing to show on a
+# terminal.
+has_control() {
+    case $1 in *[[:cntrl:]]*) return 0 ;; *) return 1 ;; esac
+}
+
+# LIFE in seconds, as OpenSSH's tools read it, or nothing: numbers, each with a unit or none, of at
+# most 2^31 - 1 together.
+seconds() {
+    left=$1 sum=0
+    [ -n "$left" ] || return 1
+    while [ -n "$left" ]; do
+        count=${left%%[!0-9]*}
+        left=${left#"$count"}
+        [ -n "$count" ] || return 1
+        count=${count#"${count%%[!0]*}"}
+        [ ${#count} -le 10 ] || return 1
+        case $left in
+        [mM]*) unit=60 ;;
+        [hH]*) unit=3600 ;;
+        [dD]*) unit=86400 ;;
+        [wW]*) unit=604800 ;;
+        [sS]* | '') unit=1 ;;
+        *) return 1 ;;
+        esac
+        left=${left#?}
+        sum=$((sum + ${count:-0} * unit))
+        [ "$sum" -le 2147483647 ] || return 1
+    done
+    printf '%s\n' "$sum"
+}
+
+# WORD MARK REPLACEMENT: the word, with the replacement for each mark.
+replaced() {
+    left=$1 made=
+    while :; do
+        case $left in
+        *"$2"*) made=$made${left%%"$2"*}$3 left=${left#*"$2"} ;;
+        *) break ;;
+        esac
+    done
+    printf '%s\n' "$made$left"
+}
+
+# WORD as a shell has to see it, and as csh has to, which expands ! everywhere.
+quoted() {
+    case $1 in
+    *[!A-Za-z0-9_./:@%+,=-]*) printf "'%s'\n" "$(replaced "$1" "'" "'\\''")" ;;
+    *) printf '%s\n' "$1" ;;
+    esac
+}
+quoted_for_csh() { replaced "$(quoted "$1")" '!' '\!'; }
+
+# SOCKET PID: the lines that the shell is to evaluate. PID is told to it as a variable only where
+# the agent stays behind, as ssh-agent does.
+tell() {
+    if [ "$shell" = csh ]; then
+        printf 'setenv SSH_AUTH_SOCK %s;\n' "$(quoted_for_csh "$1")"
+        [ -n "$foreground" ] || printf 'setenv SSH_AGENT_PID %s;\n' "$2"
+    else
+        printf 'SSH_AUTH_SOCK=%s; export SSH_AUTH_SOCK;\n' "$(quoted "$1")"
+        [ -n "$foreground" ] || printf 'SSH_AGENT_PID=%s; export SSH_AGENT_PID;\n' "$2"
+    fi
+    printf 'echo Agent pid %s;\n' "$2"
+}
+
+# SOCKET is this user's, and nobody listens there. Where no tool can try, it is taken for one that
+# lives.
+is_stale() {
+    case $(mode_and_owner "$1") in
+    s*" $(id -u)") ;;
+    *) return 1 ;;
+    esac
+    tool=$(program add_tool || command -v ssh-add) || return 1
+    SSH_AUTH_SOCK=$1 timeout 5 "$tool" -l > /dev/null 2>&1 < /dev/null
+    [ $? = 2 ]
+}
+
+# The agent is one of mortarleek-agent's that has no program that asks: its private folder, which
+# the socket stands in or has a name beside, holds the one that it runs.
+cannot_ask() {
+    socket=${SSH_AUTH_SOCK-}
+    for held in "$socket" "${socket%/*}"/.mortarleek-????????/agent.*; do
+        case $held in */mortarleek-????????/agent.* | */.mortarleek-????????/agent.*) ;; *) continue ;; esac
+        if [ -S "$held" ] && [ "$(inode "$held")" = "$(inode "$socket")" ]; then
+            [ ! -e "${held%/*}/askpass" ]
+            return
+        fi
+    done
+    return 1
+}

@@ -1,0 +1,420 @@
+#!/usr/bin/env python3
+"""The built filter before OpenSSH's agent and before ours: logins, forwarded connections, what ssh-add does through it,
+crowds, agents that end and come back, and its front end mortarleek-filter. Words choose checks by a part of their names.
+With the environment variables AGENT and FILTER other programs are taken for agent_prog and filter_proxy."""
+
+import base64
+import contextlib
+import os
+import pathlib
+import shutil
+import signal
+import socket
+import subprocess
+import sys
+import time
+
+sys.dont_write_bytecode = True
+
+import rig
+from frames import Ended, string
+from hosts import Hosts, keygen
+from rig import FAILURE, IDENTITIES, LIST, SIGN, Agent, Peer, openssh_agent, our_agent, plain_key, run, until
+
+check = rig.Checks("filter")
+PROGRAM = pathlib.Path(os.environ.get("FILTER", rig.BUILT / "filter_proxy"))
+MOST, LONGEST = 128, 262144
+
+
+def listening(path):
+    with socket.socket(socket.AF_UNIX) as peer:
+        return peer.connect_ex(str(path)) == 0
+
+
+def filtered(folder, upstream, text, name="filter", **more):
+    """A filter before the agent at a path, with the lines of its list."""
+    keys, path = folder / f"{name}.keys", folder / f"{name}.sock"
+    keys.write_text(text)
+    process = subprocess.Popen(
+        [rig.there(PROGRAM), keys, upstream, path], stdin=subprocess.DEVNULL, stdout=subprocess.DEVNULL, **more
+    )
+    until(lambda: process.poll() is not None or listening(path), what="the filter's socket")
+    assert process.poll() is None, f"the filter ended with status {process.returncode}"
+    return Agent(process, path)
+
+
+def public(*keys):
+    return "".join(pathlib.Path(f"{key}.pub").read_text() for key in keys)
+
+
+@contextlib.contextmanager
+def each_agent(folder):
+    """OpenSSH's agent and ours."""
+    program = rig.there(rig.agent_program())
+    with openssh_agent(folder, stderr=subprocess.DEVNULL) as theirs, our_agent(program, folder) as ours:
+        yield theirs, ours
+
+
+def each_with_two(folder):
+    """Each agent in its turn, with a key that is listed and one that isn't."""
+    keys = [keygen(folder / name) for name in ("listed", "other")]
+    with each_agent(folder) as agents:
+        for agent in agents:
+            agent.run("ssh-add", "-q", *keys)
+            yield agent, keys
+
+
+@check
+def logins_with_a_listed_key_and_with_no_other(folder):
+    with Hosts(folder, "one") as hosts:
+        for agent, keys in each_with_two(folder):
+            with filtered(folder, agent.path, public(keys[0])) as before:
+                hosts.allow(keys[0])
+                assert hosts.ssh(before, "one", "echo in") == (0, "in\n")
+                hosts.allow(keys[1])
+                assert hosts.ssh(before, "one", "echo in")[0] == 255
+                assert hosts.ssh(agent, "one", "echo in") == (0, "in\n")
+                # Also where the client names the key itself.
+                asks = ("-o", "IdentitiesOnly=yes", "-i", f"{keys[1]}.pub", "one", "echo in")
+                assert hosts.ssh(before, *asks)[0] == 255
+                assert hosts.ssh(agent, *asks) == (0, "in\n")
+
+
+@check
+def forwarded_connections_keep_destination_constraints(folder):
+    keys = [keygen(folder / name) for name in ("near", "far", "free", "other")]
+    with Hosts(folder, "one", "two") as hosts, each_agent(folder) as agents:
+        rules = (("-h", "one"), ("-h", "one", "-h", "one>two"), (), ())
+        for agent in agents:
+            for key, words in zip(keys, rules):
+                agent.run("ssh-add", "-q", *words, "-H", hosts.known, key)
+            with filtered(folder, agent.path, public(*keys[:3])) as before:
+                for key, wanted in zip(keys, (255, 0, 0, 255)):
+                    # To the first host everybody comes with the key that may go anywhere.
+                    hosts.allow(keys[2], key)
+                    only = f"ssh -F {hosts.config} -o IdentitiesOnly=yes -i {key}.pub two 'echo in'"
+                    seen = hosts.ssh(before, "-A", "one", only)
+                    assert seen[0] == wanted, (key.name, seen)
+                    if key is not keys[3]:
+                        assert hosts.ssh(agent, "-A", "one", only)[0] == wanted, key.name
+                listed = hosts.ssh(before, "-A", "one", "ssh-add -L")
+                comments = {line.split()[2] for line in listed[1].splitlines()}
+                assert listed[0] == 0 and comments == {"far", "free"}, listed
+
+
+@check
+def what_ssh_add_does_through_it(folder):
+    for agent, keys in each_with_two(folder):
+        both = agent.run("ssh-add", "-L")
+        with filtered(folder, agent.path, public(keys[0])) as before:
+            assert before.run("ssh-add", "-L") == public(keys[0])
+            assert before.run("ssh-add", "-l") == agent.run("ssh-add", "-l").splitlines(True)[0]
+            before.run("ssh-add", "-T", f"{keys[0]}.pub")
+            before.run("ssh-add", "-T", f"{keys[1]}.pub", status=1)
+            before.run("ssh-add", "-d", keys[0], status=1)
+            before.run("ssh-add", "-D", status=1)
+            before.run("ssh-add", keys[1], status=1)
+            typed = rig.script(folder / "typed", "echo word")
+            asking = dict(SSH_ASKPASS=str(typed), SSH_ASKPASS_REQUIRE="force", DISPLAY="none")
+            before.run("ssh-add", "-x", status=1, env=asking)
+            before.run("ssh-add", "-X", status=1, env=asking)
+            assert agent.run("ssh-add", "-L") == both
+        with filtered(folder, agent.path, "") as before:
+            assert "no identities" in before.run("ssh-add", "-l", status=1)
+
+
+@check
+def a_hundred_clients_at_once(folder):
+    for agent, keys in each_with_two(folder):
+        with agent.peer() as peer:
+            blobs = dict((comment, blob) for blob, comment in peer.blobs())
+        with filtered(folder, agent.path, public(keys[0])) as before:
+            peers = [before.peer() for _ in range(100)]
+            for number, peer in enumerate(peers):
+                blob = blobs[b"listed" if number % 2 else b"other"]
+                peer.send(bytes([LIST]), bytes([SIGN]) + string(blob) + string(b"abc") + bytes(4), bytes([LIST]))
+            for number, peer in enumerate(peers):
+                replies = [peer.reply() for _ in range(3)]
+                assert replies[0] == replies[2] and replies[0][:5] == bytes([IDENTITIES, 0, 0, 0, 1])
+                assert replies[1][0] == (rig.SIGNATURE if number % 2 else FAILURE), number
+                peer.close()
+
+
+@check
+def more_clients_than_may_be_open_wait(folder):
+    with openssh_agent(folder, stderr=subprocess.DEVNULL) as agent, filtered(folder, agent.path, "") as before:
+        peers = [before.peer() for _ in range(MOST)]
+        assert [peer.ask(LIST)[0] for peer in peers] == [IDENTITIES] * MOST
+        rig.one_more_waits(before, peers)
+
+
+@check
+def an_agent_that_ends_and_comes_back(folder):
+    key = keygen(folder / "key")
+    agent = openssh_agent(folder, stderr=subprocess.DEVNULL)
+    with filtered(folder, agent.path, public(key)) as before:
+        peer = before.peer()
+        assert peer.ask(LIST)[0] == IDENTITIES
+        agent.end()
+        assert peer.has_ended()
+        for _ in range(3):
+            assert before.peer().has_ended()
+        begin = rig.spent(before.process.pid)
+        time.sleep(1)
+        assert rig.spent(before.process.pid) - begin < 0.2
+        with contextlib.suppress(FileNotFoundError):
+            os.unlink(agent.path)
+        with openssh_agent(folder, stderr=subprocess.DEVNULL) as agent:
+            agent.run("ssh-add", "-q", key)
+            assert before.run("ssh-add", "-L") == public(key)
+
+
+class Behind:
+    """An agent behind a filter, played by this process."""
+
+    def __init__(self, folder):
+        self.path = folder / "behind.sock"
+        self.listener = socket.socket(socket.AF_UNIX)
+        self.listener.bind(str(self.path))
+        self.listener.listen(200)
+        self.listener.settimeout(10)
+
+    def __enter__(self):
+        return self
+
+    def __exit__(self, *_):
+        self.listener.close()
+
+    def peer(self):
+        return Peer(self.listener.accept()[0])
+
+
+@contextlib.contextmanager
+def played(folder, text=""):
+    """A filter before an agent that this process plays: the pair of connections of a client that has come."""
+    with Behind(folder) as behind, filtered(folder, behind.path, text) as before:
+        # The look whether the filter listens was a client.
+        behind.peer().close()
+        with before.peer() as client, behind.peer() as upstream:
+            yield client, upstream, before, behind
+
+
+@check
+def a_request_waits_for_the_reply_to_the_one_before(folder):
+    with played(folder) as (client, upstream, *_):
+        client.send(bytes([LIST]), bytes([rig.REMOVE_ALL]), bytes([LIST]))
+        assert upstream.reply() == bytes([LIST])
+        upstream.socket.settimeout(0.3)
+        with contextlib.suppress(TimeoutError):
+            upstream.reply()
+            raise AssertionError("the second is sent before the first was answered")
+        upstream.socket.settimeout(20)
+        upstream.send(bytes([IDENTITIES, 0, 0, 0, 0]))
+        assert [client.reply(), client.reply()] == [bytes([IDENTITIES, 0, 0, 0, 0]), bytes([FAILURE])]
+        assert upstream.reply() == bytes([LIST])
+        upstream.send(bytes([FAILURE]))
+        assert client.reply() == bytes([FAILURE])
+
+
+@check
+def only_the_pair_that_breaks_the_rules_is_closed(folder):
+    answer = string(bytes([IDENTITIES, 0, 0, 0, 0]))
+    for said, asked in (
+        (b"\0", False),
+        (answer + b"\0", True),
+        (string(bytes([rig.SUCCESS])), True),
+        (string(b""), True),
+        (string(b"x" * (LONGEST + 1))[:4], True),
+        (string(bytes([IDENTITIES, 0, 0, 0, 1])), True),
+        (b"", True),
+    ):
+        place = folder / str(len(list(folder.iterdir())))
+        place.mkdir()
+        with played(place) as (client, upstream, before, behind):
+            with before.peer() as other, behind.peer() as beside:
+                other.send(bytes([LIST]))
+                assert beside.reply() == bytes([LIST])
+                if asked:
+                    client.send(bytes([LIST]))
+                    assert upstream.reply() == bytes([LIST])
+                if said:
+                    upstream.socket.sendall(said)
+                else:
+                    upstream.close()
+                with contextlib.suppress(Ended, ConnectionResetError):
+                    got = client.reply()
+                    assert got == answer[4:] and said.startswith(answer), (said, got)
+                    assert client.has_ended(), said
+                beside.send(bytes([IDENTITIES, 0, 0, 0, 0]))
+                assert other.reply() == bytes([IDENTITIES, 0, 0, 0, 0])
+
+
+@check
+def long_answers_in_pieces_and_clients_that_read_late(folder):
+    kept = [plain_key(bytes([1, n // 256, n % 256]) + bytes(29), b"c" * 200) for n in range(800)]
+    entries = lambda found: b"".join(string(blob) + comment for _, comment, blob in found)
+    whole, cut = (
+        bytes([IDENTITIES]) + len(found).to_bytes(4, "big") + entries(found) for found in (kept, kept[::20])
+    )
+    lines = "".join(f"ssh-ed25519 {base64.b64encode(blob).decode()}\n" for _, _, blob in kept[::20])
+    assert len(whole) < LONGEST
+    with played(folder, lines) as (client, upstream, *_):
+        for _ in range(5):
+            client.send(bytes([LIST]))
+            assert upstream.reply() == bytes([LIST])
+            for at in range(0, len(string(whole)), 5000):
+                upstream.socket.sendall(string(whole)[at : at + 5000])
+            time.sleep(0.1)
+            assert client.reply() == cut
+
+
+@check
+def clients_that_leave_and_floods_keep_nobody_out(folder):
+    with openssh_agent(folder, stderr=subprocess.DEVNULL) as agent, filtered(folder, agent.path, "") as before:
+        for _ in range(300):
+            peer = before.peer()
+            peer.send(bytes([LIST]))
+            peer.close()
+        flood = before.peer()
+        flood.socket.setblocking(False)
+        end, worst = time.monotonic() + 2, 0.0
+        while time.monotonic() < end:
+            with contextlib.suppress(BlockingIOError):
+                flood.socket.send(string(bytes([rig.REMOVE_ALL])) * 1000)
+            with contextlib.suppress(BlockingIOError):
+                flood.socket.recv(1 << 16)
+            begin = time.monotonic()
+            with before.peer() as peer:
+                assert peer.ask(LIST)[0] == IDENTITIES
+            worst = max(worst, time.monotonic() - begin)
+        assert worst < 2, worst
+
+
+@check
+def words_lists_and_sockets_that_are_refused(folder):
+    key = keygen(folder / "key")
+    with openssh_agent(folder, stderr=subprocess.DEVNULL) as agent:
+        program, path, keys = rig.there(PROGRAM), folder / "refused.sock", folder / "keys"
+        for words in ([], [keys], [keys, agent.path], [keys, agent.path, path, path]):
+            assert "usage" in run([program, *words], 2)
+        assert "could not be read" in run([program, keys, agent.path, path], 6)
+        keys.write_bytes(b"\n" * 1048577)
+        run([program, keys, agent.path, path], 6)
+        for text, line in (("nonsense\n", 1), (f"\n{public(key)}ssh-rsa {public(key).split()[1]}\n", 3), ("a b\n", 1)):
+            keys.write_text(text)
+            assert f"line {line} of the list" in run([program, keys, agent.path, path], 1)
+        keys.write_text(public(key))
+        run([program, keys, agent.path, folder / "none" / "socket"], 3)
+        assert not path.exists()
+        with filtered(folder, agent.path, public(key)) as before:
+            assert os.stat(before.path).st_mode & 0o7777 == 0o600
+            run([program, keys, agent.path, before.path], 3)
+            assert listening(before.path)
+            before.process.kill()
+            before.process.wait()
+        # A file that nobody listens at is replaced, and no other one.
+        with filtered(folder, agent.path, public(key)) as before:
+            assert before.run("ssh-add", "-l", status=1).startswith("The agent has no identities")
+        path.write_text("a file")
+        run([program, keys, agent.path, path], 3)
+        assert path.read_text() == "a file"
+
+
+@check
+def random_clients_and_agents_beside_the_model(folder):
+    model = rig.TOP / "model/differential_filter.py"
+    print(run([model, rig.there(PROGRAM), 40]), end="")
+    print(run([model, "--wrong", 300, 1]), end="")
+
+
+# mortarleek-filter.
+
+
+class Front:
+    """The front end as it is installed, with the filter alone of the programs."""
+
+    def __init__(self, folder):
+        bin, libexec = folder / "prefix/bin", folder / "prefix/libexec/mortarleek"
+        bin.mkdir(parents=True)
+        libexec.mkdir(parents=True)
+        rig.lay_scripts(bin, libexec)
+        shutil.copy(rig.there(PROGRAM), libexec / "filter_proxy")
+        (libexec / "filter_proxy").chmod(0o711)
+        self.temporary = folder / "temporary"
+        self.temporary.mkdir()
+        self.script = bin / "mortarleek-filter"
+        self.environment = {"PATH": os.environ["PATH"], "TMPDIR": str(self.temporary), "HOME": str(folder)}
+
+    def run(self, agent, *words, status=0, **more):
+        return run([self.script, *words], status, env=dict(self.environment, SSH_AUTH_SOCK=agent.path), **more)
+
+    def is_clean(self):
+        return not list(self.temporary.iterdir())
+
+
+@check
+def the_front_end_runs_a_command_and_cleans_up(folder):
+    keys = [keygen(folder / name) for name in ("one", "two", "three")]
+    front = Front(folder)
+    with openssh_agent(folder, stderr=subprocess.DEVNULL) as agent:
+        agent.run("ssh-add", "-q", *keys)
+        named = [word for key in keys[:2] for word in ("-k", f"{key}.pub")]
+        assert front.run(agent, *named, "ssh-add", "-L") == public(*keys[:2])
+        # A private key stands for the public one beside it.
+        assert front.run(agent, "-k", keys[2], "ssh-add", "-L") == public(keys[2])
+        assert "no identities" in front.run(agent, "true", status=0) + front.run(agent, "ssh-add", "-l", status=1)
+        assert front.run(agent, *named, "sh", "-c", "exit 7", status=7) == ""
+        shows = 'umask; stat -c "%a %F" "${SSH_AUTH_SOCK%/*}" "$SSH_AUTH_SOCK"; echo ${SSH_AGENT_PID-none}'
+        said = front.run(agent, *named, "sh", "-c", shows)
+        mask = os.umask(0)
+        os.umask(mask)
+        assert said == f"{mask:04o}\n700 directory\n600 socket\nnone\n", said
+        front.run(agent, *named, "./nothing", status=None)
+        until(front.is_clean, what="an empty folder")
+        for words, why in (
+            (["-k"], "usage"),
+            ([], "usage"),
+            (["-x", "true"], "usage"),
+            (["-k", folder / "none", "true"], "can't be read"),
+            (["-k", "/dev/null", "true"], "can't be read"),
+            (["-k", rig.script(folder / "text", "echo"), "true"], "line 1 of the list"),
+        ):
+            assert why in front.run(agent, *words, status=1), words
+        assert front.is_clean()
+        lonely = Agent(agent.process, folder / "nobody")
+        assert "no agent listens" in front.run(lonely, *named, "true", status=1)
+
+
+@check
+def the_front_end_hands_on_signals(folder):
+    key = keygen(folder / "key")
+    front = Front(folder)
+    with openssh_agent(folder, stderr=subprocess.DEVNULL) as agent:
+        for number in (signal.SIGTERM, signal.SIGINT, signal.SIGKILL, signal.SIGHUP):
+            process = subprocess.Popen(
+                [front.script, "-k", f"{key}.pub", "sh", "-c", "echo up; exec sleep 60"],
+                env=dict(front.environment, SSH_AUTH_SOCK=agent.path),
+                stdout=subprocess.PIPE,
+                stdin=subprocess.DEVNULL,
+            )
+            assert process.stdout.readline() == b"up\n"
+            process.send_signal(number)
+            assert process.wait(10) == -number
+            until(front.is_clean, what="an empty folder")
+        # The command reads what is typed, and an interrupt of its terminal ends it alone.
+        assert front.run(agent, "-k", f"{key}.pub", "cat", input="typed\n") == "typed\n"
+        interrupts = ("sh", "-c", "trap 'ssh-add -l; exit 3' INT; kill -INT 0")
+        said = front.run(agent, "-k", f"{key}.pub", *interrupts, status=3, start_new_session=True)
+        assert "no identities" in said
+        until(front.is_clean, what="an empty folder")
+
+
+if __name__ == "__main__":
+    try:
+        rig.there(PROGRAM)
+        rig.built("mortarleek-helper")
+        rig.install("filter", "openssh-client", "openssh-server", "util-linux")
+    except rig.Skip as reason:
+        print(f"filter: not run: {reason}")
+        sys.exit(1)
+    check.run(sys.argv[1:])

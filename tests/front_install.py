@@ -1,0 +1,230 @@
+"""Manuals, completions, the unit, and what is installed: by root, by a new user as README says, and as a package.
+tests/daily.py runs these too."""
+
+import os
+import re
+import shutil
+import signal
+import subprocess
+
+import rig
+from hosts import Hosts
+from installed import check, keygen
+from rig import Skip, is_alive, run, until
+
+
+@check
+def manuals_are_clean_and_name_every_option(folder):
+    pages = sorted((rig.TOP / "man").iterdir())
+    assert {page.name for page in pages} >= {
+        "mortarleek.1",
+        "mortarleek-agent.1",
+        "mortarleek-add.1",
+        "agent_prog.1",
+        "mortarleek-helper.8",
+        "standin_helper.8",
+        "confirm_relay.8",
+        "mortarleek-filter.1",
+        "filter_proxy.8",
+    }
+    for page in pages:
+        said = run(["mandoc", "-T", "lint", "-W", "style", page], None)
+        said = "".join(
+            line
+            for line in said.splitlines(True)
+            if "referenced manual not found" not in line and "outdated mandoc.db" not in line
+        )
+        assert said == "", said
+    agent, add, filtered = (
+        run(["mandoc", "-T", "ascii", rig.TOP / "man" / name])
+        for name in ("mortarleek-agent.1", "mortarleek-add.1", "mortarleek-filter.1")
+    )
+    text = re.sub(".\b", "", agent)
+    for option in "acDdEkOPsTtUu":
+        assert f"-{option}" in text, option
+    text = re.sub(".\b", "", add)
+    for option in "CcDdEeHhKklLMmNqSsTtvXx":
+        assert f"-{option}" in text, option
+    assert "-k" in re.sub(".\b", "", filtered)
+
+
+@check
+def completions_are_read_by_their_shells(folder):
+    place = rig.TOP / "contrib/completions"
+    for shell, name in (("bash", "mortarleek.bash"), ("zsh", "_mortarleek"), ("fish", "mortarleek.fish")):
+        if shutil.which(shell) is None:
+            raise Skip(f"no {shell}")
+        run([shell, "-n", place / name])
+    script = f"""source {place}/mortarleek.bash
+COMP_WORDS=(mortarleek-agent -); COMP_CWORD=1; _mortarleek_agent mortarleek-agent - mortarleek-agent; echo ${{COMPREPLY[*]}}
+COMP_WORDS=(mortarleek-add -); COMP_CWORD=1; _mortarleek_add mortarleek-add - mortarleek-add; echo ${{COMPREPLY[*]}}
+COMP_WORDS=(mortarleek-filter -); COMP_CWORD=1; _mortarleek_filter mortarleek-filter - mortarleek-filter; echo ${{COMPREPLY[*]}}"""
+    agent, add, filtered = run(["bash", "-c", script]).splitlines()
+    assert {"-a", "-c", "-D", "-d", "-k", "-s", "-t", "--stand-in"} <= set(agent.split()), agent
+    assert {"-c", "-D", "-d", "-h", "-H", "-l", "-L", "-t", "-x", "-X", "-k", "-q"} <= set(add.split()), add
+    assert filtered == "-k", filtered
+    said = run(["fish", "-c", f"source {place}/mortarleek.fish; complete -C 'mortarleek-agent -'"])
+    assert "-k" in said and "-a" in said, said
+
+
+@check
+def the_unit_is_well_formed_and_hardened(folder):
+    unit = folder / "mortarleek-agent.service"
+    unit.write_text(
+        (rig.TOP / "contrib/systemd/mortarleek-agent.service")
+        .read_text()
+        .replace("/usr/local/bin/mortarleek-agent", "/bin/true")
+    )
+    manager = dict(os.environ, XDG_RUNTIME_DIR=str(folder))
+    said = run(["systemd-analyze", "verify", "--user", "--man=no", unit], None, env=manager)
+    ours = [line for line in said.splitlines() if "mortarleek" in line]
+    assert ours == [], said
+    said = run(["systemd-analyze", "security", "--user", "--offline=true", unit], None, env=manager)
+    if "Overall exposure" not in said:
+        raise Skip(f"systemd-analyze says nothing: {said[:200]}")
+    exposure = float(re.search(r"level for \S+: ([\d.]+)", said)[1])
+    print(f"daily: the unit's exposure is {exposure}")
+    assert exposure <= 2.0, said
+
+
+@check
+def what_is_installed_works_and_is_taken_away_again(folder):
+    target = folder / "target"
+    make = ["make", "--no-print-directory", "-C", rig.TOP, f"DESTDIR={target}", "PREFIX=/usr"]
+    agents = ["agent_prog"] if (rig.BUILT / "agent_prog").exists() else []
+    run([*make, f"INSTALLED={' '.join(agents)}", "-o", "bin/agent_prog", "install"])
+    found = {str(file.relative_to(target / "usr")): file for file in target.rglob("*") if file.is_file()}
+    for name in (
+        *(f"libexec/mortarleek/{name}" for name in agents),
+        "bin/mortarleek",
+        "bin/mortarleek-agent",
+        "bin/mortarleek-add",
+        "bin/mortarleek-filter",
+        "share/man/man1/mortarleek.1",
+        "share/man/man1/mortarleek-agent.1",
+        "share/man/man1/mortarleek-add.1",
+        "share/man/man1/mortarleek-filter.1",
+        "share/man/man1/agent_prog.1",
+        "share/man/man8/mortarleek-helper.8",
+        "share/bash-completion/completions/mortarleek",
+        "share/bash-completion/completions/mortarleek-agent",
+        "share/zsh/site-functions/_mortarleek",
+        "share/fish/vendor_completions.d/mortarleek-agent.fish",
+        "lib/systemd/user/mortarleek-agent.service",
+    ):
+        assert name in found, (name, sorted(found))
+    assert not [name for name in found if name.startswith("bin/") and "mortarleek" not in name], sorted(found)
+    for name in ("libexec/mortarleek/agent_prog", "libexec/mortarleek/mortarleek-helper"):
+        if name in found:
+            assert found[name].stat().st_mode & 0o7777 == 0o711, name
+    assert found["bin/mortarleek-agent"].stat().st_mode & 0o7777 == 0o755
+    assert "ExecStart=/usr/bin/mortarleek-agent" in found["lib/systemd/user/mortarleek-agent.service"].read_text()
+    if "libexec/mortarleek/mortarleek-helper" in found:
+        said = run(
+            [target / "usr/bin/mortarleek", "agent", "sh", "-c", "ssh-add -l || :"],
+            env={"PATH": os.environ["PATH"], "TMPDIR": str(folder)},
+        )
+        assert "no identities" in said
+        schedule = (rig.TOP / "examples/demo.schedule").read_text()
+        replayed = run([target / "usr/bin/mortarleek", "replay"], input=schedule)
+        assert replayed == run([rig.BUILT / "agent_prog", "replay"], input=schedule) and replayed.endswith("end\n")
+        assert run([target / "usr/bin/mortarleek", "serve"], 2).startswith("mortarleek: ")
+    for words in ([], ["nothing"], ["../mortarleek"]):
+        assert run([target / "usr/bin/mortarleek", *words], 1).startswith("usage: mortarleek agent")
+    run([*make, "uninstall"])
+    assert not (target / "usr/libexec/mortarleek").exists()
+    assert [file for file in target.rglob("*") if file.is_file()] == []
+
+
+def copy_of_the_repository(folder):
+    files = run(["git", "ls-files", "-z"], cwd=rig.TOP).rstrip("\0").split("\0")
+    run(["cp", "--parents", *files, folder], cwd=rig.TOP)
+    (folder / "bin").mkdir()
+
+
+@check
+def what_a_user_installed_is_closed_to_that_user_s_programs(folder):
+    if os.geteuid() != 0:
+        raise Skip("it takes root to be another user")
+    folder.chmod(0o755)
+    source, home = folder / "source", folder / "home"
+    source.mkdir()
+    home.mkdir()
+    copy_of_the_repository(source)
+    for name in ("agent_prog", "confirm_relay"):
+        shutil.copy(rig.built(name), source / "bin")
+    run(["chown", "-R", f"{rig.NOBODY}:{rig.NOBODY}", source, home])
+    other = rig.AS_NOBODY
+    environment = {"PATH": os.environ["PATH"], "HOME": str(home)}
+    make = ["make", "--no-print-directory", "-o", "bin/agent_prog", "install", f"PREFIX={home}/.local"]
+    for _ in range(2):
+        run([*other, *make], cwd=source, env=environment)
+    program = home / ".local/libexec/mortarleek/agent_prog"
+    for file in (program, home / ".local/libexec/mortarleek/confirm_relay"):
+        assert file.stat().st_mode & 0o7777 == 0o111, file
+    words = [program, "serve", "-a", home / "s", "--helper", "/bin/false"]
+    with subprocess.Popen([*other, *words], stdin=subprocess.DEVNULL, env=environment) as agent:
+        until(lambda: (home / "s.children").exists(), what="the agent's socket")
+        assert os.stat(f"/proc/{agent.pid}/mem").st_uid == 0
+        for file in ("mem", "environ", "maps"):
+            assert "Permission denied" in run([*other, "cat", f"/proc/{agent.pid}/{file}"], 1)
+        agent.terminate()
+
+
+def typed():
+    """The lines that README gives to type, from the installation to a login."""
+    page = (rig.TOP / "README.md").read_text()
+    return re.findall(r"(?m)^\$ (.*)$", page[page.index("**To install,**") : page.index("## What it does")])
+
+
+@check
+def a_new_user_installs_it_and_logs_in(folder):
+    """By README's own lines, but for the build, in a home that has nothing else."""
+    install, profile, add, listed, login = typed()
+    home, source = folder / "home", folder / "source"
+    (home / ".ssh").mkdir(parents=True, mode=0o700)
+    source.mkdir()
+    copy_of_the_repository(source)
+    for name in ("agent_prog", "mortarleek-helper", "add_tool"):
+        shutil.copy(rig.built(name), source / "bin")
+    environment = {"PATH": os.environ["PATH"], "HOME": str(home), "TMPDIR": str(folder)}
+    assert install.startswith("make && make install "), install
+    install = install.replace("make && make install", "make --no-print-directory -o bin/agent_prog install")
+    run(["sh", "-c", install], cwd=source, env=environment)
+    shutil.rmtree(source)
+    (home / ".profile").write_text("PATH=$HOME/.local/bin:$PATH\n")
+    run(["sh", "-c", profile], env=environment)
+    with Hosts(folder, "somewhere") as hosts:
+        for kind in ("ed25519", "rsa", "ecdsa"):
+            key = keygen(home / f".ssh/id_{kind}", kind=kind)
+            hosts.allow(key)
+            # The file goes once the agent holds the key. A shell within the session has the same agent.
+            lines = (
+                add.replace("id_ed25519", key.name),
+                f"rm {key}",
+                login.replace("ssh ", f"ssh -F {hosts.config} ") + " 'echo in'",
+                "echo $SSH_AGENT_PID",
+                f"sh -l -c '{listed}; echo $SSH_AGENT_PID'",
+            )
+            added, logged, pid, shown, same = run(["sh", "-l", "-c", "\n".join(lines)], env=environment).splitlines()
+            os.kill(int(pid), signal.SIGTERM)
+            assert added.startswith("Identity added: ") and logged == "in" and pid == same, (added, logged, pid, same)
+            assert key.name in shown, shown
+            until(lambda: not is_alive(int(pid)) and not list(folder.glob("mortarleek-*")), what="the agent's end")
+
+
+@check
+def the_package_has_no_faults(folder):
+    copy_of_the_repository(folder)
+    # A program of no use stands for each that isn't built.
+    (folder / "none.c").write_text("int main(void) { return 2; }\n")
+    run(["gcc", "-O2", "-o", folder / "none", folder / "none.c"])
+    for name in ("agent_prog", "mortarleek-helper", "confirm_relay", "standin_helper", "add_tool"):
+        shutil.copy(rig.BUILT / name if (rig.BUILT / name).exists() else folder / "none", folder / "bin" / name)
+    run(["make", "--no-print-directory", "-o", "bin/agent_prog", "deb"], cwd=folder, timeout=900)
+    (package,) = (folder / "bin").glob("*.deb")
+    said = run(["lintian", "--allow-root", "--fail-on", "error,warning", package], timeout=900)
+    assert "E:" not in said and "W:" not in said, said
+    listed = run(["dpkg", "-c", package])
+    for name in ("agent_prog", "mortarleek-helper"):
+        assert re.search(rf"(?m)^-rwx--x--x root/root .*/{name}$", listed), listed

@@ -1,0 +1,219 @@
+"""An agent as a daemon: a second start, signals, crashes, many starts at once, confirmations. tests/daily.py runs these
+too."""
+
+import os
+import re
+import signal
+import stat
+import subprocess
+import time
+
+import rig
+from installed import Installed, agent_of, check, keygen
+from rig import children, is_alive, openssh_agent, run, until, zombies
+
+
+@check
+def a_second_start_at_a_live_path_is_refused(folder):
+    installed = Installed(folder)
+    path = folder / "s"
+    with installed.start("-a", path) as daemon:
+        key = keygen(folder / "key")
+        daemon.run("ssh-add", "-q", key)
+        for words in (["-a", str(path)], ["-D", "-a", str(path)], ["-a", str(path), "true"]):
+            said = run([installed.agent, *words], 1, env=installed.environment)
+            assert said == f"mortarleek-agent: {path}: in use\n", said
+        assert "key" in daemon.run("ssh-add", "-l")
+        (private,) = [place for place in folder.iterdir() if place.name.startswith(".mortarleek")]
+        assert os.stat(path).st_mode & 0o777 == 0o600
+    until(lambda: not private.exists() and not path.exists())
+
+
+@check
+def a_stopped_agent_is_a_live_one(folder):
+    installed = Installed(folder)
+    path = folder / "s"
+    with installed.start("-a", path) as daemon:
+        agent = agent_of(daemon.pid)
+        stopped = [agent, *children(agent)]
+        for pid in stopped:
+            os.kill(pid, signal.SIGSTOP)
+        assert "in use" in run([installed.agent, "-a", str(path)], 1, env=installed.environment)
+        for pid in stopped:
+            os.kill(pid, signal.SIGCONT)
+        assert "no identities" in daemon.run("ssh-add", "-l", status=1)
+
+
+@check
+def a_stale_socket_is_replaced_and_nothing_else_is(folder):
+    installed = Installed(folder)
+    path = folder / "s"
+    daemon = installed.start("-a", path)
+    os.kill(daemon.pid, signal.SIGKILL)
+    until(lambda: run(["ssh-add", "-l"], None, env=daemon.environment).startswith("Error connecting"))
+    assert path.exists()
+    with installed.start("-a", path) as daemon:
+        assert "no identities" in daemon.run("ssh-add", "-l", status=1)
+    until(lambda: not path.exists())
+    path.write_text("a file\n")
+    said = run([installed.agent, "-a", str(path)], 1, env=installed.environment)
+    assert "no socket" in said and path.read_text() == "a file\n", said
+    path.unlink()
+    path.symlink_to(folder / "nowhere")
+    assert "no socket" in run([installed.agent, "-a", str(path)], 1, env=installed.environment)
+    assert path.is_symlink()
+
+
+@check
+def a_socket_that_took_the_path_over_stays(folder):
+    installed = Installed(folder)
+    path = folder / "s"
+    with installed.start("-a", path):
+        path.unlink()
+        with openssh_agent(folder, name="s") as other:
+            other.path = str(path) + ".sock"
+            os.rename(folder / "s.sock", path)
+        os.mknod(path, 0o600) if not path.exists() else None
+    time.sleep(0.2)
+    assert path.exists()
+
+
+@check
+def signals_end_it_and_leave_nothing(folder):
+    installed = Installed(folder)
+    for number in (signal.SIGTERM, signal.SIGHUP):
+        for words in ([], ["-a", folder / "s"]):
+            daemon = installed.start(*words)
+            daemon.signal(number)
+            assert installed.folders() == []
+            assert not (folder / "s").exists()
+    # in the background ssh-agent goes on at SIGINT
+    with installed.start() as daemon:
+        os.kill(daemon.pid, signal.SIGINT)
+        time.sleep(0.2)
+        assert "no identities" in daemon.run("ssh-add", "-l", status=1)
+
+
+@check
+def a_stopped_agent_ends_too(folder):
+    installed = Installed(folder)
+    daemon = installed.start()
+    os.kill(agent_of(daemon.pid), signal.SIGSTOP)
+    daemon.signal(signal.SIGTERM)
+    assert installed.folders() == []
+
+
+@check
+def a_crash_of_either_process_ends_both(folder):
+    installed = Installed(folder)
+    daemon = installed.start()
+    pids = daemon.agents()
+    os.kill(pids[1], signal.SIGKILL)
+    until(lambda: not any(map(is_alive, pids)) and installed.folders() == [])
+    daemon = installed.start()
+    pids = daemon.agents()
+    os.kill(pids[0], signal.SIGKILL)
+    until(lambda: not any(map(is_alive, pids)), what="the end of an agent without a guard")
+    with installed.start() as again:
+        assert "no identities" in again.run("ssh-add", "-l", status=1)
+
+
+@check
+def a_hundred_start_at_once(folder):
+    installed = Installed(folder)
+    starts = [
+        subprocess.Popen([installed.agent], stdout=subprocess.PIPE, text=True, env=installed.environment)
+        for _ in range(100)
+    ]
+    said = [start.communicate(timeout=120)[0] for start in starts]
+    assert all(start.returncode == 0 for start in starts)
+    pids = [int(re.search(r"pid (\d+);", lines)[1]) for lines in said]
+    paths = {re.search(r"SSH_AUTH_SOCK=([^;]+);", lines)[1] for lines in said}
+    assert len(set(pids)) == 100 and len(paths) == 100
+    for path in sorted(paths)[::9]:
+        assert "no identities" in run(["ssh-add", "-l"], 1, env=dict(installed.environment, SSH_AUTH_SOCK=path))
+    for pid in pids:
+        os.kill(pid, signal.SIGTERM)
+    until(lambda: installed.folders() == [], 60)
+
+
+@check
+def of_twenty_starts_at_one_path_one_has_it(folder):
+    installed = Installed(folder)
+    path = folder / "s"
+    for stale in (False, True):
+        if stale:
+            daemon = installed.start("-a", path)
+            os.kill(daemon.pid, signal.SIGKILL)
+            until(lambda: "Error" in run(["ssh-add", "-l"], None, env=daemon.environment))
+        starts = [
+            subprocess.Popen(
+                [installed.agent, "-a", path],
+                stdout=subprocess.PIPE,
+                stderr=subprocess.PIPE,
+                text=True,
+                env=installed.environment,
+            )
+            for _ in range(20)
+        ]
+        said = [start.communicate(timeout=120) for start in starts]
+        won = [lines for (lines, _), start in zip(said, starts) if start.returncode == 0]
+        assert len(won) == 1, said
+        assert "no identities" in run(["ssh-add", "-l"], 1, env=dict(installed.environment, SSH_AUTH_SOCK=str(path)))
+        os.kill(int(re.search(r"pid (\d+);", won[0])[1]), signal.SIGTERM)
+        until(lambda: not path.exists(), what="the removal of the socket")
+        lock = os.lstat(folder / "s.lock")
+        assert stat.S_ISREG(lock.st_mode) and lock.st_mode & 0o777 == 0o600 and lock.st_size == 0
+
+
+@check
+def confirmations_leave_no_process_behind(folder):
+    rig.built("confirm_relay")
+    installed = Installed(folder)
+    asker = rig.script(folder / "ask", f'echo "$1" >> {folder}/asked; exit "$(cat {folder}/status)"')
+    key = keygen(folder / "key")
+    with installed.start(environment={"SSH_ASKPASS": str(asker), "SSH_ASKPASS_REQUIRE": "force"}) as daemon:
+        daemon.run("ssh-add", "-q", "-c", key)
+        for number in range(50):
+            denied = number % 5 == 4
+            (folder / "status").write_text("1" if denied else "0")
+            daemon.run("ssh-add", "-T", f"{key}.pub", status=1 if denied else 0)
+        asked = (folder / "asked").read_text()
+        assert asked.count("Allow use of key") == 50 and run(["ssh-keygen", "-lf", f"{key}.pub"]).split()[1] in asked
+        agent = agent_of(daemon.pid)
+        assert len(children(agent)) <= 2 and zombies(agent) <= 17, (children(agent), zombies(agent))
+
+
+@check
+def a_dialog_asks_on_a_display(folder):
+    """With the variable PICTURE a picture of the dialog is written there."""
+    rig.built("confirm_relay")
+    installed = Installed(folder)
+    rig.install("daily", "xvfb", "xdotool", "ssh-askpass", "imagemagick")
+    key = keygen(folder / "key", comment="a key of mine")
+    reader, writer = os.pipe()
+    words = ["Xvfb", "-displayfd", str(writer), "-screen", "0", "640x360x24", "-nolisten", "tcp"]
+    display = subprocess.Popen(words, pass_fds=[writer], stderr=subprocess.DEVNULL)
+    os.close(writer)
+    try:
+        name = ":" + os.read(reader, 20).decode().strip()
+        environment = {"DISPLAY": name}
+        with installed.start(environment=environment) as daemon:
+            daemon.run("ssh-add", "-q", "-c", key)
+            for typed, status in (("Return", 0), ("Escape", 1)):
+                words = ["ssh-add", "-T", f"{key}.pub"]
+                quiet = dict(stdout=subprocess.DEVNULL, stderr=subprocess.DEVNULL)
+                waiting = subprocess.Popen(words, env=daemon.environment, **quiet)
+                looks = ["xdotool", "search", "--onlyvisible", "--class", "askpass"]
+                shown = dict(os.environ, **environment)
+                until(lambda: run(looks, None, env=shown).strip(), 60, "the dialog")
+                time.sleep(1)
+                if "PICTURE" in os.environ and typed == "Return":
+                    time.sleep(5)
+                    run(["import", "-display", name, "-window", "root", "-trim", os.environ["PICTURE"]])
+                run(["xdotool", "key", typed], env=shown)
+                assert waiting.wait(60) == status, typed
+    finally:
+        os.close(reader)
+        display.terminate()
+        display.wait()

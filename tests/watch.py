@@ -1,0 +1,75 @@
+"""What is seen of a running agent from outside: memory, descriptors, processes; and its build with AddressSanitizer."""
+
+import contextlib
+import os
+import pathlib
+import shutil
+import subprocess
+import tempfile
+import time
+
+from rig import BUILT, LIST, TOP, Skip, children, until
+
+
+def memory(pid, field="VmRSS"):
+    """Bytes of memory, as the system counts them: VmRSS now, or VmHWM at the most so far."""
+    for line in pathlib.Path(f"/proc/{pid}/status").read_text().splitlines():
+        if line.startswith(field + ":"):
+            return int(line.split()[1]) * 1024
+    raise LookupError(field)
+
+
+def descriptors(pid):
+    return len(os.listdir(f"/proc/{pid}/fd"))
+
+
+def load():
+    return f"load {os.getloadavg()[0]:.1f} on {os.cpu_count()} processors"
+
+
+def served_within(peer, tries=5):
+    """The least number of seconds in which a client gets its list."""
+    found = []
+    for _ in range(tries):
+        begin = time.monotonic()
+        peer.ask(LIST)
+        found.append(time.monotonic() - begin)
+    return min(found)
+
+
+def family(pid):
+    """A process's children and theirs."""
+    found = children(pid)
+    return found + [each for child in found for each in family(child)]
+
+
+def checked_agent():
+    """The agent as `rt try` links it, with AddressSanitizer: a copy of the program that it runs. Takes minutes."""
+    place = BUILT / "checked"
+    sources = [path for path in TOP.glob("crates/*/src/**/*.rt") if "_tests/" not in str(path)]
+    program = place / "agent_prog"
+    if program.exists() and program.stat().st_mtime > max(path.stat().st_mtime for path in sources):
+        return program
+    tool = os.environ.get("RT", "rt")
+    if not shutil.which(tool):
+        raise Skip(f"no {tool}")
+    place.mkdir(parents=True, exist_ok=True)
+    with tempfile.TemporaryDirectory(prefix="mk-") as folder:
+        words = [tool, "try", "--seconds", "3600", "--", "serve", "-a", f"{folder}/a", "--helper", "/bin/false"]
+        quiet = dict(stdin=subprocess.DEVNULL, stdout=subprocess.DEVNULL, stderr=subprocess.DEVNULL)
+        process = subprocess.Popen(words, cwd=TOP / "crates/agent_prog", **quiet)
+        try:
+            bound = lambda: os.path.exists(f"{folder}/a.children") or process.poll() is not None
+            until(bound, 3000, what="the agent that `rt try` links")
+            for pid in family(process.pid):
+                with contextlib.suppress(OSError, ValueError):
+                    # The word before `serve` is the program, behind a loader and its words.
+                    told = pathlib.Path(f"/proc/{pid}/cmdline").read_bytes().split(b"\0")
+                    path = pathlib.Path(os.fsdecode(told[told.index(b"serve") - 1]))
+                    if path.name == "program":
+                        shutil.copy(path, program)
+                        return program
+        finally:
+            process.terminate()
+            process.wait()
+    raise Skip("`rt try` ran no agent")
