@@ -1,5 +1,6 @@
 // Scripts of worlds, and what was done there.
-ghost use Rattle.std.specs.Prelude.{◌≡◌};
+ghost use Rattle.std.specs.Prelude.{◌≡◌, None};
+ghost use Rattle.agent_model.specs.State.{first_state};
 
 use agent_core::{Agent, Settings};
 use plain_lists::Bytes;
@@ -49,7 +50,7 @@ pub fn play_with<R: Wait, A: Core>(
     script: (Vec<Vec<Cue>>, Vec<u64>),
     until_idle: bool,
 ) -> (ServeEnd, ScriptWorld)
-    requires { (A.state agent.old).last_port ≡ 0 }
+    requires { A.state agent.old ≡ first_state None }
 {
     let mut world = ScriptWorld::new(alloc, script.0, script.1);
     let end = serve(rt, alloc, agent, &mut world, "agent", until_idle);

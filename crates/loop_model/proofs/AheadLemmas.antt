@@ -1,12 +1,13 @@
 -- One thing stands before another in a queue.
 use Rattle.std.proofs.Common.{◌≡◌, ◌∙◌, Bool, true, false, List, [], ◌∷◌, ◌++◌, Some, refl, sym, ap, cond, not, ◌&&◌, ◌||◌, if◌then◌else◌}
+use Rattle.std.specs.List.{filter}
 use Rattle.agent_model.specs.State.{State}
 use Rattle.loop_model.specs.Servable.{is_servable}
 use Rattle.loop_model.specs.Things.{Hot, same_thing, set_of}
 use Rattle.loop_model.specs.declared.thing.Thing.{Thing}
-use Rattle.loop_model.specs.Queues.{dropped, first_servable, from_servable, is_thing, put_back}
-use Rattle.loop_model.proofs.AsideLemmas.{set_of-append, set_of-dropped}
-use Rattle.loop_model.proofs.TestLemmas.{and_both, not_true, or_first}
+use Rattle.loop_model.specs.Queues.{dropped, first_servable, is_thing}
+use Rattle.loop_model.proofs.AsideLemmas.{set_of-dropped}
+use Rattle.loop_model.proofs.TestLemmas.{and_both, not_true}
 use Rattle.loop_model.proofs.ThingLemmas.{false_by, same_thing-refl, same_thing-true}
 
 -- the other stands in the queue, and this thing doesn't stand before it
@@ -28,7 +29,7 @@ ahead_by false other thing first queue has lacks rest =
       | false ↦ λ later. rest has later
     ] lacks
 
-ahead_alone : (other thing : Thing) (queue : List Thing) → set_of queue other ≡ true → set_of queue thing ≡ false
+pub ahead_alone : (other thing : Thing) (queue : List Thing) → set_of queue other ≡ true → set_of queue thing ≡ false
     → ahead other thing queue ≡ true
 ahead_alone other thing [] has lacks = cc
 ahead_alone other thing (first ∷ queue) has lacks =
@@ -79,35 +80,29 @@ ahead_left other thing third (first ∷ queue) apart is =
     (same_thing first other) true other thing third first queue refl refl apart is
     (ahead_left other thing third queue apart)
 
--- or that one is served and goes to the back
-pub ahead_back : (other thing third : Thing) (queue : List Thing) → same_thing third other ≡ false
-    → ahead other thing queue ≡ true → ahead other thing (put_back third queue) ≡ true
-ahead_back other thing third queue apart is =
-    ahead_more other thing (dropped third queue) (third ∷ []) (ahead_left other thing third queue apart is)
+-- nor does it that those leave that fail a test
+ahead_filter_by : (kept here this : Bool) (test : Thing → Bool) (other thing first : Thing) (queue : List Thing)
+    → test first ≡ kept → same_thing first other ≡ here → same_thing first thing ≡ this → test other ≡ true
+    → (if here then true else (not this && ahead other thing queue)) ≡ true
+    → (ahead other thing queue ≡ true → ahead other thing (filter test queue) ≡ true)
+    → ahead other thing (cond kept (first ∷ filter test queue) (filter test queue)) ≡ true
+ahead_filter_by true here this test other thing first queue kept here_is this_is able is rest =
+    ap (λ (b : Bool). if b then true else (not (same_thing first thing) && ahead other thing (filter test queue))) here_is
+    ∙ ap (λ (b : Bool). if here then true else (not b && ahead other thing (filter test queue))) this_is
+    ∙ ahead_more_by here this (ahead other thing queue) (ahead other thing (filter test queue)) is rest
+ahead_filter_by false true this test other thing first queue kept here_is this_is able is rest =
+    let also : test first ≡ true = ap test (same_thing-true first other here_is) ∙ able in
+    let no : false ≡ true = sym kept ∙ also in
+    absurd (cc)
+ahead_filter_by false false true test other thing first queue kept here_is this_is able is rest = absurd (cc)
+ahead_filter_by false false false test other thing first queue kept here_is this_is able is rest = rest is
 
--- nor does it that those before the first that can be served are set aside
-ahead_settled_by : (able here : Bool) (state : State) (other thing first : Thing) (queue : List Thing)
-    → is_servable state first ≡ able → same_thing first other ≡ here → is_servable state other ≡ true
-    → ahead other thing (first ∷ queue) ≡ true
-    → (ahead other thing queue ≡ true → ahead other thing (from_servable state queue) ≡ true)
-    → ahead other thing (if able then first ∷ queue else from_servable state queue) ≡ true
-ahead_settled_by true here state other thing first queue able_is here_is waits is rest = is
-ahead_settled_by false true state other thing first queue able here waits is rest =
-    let also : is_servable state first ≡ true = ap (is_servable state) (same_thing-true first other here) ∙ waits in
-    cc
-ahead_settled_by false false state other thing first queue able here waits is rest =
-    let apart : (if false then true else (not (same_thing first thing) && ahead other thing queue)) ≡ true =
-    ap (λ (b : Bool). if b then true else (not (same_thing first thing) && ahead other thing queue)) (sym here)
-    ∙ is in
-    rest (and_both (not (same_thing first thing)) (ahead other thing queue) apart).1
-
-pub ahead_settled : (state : State) (other thing : Thing) (queue : List Thing) → is_servable state other ≡ true
-    → ahead other thing queue ≡ true → ahead other thing (from_servable state queue) ≡ true
-ahead_settled state other thing [] waits is = cc
-ahead_settled state other thing (first ∷ queue) waits is =
-    ahead_settled_by (is_servable state first)
-    (same_thing first other) state other thing first queue refl refl waits is
-    (ahead_settled state other thing queue waits)
+pub ahead_filter : (test : Thing → Bool) (other thing : Thing) (queue : List Thing) → test other ≡ true
+    → ahead other thing queue ≡ true → ahead other thing (filter test queue) ≡ true
+ahead_filter test other thing [] able is = absurd (cc)
+ahead_filter test other thing (first ∷ queue) able is =
+    ahead_filter_by (test first) (same_thing first other) (same_thing first thing) test other thing first queue refl refl
+    refl able is (ahead_filter test other thing queue able)
 
 -- ---- what goes to the back stands behind it
 
@@ -122,18 +117,6 @@ left_ahead other thing third queue same has =
     ahead_alone other thing (dropped third queue) has
     (ap (λ (t : Thing). set_of (dropped third queue) t) (sym (same_thing-true third thing same))
     ∙ gone_at third queue)
-
-pub back_ahead : (other thing third : Thing) (queue : List Thing) → same_thing third thing ≡ true
-    → same_thing thing other ≡ false → set_of (put_back third queue) other ≡ true
-    → ahead other thing (put_back third queue) ≡ true
-back_ahead other thing third queue same apart has =
-    let third_apart : same_thing third other ≡ false = ap (λ (t : Thing). same_thing t other)
-    (same_thing-true third thing same) ∙ apart in
-    let alone : set_of (third ∷ []) other ≡ false = ap (λ (b : Bool). b || false) third_apart in
-    ahead_more other thing (dropped third queue) (third ∷ [])
-    (left_ahead other thing third queue same
-    (or_first (set_of (dropped third queue) other) (set_of (third ∷ []) other) alone
-    (sym (set_of-append (dropped third queue) (third ∷ []) other) ∙ has)))
 
 -- ---- what stands before it is served first
 

@@ -1,33 +1,32 @@
 -- What is called back was set aside, can be served, and stands behind all others.
-use Rattle.std.proofs.Common.{◌≡◌, ◌∙◌, ◌⊎◌, inl, inr, ℕ, Bool, true, false, List, [], ◌∷◌, ◌++◌, Option, Some, None, Result, Ok, Err, refl, sym, ap, subst, append_assoc, not, ◌&&◌, ◌||◌, if◌then◌else◌}
+use Rattle.std.proofs.Common.{◌≡◌, ◌∙◌, ◌⊎◌, inl, inr, ℕ, Bool, true, false, List, [], ◌∷◌, ◌++◌, Option, Some, None, refl, sym, ap, subst, append_assoc, not, ◌&&◌, ◌||◌, if◌then◌else◌}
 use Rattle.std.proofs.lemmas.List.{append-nil}
 use Rattle.std.specs.List.{filter}
-use Rattle.std.specs.declared.alloc.AllocError.{AllocError}
-use Rattle.world_ports.specs.declared.entry.Entry.TheVariants as entry
-use Rattle.world_ports.specs.declared.events.Moment.{Moment}
 use Rattle.agent_model.specs.State.{State}
-use Rattle.loop_model.specs.Dues.{Due, own_port}
 use Rattle.loop_model.specs.Servable.{is_servable}
 use Rattle.loop_model.specs.Things.{Hot, same_thing, set_of}
 use Rattle.loop_model.specs.declared.thing.Thing.{Thing}
 use Rattle.loop_model.specs.declared.thing.Thing.TheVariants.{Read, Write}
 use Rattle.loop_model.specs.Aside.{Aside, still_aside, taken_back, things_aside}
-use Rattle.loop_model.specs.Fairness.{ComesBack}
-use Rattle.loop_model.specs.Calls.{moved}
-use Rattle.loop_model.specs.LegalJournal.{Turning, led, taken}
-use Rattle.loop_model.specs.Lines.{IsQuiet, Line, called, called_all, called_own, recalled}
+use Rattle.loop_model.specs.Lines.{Line, called, called_all, called_own, recalled}
 use Rattle.loop_model.proofs.AsideLemmas.{set_of-append, set_of-filter, set_of-still_aside, set_of-taken_back}
-use Rattle.loop_model.proofs.QuietLemmas.{quiet_taken}
-use Rattle.loop_model.proofs.JournalLemmas.{leads}
 use Rattle.loop_model.proofs.TestLemmas.{and_both, both_and, both_if, false_not, or_either, or_first, or_left, or_right}
 use Rattle.loop_model.proofs.ThingLemmas.{same_thing-true}
 
+-- the queue keeps its things in their places, and what comes back stands behind all of them: it was set aside, and can
+-- be served in this state
+pub record ComesBack (state : State) (before after : Line) : Type 0 where
+  pub more : List Thing
+  pub behind : after.queue ≡ before.queue ++ more
+  pub back : (thing : Thing) → set_of more thing ≡ true
+      → (set_of (things_aside before.aside) thing ≡ true) × (is_servable state thing ≡ true)
+
 -- some comes back, and nothing more is set aside; nor is anything lost
-record Calls (state : State) (before after : Line) : Type 0 where
-  back : ComesBack state before after
-  left : (thing : Thing) → set_of (things_aside after.aside) thing ≡ true
+pub record Calls (state : State) (before after : Line) : Type 0 where
+  pub back : ComesBack state before after
+  pub left : (thing : Thing) → set_of (things_aside after.aside) thing ≡ true
       → set_of (things_aside before.aside) thing ≡ true
-  kept : (thing : Thing) → set_of (things_aside before.aside) thing ≡ true
+  pub kept : (thing : Thing) → set_of (things_aside before.aside) thing ≡ true
       → (set_of back.more thing ≡ true) ⊎ (set_of (things_aside after.aside) thing ≡ true)
 
 calls-none : (state : State) (line : Line) → Calls state line line
@@ -135,7 +134,7 @@ calls-all state line = record {
   kept = λ thing there. kept_all_by (is_servable state thing) state line.aside thing refl there;
 }
 
-calls-recalled : (state : State) (own : Option ℕ) (line : Line) → Calls state line (recalled state own line)
+pub calls-recalled : (state : State) (own : Option ℕ) (line : Line) → Calls state line (recalled state own line)
 calls-recalled state own line =
     let mid = called_own state own line in
     calls_both state line mid (called_all state mid) (calls-own state own line) (calls-all state mid)
@@ -143,36 +142,3 @@ calls-recalled state own line =
 -- what comes back after an event
 pub comes-recalled : (state : State) (own : Option ℕ) (line : Line) → ComesBack state line (recalled state own line)
 comes-recalled state own line = (calls-recalled state own line).back
-
-calls_now : (state left : State) (due : Due) (line : Line) (answer : Result Moment AllocError)
-    → Calls left line (moved state due left (entry.Now answer) line)
-calls_now state left due line (Ok moment) = calls-recalled left (own_port due left.last_port) line
-calls_now state left due line (Err want) = calls-none left line
-
--- what comes back at a moment
-pub comes_back : (from to : Turning) (answer : Result Moment AllocError) → taken from (entry.Now answer) ≡ Some to
-    → ComesBack to.state from.line to.line
-comes_back from to answer is =
-    let left = (led from (entry.Now answer)).state in
-    subst (λ (t : Turning). ComesBack t.state from.line t.line) (leads from to (entry.Now answer) is).left
-    (calls_now from.state left from.due from.line answer).back
-
--- all that can be served does
-pub all_back : (from to : Turning) (answer : Result Moment AllocError) (thing : Thing)
-    → IsQuiet from.state from.line → taken from (entry.Now answer) ≡ Some to
-    → set_of (things_aside from.line.aside) thing ≡ true → is_servable to.state thing ≡ true
-    → set_of to.line.queue thing ≡ true
-all_back from to answer thing quiet is aside able =
-    let left = (led from (entry.Now answer)).state in
-    let calls = subst (λ (t : Turning). Calls t.state from.line t.line) (leads from to (entry.Now answer) is).left
-    (calls_now from.state left from.due from.line answer) in
-    elim (calls.kept thing aside) [
-      | inl more ↦
-          ap (λ (ts : List Thing). set_of ts thing) calls.back.behind
-          ∙ set_of-append from.line.queue calls.back.more thing
-          ∙ or_right (set_of from.line.queue thing) (set_of calls.back.more thing) more
-      | inr still ↦
-          let never = quiet_taken from to (entry.Now answer) is quiet thing still in
-          let both : false ≡ true = sym never ∙ able in
-          cc
-    ]

@@ -3,7 +3,7 @@ use Rattle.std.proofs.Common.{◌≡◌, ◌∙◌, Bool, true, false, List, [],
 use Rattle.std.specs.Prelude.{option_and_then}
 use Rattle.std.specs.List.{list_any}
 use Rattle.world_ports.specs.declared.entry.Entry.{Entry}
-use Rattle.loop_model.specs.LegalJournal.{Turning, comes_next, led, taken, taken_if, turned}
+use Rattle.loop_model.specs.LegalJournal.{Turning, closed_by, comes_next, events_at, led, taken, taken_if, turned}
 use Rattle.loop_model.specs.Servable.{is_servable}
 use Rattle.loop_model.specs.Things.{same_thing, set_of}
 use Rattle.loop_model.specs.declared.thing.Thing.{Thing}
@@ -55,10 +55,10 @@ between_by false (Some after) other thing turning to next last later service is 
     let still_quiet = quiet_taken turning after next is quiet in
     let has = waiting_queued other after still_quiet (waiting_at_once other after later waits) in
     let led_there = led turning next in
-    let queue_has : set_of led_there.line.queue other ≡ true =
-    ap (λ (t : Turning). set_of t.line.queue other) there.left ∙ has.0 in
-    let still = ahead_after turning.state led_there.state turning.due next other thing turning.line service
-    (waiting_queued other turning quiet waits_now).1 queue_has first in
+    let able : is_servable led_there.state other ≡ true =
+    ap (λ (t : Turning). is_servable t.state other) there.left ∙ has.1 in
+    let still = ahead_after turning.state led_there.state turning.due
+    (closed_by turning.state (events_at turning.due next)) next other thing turning.line service able first in
     rest after still_quiet (ap (λ (t : Turning). ahead other thing t.line.queue) (sym there.left) ∙ still) legal waits
 
 never_last : (other thing : Thing) (turning to : Turning) (last : Entry) → is_service thing last ≡ true
@@ -102,7 +102,8 @@ since_by (Some after) from to thing other first last entries is quiet legal serv
     let led_there = led from first in
     let queue_has : set_of led_there.line.queue other ≡ true =
     ap (λ (t : Turning). set_of t.line.queue other) there.left ∙ has.0 in
-    let behind = ahead_of_served from.state led_there.state from.due first other thing from.line service apart queue_has in
+    let behind = ahead_of_served from.state led_there.state from.due (closed_by from.state (events_at from.due first)) first
+    other thing from.line service queue_has in
     between other thing after to entries last again apart still_quiet
     (ap (λ (t : Turning). ahead other thing t.line.queue) (sym there.left) ∙ behind) legal waits
 

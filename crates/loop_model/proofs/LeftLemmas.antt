@@ -2,7 +2,7 @@
 use Rattle.std.proofs.Common.{◌≡◌, ℕ, suc, ◌≤◌, List, [], ◌∷◌, ◌++◌, refl, ap, arith, sym, subst, ◌∙◌, ◌==◌, Option, Some, None, Bool, true, false, inl, inr, is_some}
 use Rattle.std.specs.Option.{option_map}
 use Rattle.std.proofs.lemmas.Bool.Decides.{nat_tests}
-use Rattle.std.proofs.lemmas.Bool.{cases_eq, eqb-true}
+use Rattle.std.proofs.lemmas.Bool.{cases_eq, eq-eqb, eqb-true}
 use Rattle.std.proofs.lemmas.List.{length-append}
 use Rattle.world_ports.specs.declared.events.Door.TheVariants.{Clients}
 use Rattle.world_ports.specs.declared.events.Moment.{Moment}
@@ -136,6 +136,18 @@ ended_gone port number low high (Some one) state rising is own at there =
     (ended_spares port one.number (role_of one.door one.number state.under_way) state)
     (rising-remove_port one.number low high state.ports rising)
     (λ still found. let no : None ≡ Some still = sym gone ∙ found in absurd (cc)) at there
+
+-- it is closed
+pub ended_closed : (state : State) (moment : Moment) (port : ℕ) → IsRising 0 state.last_port state.ports
+    → is_open port (step state moment (Ended port)).state ≡ false
+ended_closed state moment port rising =
+    none_open (find_port port (step state moment (Ended port)).state.ports)
+    (ended_gone port port 0 state.last_port (find_port port state.ports) (at_moment moment state) rising refl
+    (eq-eqb port port refl))
+  where
+    none_open : (found : Option Port) → ((at : Port) → found ≡ Some at → ⊥) → is_some found ≡ false
+    none_open None never = refl
+    none_open (Some at) never = absurd (never at refl)
 
 -- ---- what was to be read
 

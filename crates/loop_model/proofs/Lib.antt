@@ -3,6 +3,7 @@ pub mod TestLemmas
 pub mod AsideLemmas
 pub mod JournalLemmas
 pub mod FrontLemmas
+pub mod ClosedLemmas
 pub mod SparedLemmas
 pub mod ElsewhereLemmas
 pub mod LeftLemmas
@@ -13,10 +14,10 @@ pub mod ChildEventLemmas
 pub mod OwedLemmas
 pub mod StandLemmas
 pub mod AddingLemmas
-pub mod QuietLemmas
 pub mod BackLemmas
+pub mod QuietLemmas
 pub mod AheadLemmas
 pub mod AheadCallLemmas
 pub mod FairnessLemmas
-pub mod PassedLemmas
-pub mod LastLemmas
+pub mod RoundLemmas
+pub mod LostLemmas

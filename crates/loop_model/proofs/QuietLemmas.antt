@@ -1,25 +1,30 @@
--- What is set aside can't be served.
-use Rattle.std.proofs.Common.{◌≡◌, ◌∙◌, inl, inr, ℕ, Bool, true, false, List, [], ◌∷◌, ◌++◌, Option, Some, None, Ok, Err, refl, sym, ap, subst, not, if◌then◌else◌}
+-- What is in the list can be served, and what is set aside can't be.
+use Rattle.std.proofs.Common.{◌≡◌, ◌∙◌, inl, inr, ℕ, Bool, true, false, List, [], ◌∷◌, ◌++◌, Option, Some, None, Ok, Err, refl, sym, ap, subst, not, ◌&&◌, if◌then◌else◌}
 use Rattle.std.specs.Prelude.{option_and_then}
+use Rattle.std.specs.List.{filter}
 use Rattle.world_ports.specs.declared.answers.Accepted.TheVariants as accepted
-use Rattle.world_ports.specs.declared.answers.Got.TheVariants as got
 use Rattle.world_ports.specs.declared.answers.Polled.TheVariants as polled
-use Rattle.world_ports.specs.declared.answers.Wrote.TheVariants as wrote
+use Rattle.world_ports.specs.declared.answers.Ready.{Ready}
+use Rattle.world_ports.specs.declared.answers.Spot.{Spot}
+use Rattle.world_ports.specs.declared.answers.Spot.TheVariants as spot
 use Rattle.world_ports.specs.declared.entry.Entry.{Entry}
 use Rattle.world_ports.specs.declared.entry.Entry.TheVariants as entry
-use Rattle.agent_model.specs.State.{State}
+use Rattle.agent_model.specs.State.{State, is_open}
+use Rattle.loop_model.specs.Calls.{hand_of}
 use Rattle.loop_model.specs.Dues.{Due, own_port}
-use Rattle.loop_model.specs.LegalJournal.{Turning, in_state, led, taken, turned}
+use Rattle.loop_model.specs.Elsewhere.{stands}
+use Rattle.loop_model.specs.LegalJournal.{Turning, closed_by, events_at, in_state, led, taken, turned}
 use Rattle.loop_model.specs.Servable.{is_servable}
 use Rattle.loop_model.specs.Things.{Hot, same_thing, set_of}
 use Rattle.loop_model.specs.declared.thing.Thing.{Thing}
 use Rattle.loop_model.specs.declared.thing.Thing.TheVariants.{Accept, Read, Write}
-use Rattle.loop_model.specs.Aside.{Aside, put_aside, taken_back, things_aside}
-use Rattle.loop_model.specs.Lines.{IsQuiet, Line, aside_with, brought, called_own, queued_all, queued_port, recalled, settled, without}
-use Rattle.loop_model.proofs.AddingLemmas.{Adds, adds-queued_all, adds-queued_port}
-use Rattle.loop_model.proofs.AsideLemmas.{set_of-put_aside, set_of-still_aside, set_of-taken_back}
+use Rattle.loop_model.specs.Aside.{Aside, put_aside, things_aside}
+use Rattle.loop_model.specs.Lines.{IsListed, IsOrdered, IsQuiet, Line, after_event, called_own, hot_of, in_hand, placed, queued, queued_all, queued_by, queued_if, queued_port, recalled, returned, settled}
+use Rattle.loop_model.specs.Queues.{dropped}
+use Rattle.loop_model.proofs.AsideLemmas.{set_of-append, set_of-dropped, set_of-filter, set_of-put_aside, set_of-still_aside}
+use Rattle.loop_model.proofs.BackLemmas.{comes-recalled}
 use Rattle.loop_model.proofs.JournalLemmas.{leads}
-use Rattle.loop_model.proofs.TestLemmas.{and_both, not_true, or_either}
+use Rattle.loop_model.proofs.TestLemmas.{and_both, not_true, or_either, or_first}
 use Rattle.loop_model.proofs.ThingLemmas.{same_thing-true}
 
 -- nothing of these can be served
@@ -35,26 +40,78 @@ still-put_aside state thing aside never still other there =
       | inr before ↦ still other before
     ]
 
-still_with_by : (able : Bool) (state : State) (first : Thing) (queue : List Thing) (aside : Aside)
-    → is_servable state first ≡ able → IsStill state aside
-    → ((more : Aside) → IsStill state more → IsStill state (aside_with state queue more))
-    → IsStill state (if able then aside else aside_with state queue (put_aside first aside))
-still_with_by true state first queue aside able still rest = still
-still_with_by false state first queue aside able still rest =
-    rest (put_aside first aside) (still-put_aside state first aside able still)
+listed-more : (state : State) (queue more : List Thing) → IsListed state queue → IsListed state more
+    → IsListed state (queue ++ more)
+listed-more state queue more first later thing there =
+    elim (or_either (set_of queue thing) (set_of more thing) (sym (set_of-append queue more thing) ∙ there)) [
+      | inl here ↦ first thing here
+      | inr behind ↦ later thing behind
+    ]
 
-still_with : (state : State) (queue : List Thing) (aside : Aside) → IsStill state aside
-    → IsStill state (aside_with state queue aside)
-still_with state [] aside still = still
-still_with state (first ∷ queue) aside still =
-    still_with_by (is_servable state first) state first queue aside refl still
-    (λ more also. still_with state queue more also)
+listed-one : (state : State) (thing : Thing) → is_servable state thing ≡ true → IsListed state (thing ∷ [])
+listed-one state thing able other there =
+    ap (is_servable state) (sym (same_thing-true thing other (or_first (same_thing thing other) false refl there))) ∙ able
 
--- what stood before the first that can be served can't be
-pub quiet_settled : (state : State) (line : Line) → IsQuiet state line → IsQuiet state (settled state line)
-quiet_settled state line quiet = still_with state line.queue line.aside quiet
+placed_by : (able : Bool) (state : State) (thing : Thing) (line : Line) → is_servable state thing ≡ able
+    → IsQuiet state line
+    → IsQuiet state (if able then record line { queue = line.queue ++ thing ∷ [] } else record line { aside = put_aside thing line.aside })
+placed_by true state thing line able quiet = quiet
+placed_by false state thing line never quiet = still-put_aside state thing line.aside never quiet
 
--- all that can be served has come back
+quiet-placed : (state : State) (thing : Thing) (line : Line) → IsQuiet state line → IsQuiet state (placed state thing line)
+quiet-placed state thing line quiet = placed_by (is_servable state thing) state thing line refl quiet
+
+listed_by : (able : Bool) (state : State) (thing : Thing) (line : Line) → is_servable state thing ≡ able
+    → IsListed state line.queue
+    → IsListed state (if able then record line { queue = line.queue ++ thing ∷ [] } else record line { aside = put_aside thing line.aside }).queue
+listed_by true state thing line able listed =
+    listed-more state line.queue (thing ∷ []) listed (listed-one state thing able)
+listed_by false state thing line never listed = listed
+
+listed-placed : (state : State) (thing : Thing) (line : Line) → IsListed state line.queue
+    → IsListed state (placed state thing line).queue
+listed-placed state thing line listed = listed_by (is_servable state thing) state thing line refl listed
+
+-- ---- what holds of a line, and of it with a thing placed
+
+module _ (state : State) (Holds : Line → Type 0) (place : (thing : Thing) (line : Line) → Holds line → Holds (placed state thing line)) where
+  queued_hot : (there : Bool) (thing : Thing) (line : Line) → Holds line
+      → Holds (if there then line else placed state thing line)
+  queued_hot true thing line holds = holds
+  queued_hot false thing line holds = place thing line holds
+
+  holds-queued : (thing : Thing) (line : Line) → Holds line → Holds (queued state thing line)
+  holds-queued thing line holds = queued_hot (hot_of line thing) thing line holds
+
+  holds-if : (test : Bool) (thing : Thing) (line : Line) → Holds line → Holds (queued_if test state thing line)
+  holds-if true thing line holds = holds-queued thing line holds
+  holds-if false thing line holds = holds
+
+  holds-port : (port : ℕ) (line : Line) → Holds line → Holds (queued_port state port line)
+  holds-port port line holds = holds-queued (Write port) (queued state (Read port) line) (holds-queued (Read port) line holds)
+
+  holds-by : (at : Spot) (readable writable : Bool) (line : Line) → Holds line
+      → Holds (queued_by state at readable writable line)
+  holds-by (spot.Door door) readable writable line holds = holds-if readable (Accept door) line holds
+  holds-by (spot.Port port) readable writable line holds =
+      holds-if (writable && is_open port state) (Write port) _ (holds-if (readable && is_open port state) (Read port) line holds)
+
+  holds-all : (items : List Ready) (line : Line) → Holds line → Holds (queued_all state items line)
+  holds-all [] line holds = holds
+  holds-all (item ∷ items) line holds =
+      holds-all items _ (holds-by item.spot item.readable item.writable line holds)
+
+  back_by : (there : Bool) (thing : Thing) (line : Line) → Holds line
+      → Holds (if there then placed state thing line else line)
+  back_by true thing line holds = place thing line holds
+  back_by false thing line holds = holds
+
+  holds-returned : (hand : Option Thing) (line : Line) → Holds line → Holds (returned state hand line)
+  holds-returned None line holds = holds
+  holds-returned (Some thing) line holds = back_by (stands thing state) thing line holds
+
+-- ---- after an event
+
 pub quiet_recalled : (state : State) (own : Option ℕ) (line : Line) → IsQuiet state (recalled state own line)
 quiet_recalled state own line thing there =
     let before = called_own state own line in
@@ -62,67 +119,78 @@ quiet_recalled state own line thing there =
     (and_both (set_of (things_aside before.aside) thing) (not (is_servable state thing))
     (sym (set_of-still_aside state before.aside thing) ∙ there)).1
 
+listed_filter : (state : State) (queue : List Thing) → IsListed state (filter (is_servable state) queue)
+listed_filter state queue thing there =
+    (and_both (set_of queue thing) (is_servable state thing) (sym (set_of-filter (is_servable state) queue thing) ∙ there)).1
+
+listed_recalled : (state : State) (own : Option ℕ) (line : Line) → IsListed state line.queue
+    → IsListed state (recalled state own line).queue
+listed_recalled state own line listed =
+    let back = comes-recalled state own line in
+    subst (IsListed state) (sym back.behind)
+    (listed-more state line.queue back.more listed (λ thing there. (back.back thing there).1))
+
+pub ordered-event : (state : State) (closes : List ℕ) (own : Option ℕ) (hand : Option Thing) (line : Line)
+    → IsOrdered state (after_event state closes own hand line)
+ordered-event state closes own hand line =
+    let base = settled state closes line in
+    record {
+      listed = holds-returned state (λ l. IsListed state l.queue) (listed-placed state) hand (recalled state own base)
+          (listed_recalled state own base (listed_filter state line.queue));
+      quiet = holds-returned state (IsQuiet state) (quiet-placed state) hand (recalled state own base)
+          (quiet_recalled state own base);
+    }
+
 -- ---- after a call
 
-still-taken_back : (state : State) (thing : Thing) (aside : Aside) → IsStill state aside
-    → IsStill state (taken_back thing aside)
-still-taken_back state thing aside still other there =
-    still other (and_both (not (same_thing thing other)) (set_of (things_aside aside) other)
-    (sym (ap (λ (hot : Hot). hot other) (set_of-taken_back thing aside)) ∙ there)).1
+listed-hand : (state : State) (thing : Thing) (queue : List Thing) → IsListed state queue
+    → IsListed state (dropped thing queue)
+listed-hand state thing queue listed other there =
+    listed other (and_both (not (same_thing thing other)) (set_of queue other)
+    (sym (ap (λ (hot : Hot). hot other) (set_of-dropped thing queue)) ∙ there)).1
 
-pub quiet_more : (state : State) (line after : Line) → Adds line after → IsQuiet state line → IsQuiet state after
-quiet_more state line after adds quiet = subst (IsStill state) (sym adds.aside) quiet
-
-pub quiet_without : (state : State) (thing : Thing) (line : Line) → IsQuiet state line
-    → IsQuiet state (without thing line)
-quiet_without state thing line quiet = still-taken_back state thing line.aside quiet
-
-pub quiet_brought : (state : State) (thing : Thing) (line : Line) → IsQuiet state line
-    → IsQuiet state (brought thing line)
-quiet_brought state thing line quiet = by_test (set_of (things_aside line.aside) thing)
-  where
-    by_test : (b : Bool) → IsQuiet state (if b then record line { queue = line.queue ++ thing ∷ []; aside = taken_back thing line.aside } else line)
-    by_test true = still-taken_back state thing line.aside quiet
-    by_test false = quiet
-
--- a call leaves it so; a moment does in the state that it leads to
 quiet_by : (state : State) (line : Line) (due : Due) (next : Entry) → IsQuiet state line
     → let after = led (in_state state line due) next in IsQuiet after.state after.line
 quiet_by state line due (entry.Bind door path answer) quiet = quiet
 quiet_by state line due (entry.Poll wait items (Ok polled.Some)) quiet =
-    quiet_more state (settled state line) (queued_all state items (settled state line))
-    (adds-queued_all state items (settled state line)) (quiet_settled state line quiet)
-quiet_by state line due (entry.Poll wait items (Ok polled.Over)) quiet = quiet_settled state line quiet
-quiet_by state line due (entry.Poll wait items (Err fault)) quiet = quiet_settled state line quiet
+    holds-all state (IsQuiet state) (quiet-placed state) items line quiet
+quiet_by state line due (entry.Poll wait items (Ok polled.Over)) quiet = quiet
+quiet_by state line due (entry.Poll wait items (Err fault)) quiet = quiet
 quiet_by state line due (entry.Accept door (Ok (accepted.Port number))) quiet =
-    quiet_more state (settled state line) (queued_port number (settled state line))
-    (adds-queued_port number (settled state line)) (quiet_settled state line quiet)
-quiet_by state line due (entry.Accept door (Ok accepted.NotNow)) quiet =
-    quiet_without state (Accept door) (settled state line) (quiet_settled state line quiet)
-quiet_by state line due (entry.Accept door (Err fault)) quiet =
-    quiet_without state (Accept door) (settled state line) (quiet_settled state line quiet)
-quiet_by state line due (entry.Read port room bytes (Ok (got.Bytes n))) quiet =
-    quiet_brought state (Write port) (settled state line) (quiet_settled state line quiet)
-quiet_by state line due (entry.Read port room bytes (Ok got.End)) quiet =
-    quiet_without state (Read port) (settled state line) (quiet_settled state line quiet)
-quiet_by state line due (entry.Read port room bytes (Ok got.NotNow)) quiet =
-    quiet_without state (Read port) (settled state line) (quiet_settled state line quiet)
-quiet_by state line due (entry.Read port room bytes (Err fault)) quiet =
-    quiet_without state (Read port) (settled state line) (quiet_settled state line quiet)
-quiet_by state line due (entry.Write port offered (Ok (wrote.Took n))) quiet =
-    quiet_settled state line quiet
-quiet_by state line due (entry.Write port offered (Ok wrote.NotNow)) quiet =
-    quiet_without state (Write port) (settled state line) (quiet_settled state line quiet)
-quiet_by state line due (entry.Write port offered (Err fault)) quiet =
-    quiet_without state (Write port) (settled state line) (quiet_settled state line quiet)
-quiet_by state line due (entry.Close port (Ok unit)) quiet =
-    quiet_without state (Write port) (without (Read port) line) (quiet_without state (Read port) line quiet)
-quiet_by state line due (entry.Close port (Err want)) quiet = quiet
+    holds-port state (IsQuiet state) (quiet-placed state) number (in_hand (Accept door) line) quiet
+quiet_by state line due (entry.Accept door (Ok accepted.NotNow)) quiet = quiet
+quiet_by state line due (entry.Accept door (Err fault)) quiet = quiet
+quiet_by state line due (entry.Read port room bytes answer) quiet = quiet
+quiet_by state line due (entry.Write port offered answer) quiet = quiet
+quiet_by state line due (entry.Close port answer) quiet = quiet
 quiet_by state line due (entry.Start job answer) quiet = quiet
 quiet_by state line due (entry.Now (Ok moment)) quiet =
     let left = (led (in_state state line due) (entry.Now (Ok moment))).state in
-    quiet_recalled left (own_port due left.last_port) line
+    (ordered-event left (closed_by state (events_at due (entry.Now (Ok moment)))) (own_port due left.last_port) (hand_of due)
+    line).quiet
 quiet_by state line due (entry.Now (Err want)) quiet = quiet
+
+listed_led : (state : State) (line : Line) (due : Due) (next : Entry) → IsListed state line.queue
+    → let after = led (in_state state line due) next in IsListed after.state after.line.queue
+listed_led state line due (entry.Bind door path answer) listed = listed
+listed_led state line due (entry.Poll wait items (Ok polled.Some)) listed =
+    holds-all state (λ l. IsListed state l.queue) (listed-placed state) items line listed
+listed_led state line due (entry.Poll wait items (Ok polled.Over)) listed = listed
+listed_led state line due (entry.Poll wait items (Err fault)) listed = listed
+listed_led state line due (entry.Accept door (Ok (accepted.Port number))) listed =
+    holds-port state (λ l. IsListed state l.queue) (listed-placed state) number (in_hand (Accept door) line)
+    (listed-hand state (Accept door) line.queue listed)
+listed_led state line due (entry.Accept door (Ok accepted.NotNow)) listed = listed-hand state (Accept door) line.queue listed
+listed_led state line due (entry.Accept door (Err fault)) listed = listed-hand state (Accept door) line.queue listed
+listed_led state line due (entry.Read port room bytes answer) listed = listed-hand state (Read port) line.queue listed
+listed_led state line due (entry.Write port offered answer) listed = listed-hand state (Write port) line.queue listed
+listed_led state line due (entry.Close port answer) listed = listed
+listed_led state line due (entry.Start job answer) listed = listed
+listed_led state line due (entry.Now (Ok moment)) listed =
+    let left = (led (in_state state line due) (entry.Now (Ok moment))).state in
+    (ordered-event left (closed_by state (events_at due (entry.Now (Ok moment)))) (own_port due left.last_port) (hand_of due)
+    line).listed
+listed_led state line due (entry.Now (Err want)) listed = listed
 
 -- ---- after any entries
 
@@ -132,19 +200,33 @@ quiet_taken from to next is quiet =
     subst (λ (t : Turning). IsQuiet t.state t.line) (leads from to next is).left
     (quiet_by from.state from.line from.due next quiet)
 
-quiet_on : (found : Option Turning) (from to : Turning) (next : Entry) (later : List Entry) → taken from next ≡ found
-    → option_and_then (λ after. turned after later) found ≡ Some to → IsQuiet from.state from.line
-    → ((after : Turning) → turned after later ≡ Some to → IsQuiet after.state after.line
-    → IsQuiet to.state to.line) → IsQuiet to.state to.line
-quiet_on None from to next later is legal quiet rest = cc
-quiet_on (Some after) from to next later is legal quiet rest = rest after legal (quiet_taken from after next is quiet)
+pub ordered_taken : (from to : Turning) (next : Entry) → taken from next ≡ Some to
+    → IsOrdered from.state from.line → IsOrdered to.state to.line
+ordered_taken from to next is ordered = record {
+  listed = subst (λ (t : Turning). IsListed t.state t.line.queue) (leads from to next is).left
+      (listed_led from.state from.line from.due next ordered.listed);
+  quiet = quiet_taken from to next is ordered.quiet;
+}
 
--- what is set aside can't be served, after any entries
+kept_on : (Holds : Turning → Type 0) (found : Option Turning) (to : Turning) (later : List Entry)
+    → option_and_then (λ after. turned after later) found ≡ Some to
+    → ((after : Turning) → found ≡ Some after → turned after later ≡ Some to → Holds to) → Holds to
+kept_on Holds None to later legal rest = absurd (cc)
+kept_on Holds (Some after) to later legal rest = rest after refl legal
+
+-- what each entry keeps, any entries keep
+pub holds_kept : (Holds : Turning → Type 0)
+    → ((from to : Turning) (next : Entry) → taken from next ≡ Some to → Holds from → Holds to)
+    → (from to : Turning) (entries : List Entry) → turned from entries ≡ Some to → Holds from → Holds to
+holds_kept Holds keeps from to [] legal holds = let same : from ≡ to = cc in subst Holds same holds
+holds_kept Holds keeps from to (next ∷ later) legal holds =
+    kept_on Holds (taken from next) to later legal
+    (λ after is rest. holds_kept Holds keeps after to later rest (keeps from after next is holds))
+
+pub ordered_kept : (from to : Turning) (entries : List Entry) → turned from entries ≡ Some to
+    → IsOrdered from.state from.line → IsOrdered to.state to.line
+ordered_kept = holds_kept (λ (t : Turning). IsOrdered t.state t.line) ordered_taken
+
 pub quiet_kept : (from to : Turning) (entries : List Entry) → turned from entries ≡ Some to
     → IsQuiet from.state from.line → IsQuiet to.state to.line
-quiet_kept from to [] legal quiet =
-    let same : from ≡ to = cc in
-    subst (λ (t : Turning). IsQuiet t.state t.line) same quiet
-quiet_kept from to (next ∷ later) legal quiet =
-    quiet_on (taken from next) from to next later refl legal quiet
-    (λ after rest also. quiet_kept after to later rest also)
+quiet_kept = holds_kept (λ (t : Turning). IsQuiet t.state t.line) quiet_taken

@@ -1,16 +1,14 @@
 -- Who waits while others are served (ours).
+use Rattle.std.specs.List.{filter}
 use Rattle.std.specs.Prelude.{◌≡◌, Bool, true, false, List, [], ◌∷◌, ◌++◌, Option, Some, None, ◌&&◌}
 use Rattle.world_ports.specs.declared.entry.Entry.{Entry}
 use Rattle.world_ports.specs.declared.entry.Entry.TheVariants as entry
-use Rattle.agent_model.specs.State.{State}
 use Rattle.loop_model.specs.Servable.{is_servable}
 use Rattle.loop_model.specs.Things.{same_thing, set_of}
 use Rattle.loop_model.specs.declared.thing.Thing.{Thing}
 use Rattle.loop_model.specs.declared.thing.Thing.TheVariants.{Accept, Read, Write}
-use Rattle.loop_model.specs.Aside.{things_aside}
 use Rattle.loop_model.specs.LegalJournal.{Turning, taken}
-use Rattle.loop_model.specs.Lines.{Line, hot_of}
-use Rattle.loop_model.specs.Queues.{dropped, from_servable, is_next}
+use Rattle.loop_model.specs.Lines.{hot_of}
 
 -- ---- a service
 
@@ -25,19 +23,23 @@ is_service thing (entry.Close port answer) = false
 is_service thing (entry.Start job answer) = false
 is_service thing (entry.Now answer) = false
 
--- what is served stood first of all that could be served; the others keep their order, before what is new, without
--- those that stood before it; and what was served, where it is still ready, stands last
-pub record GoesLast (state : State) (thing : Thing) (before after : List Thing) : Type 0 where
-  pub first : is_next state before thing ≡ true
-  pub new : List Thing
-  pub others : dropped thing after ≡ dropped thing (from_servable state before) ++ new
-  pub last : set_of after thing ≡ true → after ≡ dropped thing after ++ thing ∷ []
+-- this thing, where the list has it
+abbrev pub only_if : Bool → Thing → List Thing
+only_if true thing = thing ∷ []
+only_if false thing = []
 
--- each other thing that left the queue can't be served, and is set aside
-abbrev pub SetsAside : State → Thing → Line → Line → Type 0
-SetsAside state thing before after = (other : Thing) → same_thing thing other ≡ false
-    → set_of before.queue other ≡ true → set_of after.queue other ≡ false
-    → (is_servable state other ≡ false) × (set_of (things_aside after.aside) other ≡ true)
+-- those of the list that it has yet keep their order, and stand before all others
+pub record KeepsOrder (before after : List Thing) : Type 0 where
+  pub new : List Thing
+  pub order : after ≡ filter (set_of after) before ++ new
+
+-- what was served stood first; those of the others that the list has yet keep their order, and stand before all others;
+-- and what was served, where the list has it yet, stands last
+pub record GoesRound (thing : Thing) (before after : List Thing) : Type 0 where
+  pub others : List Thing
+  pub first : before ≡ thing ∷ others
+  pub new : List Thing
+  pub order : after ≡ (filter (set_of after) others ++ new) ++ only_if (set_of after thing) thing
 
 -- ---- what waits
 
@@ -55,13 +57,3 @@ abbrev pub waits_on : Thing → Turning → List Entry → Bool
 waits_on thing turning [] = is_waiting thing turning
 waits_on thing turning (next ∷ later) =
     is_waiting thing turning && if_any (λ after. waits_on thing after later) (taken turning next)
-
--- ---- what comes back
-
--- the queue keeps its things in their places, and what comes back stands behind all of them: it was set aside, and can
--- be served in this state
-pub record ComesBack (state : State) (before after : Line) : Type 0 where
-  pub more : List Thing
-  pub behind : after.queue ≡ before.queue ++ more
-  pub back : (thing : Thing) → set_of more thing ≡ true
-      → (set_of (things_aside before.aside) thing ≡ true) × (is_servable state thing ≡ true)

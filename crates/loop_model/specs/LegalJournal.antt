@@ -93,7 +93,7 @@ left_by due next closes state line = in_state state line (due_after due closes (
 -- after an entry that leads to this state
 abbrev pub led_to : Turning → Entry → List ℕ → State → Turning
 led_to turning next closes state =
-    left_by turning.due next closes state (moved turning.state turning.due state next turning.line)
+    left_by turning.due next closes state (moved turning.state turning.due state closes next turning.line)
 
 -- after an entry that brings these events
 abbrev pub led_by : Turning → Entry → List Timed → Turning

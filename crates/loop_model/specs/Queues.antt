@@ -1,24 +1,19 @@
 -- A queue of things, in the order in which they are served (ours).
-use Rattle.std.specs.Prelude.{Bool, false, List, [], ◌∷◌, ◌++◌, Option, Some, None, not, if◌then◌else◌}
+use Rattle.std.specs.Prelude.{◌≡◌, Bool, false, List, [], ◌∷◌, Option, Some, None, not, if◌then◌else◌}
 use Rattle.std.specs.List.{filter}
 use Rattle.agent_model.specs.State.{State}
 use Rattle.loop_model.specs.Servable.{is_servable}
-use Rattle.loop_model.specs.Things.{same_thing}
+use Rattle.loop_model.specs.Things.{same_thing, set_of}
 use Rattle.loop_model.specs.declared.thing.Thing.{Thing}
 
 -- the queue without this thing
 abbrev pub dropped : Thing → List Thing → List Thing
 dropped thing = filter (λ other. not (same_thing thing other))
 
--- the queue with this thing behind all others
-abbrev pub put_back : Thing → List Thing → List Thing
-put_back thing queue = dropped thing queue ++ thing ∷ []
-
--- the queue from the first thing on that can be served
-abbrev pub from_servable : State → List Thing → List Thing
-from_servable state [] = []
-from_servable state (thing ∷ things) =
-    if is_servable state thing then thing ∷ things else from_servable state things
+-- nothing stands twice in the queue
+abbrev pub AreApart : List Thing → Type 0
+AreApart [] = Unit {0}
+AreApart (thing ∷ things) = (set_of things thing ≡ false) × AreApart things
 
 -- the first thing of the queue that can be served
 abbrev pub first_servable : State → List Thing → Option Thing

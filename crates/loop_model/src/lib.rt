@@ -14,8 +14,8 @@ pub use laws::{
     nothing_waits_at_a_poll,
 };
 pub use order::{
-    all_wait_their_turn, what_is_called_back_comes_last, what_is_served_goes_last,
-    what_is_set_aside_cant_be_served,
+    all_wait_their_turn, nothing_that_is_ready_is_lost, the_list_goes_round,
+    the_list_holds_what_can_be_served,
 };
 pub use rows::{
     a_call_out_of_turn_is_refused, a_client_that_joined_is_served_first, a_wait_follows_a_look,

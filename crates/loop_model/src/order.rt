@@ -1,32 +1,45 @@
 //! Laws of the order in which things are served.
 
-ghost use Rattle.std.specs.Prelude.{◌≡◌, ◌++◌, ◌∷◌, [], List, Result, Some, false, true};
+ghost use Rattle.std.specs.Prelude.{◌≡◌, ◌++◌, ◌∷◌, [], ℕ, List, None, Option, Some, false, true};
 ghost use Rattle.std.specs.List.{list_any};
-ghost use Rattle.std.specs.declared.alloc.AllocError.{AllocError};
 ghost use Rattle.world_ports.specs.declared.entry.Entry.{Entry};
-ghost use Rattle.world_ports.specs.declared.entry.Entry.TheVariants as entry;
 ghost use Rattle.world_ports.specs.declared.events.Moment.{Moment};
-ghost use Rattle.loop_model.specs.Servable.{is_servable};
+ghost use Rattle.loop_model.specs.Aside.{things_aside};
 ghost use Rattle.loop_model.specs.Things.{same_thing, set_of};
 ghost use Rattle.loop_model.specs.declared.thing.Thing.{Thing};
-ghost use Rattle.loop_model.specs.Aside.{things_aside};
-ghost use Rattle.loop_model.specs.Fairness.{ComesBack, GoesLast, SetsAside, if_any, is_service, waits_on};
+ghost use Rattle.loop_model.specs.Fairness.{GoesRound, KeepsOrder, if_any, is_service, waits_on};
 ghost use Rattle.loop_model.specs.LegalJournal.{Turning, taken, turned};
-ghost use Rattle.loop_model.specs.Lines.{IsQuiet};
+ghost use Rattle.agent_model.specs.Events.{Happening};
+ghost use Rattle.agent_model.specs.Sound.{IsRising};
+ghost use Rattle.agent_model.specs.State.{State};
+ghost use Rattle.agent_model.specs.Step.{step};
+ghost use Rattle.loop_model.specs.Lines.{IsListed, IsOrdered, IsQuiet, Line, after_event};
+ghost use Rattle.loop_model.specs.Queues.{AreApart, dropped, is_next};
+ghost use Rattle.loop_model.specs.Servable.{is_servable};
 
-/// What is set aside can't be served, where nothing that is set aside could be served before, as when a run begins.
-pub fn what_is_set_aside_cant_be_served()
-    ensures { (from to : Turning) (entries : List Entry) → turned from entries ≡ Some to
+/// What the list holds can be served, and what is set aside can't be, where that was so before, as when a run begins.
+pub fn the_list_holds_what_can_be_served()
+    ensures ordered { (from to : Turning) (entries : List Entry) → turned from entries ≡ Some to
+        → IsOrdered from.state from.line → IsOrdered to.state to.line }
+    ensures quiet { (from to : Turning) (entries : List Entry) → turned from entries ≡ Some to
         → IsQuiet from.state from.line → IsQuiet to.state to.line }
 {}
 
-/// What is served stood first of all that could be served, the others keep their order, and what was served stands last
-/// where it is still ready. What stood before it couldn't be served, and is set aside.
-pub fn what_is_served_goes_last()
-    ensures last { (from to : Turning) (thing : Thing) (next : Entry) → taken from next ≡ Some to
-        → is_service thing next ≡ true → GoesLast from.state thing from.line.queue to.line.queue }
-    ensures aside { (from to : Turning) (thing : Thing) (next : Entry) → taken from next ≡ Some to
-        → is_service thing next ≡ true → SetsAside from.state thing from.line to.line }
+/// What stood in the list before an event, what was served, and what was set aside stands in the list after it where it
+/// can be served then. The numbers of the open ports rise in every state that events lead to.
+pub fn nothing_that_is_ready_is_lost()
+    ensures listed { (left : State) (closes : List ℕ) (own : Option ℕ) (hand : Option Thing)
+        (line : Line) (thing : Thing) → set_of line.queue thing ≡ true → is_servable left thing ≡ true
+        → set_of (after_event left closes own hand line).queue thing ≡ true }
+    ensures served { (left : State) (closes : List ℕ) (own : Option ℕ) (line : Line) (thing : Thing)
+        → is_servable left thing ≡ true
+        → set_of (after_event left closes own (Some thing) line).queue thing ≡ true }
+    ensures aside { (state : State) (moment : Moment) (event : Happening) (own : Option ℕ)
+        (hand : Option Thing) (line : Line) (thing : Thing) → IsRising 0 state.last_port state.ports
+        → set_of (things_aside line.aside) thing ≡ true
+        → is_servable (step state moment event).state thing ≡ true
+        → set_of (after_event (step state moment event).state (step state moment event).closes
+        own hand line).queue thing ≡ true }
 {}
 
 /// Between two services of one thing each other thing was served that was ready and could be served all the while.
@@ -38,13 +51,18 @@ pub fn all_wait_their_turn()
         → list_any (is_service other) between ≡ true }
 {}
 
-/// At the moment of an event or a look the queue keeps its things in their places. What comes back was set aside and can
-/// be served, and stands behind all of them; and all that was set aside and can be served comes back.
-pub fn what_is_called_back_comes_last()
-    ensures last { (from to : Turning) (answer : Result Moment AllocError)
-        → taken from (entry.Now answer) ≡ Some to → ComesBack to.state from.line to.line }
-    ensures all { (from to : Turning) (answer : Result Moment AllocError) (thing : Thing)
-        → IsQuiet from.state from.line → taken from (entry.Now answer) ≡ Some to
-        → set_of (things_aside from.line.aside) thing ≡ true → is_servable to.state thing ≡ true
-        → set_of to.line.queue thing ≡ true }
+/// After an event that came of a thing's service: those of the others that can be served yet keep their order, before
+/// all that the event lets be served, and what was served stands last where it can be served. So it is where the event
+/// ended the port of what was served, so that it can't be, and of all that stand in the list where nothing was served.
+pub fn the_list_goes_round()
+    ensures round { (left : State) (closes : List ℕ) (own : Option ℕ) (line : Line) (thing : Thing)
+        (before : List Thing) → before ≡ thing ∷ line.queue
+        → GoesRound thing before (after_event left closes own (Some thing) line).queue }
+    ensures ended { (left : State) (closes : List ℕ) (own : Option ℕ) (line : Line) (thing : Thing)
+        (before : List Thing) → before ≡ thing ∷ line.queue → is_servable left thing ≡ false
+        → GoesRound thing before (after_event left closes own None line).queue }
+    ensures alone { (left : State) (closes : List ℕ) (own : Option ℕ) (line : Line)
+        → KeepsOrder line.queue (after_event left closes own None line).queue }
+    ensures first { (state : State) (thing : Thing) (queue : List Thing) → IsListed state queue
+        → AreApart queue → is_next state queue thing ≡ true → queue ≡ thing ∷ dropped thing queue }
 {}

@@ -2,12 +2,10 @@
 #![tactic(auto, unfolding(wire_text::specs::Frames::front, wire_text::specs::Frames::split_up_to, wire_text::specs::Frames::split, wire_text::specs::Wire::uint32, wire_text::specs::Wire::string, wire_text::specs::Wire::announced_len, agent_msg::specs::Reading::request_of_number, agent_msg::specs::Reading::request_of, agent_msg::specs::Reading::is_addition, agent_msg::specs::Requests::session_bind, agent_msg::specs::Requests::bind_front, agent_msg::specs::Requests::names_bind, identity_table::specs::Identities::alive_at, identity_table::specs::Identities::next_death, identity_table::specs::Identities::find_identity, identity_table::specs::Identities::remove_identity,))]
 
 ghost use Rattle.std.specs.Prelude.{◌≡◌, [], ◌∷◌, ℕ, List, None, Some, false, true};
-ghost use Rattle.world_ports.specs.declared.answers.Got.TheVariants as got;
 ghost use Rattle.world_ports.specs.declared.events.Door.TheVariants.{Clients};
 ghost use Rattle.agent_model.specs.Events.{Ended, Heard, Joined, Tick, Took};
-ghost use Rattle.loop_model.specs.Calls.{after_got};
 ghost use Rattle.loop_model.specs.Elsewhere.{may_end};
-ghost use Rattle.loop_model.specs.Lines.{queued, recalled, sent_back, settled, without};
+ghost use Rattle.loop_model.specs.Lines.{after_event, queued, recalled, returned, settled};
 ghost use Rattle.loop_model.specs.Rows.{accept_as, accept_none, close_of, comes_in_turn, is_legal, joins, line_of, no_ports, now_at, one_client, poll_client, poll_nothing, queue_of, read_none, read_of, two_clients, write_of};
 ghost use Rattle.loop_model.specs.declared.thing.Thing.TheVariants.{Accept, Read, Write};
 
@@ -33,26 +31,27 @@ pub fn only_what_is_ready_is_tried()
 
 /// A write offers what is owed, and nothing else.
 pub fn what_is_owed_is_written()
-    ensures whole { is_legal (joins (read_of 1 5 (0 ∷ 0 ∷ 0 ∷ 1 ∷ 19 ∷ []) ∷ now_at 2
-        ∷ write_of 1 (0 ∷ 0 ∷ 0 ∷ 1 ∷ 6 ∷ []) 5 ∷ now_at 2 ∷ accept_none ∷ read_none 1 ∷ now_at 3 ∷ poll_nothing
+    ensures whole { is_legal (joins (read_of 1 5 (0 ∷ 0 ∷ 0 ∷ 1 ∷ 19 ∷ []) ∷ now_at 2 ∷ accept_none
+        ∷ write_of 1 (0 ∷ 0 ∷ 0 ∷ 1 ∷ 6 ∷ []) 5 ∷ now_at 2 ∷ read_none 1 ∷ now_at 3 ∷ poll_nothing
         ∷ [])) ≡ true }
-    ensures other { is_legal (joins (read_of 1 5 (0 ∷ 0 ∷ 0 ∷ 1 ∷ 19 ∷ []) ∷ now_at 2
+    ensures other { is_legal (joins (read_of 1 5 (0 ∷ 0 ∷ 0 ∷ 1 ∷ 19 ∷ []) ∷ now_at 2 ∷ accept_none
         ∷ write_of 1 (0 ∷ 0 ∷ 0 ∷ 1 ∷ 5 ∷ []) 5 ∷ [])) ≡ false }
-    ensures front { is_legal (joins (read_of 1 5 (0 ∷ 0 ∷ 0 ∷ 1 ∷ 19 ∷ []) ∷ now_at 2
+    ensures front { is_legal (joins (read_of 1 5 (0 ∷ 0 ∷ 0 ∷ 1 ∷ 19 ∷ []) ∷ now_at 2 ∷ accept_none
         ∷ write_of 1 (0 ∷ 0 ∷ 0 ∷ 1 ∷ []) 4 ∷ [])) ≡ false }
-    ensures forgotten { is_legal (joins (read_of 1 5 (0 ∷ 0 ∷ 0 ∷ 1 ∷ 19 ∷ []) ∷ now_at 2
-        ∷ accept_none ∷ [])) ≡ false }
+    ensures forgotten { is_legal (joins (read_of 1 5 (0 ∷ 0 ∷ 0 ∷ 1 ∷ 19 ∷ []) ∷ now_at 2 ∷ accept_none
+        ∷ read_none 1 ∷ [])) ≡ false }
     ensures closed { is_legal (joins (read_of 1 4 (0 ∷ 0 ∷ 0 ∷ 0 ∷ []) ∷ now_at 2 ∷ close_of 1 ∷ [])) ≡ true }
     ensures left_open { is_legal (joins (read_of 1 4 (0 ∷ 0 ∷ 0 ∷ 0 ∷ []) ∷ now_at 2 ∷ now_at 3 ∷ [])) ≡ false }
 {}
 
-/// What stands before the first thing that can be served is set aside, by rising numbers, and what stands behind it
-/// keeps its place.
+/// What can't be served any more is set aside, by rising numbers, but for what is at a port that was closed; the others
+/// keep their order.
 pub fn what_cant_be_served_is_set_aside()
-    ensures front { settled no_ports (queue_of (Read 2 ∷ Write 1 ∷ Accept Clients ∷ Read 1 ∷ []))
-        ≡ line_of (Accept Clients ∷ Read 1 ∷ []) [] (2 ∷ []) (1 ∷ []) }
-    ensures all { settled no_ports (queue_of (Read 7 ∷ Read 3 ∷ Write 3 ∷ [])) ≡ line_of [] [] (3 ∷ 7 ∷ []) (3 ∷ []) }
-    ensures none { settled one_client (queue_of (Read 1 ∷ Write 1 ∷ [])) ≡ queue_of (Read 1 ∷ Write 1 ∷ []) }
+    ensures front { settled one_client (2 ∷ []) (queue_of (Read 2 ∷ Write 1 ∷ Accept Clients ∷ Read 1 ∷ []))
+        ≡ line_of (Accept Clients ∷ Read 1 ∷ []) [] [] (1 ∷ []) }
+    ensures closed { settled no_ports (3 ∷ []) (line_of [] [] (3 ∷ 7 ∷ []) (3 ∷ []))
+        ≡ line_of [] [] (7 ∷ []) [] }
+    ensures none { settled one_client [] (queue_of (Read 1 ∷ [])) ≡ queue_of (Read 1 ∷ []) }
 {}
 
 /// What can be served comes back behind the queue, the event's own port first; what can't be stays aside.
@@ -65,25 +64,24 @@ pub fn what_can_be_served_again_comes_back()
         ≡ line_of (Read 2 ∷ Accept Clients ∷ Read 1 ∷ []) [] [] (2 ∷ []) }
 {}
 
-/// A thing that was served goes behind all others, and a connection that was read behind what is to be written to it.
+/// What was served stands last where it can be served, and is set aside where it can't be, but for what is at a port
+/// that was closed.
 pub fn what_was_served_stands_last()
-    ensures first { sent_back (Read 1) (queue_of (Read 1 ∷ Write 1 ∷ Read 2 ∷ []))
-        ≡ queue_of (Write 1 ∷ Read 2 ∷ Read 1 ∷ []) }
-    ensures only { sent_back (Read 1) (queue_of (Read 1 ∷ [])) ≡ queue_of (Read 1 ∷ []) }
-    ensures read { after_got 1 (got.Bytes 5) (line_of (Read 1 ∷ Read 2 ∷ []) [] [] (1 ∷ []))
-        ≡ line_of (Read 2 ∷ Write 1 ∷ Read 1 ∷ []) [] [] [] }
+    ensures last { returned one_client (Some (Read 1)) (queue_of (Accept Clients ∷ []))
+        ≡ queue_of (Accept Clients ∷ Read 1 ∷ []) }
+    ensures aside { returned one_client (Some (Write 1)) (queue_of []) ≡ line_of [] [] [] (1 ∷ []) }
+    ensures closed { returned no_ports (Some (Read 1)) (queue_of []) ≡ queue_of [] }
+    ensures behind { after_event two_clients [] (Some 1) (Some (Accept Clients))
+        (line_of (Read 2 ∷ []) [] (1 ∷ []) []) ≡ queue_of (Read 2 ∷ Read 1 ∷ Accept Clients ∷ []) }
 {}
 
-/// A thing that is ready stands in one place, and one that isn't any more in none.
+/// A thing that is ready stands in one place: last in the list where it can be served, and otherwise aside.
 pub fn what_is_ready_stands_once()
-    ensures new { queued (Write 1) (line_of (Read 2 ∷ []) [] (1 ∷ []) [])
-        ≡ line_of (Read 2 ∷ Write 1 ∷ []) [] (1 ∷ []) [] }
-    ensures there { queued (Read 2) (line_of (Read 2 ∷ []) [] (1 ∷ []) []) ≡ line_of (Read 2 ∷ []) [] (1 ∷ []) [] }
-    ensures aside { queued (Read 1) (line_of (Read 2 ∷ []) [] (1 ∷ []) []) ≡ line_of (Read 2 ∷ []) [] (1 ∷ []) [] }
-    ensures gone { without (Read 2) (line_of (Read 1 ∷ Read 2 ∷ []) [] [] (2 ∷ []))
-        ≡ line_of (Read 1 ∷ []) [] [] (2 ∷ []) }
-    ensures gone_aside { without (Write 2) (line_of (Read 1 ∷ Read 2 ∷ []) [] [] (2 ∷ []))
-        ≡ queue_of (Read 1 ∷ Read 2 ∷ []) }
+    ensures new { queued one_client (Read 1) (queue_of (Accept Clients ∷ []))
+        ≡ queue_of (Accept Clients ∷ Read 1 ∷ []) }
+    ensures unable { queued one_client (Write 1) (queue_of []) ≡ line_of [] [] [] (1 ∷ []) }
+    ensures there { queued one_client (Read 1) (queue_of (Read 1 ∷ [])) ≡ queue_of (Read 1 ∷ []) }
+    ensures aside { queued one_client (Write 1) (line_of [] [] [] (1 ∷ [])) ≡ line_of [] [] [] (1 ∷ []) }
 {}
 
 /// Of two clients that can be read the one that stands first is read first.

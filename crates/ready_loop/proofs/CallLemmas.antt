@@ -1,7 +1,7 @@
 -- What each call leaves of how the journal reads, by its answer.
-use Rattle.std.proofs.Common.{◌≡◌, ◌∙◌, ℕ, suc, ◌+◌, ◌-◌, ◌^◌, ◌<◌, Bool, true, false, List, [], ◌∷◌, length, drop, get_or, Option, Some, None, Result, Ok, Err, refl, sym, ap, ◌==◌, add-one, arith}
+use Rattle.std.proofs.Common.{◌≡◌, ◌∙◌, ℕ, suc, ◌+◌, ◌-◌, ◌^◌, ◌<◌, Bool, true, false, List, [], ◌∷◌, length, drop, get_or, Option, Some, None, Result, Ok, refl, sym, ap, ◌==◌, add-one, arith}
 use Rattle.std.proofs.Math.Seq.{drop-cons}
-use Rattle.std.specs.Prelude.{IsSome, OnOk, is_some}
+use Rattle.std.specs.Prelude.{IsSome, is_some}
 use Rattle.std.specs.declared.alloc.AllocError.{AllocError}
 use Rattle.std.specs.Str.{bytes_eq}
 use Rattle.std.specs.Cmp.Lexicographic.{bytes_decides}
@@ -21,18 +21,19 @@ use Rattle.world_ports.specs.declared.events.Moment.{Moment}
 use Rattle.agent_model.specs.Events.{Happening, Tick}
 use Rattle.agent_model.specs.State.{State, find_port, owed_of, starts}
 use Rattle.agent_model.specs.Step.{step}
+use Rattle.loop_model.specs.Calls.{served_of}
 use Rattle.loop_model.specs.Dues.{Closing, Free, NowFor, Polling, due_look, due_of, port_of, same_wait, wait_of}
 use Rattle.loop_model.specs.LegalJournal.{in_state, is_first_job, led, read_room, taken}
-use Rattle.loop_model.specs.Lines.{Line, is_idle, recalled, settled, without, without_port}
+use Rattle.loop_model.specs.Lines.{Line, after_event, in_hand, is_idle}
 use Rattle.loop_model.specs.Queues.{first_servable, is_next, is_thing}
 use Rattle.loop_model.specs.declared.thing.Thing.{Thing}
 use Rattle.loop_model.specs.declared.thing.Thing.TheVariants.{Accept, Read, Write}
 use Rattle.loop_model.proofs.JournalLemmas.{taken-is}
 use Rattle.loop_model.proofs.TestLemmas.{both_and}
 use Rattle.loop_model.proofs.ThingLemmas.{same_thing-refl}
-use Rattle.ready_loop.specs.Moves.{Serves, is_poll}
+use Rattle.ready_loop.specs.Moves.{Advances, is_poll}
 use Rattle.ready_loop.proofs.IdleLemmas.{first_is_found, owed_is_open, wanted_is_open}
-use Rattle.ready_loop.proofs.TurningLemmas.{advances_once, one_call, stops_there}
+use Rattle.ready_loop.proofs.TurningLemmas.{advances_once}
 
 -- ---- the moment of an event, and closing
 
@@ -44,11 +45,13 @@ now-any state line event answer = refl
 pub now-taken : (state next : State) (closes : List ℕ) (line : Line) (event : Happening) (moment : Moment)
     → next ≡ (step state moment event).state → closes ≡ (step state moment event).closes
     → taken (in_state state line (NowFor event)) (entry.Now (Ok moment))
-    ≡ Some (in_state next (recalled next (port_of event next.last_port) line) (due_of closes))
+    ≡ Some (in_state next (after_event next closes (port_of event next.last_port) (served_of event) line)
+    (due_of closes))
 now-taken state next closes line event moment is closed =
-    let due = due_of (step state moment event).closes in
-    ap (λ (s : State). Some (in_state s (recalled s (port_of event s.last_port) line) due)) (sym is)
-    ∙ ap (λ (cs : List ℕ). Some (in_state next (recalled next (port_of event next.last_port) line) (due_of cs)))
+    let cs = (step state moment event).closes in
+    ap (λ (s : State). Some (in_state s (after_event s cs (port_of event s.last_port) (served_of event) line) (due_of cs)))
+    (sym is)
+    ∙ ap (λ (ports : List ℕ). Some (in_state next (after_event next ports (port_of event next.last_port) (served_of event) line) (due_of ports)))
     (sym closed)
 
 pub close-any : (state : State) (line : Line) (port : ℕ) (later : List ℕ) (answer : Result Unit AllocError)
@@ -59,7 +62,7 @@ close-any state line port later answer =
 
 pub close-taken : (state : State) (line : Line) (port : ℕ) (later : List ℕ)
     → taken (in_state state line (Closing port later)) (entry.Close port (Ok tt))
-    ≡ Some (in_state state (without_port port line) (due_of later))
+    ≡ Some (in_state state line (due_of later))
 close-taken state line port later = close-any state line port later (Ok tt)
 
 -- what is left to close, from an index on
@@ -79,16 +82,17 @@ look-any state line answer idle = taken-is (in_state state line Free) (entry.Now
 -- with the line that is left
 pub looked-at : (state next : State) (closes : List ℕ) (line left : Line) (moment : Moment)
     → is_idle state line ≡ true → next ≡ (step state moment Tick).state → closes ≡ (step state moment Tick).closes
-    → left ≡ recalled next None line
+    → left ≡ after_event next closes None None line
     → taken (in_state state line Free) (entry.Now (Ok moment))
     ≡ Some (in_state next left (due_look closes (is_idle next left)))
 looked-at state next closes line left moment idle is closed there =
     let cs = (step state moment Tick).closes in
     look-any state line (Ok moment) idle
-    ∙ ap (λ (s : State). Some (in_state s (recalled s None line) (due_look cs (is_idle s (recalled s None line)))))
+    ∙ ap (λ (s : State). Some (in_state s (after_event s cs None None line) (due_look cs (is_idle s (after_event s cs None None line)))))
     (sym is)
-    ∙ ap (λ (l : Line). Some (in_state next l (due_look cs (is_idle next l)))) (sym there)
-    ∙ ap (λ (c : List ℕ). Some (in_state next left (due_look c (is_idle next left)))) (sym closed)
+    ∙ ap (λ (ports : List ℕ). Some (in_state next (after_event next ports None None line) (due_look ports (is_idle next (after_event next ports None None line)))))
+    (sym closed)
+    ∙ ap (λ (l : Line). Some (in_state next l (due_look closes (is_idle next l)))) (sym there)
 
 -- a look that closes ports
 pub look-closes : (closes : List ℕ) (idle : Bool) → (length closes == 0) ≡ false → due_look closes idle ≡ due_of closes
@@ -152,19 +156,13 @@ pub start-any : (state : State) (line : Line) (job : Job) (answer : Result (List
 start-any state line job answer first = taken-is (in_state state line Free) (entry.Start job answer) first
 
 -- a call that finds that the thing isn't ready any more
-pub serves_dropped : {T E : Type 0} (result : Result T E) (state : State) (line after : Line) (thing : Thing)
-    (old new : Option (List Entry)) (next : Entry) → is_poll next ≡ false
-    → taken (in_state state line Free) next ≡ Some (in_state state (without thing (settled state line)) Free)
-    → OnOk result (after ≡ without thing (settled state line)) → Grows old new (next ∷ [])
-    → Serves result (in_state state line Free) old new (in_state state after Free)
-serves_dropped (Ok value) state line after thing old new next quiet is gone told = record {
-  by = advances_once (in_state state line Free) (in_state state after Free) old new next quiet
-      (is ∙ ap (λ (l : Line). Some (in_state state l Free)) (sym gone)) told;
-}
-serves_dropped (Err fault) state line after thing old new next quiet is gone told = record {
-  by = stops_there (one_call (in_state state line Free) (in_state state (without thing (settled state line)) Free)
-      old new next quiet is told);
-}
+pub serves_dropped : (state : State) (line after : Line) (thing : Thing) (old new : Option (List Entry)) (next : Entry)
+    → is_poll next ≡ false → taken (in_state state line Free) next ≡ Some (in_state state (in_hand thing line) Free)
+    → after ≡ in_hand thing line → Grows old new (next ∷ [])
+    → Advances (in_state state line Free) old new (in_state state after Free)
+serves_dropped state line after thing old new next quiet is gone told =
+    advances_once (in_state state line Free) (in_state state after Free) old new next quiet
+    (is ∙ ap (λ (l : Line). Some (in_state state l Free)) (sym gone)) told
 
 -- ---- what fits
 

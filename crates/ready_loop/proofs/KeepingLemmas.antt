@@ -1,53 +1,107 @@
--- Nothing that is set aside can be served, whatever calls were added.
-use Rattle.std.proofs.Common.{◌≡◌, List, Option, Result, Ok, Err, ℕ, sym, subst}
+-- What holds of a line and of the agent before calls holds after them.
+use Rattle.std.proofs.Common.{◌≡◌, ℕ, List, [], ◌∷◌, Option, Some, None, Result, Ok, Err, sym, subst}
 use Rattle.std.specs.Prelude.{OnOk}
-use Rattle.world_ports.specs.declared.answers.Ready.{Ready}
 use Rattle.world_ports.specs.declared.entry.Entry.{Entry}
+use Rattle.world_ports.specs.declared.events.Moment.{Moment}
+use Rattle.agent_model.specs.Events.{Tick, Timed}
+use Rattle.agent_model.specs.Runs.{run}
 use Rattle.agent_model.specs.State.{State}
+use Rattle.agent_model.specs.Step.{step}
 use Rattle.loop_model.specs.Dues.{Free}
-use Rattle.loop_model.specs.LegalJournal.{Turning, in_state}
-use Rattle.loop_model.specs.Lines.{IsQuiet, Line, queued_all, queued_port}
-use Rattle.ready_loop.specs.Moves.{Goes, Serves, served_by}
+use Rattle.loop_model.specs.LegalJournal.{Turning, events_at, in_state, taken, turned}
+use Rattle.loop_model.specs.Lines.{IsExact, IsOrdered, IsQuiet, Line, after_event}
+use Rattle.loop_model.specs.Orderly.{IsOrderly}
+use Rattle.loop_model.specs.Queues.{AreApart}
+use Rattle.loop_model.proofs.JournalLemmas.{leads}
+use Rattle.loop_model.proofs.OwedLemmas.{orderly_after}
+use Rattle.loop_model.proofs.QuietLemmas.{holds_kept, ordered-event, ordered_kept}
+use Rattle.loop_model.proofs.RoundLemmas.{exact, exact-listed}
+use Rattle.ready_loop.specs.Moves.{Serves, served_by}
 use Rattle.ready_loop.specs.declared.outcome.HubFault.{HubFault}
 use Rattle.ready_loop.specs.declared.outcome.Turn.{Turn}
-use Rattle.loop_model.proofs.AddingLemmas.{adds-queued_all, adds-queued_port}
-use Rattle.loop_model.proofs.QuietLemmas.{quiet_kept, quiet_more}
 
 -- what holds where memory sufficed, holds
 pub on_ok : {T E P : Type 0} (result : Result T E) → P → OnOk result P
 on_ok (Ok value) holds = holds
 on_ok (Err fault) holds = tt
 
+-- one thing leads to another there
+pub then_ok : {T E P Q : Type 0} (result : Result T E) → OnOk result P → (P → Q) → OnOk result Q
+then_ok (Ok value) holds leads = leads holds
+then_ok (Err fault) holds leads = tt
+
 -- ---- of a line
 
-pub quiet_is : (state : State) (line left : Line) → left ≡ line → IsQuiet state line → IsQuiet state left
-quiet_is state line left is quiet = subst (λ (l : Line). IsQuiet state l) (sym is) quiet
+pub ordered_is : (state : State) (line left : Line) → left ≡ line → IsOrdered state line → IsOrdered state left
+ordered_is state line left is ordered = subst (λ (l : Line). IsOrdered state l) (sym is) ordered
 
-pub quiet_queued_port : (state : State) (port : ℕ) (line : Line) → IsQuiet state line → IsQuiet state (queued_port port line)
-quiet_queued_port state port line = quiet_more state line (queued_port port line) (adds-queued_port port line)
+pub ordered_of : (state : State) (line : Line) → IsExact state line → IsQuiet state line → IsOrdered state line
+ordered_of state line is quiet = record { listed = exact-listed state line is; quiet = quiet }
 
-pub quiet_queued_all : (state : State) (items : List Ready) (line : Line) → IsQuiet state line
-    → IsQuiet state (queued_all state items line)
-quiet_queued_all state items line = quiet_more state line (queued_all state items line) (adds-queued_all state items line)
+pub exact_of : (state : State) (line : Line) → IsOrdered state line → AreApart line.queue → IsExact state line
+exact_of state line ordered apart = exact state line ordered apart
 
--- ---- of what calls lead to
+-- after a look at the clock
+pub told-ordered : (state : State) (closes : List ℕ) (line left : Line) → left ≡ after_event state closes None None line
+    → IsOrdered state left
+told-ordered state closes line left is =
+    ordered_is state (after_event state closes None None line) left is (ordered-event state closes None None line)
 
-pub quiet_goes : {T E : Type 0} (result : Result T E) (from : Turning) (old new : Option (List Entry)) (state : State) (line : Line) → Goes result from old new (in_state state line Free) → IsQuiet from.state from.line → OnOk result (IsQuiet state line)
-quiet_goes (Ok value) from old new state line goes quiet =
-    quiet_kept from (in_state state line Free) goes.by.added goes.by.legal quiet
-quiet_goes (Err fault) from old new state line goes quiet = tt
+pub told-orderly : (state next : State) (moment : Moment) → next ≡ (step state moment Tick).state → IsOrderly state
+    → IsOrderly next
+told-orderly state next moment is orderly =
+    subst IsOrderly (sym is) (orderly_after state moment Tick orderly)
 
-quiet_serves : {T E : Type 0} (result : Result T E) (from : Turning) (old new : Option (List Entry)) (state : State) (line : Line) → Serves result from old new (in_state state line Free) → IsQuiet from.state from.line → OnOk result (IsQuiet state line)
-quiet_serves (Ok value) from old new state line serves quiet =
-    quiet_kept from (in_state state line Free) serves.by.calls.added serves.by.calls.legal quiet
-quiet_serves (Err fault) from old new state line serves quiet = tt
+-- ---- of the agent
 
--- what a turn makes of it
-quiet_turns : {E : Type 0} (result : Result Unit E) (state : State) (line : Line) → OnOk result (IsQuiet state line) → OnOk (served_by result) (IsQuiet state line)
-quiet_turns (Ok value) state line quiet = quiet
-quiet_turns (Err fault) state line quiet = tt
+orderly_run : (state : State) (events : List Timed) → IsOrderly state → IsOrderly (run state events)
+orderly_run state [] orderly = orderly
+orderly_run state (timed ∷ later) orderly =
+    orderly_run (step state timed.moment timed.event).state later (orderly_after state timed.moment timed.event orderly)
 
-pub quiet_served : {E : Type 0} (result : Result Unit E) (turn : Result Turn HubFault) (from : Turning) (old new : Option (List Entry)) (state : State) (line : Line) → turn ≡ served_by result → Serves result from old new (in_state state line Free) → IsQuiet from.state from.line → OnOk turn (IsQuiet state line)
-quiet_served result turn from old new state line is serves quiet =
-    subst (λ (r : Result Turn HubFault). OnOk r (IsQuiet state line)) (sym is)
-    (quiet_turns result state line (quiet_serves result from old new state line serves quiet))
+orderly_taken : (from to : Turning) (next : Entry) → taken from next ≡ Some to → IsOrderly from.state
+    → IsOrderly to.state
+orderly_taken from to next is orderly =
+    subst (λ (t : Turning). IsOrderly t.state) (leads from to next is).left
+    (orderly_run from.state (events_at from.due next) orderly)
+
+pub orderly_kept : (from to : Turning) (entries : List Entry) → turned from entries ≡ Some to → IsOrderly from.state
+    → IsOrderly to.state
+orderly_kept = holds_kept (λ (t : Turning). IsOrderly t.state) orderly_taken
+
+-- ---- of what a turn serves
+
+served_ok : {E : Type 0} (P : Type 0) (result : Result Unit E) → OnOk result P → OnOk (served_by result) P
+served_ok P (Ok value) holds = holds
+served_ok P (Err fault) holds = tt
+
+-- what holds of a call's result holds of the turn's
+pub turn_ok : {E : Type 0} (P : Type 0) (result : Result Unit E) (turn : Result Turn HubFault) → turn ≡ served_by result
+    → OnOk result P → OnOk turn P
+turn_ok P result turn is holds =
+    subst (λ (r : Result Turn HubFault). OnOk r P) (sym is) (served_ok P result holds)
+
+serves_ok : {E : Type 0} (result : Result Unit E) (from : Turning) (old new : Option (List Entry)) (state : State)
+    (line : Line) → Serves result from old new (in_state state line Free) → IsOrdered from.state from.line
+    → IsOrderly from.state → OnOk result (IsOrdered state line × IsOrderly state)
+serves_ok (Ok value) from old new state line serves ordered orderly = (
+  ordered_kept from (in_state state line Free) serves.by.calls.added serves.by.calls.legal ordered,
+  orderly_kept from (in_state state line Free) serves.by.calls.added serves.by.calls.legal orderly,
+)
+serves_ok (Err fault) from old new state line serves ordered orderly = tt
+
+pub ordered_served : {E : Type 0} (result : Result Unit E) (turn : Result Turn HubFault) (from : Turning)
+    (old new : Option (List Entry)) (state : State) (line : Line) → turn ≡ served_by result
+    → Serves result from old new (in_state state line Free) → IsOrdered from.state from.line → IsOrderly from.state
+    → OnOk turn (IsOrdered state line)
+ordered_served result turn from old new state line is serves ordered orderly =
+    turn_ok (IsOrdered state line) result turn is
+    (then_ok result (serves_ok result from old new state line serves ordered orderly) (λ both. both.0))
+
+pub orderly_served : {E : Type 0} (result : Result Unit E) (turn : Result Turn HubFault) (from : Turning)
+    (old new : Option (List Entry)) (state : State) (line : Line) → turn ≡ served_by result
+    → Serves result from old new (in_state state line Free) → IsOrdered from.state from.line → IsOrderly from.state
+    → OnOk turn (IsOrderly state)
+orderly_served result turn from old new state line is serves ordered orderly =
+    turn_ok (IsOrderly state) result turn is
+    (then_ok result (serves_ok result from old new state line serves ordered orderly) (λ both. both.1))

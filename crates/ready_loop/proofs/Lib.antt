@@ -1,5 +1,10 @@
 pub mod FilterLemmas
 pub mod StandingLemmas
+pub mod SettlingLemmas
+pub mod HandLemmas
+pub mod HandingLemmas
+pub mod RoundingLemmas
+pub mod MomentLemmas
 pub mod LineLemmas
 pub mod CallingLemmas
 pub mod NextLemmas

@@ -4,9 +4,9 @@ use Rattle.std.specs.List.{filter}
 use Rattle.loop_model.specs.Things.{Hot, same_thing, set_of}
 use Rattle.loop_model.specs.declared.thing.Thing.{Thing}
 use Rattle.loop_model.specs.Aside.{Aside, put_aside, taken_back, things_aside}
-use Rattle.loop_model.specs.Queues.{dropped}
-use Rattle.ready_loop.specs.Standing.{AreApart, IsFront, IsOnce}
-use Rattle.loop_model.proofs.TestLemmas.{and_both, or_left, or_right}
+use Rattle.loop_model.specs.Queues.{AreApart, dropped}
+use Rattle.ready_loop.specs.Standing.{IsFront, IsOnce}
+use Rattle.loop_model.proofs.TestLemmas.{and_both, or_right}
 use Rattle.loop_model.proofs.ThingLemmas.{false_by, same_thing-refl, same_thing-true}
 use Rattle.loop_model.proofs.AsideLemmas.{set_of-append, set_of-filter, set_of-put_aside, set_of-taken_back}
 use Rattle.ready_loop.proofs.FilterLemmas.{absent-dropped, true_false}
@@ -121,18 +121,25 @@ once-rest first queue aside once = record {
   either = λ thing there. once.either thing (or_right (same_thing first thing) (set_of queue thing) there);
 }
 
--- the first thing is set aside
-pub once-put : (first : Thing) (queue : List Thing) (aside : Aside) → IsOnce (first ∷ queue) aside
-    → IsOnce queue (put_aside first aside)
-once-put first queue aside once = record {
-  apart = once.apart.1;
-  either = λ thing there.
-      ap (λ (hot : Hot). hot thing) (set_of-put_aside first aside)
-      ∙ neither (same_thing first thing) (set_of (things_aside aside) thing)
-      (false_by (same_thing first thing) (λ same.
-      true_false (set_of queue first) (ap (set_of queue) (same_thing-true first thing same) ∙ there) once.apart.0))
-      (once.either thing (or_right (same_thing first thing) (set_of queue thing) there));
+-- a thing that isn't in the queue is set aside
+pub once-put : (thing : Thing) (queue : List Thing) (aside : Aside) → IsOnce queue aside
+    → set_of queue thing ≡ false → IsOnce queue (put_aside thing aside)
+once-put thing queue aside once absent = record {
+  apart = once.apart;
+  either = λ other there.
+      ap (λ (hot : Hot). hot other) (set_of-put_aside thing aside)
+      ∙ neither (same_thing thing other) (set_of (things_aside aside) other)
+      (false_by (same_thing thing other) (λ same.
+      true_false (set_of queue thing) (ap (set_of queue) (same_thing-true thing other same) ∙ there) absent))
+      (once.either other there);
 }
+
+-- without its front
+pub once-front : (thing : Thing) (queue left : List Thing) (aside : Aside) → IsFront thing queue
+    → left ≡ drop 1 queue → IsOnce queue aside → IsOnce left aside
+once-front thing [] left aside front is once = absurd front
+once-front thing (first ∷ queue) left aside front is once =
+    subst (λ (things : List Thing). IsOnce things aside) (sym is) (once-rest first queue aside once)
 
 -- ---- the front
 
@@ -144,20 +151,3 @@ front-dropped thing (first ∷ queue) front apart =
     ap (λ (b : Bool). cond (not b) (first ∷ dropped thing queue) (dropped thing queue))
     (ap (same_thing thing) front ∙ same_thing-refl thing)
     ∙ absent-dropped thing queue (ap (set_of queue) (sym front) ∙ apart.0)
-
--- the front goes behind all others
-pub once-rotated : (thing : Thing) (queue left : List Thing) (aside : Aside) → IsFront thing queue
-    → left ≡ drop 1 queue → IsOnce queue aside → IsOnce (left ++ thing ∷ []) aside
-once-rotated thing [] left aside front is once = absurd front
-once-rotated thing (first ∷ queue) left aside front is once =
-    subst (λ (things : List Thing). IsOnce (things ++ thing ∷ []) aside) (sym is)
-    (subst (λ (t : Thing). IsOnce (queue ++ t ∷ []) aside) front
-    (once-queued queue aside (once-rest first queue aside once) first once.apart.0
-    (once.either first (or_left (same_thing first first) (set_of queue first) (same_thing-refl first)))))
-
--- it isn't aside either
-pub front-taken : (thing : Thing) (queue : List Thing) (aside : Aside) → IsFront thing queue → IsOnce queue aside
-    → set_of (things_aside aside) thing ≡ false
-front-taken thing [] aside front once = absurd front
-front-taken thing (first ∷ queue) aside front once =
-    once.either thing (or_left (same_thing first thing) (set_of queue thing) (ap (same_thing first) (sym front) ∙ same_thing-refl first))

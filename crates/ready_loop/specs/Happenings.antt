@@ -1,5 +1,8 @@
--- What an event does to the numbers of ports (ours).
-use Rattle.std.specs.Prelude.{ℕ, suc, ◌-◌, ◌^◌, ◌<◌}
+-- What an event does to the numbers of ports, and to the agent (ours).
+use Rattle.std.specs.Prelude.{◌≡◌, ℕ, suc, ◌-◌, ◌^◌, ◌<◌}
+use Rattle.world_ports.specs.declared.events.Moment.{Moment}
+use Rattle.agent_model.specs.State.{State}
+use Rattle.agent_model.specs.Step.{step}
 use Rattle.agent_model.specs.Events.{Happening, Joined, Heard, Ended, Took, Started, StartFailed, Tick}
 
 -- the number of the last port after an event, by that before it: one more where a port joined
@@ -21,3 +24,8 @@ MayJoin (Took port count) last = Unit {0}
 MayJoin (Started job ticket) last = Unit {0}
 MayJoin (StartFailed job) last = Unit {0}
 MayJoin Tick last = Unit {0}
+
+-- the event happened, at some moment
+pub record HasHappened (event : Happening) (old new : State) : Type 0 where
+  pub moment : Moment
+  pub is : new ≡ (step old moment event).state

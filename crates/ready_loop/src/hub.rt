@@ -3,8 +3,12 @@ ghost use Rattle.std.specs.Prelude.{◌≡◌, ◌≤◌, Err, MatchOption, OnOk
 ghost use Rattle.agent_model.specs.State.{starts};
 ghost use Rattle.loop_model.specs.Dues.{Free};
 ghost use Rattle.loop_model.specs.LegalJournal.{in_state, is_first_job};
-ghost use Rattle.loop_model.specs.Lines.{IsQuiet, empty_line, is_idle};
+ghost use Rattle.loop_model.specs.Lines.{IsExact, IsOrdered, IsQuiet, empty_line, is_idle};
+ghost use Rattle.loop_model.specs.Orderly.{IsOrderly};
+ghost use Rattle.loop_model.specs.Queues.{AreApart};
+ghost use Rattle.loop_model.specs.Servable.{has_job};
 ghost use Rattle.ready_loop.specs.Moves.{Turns, served_by};
+ghost use Rattle.ready_loop.specs.Standing.{Rounds};
 ghost use Rattle.world_ports.specs.Causes.{Rose};
 
 use crate::look::{is_idle, look};
@@ -20,9 +24,9 @@ use world_ports::{Job, Ready, World};
 
 /// What is ready to be served: what a poll or an accept said, until a call found otherwise.
 ///
-/// What is served goes to the back of the queue while it is ready, so that nothing waits for ever behind another. What
-/// is ready and can't be served is set aside under its door or port once it comes to the front, and comes back when an
-/// event lets it be served.
+/// A list holds, each once, exactly those ready things that can be served, and a set beside it the others, each under
+/// its door or port. What was served stood first in the list. Those that could be served before and can be served
+/// afterwards keep their order and stand before all others; what was served, where it can be served yet, stands last.
 #[derive(Drop)]
 pub struct Hub {
     queue: Queue,
@@ -73,7 +77,7 @@ impl Hub {
 
     /// Whether nothing can be served, and no job waits, where nothing that is set aside can be.
     pub fn idle<A: Core>(&self, agent: &A) -> bool
-        requires { IsQuiet (A.state agent.now) self.now }
+        requires { IsOrdered (A.state agent.now) self.now }
         ensures { result ≡ is_idle (A.state agent.now) self.now }
     {
         is_idle(&self.queue, agent)
@@ -86,26 +90,62 @@ impl Hub {
         self.queue.has_joined()
     }
 
-    /// Starts the first job that waits, or serves the first thing that can be served, or looks at the clock and polls.
-    /// Nothing that is set aside can be served, before a turn and after it. After a fault the hub can only be dropped.
+    /// Starts the first job that waits, or serves the first thing of the list, or looks at the clock and polls.
+    ///
+    /// Before a turn and after it the list holds, each once, exactly those ready things that can be served, nothing
+    /// that is set aside can be served, and the agent's greatest second is at most the world's. A turn leaves the list
+    /// as `round` says: what was served stood first; those of the others that the list has yet keep their order, and
+    /// stand before all others; and what was served, where the list has it yet, stands last. After a fault the hub can
+    /// only be dropped.
     pub fn turn<A: Core, W: World>(
         &mut self,
         agent: &mut A,
         world: &mut W,
     ) -> Result<Turn, HubFault>
-        requires ports { W.last_port world.old ≡ (A.state agent.old).last_port }
+        requires orderly { IsOrderly (A.state agent.old) }
+        requires exact { IsExact (A.state agent.old) self.old }
         requires quiet { IsQuiet (A.state agent.old) self.old }
+        requires ports { W.last_port world.old ≡ (A.state agent.old).last_port }
+        requires second { (A.state agent.old).moment.mono ≤ W.greatest world.old }
         ensures legal { Turns result (in_state (A.state agent.old) self.old Free)
             (W.journal world.old) (W.journal world.new) (A.state agent.new) self.new }
-        ensures ports { OnOk result (W.last_port world.new ≡ (A.state agent.new).last_port) }
+        ensures orderly { OnOk result (IsOrderly (A.state agent.new)) }
+        ensures exact { OnOk result (IsExact (A.state agent.new) self.new) }
         ensures quiet { OnOk result (IsQuiet (A.state agent.new) self.new) }
+        ensures round { OnOk result
+            (Rounds (has_job (starts (A.state agent.old))) self.old.queue self.new.queue) }
+        ensures ports { OnOk result (W.last_port world.new ≡ (A.state agent.new).last_port) }
+        ensures second { OnOk result ((A.state agent.new).moment.mono ≤ W.greatest world.new) }
+        ensures cause { result ≡ Err HubFault.Poll → Rose (W.faults world.old) (W.faults world.new) }
+        ensures later { W.faults world.old ≤ W.faults world.new }
+    {
+        let turned = self.serve(agent, world);
+        self.queue.stands_once();
+        turned
+    }
+
+    // The turn.
+    fn serve<A: Core, W: World>(&mut self, agent: &mut A, world: &mut W) -> Result<Turn, HubFault>
+        requires orderly { IsOrderly (A.state agent.old) }
+        requires ordered { IsOrdered (A.state agent.old) self.old }
+        requires apart { AreApart self.old.queue }
+        requires ports { W.last_port world.old ≡ (A.state agent.old).last_port }
+        requires second { (A.state agent.old).moment.mono ≤ W.greatest world.old }
+        ensures legal { Turns result (in_state (A.state agent.old) self.old Free)
+            (W.journal world.old) (W.journal world.new) (A.state agent.new) self.new }
+        ensures ordered { OnOk result (IsOrdered (A.state agent.new) self.new) }
+        ensures orderly { OnOk result (IsOrderly (A.state agent.new)) }
+        ensures round { OnOk result
+            (Rounds (has_job (starts (A.state agent.old))) self.old.queue self.new.queue) }
+        ensures ports { OnOk result (W.last_port world.new ≡ (A.state agent.new).last_port) }
+        ensures second { OnOk result ((A.state agent.new).moment.mono ≤ W.greatest world.new) }
         ensures cause { result ≡ Err HubFault.Poll → Rose (W.faults world.old) (W.faults world.new) }
         ensures later { W.faults world.old ≤ W.faults world.new }
     {
         if let Some(job) = next_job(agent) {
             return served(start(&mut self.queue, agent, world, job));
         }
-        match self.queue.first(agent) {
+        match self.queue.first() {
             Some(Thing::Accept(door)) => served(accept(&mut self.queue, agent, world, door)),
             Some(Thing::Read(port)) => {
                 let Ok(()) = self.room.take() else {

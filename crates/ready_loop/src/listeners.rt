@@ -23,6 +23,7 @@ pub fn open<W: World>(alloc: Global, world: &mut W, path: &str) -> Result<(), Wo
         (record { path = path.now; until_idle = until_idle; state = state })
         (W.journal world.old) (W.journal world.new) }
     ensures ports { W.last_port world.new ≡ W.last_port world.old }
+    ensures second { W.greatest world.new ≡ W.greatest world.old }
     ensures cause { result ≡ Err Failed → Rose (W.faults world.old) (W.faults world.new) }
     ensures later { W.faults world.old ≤ W.faults world.new }
 {

@@ -1,8 +1,9 @@
 // A look at the clock, and a poll.
 ghost use Rattle.std.specs.Prelude.{◌≡◌, ◌≤◌, ◌-◌, Err, OnOk, Option, true};
 ghost use Rattle.loop_model.specs.Dues.{Free, Polling, wait_of};
-ghost use Rattle.loop_model.specs.Lines.{IsQuiet, is_idle};
 ghost use Rattle.loop_model.specs.LegalJournal.{in_state};
+ghost use Rattle.loop_model.specs.Lines.{IsOrdered, is_idle};
+ghost use Rattle.loop_model.specs.Orderly.{IsOrderly};
 ghost use Rattle.ready_loop.specs.Moves.{PollsOr, Turns};
 ghost use Rattle.world_ports.specs.Causes.{Rose};
 
@@ -14,10 +15,10 @@ use world_ports::{Polled, Ready, World, WorldFault};
 
 // Whether nothing can be served, and no job waits.
 pub fn is_idle<A: Core>(queue: &Queue, agent: &A) -> bool
-    requires { IsQuiet (A.state agent.now) queue.now }
+    requires { IsOrdered (A.state agent.now) queue.now }
     ensures { result ≡ is_idle (A.state agent.now) queue.now }
 {
-    agent.starts().is_empty() && queue.first(agent).is_none()
+    agent.starts().is_empty() && queue.is_empty()
 }
 
 // How long a poll waits: until the next identity dies.
@@ -40,7 +41,9 @@ fn poll<A: Core, W: World>(
     ensures legal { PollsOr result (in_state (A.state agent.now) queue.old Polling)
         (W.journal world.old) (W.journal world.new) (A.state agent.now) queue.new }
     ensures ports { OnOk result (W.last_port world.new ≡ W.last_port world.old) }
-    ensures quiet { IsQuiet (A.state agent.now) queue.old → OnOk result (IsQuiet (A.state agent.now) queue.new) }
+    ensures second { OnOk result (W.greatest world.new ≡ W.greatest world.old) }
+    ensures ordered { IsOrdered (A.state agent.now) queue.old
+        → OnOk result (IsOrdered (A.state agent.now) queue.new) }
     ensures cause { result ≡ Err HubFault.Poll → Rose (W.faults world.old) (W.faults world.new) }
     ensures later { W.faults world.old ≤ W.faults world.new }
 {
@@ -65,12 +68,16 @@ pub fn look<A: Core, W: World>(
     ready: &mut Vec<Ready>,
 ) -> Result<Turn, HubFault>
     requires idle { is_idle (A.state agent.old) queue.old ≡ true }
-    requires quiet { IsQuiet (A.state agent.old) queue.old }
+    requires orderly { IsOrderly (A.state agent.old) }
+    requires ordered { IsOrdered (A.state agent.old) queue.old }
     requires ports { W.last_port world.old ≡ (A.state agent.old).last_port }
+    requires second { (A.state agent.old).moment.mono ≤ W.greatest world.old }
     ensures legal { Turns result (in_state (A.state agent.old) queue.old Free)
         (W.journal world.old) (W.journal world.new) (A.state agent.new) queue.new }
     ensures ports { OnOk result (W.last_port world.new ≡ (A.state agent.new).last_port) }
-    ensures quiet { OnOk result (IsQuiet (A.state agent.new) queue.new) }
+    ensures second { OnOk result ((A.state agent.new).moment.mono ≤ W.greatest world.new) }
+    ensures ordered { OnOk result (IsOrdered (A.state agent.new) queue.new) }
+    ensures orderly { OnOk result (IsOrderly (A.state agent.new)) }
     ensures cause { result ≡ Err HubFault.Poll → Rose (W.faults world.old) (W.faults world.new) }
     ensures later { W.faults world.old ≤ W.faults world.new }
 {

@@ -1,12 +1,13 @@
 // What is ready, in the order in which it is served.
-ghost use Rattle.std.specs.Prelude.{◌≡◌, ◌||◌, None, OnOk, Some, false, length, nat_lt, true};
+ghost use Rattle.std.specs.Prelude.{◌≡◌, ◌||◌, ◌==◌, None, OnOk, false, length, nat_lt};
 ghost use Rattle.agent_model.specs.Sound.{IsRising};
-ghost use Rattle.agent_model.specs.State.{State, is_client};
+ghost use Rattle.agent_model.specs.State.{is_client};
 ghost use Rattle.lists.specs.Rising.{IsRisingList};
-ghost use Rattle.loop_model.specs.declared.thing.Thing.TheVariants.{Accept, Read, Write};
-ghost use Rattle.loop_model.specs.Lines.{brought, called, called_all, called_own, empty_line, hot_of, queued, queued_all, queued_by, queued_if, queued_port, recalled, sent_back, settled, without, without_port};
-ghost use Rattle.loop_model.specs.Queues.{dropped, first_servable};
-ghost use Rattle.ready_loop.specs.Standing.{IsFront, IsStirred, front_but, next_called, stuck_front};
+ghost use Rattle.loop_model.specs.Elsewhere.{stands};
+ghost use Rattle.loop_model.specs.Lines.{after_event, brought, called, called_all, called_own, empty_line, hot_of, in_hand, placed, queued, queued_all, queued_by, queued_if, queued_port, recalled, returned, settled};
+ghost use Rattle.loop_model.specs.Queues.{AreApart, dropped};
+ghost use Rattle.ready_loop.specs.Standing.{IsCold, IsFront, IsKept, IsStirred, door_aside, front_of, next_called, without, without_port, without_ports};
+ghost use Rattle.world_ports.specs.declared.events.Door.TheVariants.{Children, Clients};
 
 use crate::Core;
 use crate::aside::Aside;
@@ -56,143 +57,156 @@ impl Queue {
         self.joined
     }
 
-    // The first thing of the queue that can be served.
-    pub fn first<A: Core>(&self, agent: &A) -> Option<Thing>
-        ensures { result ≡ first_servable (A.state agent.now) self.now.queue }
+    // The first thing of the list.
+    pub fn first(&self) -> Option<Thing>
+        ensures { result ≡ front_of self.now.queue }
     {
-        'things: for thing in self.things.iter() {
-            if can_serve(agent, *thing) {
-                return Some(*thing);
-            }
-        }
-        None
+        self.things.front().copied()
     }
 
-    // The thing was served, and is still ready: it goes behind all others.
-    pub fn send_back(&mut self, thing: Thing) -> Result<(), AllocError>
-        requires { (state : State) × (first_servable state self.old.queue ≡ Some thing) }
-        ensures { (state : State) → first_servable state self.old.queue ≡ Some thing
-            → OnOk result (self.new ≡ sent_back thing (settled state self.old)) }
+    // Whether nothing can be served.
+    pub fn is_empty(&self) -> bool
+        ensures { result ≡ (length self.now.queue == 0) }
     {
-        self.settle_before(thing)?;
-        self.rotate(thing)
+        self.things.is_empty()
     }
 
-    // A connection was read, and may be read yet: it goes behind all others, and before it its other direction comes
-    // back, since what was read may bring an answer.
-    pub fn send_back_read(&mut self, port: u64) -> Result<(), AllocError>
-        requires { (state : State) × (first_servable state self.old.queue ≡ Some (Read port)) }
-        ensures { (state : State) → first_servable state self.old.queue ≡ Some (Read port)
-            → OnOk result (self.new ≡ sent_back (Read port) (brought (Write port) (settled state self.old))) }
+    // The thing stands first and is served: it is in hand until its event has happened.
+    pub fn take(&mut self, thing: Thing)
+        requires { IsFront thing self.old.queue }
+        ensures { self.new ≡ in_hand thing self.old }
     {
-        self.settle_before(Thing::Read(port))?;
-        self.bring(Thing::Write(port))?;
-        self.rotate(Thing::Read(port))
+        self.things.pop_front();
     }
 
-    // The thing was to be served, and isn't ready any more.
-    pub fn remove(&mut self, thing: Thing) -> Result<(), AllocError>
-        requires { (state : State) × (first_servable state self.old.queue ≡ Some thing) }
-        ensures { (state : State) → first_servable state self.old.queue ≡ Some thing
-            → OnOk result (self.new ≡ without thing (settled state self.old)) }
+    // A connection was accepted, and joins: both its directions are ready then.
+    pub fn accept<A: Core>(&mut self, agent: &A, door: Door, port: u64) -> Result<(), AllocError>
+        ensures { OnOk result (self.new ≡ record (queued_port (A.state agent.now) port self.old) {
+          joined = is_client door || self.old.joined;
+        }) }
     {
-        self.settle_before(thing)?;
-        self.drop_front(thing);
-        Ok(())
-    }
-
-    // A connection was accepted at a listener, which goes behind its two directions.
-    pub fn accept(&mut self, door: Door, port: u64) -> Result<(), AllocError>
-        requires { (state : State) × (first_servable state self.old.queue ≡ Some (Accept door)) }
-        ensures { (state : State) → first_servable state self.old.queue ≡ Some (Accept door)
-            → OnOk result (self.new ≡ record (sent_back (Accept door) (queued_port port (settled state self.old))) {
-              joined = is_client door || self.old.joined;
-            }) }
-    {
-        self.settle_before(Thing::Accept(door))?;
-        self.add(Thing::Read(port))?;
-        self.add(Thing::Write(port))?;
-        self.rotate(Thing::Accept(door))?;
+        self.add(agent, Thing::Read(port))?;
+        self.add(agent, Thing::Write(port))?;
         self.joined = is_client_door(door) || self.joined;
         Ok(())
     }
 
-    // A port was closed.
-    pub fn close(&mut self, port: u64)
-        ensures { self.new ≡ without_port port self.old }
-    {
-        self.drop_thing(Thing::Read(port));
-        self.drop_thing(Thing::Write(port));
-    }
-
     // A poll told of these.
     pub fn add_all<A: Core>(&mut self, agent: &A, items: &[Ready]) -> Result<(), AllocError>
-        ensures { OnOk result (self.new
-            ≡ queued_all (A.state agent.now) items.now (settled (A.state agent.now) self.old)) }
+        ensures { OnOk result (self.new ≡ queued_all (A.state agent.now) items.now self.old) }
     {
-        self.settle(agent)?;
         'items: for item in items {
             self.add_item(agent, *item)?;
         }
         Ok(())
     }
 
-    // An event happened, of this port: what it lets be served comes back. With `all` that may be of any port, and
-    // otherwise of child processes alone.
-    pub fn recall<A: Core>(
+    // Nothing stands twice in the list.
+    pub fn stands_once(&self)
+        ensures { AreApart self.now.queue }
+    {
+        let _ = &self.things;
+    }
+
+    // An event happened, of this port, and closed some: what it lets be served comes back, and then what was served, if
+    // anything was. With `all` the event may let be served what is to be written at any port, and otherwise at those of
+    // child processes alone.
+    pub fn turn<A: Core>(
         &mut self,
         agent: &A,
         own: Option<u64>,
         all: bool,
+        hand: Option<Thing>,
     ) -> Result<(), AllocError>
+        requires kept { IsKept (A.state agent.now) (A.closes agent.now) self.old.queue }
+        requires stirred { IsStirred (A.state agent.now) own all self.old }
+        requires cold { IsCold hand self.old }
+        ensures { OnOk result (self.new
+            ≡ after_event (A.state agent.now) (A.closes agent.now) own hand self.old) }
+    {
+        self.settle(agent)?;
+        self.recall(agent, own, all)?;
+        self.put_back(agent, hand)
+    }
+}
+
+impl Queue {
+    // What is at a port that was closed isn't ready, and a listener is set aside once the last number is taken.
+    fn settle<A: Core>(&mut self, agent: &A) -> Result<(), AllocError>
+        requires { IsKept (A.state agent.now) (A.closes agent.now) self.old.queue }
+        ensures { OnOk result (self.new
+            ≡ settled (A.state agent.now) (A.closes agent.now) self.old) }
+    {
+        self.close_all(agent);
+        self.stands_once();
+        if !can_serve(agent, Thing::Accept(Door::Clients)) {
+            self.set_door_aside(Door::Clients)?;
+            self.set_door_aside(Door::Children)?;
+        }
+        Ok(())
+    }
+
+    // The ports that the event closed are gone.
+    fn close_all<A: Core>(&mut self, agent: &A)
+        ensures { self.new ≡ without_ports (A.closes agent.now) self.old }
+    {
+        'closes: for port in agent.closes() {
+            self.close(*port);
+        }
+    }
+
+    // A port was closed.
+    fn close(&mut self, port: u64)
+        ensures { self.new ≡ without_port port self.old }
+    {
+        self.drop_thing(Thing::Read(port));
+        self.drop_thing(Thing::Write(port));
+    }
+
+    // The listener can't be served any more.
+    fn set_door_aside(&mut self, door: Door) -> Result<(), AllocError>
+        ensures { OnOk result (self.new ≡ door_aside door self.old) }
+    {
+        if has_thing(&self.things, Thing::Accept(door)) {
+            drop_from(&mut self.things, Thing::Accept(door));
+            self.aside.put(Thing::Accept(door))?;
+        }
+        Ok(())
+    }
+
+    // What was set aside and can be served comes back.
+    fn recall<A: Core>(&mut self, agent: &A, own: Option<u64>, all: bool) -> Result<(), AllocError>
         requires { IsStirred (A.state agent.now) own all self.old }
         ensures { OnOk result (self.new ≡ recalled (A.state agent.now) own self.old) }
     {
         self.call_own(agent, own)?;
         self.call_writes(agent, all)
     }
-}
 
-impl Queue {
-    // Sets aside what stands before the first thing that can be served.
-    fn settle<A: Core>(&mut self, agent: &A) -> Result<(), AllocError>
-        ensures { OnOk result (self.new ≡ settled (A.state agent.now) self.old) }
+    // What was served stands last, or is set aside; it isn't ready where its port was closed.
+    fn put_back<A: Core>(&mut self, agent: &A, hand: Option<Thing>) -> Result<(), AllocError>
+        requires { IsCold hand self.old }
+        ensures { OnOk result (self.new ≡ returned (A.state agent.now) hand self.old) }
     {
-        'fronts: while let Some(front) = stuck_front(&self.things, agent) {
-            self.things.pop_front();
-            self.aside.put(front)?;
+        if let Some(thing) = hand {
+            if stands(agent, thing) {
+                self.place(agent, thing)?;
+            }
         }
         Ok(())
     }
 
-    // Sets aside what stands before this thing, the first that can be served: the agent needn't be asked again.
-    fn settle_before(&mut self, thing: Thing) -> Result<(), AllocError>
-        ensures { (state : State) → first_servable state self.old.queue ≡ Some thing
-            → OnOk result (self.new ≡ settled state self.old) }
+    // The thing stands last where it can be served, and is set aside where it can't be.
+    fn place<A: Core>(&mut self, agent: &A, thing: Thing) -> Result<(), AllocError>
+        requires { hot_of self.old thing ≡ false }
+        ensures { OnOk result (self.new ≡ placed (A.state agent.now) thing self.old) }
     {
-        'fronts: while let Some(other) = front_but(&self.things, thing) {
-            self.things.pop_front();
-            self.aside.put(other)?;
+        if can_serve(agent, thing) {
+            self.things.push_back(thing)?;
+        } else {
+            self.aside.put(thing)?;
         }
         Ok(())
-    }
-
-    // The thing stands at the front, and goes behind all others.
-    fn rotate(&mut self, thing: Thing) -> Result<(), AllocError>
-        requires { IsFront thing self.old.queue }
-        ensures { OnOk result (self.new ≡ sent_back thing self.old) }
-    {
-        self.things.pop_front();
-        self.things.push_back(thing)?;
-        Ok(())
-    }
-
-    // The thing stands at the front, and isn't ready any more.
-    fn drop_front(&mut self, thing: Thing)
-        requires { IsFront thing self.old.queue }
-        ensures { self.new ≡ without thing self.old }
-    {
-        self.things.pop_front();
     }
 
     // The thing isn't ready any more, wherever it stands.
@@ -205,11 +219,11 @@ impl Queue {
     }
 
     // The thing is ready.
-    fn add(&mut self, thing: Thing) -> Result<(), AllocError>
-        ensures { OnOk result (self.new ≡ queued thing self.old) }
+    fn add<A: Core>(&mut self, agent: &A, thing: Thing) -> Result<(), AllocError>
+        ensures { OnOk result (self.new ≡ queued (A.state agent.now) thing self.old) }
     {
         if !self.has(thing) {
-            self.things.push_back(thing)?;
+            self.place(agent, thing)?;
         }
         Ok(())
     }
@@ -222,11 +236,11 @@ impl Queue {
     }
 
     // The thing is ready where the test holds.
-    fn add_if(&mut self, test: bool, thing: Thing) -> Result<(), AllocError>
-        ensures { OnOk result (self.new ≡ queued_if test thing self.old) }
+    fn add_if<A: Core>(&mut self, agent: &A, test: bool, thing: Thing) -> Result<(), AllocError>
+        ensures { OnOk result (self.new ≡ queued_if test (A.state agent.now) thing self.old) }
     {
         if test {
-            self.add(thing)?;
+            self.add(agent, thing)?;
         }
         Ok(())
     }
@@ -237,11 +251,11 @@ impl Queue {
             ≡ queued_by (A.state agent.now) item.spot item.readable item.writable self.old) }
     {
         match item.spot {
-            Spot::Door(door) => self.add_if(item.readable, Thing::Accept(door)),
+            Spot::Door(door) => self.add_if(agent, item.readable, Thing::Accept(door)),
             Spot::Port(port) => {
                 let is_open = agent.is_port(port);
-                self.add_if(item.readable && is_open, Thing::Read(port))?;
-                self.add_if(item.writable && is_open, Thing::Write(port))
+                self.add_if(agent, item.readable && is_open, Thing::Read(port))?;
+                self.add_if(agent, item.writable && is_open, Thing::Write(port))
             }
         }
     }
@@ -315,23 +329,14 @@ fn next_owed<A: Core>(agent: &A, after: u64, all: bool) -> Option<u64>
     }
 }
 
-// The thing at the front of the queue, where it can't be served.
-fn stuck_front<A: Core>(things: &VecDeque<Thing>, agent: &A) -> Option<Thing>
-    ensures { result ≡ stuck_front (A.state agent.now) things.now.items }
+// Whether the thing is a listener, or its port is open.
+fn stands<A: Core>(agent: &A, thing: Thing) -> bool
+    ensures { result ≡ stands thing (A.state agent.now) }
 {
-    match things.front() {
-        Some(front) if !can_serve(agent, *front) => Some(*front),
-        _ => None,
-    }
-}
-
-// The thing at the front of the queue, where it isn't this one.
-fn front_but(things: &VecDeque<Thing>, thing: Thing) -> Option<Thing>
-    ensures { result ≡ front_but thing things.now.items }
-{
-    match things.front() {
-        Some(front) if !is_same(thing, *front) => Some(*front),
-        _ => None,
+    match thing {
+        Thing::Accept(_) => true,
+        Thing::Read(port) => agent.is_port(port),
+        Thing::Write(port) => agent.is_port(port),
     }
 }
 

@@ -2,8 +2,9 @@
 ghost use Rattle.std.specs.Prelude.{◌≡◌, ◌≤◌, ◌&&◌, List, ℕ};
 ghost use Rattle.agent_model.specs.State.{State};
 ghost use Rattle.loop_model.specs.Dues.{Free};
-ghost use Rattle.loop_model.specs.Lines.{IsQuiet, is_idle};
 ghost use Rattle.loop_model.specs.LegalJournal.{in_state};
+ghost use Rattle.loop_model.specs.Lines.{IsExact, IsOrdered, IsQuiet, is_idle};
+ghost use Rattle.loop_model.specs.Orderly.{IsOrderly};
 ghost use Rattle.ready_loop.specs.Serving.{Running, Serves, Unbound, is_deserted};
 ghost use Rattle.world_ports.specs.Causes.{Rose};
 
@@ -15,7 +16,7 @@ use world_ports::{World, WorldFault};
 
 // Whether the loop is to end here, as it was asked to.
 fn is_done<A: Core>(hub: &Hub, agent: &A, until_idle: bool) -> bool
-    requires { IsQuiet (A.state agent.now) hub.now }
+    requires { IsOrdered (A.state agent.now) hub.now }
     ensures { result ≡ (until_idle && (is_deserted (in_state (A.state agent.now) hub.now Free)
         && is_idle (A.state agent.now) hub.now)) }
 {
@@ -30,8 +31,11 @@ fn run<R: Wait, A: Core, W: World>(
     world: &mut W,
     until_idle: bool,
 ) -> ServeEnd
-    requires ports { W.last_port world.old ≡ (A.state agent.old).last_port }
+    requires orderly { IsOrderly (A.state agent.old) }
+    requires exact { IsExact (A.state agent.old) hub.old }
     requires quiet { IsQuiet (A.state agent.old) hub.old }
+    requires ports { W.last_port world.old ≡ (A.state agent.old).last_port }
+    requires second { (A.state agent.old).moment.mono ≤ W.greatest world.old }
     ensures serves { (path : List ℕ) (state : State) → Serves result
         (record { path = path; until_idle = until_idle; state = state })
         (Running (in_state (A.state agent.old) hub.old Free))
@@ -67,7 +71,9 @@ pub fn serve<R: Wait, A: Core, W: World>(
     path: &str,
     until_idle: bool,
 ) -> ServeEnd
-    requires { W.last_port world.old ≡ (A.state agent.old).last_port }
+    requires orderly { IsOrderly (A.state agent.old) }
+    requires ports { W.last_port world.old ≡ (A.state agent.old).last_port }
+    requires second { (A.state agent.old).moment.mono ≤ W.greatest world.old }
     ensures serves { Serves result
         (record { path = path.now; until_idle = until_idle; state = A.state agent.old }) Unbound
         (W.journal world.old) (W.journal world.new) }

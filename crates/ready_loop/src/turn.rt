@@ -3,16 +3,20 @@ ghost use Rattle.std.specs.Prelude.{◌≡◌, ◌≤◌, OnOk, Some, length, tr
 ghost use Rattle.agent_model.specs.Events.{Ended, Heard, Took};
 ghost use Rattle.agent_model.specs.State.{Fits, State, starts};
 ghost use Rattle.agent_model.specs.Step.{step};
+ghost use Rattle.loop_model.specs.Calls.{served_of};
 ghost use Rattle.loop_model.specs.Dues.{Free, NowFor, due_of, port_of};
 ghost use Rattle.loop_model.specs.Elsewhere.{tells_others};
+ghost use Rattle.loop_model.specs.Fairness.{GoesRound, KeepsOrder};
 ghost use Rattle.loop_model.specs.LegalJournal.{in_state, is_first_job, read_room};
 ghost use Rattle.loop_model.specs.declared.thing.Thing.TheVariants.{Accept, Read, Write};
 ghost use Rattle.agent_core.specs.Happenings.{happening};
-ghost use Rattle.ready_loop.specs.Happenings.{MayJoin, number_after};
-ghost use Rattle.loop_model.specs.Lines.{IsQuiet, brought, recalled, sent_back, settled, without};
+ghost use Rattle.ready_loop.specs.Happenings.{HasHappened, MayJoin, number_after};
+ghost use Rattle.loop_model.specs.Lines.{IsOrdered, after_event, in_hand};
+ghost use Rattle.loop_model.specs.Orderly.{IsOrderly};
+ghost use Rattle.loop_model.specs.Queues.{AreApart, first_servable};
 ghost use Rattle.ready_loop.specs.Moves.{Goes, Serves};
-ghost use Rattle.loop_model.specs.Queues.{first_servable};
 ghost use Rattle.ready_loop.specs.Rooms.{IsWiped};
+ghost use Rattle.ready_loop.specs.Standing.{IsAt, IsCold};
 
 use crate::Core;
 use crate::queue::Queue;
@@ -22,22 +26,22 @@ use world_ports::{Accepted, Door, Got, Job, Moment, World, WorldFault, Wrote};
 
 // Closes the ports that the last event closed.
 pub fn close_all<A: Core, W: World>(
-    queue: &mut Queue,
+    queue: &Queue,
     agent: &A,
     world: &mut W,
 ) -> Result<(), CoreMemory>
     ensures legal { Goes result
-        (in_state (A.state agent.now) queue.old (due_of (A.closes agent.now)))
+        (in_state (A.state agent.now) queue.now (due_of (A.closes agent.now)))
         (W.journal world.old) (W.journal world.new)
-        (in_state (A.state agent.now) queue.new Free) }
+        (in_state (A.state agent.now) queue.now Free) }
     ensures ports { W.last_port world.new ≡ W.last_port world.old }
+    ensures second { W.greatest world.new ≡ W.greatest world.old }
     ensures later { W.faults world.old ≤ W.faults world.new }
 {
     'ports: for port in agent.closes() {
         let Ok(()) = world.close(*port) else {
             return Err(CoreMemory);
         };
-        queue.close(*port);
     }
     Ok(())
 }
@@ -65,7 +69,20 @@ fn port_of(event: &Event<'_>, last: u64) -> Option<u64>
     }
 }
 
-// Tells the agent of an event at a moment; what this lets be served comes back.
+// The thing whose service brought an event.
+fn served_of(event: &Event<'_>) -> Option<Thing>
+    ensures { result ≡ served_of (happening event.now) }
+{
+    match *event {
+        Event::Joined(door) => Some(Thing::Accept(door)),
+        Event::Heard { port, .. } => Some(Thing::Read(port)),
+        Event::Took { port, .. } => Some(Thing::Write(port)),
+        Event::Ended { .. } | Event::Started { .. } | Event::StartFailed { .. } | Event::Tick =>
+            None,
+    }
+}
+
+// Tells the agent of an event at a moment; what this lets be served comes back, and then what was served.
 pub fn tell<A: Core>(
     queue: &mut Queue,
     agent: &mut A,
@@ -73,18 +90,21 @@ pub fn tell<A: Core>(
     event: &Event<'_>,
 ) -> Result<(), CoreMemory>
     requires fits { Fits (happening event.now) (A.state agent.old) }
-    requires quiet { IsQuiet (A.state agent.old) queue.old }
+    requires orderly { IsOrderly (A.state agent.old) }
+    requires ordered { IsOrdered (A.state agent.old) queue.old }
+    requires cold { IsCold (served_of (happening event.now)) queue.old }
     ensures stepped { OnOk result
         (A.state agent.new ≡ (step (A.state agent.old) moment (happening event.now)).state) }
     ensures closed { OnOk result
         (A.closes agent.new ≡ (step (A.state agent.old) moment (happening event.now)).closes) }
-    ensures recalled { OnOk result (queue.new
-        ≡ recalled (A.state agent.new) (port_of (happening event.now) (A.state agent.new).last_port) queue.old) }
+    ensures after { OnOk result (queue.new ≡ after_event (A.state agent.new) (A.closes agent.new)
+        (port_of (happening event.now) (A.state agent.new).last_port)
+        (served_of (happening event.now)) queue.old) }
 {
     let all = tells_others(agent, event);
     let own = port_of(event, agent.ports_so_far());
     agent.step(moment, event)?;
-    queue.recall(agent, own, all)?;
+    queue.turn(agent, own, all, served_of(event))?;
     Ok(())
 }
 
@@ -96,14 +116,23 @@ fn happen<A: Core, W: World>(
     event: &Event<'_>,
 ) -> Result<(), CoreMemory>
     requires fits { Fits (happening event.now) (A.state agent.old) }
-    requires quiet { IsQuiet (A.state agent.old) queue.old }
+    requires orderly { IsOrderly (A.state agent.old) }
+    requires ordered { IsOrdered (A.state agent.old) queue.old }
+    requires cold { IsCold (served_of (happening event.now)) queue.old }
     requires ports { W.last_port world.old
         ≡ number_after (happening event.now) (A.state agent.old).last_port }
+    requires second { (A.state agent.old).moment.mono ≤ W.greatest world.old }
     ensures legal { Goes result
         (in_state (A.state agent.old) queue.old (NowFor (happening event.now)))
         (W.journal world.old) (W.journal world.new)
         (in_state (A.state agent.new) queue.new Free) }
+    ensures after { OnOk result (queue.new ≡ after_event (A.state agent.new) (A.closes agent.new)
+        (port_of (happening event.now) (A.state agent.new).last_port)
+        (served_of (happening event.now)) queue.old) }
+    ensures happened { OnOk result
+        (HasHappened (happening event.now) (A.state agent.old) (A.state agent.new)) }
     ensures ports { OnOk result (W.last_port world.new ≡ (A.state agent.new).last_port) }
+    ensures second { OnOk result ((A.state agent.new).moment.mono ≤ W.greatest world.new) }
     ensures later { W.faults world.old ≤ W.faults world.new }
 {
     let Ok(moment) = world.now() else {
@@ -115,16 +144,6 @@ fn happen<A: Core, W: World>(
     close_all(queue, agent, world)
 }
 
-// A call found that the thing isn't ready.
-fn drop_out(queue: &mut Queue, thing: Thing) -> Result<(), CoreMemory>
-    requires { (state : State) × (first_servable state queue.old.queue ≡ Some thing) }
-    ensures { (state : State) → first_servable state queue.old.queue ≡ Some thing
-        → OnOk result (queue.new ≡ without thing (settled state queue.old)) }
-{
-    queue.remove(thing)?;
-    Ok(())
-}
-
 // Accepts a connection.
 pub fn accept<A: Core, W: World>(
     queue: &mut Queue,
@@ -133,22 +152,34 @@ pub fn accept<A: Core, W: World>(
     door: Door,
 ) -> Result<(), CoreMemory>
     requires next { first_servable (A.state agent.old) queue.old.queue ≡ Some (Accept door) }
-    requires quiet { IsQuiet (A.state agent.old) queue.old }
+    requires orderly { IsOrderly (A.state agent.old) }
+    requires ordered { IsOrdered (A.state agent.old) queue.old }
+    requires apart { AreApart queue.old.queue }
     requires ports { W.last_port world.old ≡ (A.state agent.old).last_port }
+    requires second { (A.state agent.old).moment.mono ≤ W.greatest world.old }
     ensures legal { Serves result (in_state (A.state agent.old) queue.old Free)
         (W.journal world.old) (W.journal world.new) (in_state (A.state agent.new) queue.new Free) }
     ensures ports { OnOk result (W.last_port world.new ≡ (A.state agent.new).last_port) }
+    ensures second { OnOk result ((A.state agent.new).moment.mono ≤ W.greatest world.new) }
+    ensures round { OnOk result (GoesRound (Accept door) queue.old.queue queue.new.queue) }
     ensures later { W.faults world.old ≤ W.faults world.new }
 {
     match world.accept(door) {
         Ok(Accepted::Port(number)) => {
-            let Ok(()) = queue.accept(door, number) else {
+            queue.take(Thing::Accept(door));
+            let Ok(()) = queue.accept(agent, door, number) else {
                 return Err(CoreMemory);
             };
             happen(queue, agent, world, &Event::Joined(door))
         }
-        Ok(Accepted::NotNow) => drop_out(queue, Thing::Accept(door)),
-        Err(WorldFault::Failed) => drop_out(queue, Thing::Accept(door)),
+        Ok(Accepted::NotNow) => {
+            queue.take(Thing::Accept(door));
+            Ok(())
+        }
+        Err(WorldFault::Failed) => {
+            queue.take(Thing::Accept(door));
+            Ok(())
+        }
         Err(WorldFault::Memory) => Err(CoreMemory),
     }
 }
@@ -163,19 +194,22 @@ fn hear<A: Core, W: World>(
 ) -> Result<(), CoreMemory>
     requires fits { Fits (Heard port piece.now) (A.state agent.old) }
     requires next { first_servable (A.state agent.old) queue.old.queue ≡ Some (Read port) }
-    requires quiet { IsQuiet (A.state agent.old) queue.old }
+    requires orderly { IsOrderly (A.state agent.old) }
+    requires ordered { IsOrdered (A.state agent.old) queue.old }
+    requires apart { AreApart queue.old.queue }
     requires ports { W.last_port world.old ≡ (A.state agent.old).last_port }
+    requires second { (A.state agent.old).moment.mono ≤ W.greatest world.old }
     ensures legal { Goes result
         (in_state (A.state agent.old)
-        (sent_back (Read port) (brought (Write port) (settled (A.state agent.old) queue.old)))
+        (in_hand (Read port) queue.old)
         (NowFor (Heard port piece.now)))
         (W.journal world.old) (W.journal world.new) (in_state (A.state agent.new) queue.new Free) }
     ensures ports { OnOk result (W.last_port world.new ≡ (A.state agent.new).last_port) }
+    ensures second { OnOk result ((A.state agent.new).moment.mono ≤ W.greatest world.new) }
+    ensures round { OnOk result (GoesRound (Read port) queue.old.queue queue.new.queue) }
     ensures later { W.faults world.old ≤ W.faults world.new }
 {
-    let Ok(()) = queue.send_back_read(port) else {
-        return Err(CoreMemory);
-    };
+    queue.take(Thing::Read(port));
     happen(queue, agent, world, &Event::Heard { port, piece })
 }
 
@@ -189,18 +223,22 @@ fn end<A: Core, W: World>(
 ) -> Result<(), CoreMemory>
     requires fits { Fits (Ended port) (A.state agent.old) }
     requires next { first_servable (A.state agent.old) queue.old.queue ≡ Some found }
-    requires quiet { IsQuiet (A.state agent.old) queue.old }
+    requires at { IsAt port found }
+    requires orderly { IsOrderly (A.state agent.old) }
+    requires ordered { IsOrdered (A.state agent.old) queue.old }
+    requires apart { AreApart queue.old.queue }
     requires ports { W.last_port world.old ≡ (A.state agent.old).last_port }
+    requires second { (A.state agent.old).moment.mono ≤ W.greatest world.old }
     ensures legal { Goes result
-        (in_state (A.state agent.old) (without found (settled (A.state agent.old) queue.old))
+        (in_state (A.state agent.old) (in_hand found queue.old)
         (NowFor (Ended port)))
         (W.journal world.old) (W.journal world.new) (in_state (A.state agent.new) queue.new Free) }
     ensures ports { OnOk result (W.last_port world.new ≡ (A.state agent.new).last_port) }
+    ensures second { OnOk result ((A.state agent.new).moment.mono ≤ W.greatest world.new) }
+    ensures round { OnOk result (GoesRound found queue.old.queue queue.new.queue) }
     ensures later { W.faults world.old ≤ W.faults world.new }
 {
-    let Ok(()) = queue.remove(found) else {
-        return Err(CoreMemory);
-    };
+    queue.take(found);
     happen(queue, agent, world, &Event::Ended { port })
 }
 
@@ -213,13 +251,18 @@ pub fn read<A: Core, W: World>(
     room: &mut [u8],
 ) -> Result<(), CoreMemory>
     requires next { first_servable (A.state agent.old) queue.old.queue ≡ Some (Read port) }
-    requires quiet { IsQuiet (A.state agent.old) queue.old }
+    requires orderly { IsOrderly (A.state agent.old) }
+    requires ordered { IsOrdered (A.state agent.old) queue.old }
+    requires apart { AreApart queue.old.queue }
     requires ports { W.last_port world.old ≡ (A.state agent.old).last_port }
+    requires second { (A.state agent.old).moment.mono ≤ W.greatest world.old }
     requires room { length room.old ≡ read_room }
     requires zero { IsWiped room.old }
     ensures legal { Serves result (in_state (A.state agent.old) queue.old Free)
         (W.journal world.old) (W.journal world.new) (in_state (A.state agent.new) queue.new Free) }
     ensures ports { OnOk result (W.last_port world.new ≡ (A.state agent.new).last_port) }
+    ensures second { OnOk result ((A.state agent.new).moment.mono ≤ W.greatest world.new) }
+    ensures round { OnOk result (GoesRound (Read port) queue.old.queue queue.new.queue) }
     ensures later { W.faults world.old ≤ W.faults world.new }
     ensures zero { IsWiped room.new }
 {
@@ -230,7 +273,10 @@ pub fn read<A: Core, W: World>(
             heard
         }
         Ok(Got::End) => end(queue, agent, world, port, Thing::Read(port)),
-        Ok(Got::NotNow) => drop_out(queue, Thing::Read(port)),
+        Ok(Got::NotNow) => {
+            queue.take(Thing::Read(port));
+            Ok(())
+        }
         Err(WorldFault::Failed) => end(queue, agent, world, port, Thing::Read(port)),
         Err(WorldFault::Memory) => Err(CoreMemory),
     }
@@ -246,18 +292,21 @@ fn send<A: Core, W: World>(
 ) -> Result<(), CoreMemory>
     requires fits { Fits (Took port count) (A.state agent.old) }
     requires next { first_servable (A.state agent.old) queue.old.queue ≡ Some (Write port) }
-    requires quiet { IsQuiet (A.state agent.old) queue.old }
+    requires orderly { IsOrderly (A.state agent.old) }
+    requires ordered { IsOrdered (A.state agent.old) queue.old }
+    requires apart { AreApart queue.old.queue }
     requires ports { W.last_port world.old ≡ (A.state agent.old).last_port }
+    requires second { (A.state agent.old).moment.mono ≤ W.greatest world.old }
     ensures legal { Goes result
-        (in_state (A.state agent.old) (sent_back (Write port) (settled (A.state agent.old) queue.old))
+        (in_state (A.state agent.old) (in_hand (Write port) queue.old)
         (NowFor (Took port count)))
         (W.journal world.old) (W.journal world.new) (in_state (A.state agent.new) queue.new Free) }
     ensures ports { OnOk result (W.last_port world.new ≡ (A.state agent.new).last_port) }
+    ensures second { OnOk result ((A.state agent.new).moment.mono ≤ W.greatest world.new) }
+    ensures round { OnOk result (GoesRound (Write port) queue.old.queue queue.new.queue) }
     ensures later { W.faults world.old ≤ W.faults world.new }
 {
-    let Ok(()) = queue.send_back(Thing::Write(port)) else {
-        return Err(CoreMemory);
-    };
+    queue.take(Thing::Write(port));
     happen(queue, agent, world, &Event::Took { port, count })
 }
 
@@ -269,16 +318,24 @@ pub fn write<A: Core, W: World>(
     port: u64,
 ) -> Result<(), CoreMemory>
     requires next { first_servable (A.state agent.old) queue.old.queue ≡ Some (Write port) }
-    requires quiet { IsQuiet (A.state agent.old) queue.old }
+    requires orderly { IsOrderly (A.state agent.old) }
+    requires ordered { IsOrdered (A.state agent.old) queue.old }
+    requires apart { AreApart queue.old.queue }
     requires ports { W.last_port world.old ≡ (A.state agent.old).last_port }
+    requires second { (A.state agent.old).moment.mono ≤ W.greatest world.old }
     ensures legal { Serves result (in_state (A.state agent.old) queue.old Free)
         (W.journal world.old) (W.journal world.new) (in_state (A.state agent.new) queue.new Free) }
     ensures ports { OnOk result (W.last_port world.new ≡ (A.state agent.new).last_port) }
+    ensures second { OnOk result ((A.state agent.new).moment.mono ≤ W.greatest world.new) }
+    ensures round { OnOk result (GoesRound (Write port) queue.old.queue queue.new.queue) }
     ensures later { W.faults world.old ≤ W.faults world.new }
 {
     match world.write(port, agent.owed(port)) {
         Ok(Wrote::Took(n)) => send(queue, agent, world, port, n as usize),
-        Ok(Wrote::NotNow) => drop_out(queue, Thing::Write(port)),
+        Ok(Wrote::NotNow) => {
+            queue.take(Thing::Write(port));
+            Ok(())
+        }
         Err(WorldFault::Failed) => end(queue, agent, world, port, Thing::Write(port)),
         Err(WorldFault::Memory) => Err(CoreMemory),
     }
@@ -292,11 +349,16 @@ pub fn start<A: Core, W: World>(
     job: Job,
 ) -> Result<(), CoreMemory>
     requires first { is_first_job job (starts (A.state agent.old)) ≡ true }
-    requires quiet { IsQuiet (A.state agent.old) queue.old }
+    requires orderly { IsOrderly (A.state agent.old) }
+    requires ordered { IsOrdered (A.state agent.old) queue.old }
+    requires apart { AreApart queue.old.queue }
     requires ports { W.last_port world.old ≡ (A.state agent.old).last_port }
+    requires second { (A.state agent.old).moment.mono ≤ W.greatest world.old }
     ensures legal { Serves result (in_state (A.state agent.old) queue.old Free)
         (W.journal world.old) (W.journal world.new) (in_state (A.state agent.new) queue.new Free) }
     ensures ports { OnOk result (W.last_port world.new ≡ (A.state agent.new).last_port) }
+    ensures second { OnOk result ((A.state agent.new).moment.mono ≤ W.greatest world.new) }
+    ensures round { OnOk result (KeepsOrder queue.old.queue queue.new.queue) }
     ensures later { W.faults world.old ≤ W.faults world.new }
 {
     let number = job.number;

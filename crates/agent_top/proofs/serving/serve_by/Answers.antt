@@ -1,9 +1,21 @@
-use Rattle.std.proofs.Common.{ap, ◌∙◌, Some}
+use Rattle.std.proofs.Common.{ap, arith, subst, sym, ◌∙◌, ◌≤◌, Some}
+use Rattle.agent_model.specs.State.{State}
+use Rattle.loop_model.specs.Orderly.{IsOrderly}
+use Rattle.loop_model.proofs.OwedLemmas.{orderly_first}
 use Rattle.agent_model.specs.Actions.{Stepped}
 use Rattle.agent_top.proofs.ServeFairLemmas.{serves_fairly}
 use Rattle.agent_top.proofs.ServeLawLemmas.{serves_lawfully}
 use Rattle.agent_top.proofs.ServeLemmas.{serves_words}
 use Rattle.agent_top.proofs.serving.serve_by.Goals as goal
+
+pub serve-requires-clause-orderly : goal.serve-requires-clause-orderly
+serve-requires-clause-orderly g c =
+    subst IsOrderly (sym (ap (λ (seen : Stepped). seen.state) c.new-agent.ensures)) (orderly_first _)
+
+pub serve-requires-clause-second : goal.serve-requires-clause-second
+serve-requires-clause-second g c =
+    subst (λ (state : State). state.moment.mono ≤ g.W.World.greatest c.args.world.now)
+    (sym (ap (λ (seen : Stepped). seen.state) c.new-agent.ensures)) (omega arith)
 
 pub returns-clause-serves : goal.returns-clause-serves
 returns-clause-serves g c setting is =

@@ -1,14 +1,15 @@
-use Rattle.std.proofs.Common.{refl, inl, ◌≡◌, ◌∙◌, Ok, Result, Some, None, List, ℕ, true, false, length, [], ◌==◌, ap, sym, arith}
+use Rattle.std.proofs.Common.{refl, inl, ◌≡◌, ◌∙◌, Ok, Result, Some, List, ℕ, true, false, length, [], ◌==◌, ap, sym, arith}
 use Rattle.std.specs.declared.alloc.AllocError.{AllocError}
 use Rattle.world_ports.specs.declared.events.Moment.{Moment}
 use Rattle.std.specs.Prelude.{is_err}
 use Rattle.world_ports.specs.declared.entry.Entry.TheVariants as entry
 use Rattle.loop_model.specs.Dues.{Due, Free, Polling, due_look, due_of}
-use Rattle.loop_model.specs.Lines.{is_idle, recalled}
+use Rattle.loop_model.specs.Lines.{is_idle}
 use Rattle.loop_model.specs.LegalJournal.{in_state, led}
 use Rattle.ready_loop.proofs.CallLemmas.{look-any, look-closes, look-none, looked-at}
-use Rattle.ready_loop.proofs.KeepingLemmas.{quiet_goes, quiet_is}
-use Rattle.loop_model.proofs.QuietLemmas.{quiet_recalled}
+use Rattle.agent_model.specs.Events.{Tick}
+use Rattle.ready_loop.proofs.KeepingLemmas.{on_ok, then_ok, told-ordered, told-orderly}
+use Rattle.ready_loop.proofs.MomentLemmas.{second-within}
 use Rattle.ready_loop.proofs.TurningLemmas.{advances, advances_once, goes_stops, one_call, stops_later, stops_short, stops_there, looks_by}
 use Rattle.ready_loop.proofs.look.look.Goals as goal
 
@@ -42,7 +43,7 @@ returns-in_default-close_all-clause-legal g c =
     ap (λ (ps : List ℕ). length ps == 0) (sym c.closes.ensures) ∙ sym c.is_empty.ensures ∙ full in
     inl (stops_later (one_call (in_state state c.args.queue.now Free) (in_state after line (due_of closes))
     (g.W.World.journal c.args.world.now) (g.W.World.journal c.now.new.self) (entry.Now (Ok c.in-Ok.moment)) refl
-    (looked-at state after closes c.args.queue.now line c.in-Ok.moment c.requires.idle c.in-Ok-tell.ensures.stepped c.in-Ok-tell.ensures.closed c.in-Ok-tell.ensures.recalled
+    (looked-at state after closes c.args.queue.now line c.in-Ok.moment c.requires.idle c.in-Ok-tell.ensures.stepped c.in-Ok-tell.ensures.closed c.in-Ok-tell.ensures.after
     ∙ ap (λ (d : Due). Some (in_state after line d)) (look-closes closes (is_idle after line) some))
     c.in-Ok.ensures.told) (goes_stops c.close_all.ensures.legal))
 
@@ -56,7 +57,7 @@ returns-then-not-is_empty-clause-legal g c =
     let some : (length closes == 0) ≡ false =
     ap (λ (ps : List ℕ). length ps == 0) (sym c.closes.ensures) ∙ sym c.is_empty.ensures ∙ full in
     advances (entry.Now (Ok c.in-Ok.moment)) refl
-    (looked-at state after closes c.args.queue.now line c.in-Ok.moment c.requires.idle c.in-Ok-tell.ensures.stepped c.in-Ok-tell.ensures.closed c.in-Ok-tell.ensures.recalled
+    (looked-at state after closes c.args.queue.now line c.in-Ok.moment c.requires.idle c.in-Ok-tell.ensures.stepped c.in-Ok-tell.ensures.closed c.in-Ok-tell.ensures.after
     ∙ ap (λ (d : Due). Some (in_state after line d)) (look-closes closes (is_idle after line) some))
     c.in-Ok.ensures.told c.in-Ok-close_all.ensures.legal.by
 
@@ -72,7 +73,7 @@ returns-then-not-is_idle-clause-legal g c =
     ap (λ (ps : List ℕ). length ps == 0) (sym c.closes.ensures) ∙ sym c.is_empty.ensures ∙ bare in
     advances_once (in_state state c.args.queue.now Free) (in_state after line Free)
     (g.W.World.journal c.args.world.now) (g.W.World.journal c.now.new.self) (entry.Now (Ok c.in-Ok.moment)) refl
-    (looked-at state after closes c.args.queue.now line c.in-Ok.moment c.requires.idle c.in-Ok-tell.ensures.stepped c.in-Ok-tell.ensures.closed c.in-Ok-tell.ensures.recalled
+    (looked-at state after closes c.args.queue.now line c.in-Ok.moment c.requires.idle c.in-Ok-tell.ensures.stepped c.in-Ok-tell.ensures.closed c.in-Ok-tell.ensures.after
     ∙ ap (λ (d : Due). Some (in_state after line d))
     (look-none closes (is_idle after line) none ∙ ap (due_look []) (sym c.is_idle.ensures ∙ busy)))
     c.in-Ok.ensures.told
@@ -90,33 +91,63 @@ returns-clause-legal g c =
     looks_by c.poll.result c.in-Ok.moment (in_state state c.args.queue.now Free) (in_state after line Polling)
     (g.W.World.journal c.args.world.now) (g.W.World.journal c.now.new.self) (g.W.World.journal c.poll.new.world)
     after c.poll.new.queue
-    (looked-at state after closes c.args.queue.now line c.in-Ok.moment c.requires.idle c.in-Ok-tell.ensures.stepped c.in-Ok-tell.ensures.closed c.in-Ok-tell.ensures.recalled
+    (looked-at state after closes c.args.queue.now line c.in-Ok.moment c.requires.idle c.in-Ok-tell.ensures.stepped c.in-Ok-tell.ensures.closed c.in-Ok-tell.ensures.after
     ∙ ap (λ (d : Due). Some (in_state after line d))
     (look-none closes (is_idle after line) none ∙ ap (due_look []) (sym c.is_idle.ensures ∙ idle)))
     c.in-Ok.ensures.told c.poll.ensures.legal
 
-pub returns-then-not-is_empty-clause-quiet : goal.returns-then-not-is_empty-clause-quiet
-returns-then-not-is_empty-clause-quiet g c =
-    let after = g.A.Core.state c.tell.new.agent in
-    let closes = g.A.Core.closes c.tell.new.agent in
-    quiet_goes (Ok c.in-Ok-close_all.field-0) (in_state after c.tell.new.queue (due_of closes))
-    (g.W.World.journal c.now.new.self) (g.W.World.journal c.close_all.new.world) after c.close_all.new.queue
-    c.in-Ok-close_all.ensures.legal
-    (quiet_is (g.A.Core.state c.tell.new.agent) (recalled (g.A.Core.state c.tell.new.agent) None c.args.queue.now) c.tell.new.queue
-    c.in-Ok-tell.ensures.recalled (quiet_recalled (g.A.Core.state c.tell.new.agent) None c.args.queue.now))
-
 pub is_idle-requires : goal.is_idle-requires
 is_idle-requires g c =
-    quiet_is (g.A.Core.state c.tell.new.agent) (recalled (g.A.Core.state c.tell.new.agent) None c.args.queue.now) c.tell.new.queue
-    c.in-Ok-tell.ensures.recalled (quiet_recalled (g.A.Core.state c.tell.new.agent) None c.args.queue.now)
+    told-ordered (g.A.Core.state c.tell.new.agent) (g.A.Core.closes c.tell.new.agent) c.args.queue.now c.tell.new.queue
+    c.in-Ok-tell.ensures.after
 
-pub returns-then-not-is_idle-clause-quiet : goal.returns-then-not-is_idle-clause-quiet
-returns-then-not-is_idle-clause-quiet g c =
-    quiet_is (g.A.Core.state c.tell.new.agent) (recalled (g.A.Core.state c.tell.new.agent) None c.args.queue.now) c.tell.new.queue
-    c.in-Ok-tell.ensures.recalled (quiet_recalled (g.A.Core.state c.tell.new.agent) None c.args.queue.now)
+pub returns-then-not-is_empty-clause-ordered : goal.returns-then-not-is_empty-clause-ordered
+returns-then-not-is_empty-clause-ordered g c =
+    told-ordered (g.A.Core.state c.tell.new.agent) (g.A.Core.closes c.tell.new.agent) c.args.queue.now c.tell.new.queue
+    c.in-Ok-tell.ensures.after
 
-pub returns-clause-quiet : goal.returns-clause-quiet
-returns-clause-quiet g c =
-    c.poll.ensures.quiet
-    (quiet_is (g.A.Core.state c.tell.new.agent) (recalled (g.A.Core.state c.tell.new.agent) None c.args.queue.now) c.tell.new.queue
-    c.in-Ok-tell.ensures.recalled (quiet_recalled (g.A.Core.state c.tell.new.agent) None c.args.queue.now))
+pub returns-then-not-is_idle-clause-ordered : goal.returns-then-not-is_idle-clause-ordered
+returns-then-not-is_idle-clause-ordered g c =
+    told-ordered (g.A.Core.state c.tell.new.agent) (g.A.Core.closes c.tell.new.agent) c.args.queue.now c.tell.new.queue
+    c.in-Ok-tell.ensures.after
+
+pub returns-clause-ordered : goal.returns-clause-ordered
+returns-clause-ordered g c =
+    c.poll.ensures.ordered
+    (told-ordered (g.A.Core.state c.tell.new.agent) (g.A.Core.closes c.tell.new.agent) c.args.queue.now c.tell.new.queue
+    c.in-Ok-tell.ensures.after)
+
+pub returns-then-not-is_empty-clause-orderly : goal.returns-then-not-is_empty-clause-orderly
+returns-then-not-is_empty-clause-orderly g c =
+    told-orderly (g.A.Core.state c.args.agent.now) (g.A.Core.state c.tell.new.agent) c.in-Ok.moment c.in-Ok-tell.ensures.stepped
+    c.requires.orderly
+
+pub returns-then-not-is_idle-clause-orderly : goal.returns-then-not-is_idle-clause-orderly
+returns-then-not-is_idle-clause-orderly g c =
+    told-orderly (g.A.Core.state c.args.agent.now) (g.A.Core.state c.tell.new.agent) c.in-Ok.moment c.in-Ok-tell.ensures.stepped
+    c.requires.orderly
+
+pub returns-clause-orderly : goal.returns-clause-orderly
+returns-clause-orderly g c =
+    on_ok c.poll.result
+    (told-orderly (g.A.Core.state c.args.agent.now) (g.A.Core.state c.tell.new.agent) c.in-Ok.moment c.in-Ok-tell.ensures.stepped
+    c.requires.orderly)
+
+pub returns-then-not-is_empty-clause-second : goal.returns-then-not-is_empty-clause-second
+returns-then-not-is_empty-clause-second g c =
+    second-within (g.A.Core.state c.args.agent.now) (g.A.Core.state c.tell.new.agent) c.in-Ok.moment Tick
+    (g.W.World.greatest c.args.world.now) (g.W.World.greatest c.close_all.new.world) c.in-Ok-tell.ensures.stepped
+    c.requires.second c.in-Ok.ensures.moment.0 (c.in-Ok-close_all.ensures.second ∙ c.in-Ok.ensures.moment.1)
+
+pub returns-then-not-is_idle-clause-second : goal.returns-then-not-is_idle-clause-second
+returns-then-not-is_idle-clause-second g c =
+    second-within (g.A.Core.state c.args.agent.now) (g.A.Core.state c.tell.new.agent) c.in-Ok.moment Tick
+    (g.W.World.greatest c.args.world.now) (g.W.World.greatest c.now.new.self) c.in-Ok-tell.ensures.stepped
+    c.requires.second c.in-Ok.ensures.moment.0 c.in-Ok.ensures.moment.1
+
+pub returns-clause-second : goal.returns-clause-second
+returns-clause-second g c =
+    then_ok c.poll.result c.poll.ensures.second (λ same.
+    second-within (g.A.Core.state c.args.agent.now) (g.A.Core.state c.tell.new.agent) c.in-Ok.moment Tick
+    (g.W.World.greatest c.args.world.now) (g.W.World.greatest c.poll.new.world) c.in-Ok-tell.ensures.stepped
+    c.requires.second c.in-Ok.ensures.moment.0 (same ∙ c.in-Ok.ensures.moment.1))

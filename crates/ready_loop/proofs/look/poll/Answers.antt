@@ -7,9 +7,9 @@ use Rattle.world_ports.specs.declared.answers.WorldFault.TheVariants.{Failed, Me
 use Rattle.world_ports.specs.declared.entry.Entry.TheVariants as entry
 use Rattle.loop_model.specs.Dues.{Free, Polling}
 use Rattle.loop_model.specs.LegalJournal.{in_state, led}
-use Rattle.loop_model.specs.Lines.{Line, queued_all, settled}
-use Rattle.loop_model.proofs.QuietLemmas.{quiet_settled}
-use Rattle.ready_loop.proofs.KeepingLemmas.{quiet_is, quiet_queued_all}
+use Rattle.loop_model.specs.Lines.{Line, queued_all}
+use Rattle.loop_model.proofs.QuietLemmas.{ordered_taken}
+use Rattle.ready_loop.proofs.KeepingLemmas.{ordered_is}
 use Rattle.ready_loop.proofs.CallLemmas.{poll-any}
 use Rattle.ready_loop.proofs.TurningLemmas.{told_at, waits_once, waits_short}
 use Rattle.ready_loop.proofs.look.poll.Goals as goal
@@ -37,7 +37,7 @@ returns-in-Ok-clause-legal g c =
     let state = g.A.Core.state c.args.agent.now in
     let line = c.args.queue.now in
     let items = c.poll.new.out.items in
-    let added = c.in-Ok.ensures ∙ ap (λ (is : List Ready). queued_all state is (settled state line)) c.deref.ensures.value in
+    let added = c.in-Ok.ensures ∙ ap (λ (is : List Ready). queued_all state is line) c.deref.ensures.value in
     waits_once (in_state state line Polling) (in_state state c.add_all.new.self Free) (g.W.World.journal c.args.world.now) (g.W.World.journal c.poll.new.self) c.wait_of.result items (Ok polled.Some)
     (poll-any state line c.wait_of.result items (Ok polled.Some) c.wait_of.ensures
     ∙ ap (λ (l : Line). Some (in_state state l Free)) (sym added))
@@ -86,9 +86,14 @@ returns-in-Err-Memory-clause-legal g c =
     (told_at (λ r. entry.Poll c.wait_of.result c.poll.new.out.items r) (g.W.World.journal c.args.world.now) (g.W.World.journal c.poll.new.self)
     (c.in-Err-Memory.is ∙ ap Err c.in-Err-Memory.field-0-is) c.poll.ensures.told)
 
-pub returns-in-Ok-clause-quiet : goal.returns-in-Ok-clause-quiet
-returns-in-Ok-clause-quiet g c =
-    λ quiet. let state = g.A.Core.state c.args.agent.now in
+pub returns-in-Ok-clause-ordered : goal.returns-in-Ok-clause-ordered
+returns-in-Ok-clause-ordered g c =
+    λ ordered. let state = g.A.Core.state c.args.agent.now in
     let line = c.args.queue.now in
-    quiet_is state (queued_all state c.deref.result.now (settled state line)) c.add_all.new.self c.in-Ok.ensures
-    (quiet_queued_all state c.deref.result.now (settled state line) (quiet_settled state line quiet))
+    let items = c.poll.new.out.items in
+    let answer : Result Polled WorldFault = Ok polled.Some in
+    let from = in_state state line Polling in
+    let next = entry.Poll c.wait_of.result items answer in
+    ordered_is state (queued_all state items line) c.add_all.new.self
+    (c.in-Ok.ensures ∙ ap (λ (is : List Ready). queued_all state is line) c.deref.ensures.value)
+    (ordered_taken from (led from next) next (poll-any state line c.wait_of.result items answer c.wait_of.ensures) ordered)

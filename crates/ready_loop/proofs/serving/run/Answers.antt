@@ -6,7 +6,11 @@ use Rattle.ready_loop.specs.Serving.{Running, Setting, is_deserted}
 use Rattle.ready_loop.specs.declared.outcome.ServeEnd.TheVariants as ends
 use Rattle.ready_loop.proofs.ServingLemmas.{fault_ends, memory_ends, over_ends, polled_runs, runs_more, served_runs, serves_more, turn_at}
 use Rattle.loop_model.proofs.TestLemmas.{and_both}
+use Rattle.ready_loop.proofs.KeepingLemmas.{ordered_of}
 use Rattle.ready_loop.proofs.serving.run.Goals as goal
+
+pub is_done-requires : goal.is_done-requires
+is_done-requires g c = ordered_of (g.A.Core.state c.turns.agent) c.turns.hub c.turns.invariant.7 c.turns.invariant.4
 
 pub returns-then-is_done-clause-serves : goal.returns-then-is_done-clause-serves
 returns-then-is_done-clause-serves g c = λ path state.
@@ -34,6 +38,9 @@ turns-preserved-in-Ok-Served g c = (
   c.in-Ok-Served.ensures.ports,
   c.in-Ok-Served.ensures.quiet,
   omega (arith, c.turns.invariant.5, c.turn.ensures.later),
+  c.in-Ok-Served.ensures.orderly,
+  c.in-Ok-Served.ensures.exact,
+  c.in-Ok-Served.ensures.second,
 )
 
 pub turns-preserved : goal.turns-preserved
@@ -49,6 +56,9 @@ turns-preserved g c = (
   c.in-Ok-Polled.ensures.ports,
   c.in-Ok-Polled.ensures.quiet,
   omega (arith, c.turns.invariant.5, c.turn.ensures.later),
+  c.in-Ok-Polled.ensures.orderly,
+  c.in-Ok-Polled.ensures.exact,
+  c.in-Ok-Polled.ensures.second,
 )
 
 pub returns-in-Ok-Over-clause-serves : goal.returns-in-Ok-Over-clause-serves

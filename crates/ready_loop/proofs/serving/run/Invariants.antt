@@ -2,7 +2,8 @@ use Rattle.std.proofs.Common.{◌≡◌, ◌≤◌, List, ℕ}
 use Rattle.agent_model.specs.State.{State}
 use Rattle.loop_model.specs.Dues.{Free}
 use Rattle.loop_model.specs.LegalJournal.{in_state}
-use Rattle.loop_model.specs.Lines.{IsQuiet}
+use Rattle.loop_model.specs.Lines.{IsExact, IsQuiet}
+use Rattle.loop_model.specs.Orderly.{IsOrderly}
 use Rattle.ready_loop.specs.Serving.{Running, Runs}
 use Rattle.ready_loop.proofs.serving.run.Given as goal
 
@@ -16,3 +17,6 @@ invariant-turns g l =
     × (g.W.World.last_port l.world ≡ (g.A.Core.state l.agent).last_port)
     × IsQuiet (g.A.Core.state l.agent) l.hub
     × (g.W.World.faults l.fn.world ≤ g.W.World.faults l.world)
+    × IsOrderly (g.A.Core.state l.agent)
+    × IsExact (g.A.Core.state l.agent) l.hub
+    × ((g.A.Core.state l.agent).moment.mono ≤ g.W.World.greatest l.world)

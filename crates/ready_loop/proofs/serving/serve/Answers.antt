@@ -1,11 +1,16 @@
-use Rattle.std.proofs.Common.{◌∙◌, Err, Result, ap, subst}
+use Rattle.std.proofs.Common.{◌∙◌, Err, Result, ap, refl, subst, sym}
 use Rattle.world_ports.specs.declared.answers.WorldFault.{WorldFault}
 use Rattle.loop_model.specs.Dues.{Free}
 use Rattle.loop_model.specs.LegalJournal.{in_state}
-use Rattle.loop_model.specs.Lines.{Line}
+use Rattle.loop_model.specs.Lines.{IsExact, Line}
 use Rattle.ready_loop.specs.Serving.{Opens, Running, Serves, Setting, Unbound, begun}
 use Rattle.ready_loop.proofs.ServingLemmas.{serves_more}
 use Rattle.ready_loop.proofs.serving.serve.Goals as goal
+
+pub run-requires-clause-exact : goal.run-requires-clause-exact
+run-requires-clause-exact g c =
+    let state = g.A.Core.state c.args.agent.now in
+    subst (λ (line : Line). IsExact state line) (sym c.new-hub.ensures) (record { each = λ thing. refl; once = tt })
 
 pub returns-in-Ok-clause-serves : goal.returns-in-Ok-clause-serves
 returns-in-Ok-clause-serves g c =

@@ -1,17 +1,19 @@
-use Rattle.std.proofs.Common.{refl, Ok, Err, Result, ap, sym, ◌∙◌, ◌||◌, true, Some}
+use Rattle.std.proofs.Common.{refl, Ok, Err, Result, ap, subst, sym, ◌≡◌, ◌∙◌, true, false, Some}
 use Rattle.world_ports.specs.declared.answers.Accepted.{Accepted}
 use Rattle.world_ports.specs.declared.answers.Accepted.TheVariants as accepted
 use Rattle.world_ports.specs.declared.answers.WorldFault.{WorldFault}
 use Rattle.world_ports.specs.declared.answers.WorldFault.TheVariants.{Failed, Memory}
 use Rattle.world_ports.specs.declared.entry.Entry.TheVariants as entry
 use Rattle.agent_model.specs.Events.{Joined}
-use Rattle.agent_model.specs.State.{is_client}
-use Rattle.loop_model.specs.Dues.{Free, NowFor}
+use Rattle.loop_model.specs.Dues.{Free, NowFor, port_of}
 use Rattle.loop_model.specs.declared.thing.Thing.TheVariants.{Accept}
 use Rattle.loop_model.specs.LegalJournal.{in_state, led}
-use Rattle.loop_model.specs.Lines.{Line, queued_port, sent_back, settled}
-use Rattle.loop_model.proofs.QuietLemmas.{quiet_settled}
-use Rattle.ready_loop.proofs.KeepingLemmas.{quiet_is, quiet_queued_port}
+use Rattle.loop_model.specs.Lines.{Line, hot_of, in_hand}
+use Rattle.ready_loop.proofs.HandLemmas.{cold-in_hand}
+use Rattle.ready_loop.proofs.HandingLemmas.{adds-joined, cold-joined, front-next, joined_line, ordered-joined}
+use Rattle.ready_loop.proofs.IdleLemmas.{first_is_found}
+use Rattle.ready_loop.proofs.KeepingLemmas.{ordered_is}
+use Rattle.ready_loop.proofs.RoundingLemmas.{round-event, rounds-none}
 use Rattle.ready_loop.proofs.CallLemmas as calls
 use Rattle.ready_loop.proofs.TurningLemmas.{one_call, serves_then, stops_short, stops_there, told_at}
 use Rattle.ready_loop.proofs.turn.accept.Goals as goal
@@ -23,6 +25,10 @@ accept-requires g c =
 pub happen-requires-clause-fits : goal.happen-requires-clause-fits
 happen-requires-clause-fits g c =
     calls.joined-fits (g.A.Core.state c.args.agent.now) c.args.queue.now c.args.door c.requires.next
+
+pub take-requires : goal.take-requires
+take-requires g c =
+    front-next (g.A.Core.state c.args.agent.now) c.args.queue.now (Accept c.args.door) c.requires.ordered c.requires.next
 
 pub returns-in_default-clause-legal : goal.returns-in_default-clause-legal
 returns-in_default-clause-legal g c =
@@ -38,38 +44,92 @@ returns-in_default-clause-legal g c =
           (c.in-Ok-Port.is ∙ ap Ok c.in-Ok-Port.field-0-is) c.accept.ensures.told));
     }
 
+pub happen-requires-clause-ordered : goal.happen-requires-clause-ordered
+happen-requires-clause-ordered g c =
+    let state = g.A.Core.state c.args.agent.now in
+    let line = c.args.queue.now in
+    ordered_is state (joined_line state c.args.door c.in-Ok-Port.number (in_hand (Accept c.args.door) line))
+    c.accept-in-Ok-Port.new.self (c.in-Ok.ensures ∙ ap (joined_line state c.args.door c.in-Ok-Port.number) c.take.ensures)
+    (ordered-joined state c.args.door c.in-Ok-Port.number line c.requires.ordered c.requires.next)
+
+pub happen-requires-clause-cold : goal.happen-requires-clause-cold
+happen-requires-clause-cold g c =
+    let state = g.A.Core.state c.args.agent.now in
+    let line = c.args.queue.now in
+    subst (λ (l : Line). hot_of l (Accept c.args.door) ≡ false)
+    (sym (c.in-Ok.ensures ∙ ap (joined_line state c.args.door c.in-Ok-Port.number) c.take.ensures))
+    (cold-joined state c.args.door c.in-Ok-Port.number (in_hand (Accept c.args.door) line)
+    (cold-in_hand state line (Accept c.args.door) c.requires.ordered
+    (first_is_found state line.queue (Accept c.args.door) c.requires.next).servable))
+
 pub returns-in-Ok-clause-legal : goal.returns-in-Ok-clause-legal
 returns-in-Ok-clause-legal g c =
     let state = g.A.Core.state c.args.agent.now in
     let line = c.args.queue.now in
     serves_then (entry.Accept c.args.door (Ok (accepted.Port c.in-Ok-Port.number))) refl
     (calls.accept-any state line c.args.door (Ok (accepted.Port c.in-Ok-Port.number)) c.requires.next
-    ∙ ap (λ (l : Line). Some (in_state state l (NowFor (Joined c.args.door)))) (sym (c.in-Ok.ensures state c.requires.next)))
+    ∙ ap (λ (l : Line). Some (in_state state l (NowFor (Joined c.args.door))))
+    (sym (c.in-Ok.ensures ∙ ap (joined_line state c.args.door c.in-Ok-Port.number) c.take.ensures)))
     (told_at (λ r. entry.Accept c.args.door r) (g.W.World.journal c.args.world.now) (g.W.World.journal c.accept.new.self)
     (c.in-Ok-Port.is ∙ ap Ok c.in-Ok-Port.field-0-is) c.accept.ensures.told)
     c.happen.ensures.legal
+
+pub returns-in-Ok-clause-round : goal.returns-in-Ok-clause-round
+returns-in-Ok-clause-round g c =
+    let state = g.A.Core.state c.args.agent.now in
+    let line = c.args.queue.now in
+    let left = g.A.Core.state c.happen.new.agent in
+    let closes = g.A.Core.closes c.happen.new.agent in
+    let own = port_of (Joined c.args.door) left.last_port in
+    let mid = joined_line state c.args.door c.in-Ok-Port.number (in_hand (Accept c.args.door) line) in
+    round-event c.happen.result state left closes own (Accept c.args.door) line mid c.accept-in-Ok-Port.new.self c.happen.new.queue
+    c.happen.ensures.after (c.in-Ok.ensures ∙ ap (joined_line state c.args.door c.in-Ok-Port.number) c.take.ensures)
+    c.requires.ordered.listed c.requires.apart c.requires.next
+    (adds-joined state c.args.door c.in-Ok-Port.number (in_hand (Accept c.args.door) line))
 
 pub returns-in-Ok-NotNow-clause-legal : goal.returns-in-Ok-NotNow-clause-legal
 returns-in-Ok-NotNow-clause-legal g c =
     let state = g.A.Core.state c.args.agent.now in
     let line = c.args.queue.now in
-    calls.serves_dropped c.drop_out.result state line c.drop_out.new.queue (Accept c.args.door)
-    (g.W.World.journal c.args.world.now) (g.W.World.journal c.accept.new.self) (entry.Accept c.args.door (Ok accepted.NotNow)) refl
-    (calls.accept-any state line c.args.door (Ok accepted.NotNow) c.requires.next)
-    (c.drop_out.ensures state c.requires.next)
-    (told_at (λ r. entry.Accept c.args.door r) (g.W.World.journal c.args.world.now) (g.W.World.journal c.accept.new.self)
-    (c.in-Ok-NotNow.is ∙ ap Ok c.in-Ok-NotNow.field-0-is) c.accept.ensures.told)
+    record {
+      by = calls.serves_dropped state line c.take-in-Ok-NotNow.new.self (Accept c.args.door)
+          (g.W.World.journal c.args.world.now) (g.W.World.journal c.accept.new.self) (entry.Accept c.args.door (Ok accepted.NotNow)) refl
+          (calls.accept-any state line c.args.door (Ok accepted.NotNow) c.requires.next)
+          c.take-in-Ok-NotNow.ensures
+          (told_at (λ r. entry.Accept c.args.door r) (g.W.World.journal c.args.world.now) (g.W.World.journal c.accept.new.self)
+          (c.in-Ok-NotNow.is ∙ ap Ok c.in-Ok-NotNow.field-0-is) c.accept.ensures.told);
+    }
 
 pub returns-in-Err-Failed-clause-legal : goal.returns-in-Err-Failed-clause-legal
 returns-in-Err-Failed-clause-legal g c =
     let state = g.A.Core.state c.args.agent.now in
     let line = c.args.queue.now in
-    calls.serves_dropped c.drop_out-in-Err-Failed.result state line c.drop_out-in-Err-Failed.new.queue (Accept c.args.door)
-    (g.W.World.journal c.args.world.now) (g.W.World.journal c.accept.new.self) (entry.Accept c.args.door (Err Failed)) refl
-    (calls.accept-any state line c.args.door (Err Failed) c.requires.next)
-    (c.drop_out-in-Err-Failed.ensures state c.requires.next)
-    (told_at (λ r. entry.Accept c.args.door r) (g.W.World.journal c.args.world.now) (g.W.World.journal c.accept.new.self)
-    (c.in-Err-Failed.is ∙ ap Err c.in-Err-Failed.field-0-is) c.accept.ensures.told)
+    record {
+      by = calls.serves_dropped state line c.take-in-Err-Failed.new.self (Accept c.args.door)
+          (g.W.World.journal c.args.world.now) (g.W.World.journal c.accept.new.self) (entry.Accept c.args.door (Err Failed)) refl
+          (calls.accept-any state line c.args.door (Err Failed) c.requires.next)
+          c.take-in-Err-Failed.ensures
+          (told_at (λ r. entry.Accept c.args.door r) (g.W.World.journal c.args.world.now) (g.W.World.journal c.accept.new.self)
+          (c.in-Err-Failed.is ∙ ap Err c.in-Err-Failed.field-0-is) c.accept.ensures.told);
+    }
+
+pub returns-in-Ok-NotNow-clause-round : goal.returns-in-Ok-NotNow-clause-round
+returns-in-Ok-NotNow-clause-round g c =
+    rw c.take-in-Ok-NotNow.ensures
+    (rounds-none (g.A.Core.state c.args.agent.now) (Accept c.args.door) c.args.queue.now c.requires.ordered.listed c.requires.apart c.requires.next)
+
+pub returns-in-Err-Failed-clause-round : goal.returns-in-Err-Failed-clause-round
+returns-in-Err-Failed-clause-round g c =
+    rw c.take-in-Err-Failed.ensures
+    (rounds-none (g.A.Core.state c.args.agent.now) (Accept c.args.door) c.args.queue.now c.requires.ordered.listed c.requires.apart c.requires.next)
+
+pub take-requires-in-Ok-NotNow : goal.take-requires-in-Ok-NotNow
+take-requires-in-Ok-NotNow g c =
+    front-next (g.A.Core.state c.args.agent.now) c.args.queue.now (Accept c.args.door) c.requires.ordered c.requires.next
+
+pub take-requires-in-Err-Failed : goal.take-requires-in-Err-Failed
+take-requires-in-Err-Failed g c =
+    front-next (g.A.Core.state c.args.agent.now) c.args.queue.now (Accept c.args.door) c.requires.ordered c.requires.next
 
 pub returns-in-Err-Memory-clause-legal : goal.returns-in-Err-Memory-clause-legal
 returns-in-Err-Memory-clause-legal g c =
@@ -84,12 +144,3 @@ returns-in-Err-Memory-clause-legal g c =
           (told_at (λ r. entry.Accept c.args.door r) (g.W.World.journal c.args.world.now) (g.W.World.journal c.accept.new.self)
           (c.in-Err-Memory.is ∙ ap Err c.in-Err-Memory.field-0-is) c.accept.ensures.told);
     }
-
-pub happen-requires-clause-quiet : goal.happen-requires-clause-quiet
-happen-requires-clause-quiet g c =
-    let state = g.A.Core.state c.args.agent.now in
-    let line = c.args.queue.now in
-    quiet_is state
-    (record (sent_back (Accept c.args.door) (queued_port c.in-Ok-Port.number (settled state line))) { joined = is_client c.args.door || line.joined })
-    c.accept-in-Ok-Port.new.self (c.in-Ok.ensures state c.requires.next)
-    (quiet_queued_port state c.in-Ok-Port.number (settled state line) (quiet_settled state line c.requires.quiet))

@@ -1,16 +1,26 @@
-use Rattle.loop_model.specs.Lines.{settled, without}
-use Rattle.loop_model.proofs.QuietLemmas.{quiet_settled}
-use Rattle.ready_loop.proofs.KeepingLemmas.{quiet_is}
-use Rattle.loop_model.proofs.QuietLemmas.{quiet_without}
-use Rattle.ready_loop.proofs.TurningLemmas.{no_call, stops_there}
+use Rattle.agent_model.specs.Events.{Ended}
+use Rattle.loop_model.specs.Dues.{port_of}
+use Rattle.loop_model.specs.Lines.{in_hand}
+use Rattle.ready_loop.proofs.HandingLemmas.{front-next, ordered-in_hand}
+use Rattle.ready_loop.proofs.KeepingLemmas.{ordered_is}
+use Rattle.ready_loop.proofs.RoundingLemmas.{round-ended}
 use Rattle.ready_loop.proofs.turn.end.Goals as goal
 
-pub returns-in_default-clause-legal : goal.returns-in_default-clause-legal
-returns-in_default-clause-legal g c = record { by = stops_there (no_call _ (g.W.World.journal c.args.world.now)) }
+pub take-requires : goal.take-requires
+take-requires g c =
+    front-next (g.A.Core.state c.args.agent.now) c.args.queue.now c.args.found c.requires.ordered c.requires.next
 
-pub happen-requires-clause-quiet : goal.happen-requires-clause-quiet
-happen-requires-clause-quiet g c =
+pub happen-requires-clause-ordered : goal.happen-requires-clause-ordered
+happen-requires-clause-ordered g c =
+    ordered_is (g.A.Core.state c.args.agent.now) (in_hand c.args.found c.args.queue.now) c.take.new.self c.take.ensures
+    (ordered-in_hand (g.A.Core.state c.args.agent.now) c.args.queue.now c.args.found c.requires.ordered)
+
+pub returns-clause-round : goal.returns-clause-round
+returns-clause-round g c =
     let state = g.A.Core.state c.args.agent.now in
-    let line = c.args.queue.now in
-    quiet_is state (without c.args.found (settled state line)) c.remove.new.self (c.in-Ok.ensures state c.requires.next)
-    (quiet_without state c.args.found (settled state line) (quiet_settled state line c.requires.quiet))
+    let left = g.A.Core.state c.happen.new.agent in
+    let closes = g.A.Core.closes c.happen.new.agent in
+    let own = port_of (Ended c.args.port) left.last_port in
+    round-ended c.happen.result state left closes own c.args.port c.args.found c.args.queue.now c.take.new.self c.happen.new.queue
+    c.happen.ensures.after c.take.ensures c.happen.ensures.happened c.requires.orderly.sound.rising c.requires.at
+    c.requires.ordered.listed c.requires.apart c.requires.next

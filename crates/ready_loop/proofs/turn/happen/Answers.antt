@@ -8,6 +8,7 @@ use Rattle.agent_core.specs.Happenings.{happening}
 use Rattle.loop_model.specs.LegalJournal.{in_state, led}
 use Rattle.loop_model.specs.Lines.{Line}
 use Rattle.ready_loop.proofs.TellLemmas.{last-stepped}
+use Rattle.ready_loop.proofs.MomentLemmas.{second-within}
 use Rattle.ready_loop.proofs.KeepingLemmas.{on_ok}
 use Rattle.ready_loop.proofs.CallLemmas.{now-any, now-taken}
 use Rattle.ready_loop.proofs.TurningLemmas.{goes_then, one_call, stops_short, stops_there}
@@ -47,10 +48,25 @@ returns-clause-legal g c =
     let closes = g.A.Core.closes c.tell.new.agent in
     goes_then (entry.Now (Ok c.in-Ok.moment)) refl
     (now-taken state after closes c.args.queue.now (happening c.args.event.now) c.in-Ok.moment c.in-Ok-tell.ensures.stepped c.in-Ok-tell.ensures.closed
-    ∙ ap (λ (line : Line). Some (in_state after line (due_of closes))) (sym c.in-Ok-tell.ensures.recalled))
+    ∙ ap (λ (line : Line). Some (in_state after line (due_of closes))) (sym c.in-Ok-tell.ensures.after))
     c.in-Ok.ensures.told c.close_all.ensures.legal
+
+pub returns-clause-after : goal.returns-clause-after
+returns-clause-after g c = on_ok c.close_all.result c.in-Ok-tell.ensures.after
+
+pub returns-clause-happened : goal.returns-clause-happened
+returns-clause-happened g c =
+    on_ok c.close_all.result (record { moment = c.in-Ok.moment; is = c.in-Ok-tell.ensures.stepped })
 
 pub returns-clause-ports : goal.returns-clause-ports
 returns-clause-ports g c =
     on_ok c.close_all.result (c.close_all.ensures.ports ∙ c.in-Ok.ensures.ports ∙ c.requires.ports
     ∙ last-stepped (g.A.Core.state c.args.agent.now) (g.A.Core.state c.tell.new.agent) c.in-Ok.moment (happening c.args.event.now) c.in-Ok-tell.ensures.stepped)
+
+pub returns-clause-second : goal.returns-clause-second
+returns-clause-second g c =
+    on_ok c.close_all.result
+    (second-within (g.A.Core.state c.args.agent.now) (g.A.Core.state c.tell.new.agent) c.in-Ok.moment
+    (happening c.args.event.now) (g.W.World.greatest c.args.world.now) (g.W.World.greatest c.close_all.new.world)
+    c.in-Ok-tell.ensures.stepped c.requires.second c.in-Ok.ensures.moment.0
+    (c.close_all.ensures.second ∙ c.in-Ok.ensures.moment.1))

@@ -1,17 +1,37 @@
-use Rattle.loop_model.specs.declared.thing.Thing.TheVariants.{Read, Write}
-use Rattle.loop_model.specs.Lines.{brought, sent_back, settled}
-use Rattle.loop_model.proofs.QuietLemmas.{quiet_brought, quiet_settled}
-use Rattle.ready_loop.proofs.KeepingLemmas.{quiet_is}
-use Rattle.ready_loop.proofs.TurningLemmas.{no_call, stops_there}
+use Rattle.std.proofs.Common.{◌≡◌, false, subst, sym}
+use Rattle.loop_model.specs.Dues.{port_of}
+use Rattle.loop_model.specs.Lines.{Line, hot_of, in_hand}
+use Rattle.loop_model.specs.declared.thing.Thing.TheVariants.{Read}
+use Rattle.agent_model.specs.Events.{Heard}
+use Rattle.loop_model.proofs.AddingLemmas.{adds-none}
+use Rattle.ready_loop.proofs.HandLemmas.{cold-in_hand}
+use Rattle.ready_loop.proofs.HandingLemmas.{front-next, ordered-in_hand}
+use Rattle.ready_loop.proofs.IdleLemmas.{first_is_found}
+use Rattle.ready_loop.proofs.KeepingLemmas.{ordered_is}
+use Rattle.ready_loop.proofs.RoundingLemmas.{round-event}
 use Rattle.ready_loop.proofs.turn.hear.Goals as goal
 
-pub returns-in_default-clause-legal : goal.returns-in_default-clause-legal
-returns-in_default-clause-legal g c = record { by = stops_there (no_call _ (g.W.World.journal c.args.world.now)) }
+pub take-requires : goal.take-requires
+take-requires g c =
+    front-next (g.A.Core.state c.args.agent.now) c.args.queue.now (Read c.args.port) c.requires.ordered c.requires.next
 
-pub happen-requires-clause-quiet : goal.happen-requires-clause-quiet
-happen-requires-clause-quiet g c =
+pub happen-requires-clause-ordered : goal.happen-requires-clause-ordered
+happen-requires-clause-ordered g c =
+    ordered_is (g.A.Core.state c.args.agent.now) (in_hand (Read c.args.port) c.args.queue.now) c.take.new.self c.take.ensures
+    (ordered-in_hand (g.A.Core.state c.args.agent.now) c.args.queue.now (Read c.args.port) c.requires.ordered)
+
+pub happen-requires-clause-cold : goal.happen-requires-clause-cold
+happen-requires-clause-cold g c =
+    subst (λ (l : Line). hot_of l (Read c.args.port) ≡ false) (sym c.take.ensures)
+    (cold-in_hand (g.A.Core.state c.args.agent.now) c.args.queue.now (Read c.args.port) c.requires.ordered
+    (first_is_found (g.A.Core.state c.args.agent.now) c.args.queue.now.queue (Read c.args.port) c.requires.next).servable)
+
+pub returns-clause-round : goal.returns-clause-round
+returns-clause-round g c =
     let state = g.A.Core.state c.args.agent.now in
-    let line = c.args.queue.now in
-    quiet_is state (sent_back (Read c.args.port) (brought (Write c.args.port) (settled state line))) c.send_back_read.new.self
-    (c.in-Ok.ensures state c.requires.next)
-    (quiet_brought state (Write c.args.port) (settled state line) (quiet_settled state line c.requires.quiet))
+    let left = g.A.Core.state c.happen.new.agent in
+    let closes = g.A.Core.closes c.happen.new.agent in
+    let own = port_of (Heard c.args.port c.args.piece.now) left.last_port in
+    let mid = in_hand (Read c.args.port) c.args.queue.now in
+    round-event c.happen.result state left closes own (Read c.args.port) c.args.queue.now mid c.take.new.self c.happen.new.queue
+    c.happen.ensures.after c.take.ensures c.requires.ordered.listed c.requires.apart c.requires.next (adds-none mid)

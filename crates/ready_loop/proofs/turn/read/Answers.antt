@@ -13,6 +13,8 @@ use Rattle.loop_model.specs.LegalJournal.{in_state, led}
 use Rattle.ready_loop.proofs.CallLemmas as calls
 use Rattle.ready_loop.proofs.TurningLemmas.{serves_then, stops_short, told_at}
 use Rattle.ready_loop.proofs.RoomLemmas.{wiped_again}
+use Rattle.ready_loop.proofs.HandingLemmas.{front-next, read-at}
+use Rattle.ready_loop.proofs.RoundingLemmas.{rounds-none}
 use Rattle.ready_loop.proofs.turn.read.Goals as goal
 
 pub hear-heard-requires-clause-fits : goal.hear-heard-requires-clause-fits
@@ -61,12 +63,29 @@ pub returns-in-Ok-NotNow-clause-legal : goal.returns-in-Ok-NotNow-clause-legal
 returns-in-Ok-NotNow-clause-legal g c =
     let state = g.A.Core.state c.args.agent.now in
     let line = c.args.queue.now in
-    calls.serves_dropped c.drop_out.result state line c.drop_out.new.queue (Read c.args.port)
-    (g.W.World.journal c.args.world.now) (g.W.World.journal c.read.new.self) (entry.Read c.args.port (length c.args.room.now) [] (Ok got.NotNow)) refl
-    (calls.read-any state line c.args.port (length c.args.room.now) [] (Ok got.NotNow) c.requires.next c.requires.room)
-    (c.drop_out.ensures state c.requires.next)
-    (told_at (λ r. entry.Read c.args.port (length c.args.room.now) (got_of r c.read.new.room) r) (g.W.World.journal c.args.world.now) (g.W.World.journal c.read.new.self)
-    (c.in-Ok-NotNow.is ∙ ap Ok c.in-Ok-NotNow.field-0-is) c.read.ensures.told)
+    record {
+      by = calls.serves_dropped state line c.take.new.self (Read c.args.port)
+          (g.W.World.journal c.args.world.now) (g.W.World.journal c.read.new.self) (entry.Read c.args.port (length c.args.room.now) [] (Ok got.NotNow)) refl
+          (calls.read-any state line c.args.port (length c.args.room.now) [] (Ok got.NotNow) c.requires.next c.requires.room)
+          c.take.ensures
+          (told_at (λ r. entry.Read c.args.port (length c.args.room.now) (got_of r c.read.new.room) r) (g.W.World.journal c.args.world.now) (g.W.World.journal c.read.new.self)
+          (c.in-Ok-NotNow.is ∙ ap Ok c.in-Ok-NotNow.field-0-is) c.read.ensures.told);
+    }
+
+pub returns-in-Ok-NotNow-clause-round : goal.returns-in-Ok-NotNow-clause-round
+returns-in-Ok-NotNow-clause-round g c =
+    rw c.take.ensures
+    (rounds-none (g.A.Core.state c.args.agent.now) (Read c.args.port) c.args.queue.now c.requires.ordered.listed c.requires.apart c.requires.next)
+
+pub take-requires : goal.take-requires
+take-requires g c =
+    front-next (g.A.Core.state c.args.agent.now) c.args.queue.now (Read c.args.port) c.requires.ordered c.requires.next
+
+pub end-requires-clause-at : goal.end-requires-clause-at
+end-requires-clause-at g c = read-at c.args.port
+
+pub end-requires-in-Err-Failed-clause-at : goal.end-requires-in-Err-Failed-clause-at
+end-requires-in-Err-Failed-clause-at g c = read-at c.args.port
 
 pub returns-in-Err-Failed-clause-legal : goal.returns-in-Err-Failed-clause-legal
 returns-in-Err-Failed-clause-legal g c =

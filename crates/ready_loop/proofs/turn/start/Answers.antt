@@ -1,10 +1,12 @@
-use Rattle.std.proofs.Common.{refl, Ok, Err, Result, List, ℕ, ap, ◌∙◌, true}
+use Rattle.std.proofs.Common.{refl, None, Ok, Err, Result, List, ℕ, ap, ◌∙◌, true}
 use Rattle.world_ports.specs.declared.answers.WorldFault.{WorldFault}
 use Rattle.world_ports.specs.declared.answers.WorldFault.TheVariants.{Failed, Memory}
 use Rattle.world_ports.specs.declared.entry.Entry.TheVariants as entry
 use Rattle.loop_model.specs.Dues.{Free}
 use Rattle.loop_model.specs.LegalJournal.{in_state, led}
+use Rattle.loop_model.specs.Lines.{after_event}
 use Rattle.ready_loop.proofs.CallLemmas as calls
+use Rattle.ready_loop.proofs.RoundingLemmas.{keeps-event, keeps-is}
 use Rattle.ready_loop.proofs.TurningLemmas.{serves_then, stops_short, told_at}
 use Rattle.ready_loop.proofs.turn.start.Goals as goal
 
@@ -39,3 +41,17 @@ returns-in-Err-Memory-clause-legal g c =
           (told_at (λ r. entry.Start c.args.job r) (g.W.World.journal c.args.world.now) (g.W.World.journal c.start.new.self)
           (c.in-Err-Memory.is ∙ ap Err c.in-Err-Memory.field-0-is) c.start.ensures.told);
     }
+
+pub returns-in-Ok-clause-round : goal.returns-in-Ok-clause-round
+returns-in-Ok-clause-round g c =
+    let left = g.A.Core.state c.happen.new.agent in
+    let closes = g.A.Core.closes c.happen.new.agent in
+    keeps-is c.happen.result c.args.queue.now.queue (after_event left closes None None c.args.queue.now) c.happen.new.queue
+    c.happen.ensures.after (keeps-event left closes None c.args.queue.now)
+
+pub returns-in-Err-Failed-clause-round : goal.returns-in-Err-Failed-clause-round
+returns-in-Err-Failed-clause-round g c =
+    let left = g.A.Core.state c.happen-in-Err-Failed.new.agent in
+    let closes = g.A.Core.closes c.happen-in-Err-Failed.new.agent in
+    keeps-is c.happen-in-Err-Failed.result c.args.queue.now.queue (after_event left closes None None c.args.queue.now) c.happen-in-Err-Failed.new.queue
+    c.happen-in-Err-Failed.ensures.after (keeps-event left closes None c.args.queue.now)

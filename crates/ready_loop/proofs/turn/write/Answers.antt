@@ -9,6 +9,8 @@ use Rattle.loop_model.specs.declared.thing.Thing.TheVariants.{Write}
 use Rattle.loop_model.specs.LegalJournal.{in_state, led}
 use Rattle.ready_loop.proofs.CallLemmas as calls
 use Rattle.ready_loop.proofs.TurningLemmas.{serves_then, stops_short, told_at}
+use Rattle.ready_loop.proofs.HandingLemmas.{front-next, write-at}
+use Rattle.ready_loop.proofs.RoundingLemmas.{rounds-none}
 use Rattle.ready_loop.proofs.turn.write.Goals as goal
 
 pub write-requires : goal.write-requires
@@ -32,12 +34,26 @@ pub returns-in-Ok-NotNow-clause-legal : goal.returns-in-Ok-NotNow-clause-legal
 returns-in-Ok-NotNow-clause-legal g c =
     let state = g.A.Core.state c.args.agent.now in
     let line = c.args.queue.now in
-    calls.serves_dropped c.drop_out.result state line c.drop_out.new.queue (Write c.args.port)
-    (g.W.World.journal c.args.world.now) (g.W.World.journal c.write.new.self) (entry.Write c.args.port c.owed.result.now (Ok wrote.NotNow)) refl
-    (calls.write-any state line c.args.port c.owed.result.now (Ok wrote.NotNow) c.requires.next c.owed.ensures)
-    (c.drop_out.ensures state c.requires.next)
-    (told_at (λ r. entry.Write c.args.port c.owed.result.now r) (g.W.World.journal c.args.world.now) (g.W.World.journal c.write.new.self)
-    (c.in-Ok-NotNow.is ∙ ap Ok c.in-Ok-NotNow.field-0-is) c.write.ensures.told)
+    record {
+      by = calls.serves_dropped state line c.take.new.self (Write c.args.port)
+          (g.W.World.journal c.args.world.now) (g.W.World.journal c.write.new.self) (entry.Write c.args.port c.owed.result.now (Ok wrote.NotNow)) refl
+          (calls.write-any state line c.args.port c.owed.result.now (Ok wrote.NotNow) c.requires.next c.owed.ensures)
+          c.take.ensures
+          (told_at (λ r. entry.Write c.args.port c.owed.result.now r) (g.W.World.journal c.args.world.now) (g.W.World.journal c.write.new.self)
+          (c.in-Ok-NotNow.is ∙ ap Ok c.in-Ok-NotNow.field-0-is) c.write.ensures.told);
+    }
+
+pub returns-in-Ok-NotNow-clause-round : goal.returns-in-Ok-NotNow-clause-round
+returns-in-Ok-NotNow-clause-round g c =
+    rw c.take.ensures
+    (rounds-none (g.A.Core.state c.args.agent.now) (Write c.args.port) c.args.queue.now c.requires.ordered.listed c.requires.apart c.requires.next)
+
+pub take-requires : goal.take-requires
+take-requires g c =
+    front-next (g.A.Core.state c.args.agent.now) c.args.queue.now (Write c.args.port) c.requires.ordered c.requires.next
+
+pub end-requires-clause-at : goal.end-requires-clause-at
+end-requires-clause-at g c = write-at c.args.port
 
 pub returns-in-Err-Failed-clause-legal : goal.returns-in-Err-Failed-clause-legal
 returns-in-Err-Failed-clause-legal g c =

@@ -1,9 +1,9 @@
 use Rattle.std.proofs.Common.{◌∙◌, ap, not, subst, sym, List}
 use Rattle.loop_model.specs.Things.{same_thing}
 use Rattle.loop_model.specs.declared.thing.Thing.{Thing}
-use Rattle.loop_model.specs.Lines.{Line, without}
+use Rattle.loop_model.specs.Lines.{Line}
 use Rattle.loop_model.specs.Queues.{dropped}
-use Rattle.ready_loop.specs.Standing.{IsOnce}
+use Rattle.ready_loop.specs.Standing.{IsOnce, without}
 use Rattle.ready_loop.proofs.LineLemmas.{aside-without}
 use Rattle.ready_loop.proofs.StandingLemmas.{once-filter, once-taken}
 use Rattle.ready_loop.proofs.queue.Queue.drop_thing.Goals as goal

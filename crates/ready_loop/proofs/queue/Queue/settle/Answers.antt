@@ -1,17 +1,21 @@
-use Rattle.std.proofs.Common.{◌∙◌}
+use Rattle.std.proofs.Common.{◌∙◌, ap, subst, sym}
+use Rattle.world_ports.specs.declared.events.Door.TheVariants.{Children, Clients}
 use Rattle.loop_model.specs.Lines.{Line}
-use Rattle.ready_loop.proofs.LineLemmas.{put-once, stuck-front, stuck-settled}
+use Rattle.loop_model.specs.Queues.{AreApart}
+use Rattle.ready_loop.specs.Standing.{door_aside}
+use Rattle.ready_loop.proofs.SettlingLemmas.{settles-last, settles-left}
 use Rattle.ready_loop.proofs.queue.Queue.settle.Goals as goal
 
-pub fronts-preserved : goal.fronts-preserved
-fronts-preserved g c =
-    let state = g.A.Core.state c.args.agent.now in
-    let inside = c.fronts.self-inside in
-    let view : Line = record { queue = inside.things.items; aside = inside.aside; joined = inside.joined } in
-    record {
-      once = put-once inside.things.items c.pop_front.new.self.items inside.aside c.put.new.self c.in-Some.front
-          (stuck-front state inside.things.items c.in-Some.front c.in-Some.ensures) c.pop_front.ensures.rest c.in_ok-put.ensures.put c.fronts.invariant.once;
-      rest = stuck-settled state view c.in-Some.front c.pop_front.new.self.items c.put.new.self
-          c.in-Some.ensures c.pop_front.ensures.rest c.in_ok-put.ensures.put
-          ∙ c.fronts.invariant.rest;
-    }
+pub returns-else-not-can_serve : goal.returns-else-not-can_serve
+returns-else-not-can_serve g c =
+    c.close_all.ensures
+    ∙ settles-left (g.A.Core.state c.args.agent.now) (g.A.Core.closes c.args.agent.now) c.args.self.now c.requires
+    (sym c.if-not-can_serve.ensures)
+
+pub returns-in_ok-set_door_aside-2 : goal.returns-in_ok-set_door_aside-2
+returns-in_ok-set_door_aside-2 g c =
+    c.in_ok-set_door_aside-2.ensures ∙ ap (door_aside Children) c.in_ok-set_door_aside.ensures
+    ∙ ap (λ (line : Line). door_aside Children (door_aside Clients line)) c.close_all.ensures
+    ∙ settles-last (g.A.Core.state c.args.agent.now) (g.A.Core.closes c.args.agent.now) c.args.self.now c.requires
+    (subst (λ (line : Line). AreApart line.queue) c.close_all.ensures c.stands_once.ensures)
+    (sym c.if-not-can_serve.ensures)

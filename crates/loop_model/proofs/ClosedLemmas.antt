@@ -1,0 +1,96 @@
+-- The ports that an event closed, and what is open after it.
+use Rattle.std.proofs.Common.{◌≡◌, ◌∙◌, ℕ, Bool, true, false, List, [], ◌∷◌, ◌++◌, refl, sym, ap, not, ◌&&◌, ◌||◌, ◌==◌, if◌then◌else◌, arith}
+use Rattle.std.specs.Prelude.{is_some}
+use Rattle.std.proofs.lemmas.Bool.Decides.{nat_tests}
+use Rattle.std.proofs.lemmas.Bool.{eqb-true}
+use Rattle.lists.specs.Rising.{is_among}
+use Rattle.world_ports.specs.declared.events.Moment.{Moment}
+use Rattle.agent_model.specs.Closings.{joined_between}
+use Rattle.agent_model.specs.Events.{Happening}
+use Rattle.agent_model.specs.NumberLists.{without}
+use Rattle.agent_model.specs.Sound.{IsRising}
+use Rattle.agent_model.specs.State.{Port, State, find_port, is_open, numbers}
+use Rattle.agent_model.specs.Step.{step}
+use Rattle.agent_model.proofs.ClosesLemmas.{closes-closed}
+use Rattle.loop_model.proofs.TestLemmas.{and_both, not_true, or_assoc, or_left}
+
+-- an open port's number is among the numbers
+is_among-open : (number : ℕ) (ports : List Port) → is_among number (numbers ports) ≡ is_some (find_port number ports)
+is_among-open number [] = refl
+is_among-open number (port ∷ ports) =
+    let rest : is_among number (numbers ports) ≡ is_some (find_port number ports) = is_among-open number ports in
+    grind (arith, nat_tests)
+
+among-append : (number : ℕ) (first later : List ℕ)
+    → is_among number (first ++ later) ≡ (is_among number first || is_among number later)
+among-append number [] later = refl
+among-append number (other ∷ first) later =
+    ap (λ (b : Bool). (number == other) || b) (among-append number first later)
+    ∙ sym (or_assoc (number == other) (is_among number first) (is_among number later))
+
+among-without : (number : ℕ) (all left : List ℕ)
+    → is_among number (without all left) ≡ (is_among number all && not (is_among number left))
+among-without number [] left = refl
+among-without number (other ∷ all) left =
+    let rest : is_among number (without all left) ≡ (is_among number all && not (is_among number left)) =
+    among-without number all left in
+    by_test (is_among other left) (number == other) refl refl rest
+  where
+    by_test : (gone same : Bool) → is_among other left ≡ gone → (number == other) ≡ same
+        → is_among number (without all left) ≡ (is_among number all && not (is_among number left))
+        → is_among number (if gone then without all left else other ∷ without all left)
+        ≡ ((same || is_among number all) && not (is_among number left))
+    by_test true true gone same rest =
+        let equal : number ≡ other = eqb-true number other same in
+        let there : is_among number left ≡ true = ap (λ (n : ℕ). is_among n left) equal ∙ gone in
+        rest ∙ ap (λ (b : Bool). is_among number all && not b) there ∙ none (is_among number all)
+        ∙ ap not (sym there)
+      where
+        none : (a : Bool) → (a && false) ≡ false
+        none true = refl
+        none false = refl
+    by_test true false gone same rest = rest
+    by_test false true gone same rest =
+        let equal : number ≡ other = eqb-true number other same in
+        let absent : is_among number left ≡ false = ap (λ (n : ℕ). is_among n left) equal ∙ gone in
+        ap (λ (b : Bool). b || is_among number (without all left)) same ∙ ap not (sym absent)
+    by_test false false gone same rest =
+        ap (λ (b : Bool). b || is_among number (without all left)) same ∙ rest
+
+-- a port that was closed was open or joined, and isn't open
+closed-is : (state : State) (moment : Moment) (event : Happening) (port : ℕ) → IsRising 0 state.last_port state.ports
+    → is_among port (step state moment event).closes
+    ≡ (is_among port (numbers state.ports ++ joined_between state.last_port (step state moment event).state.last_port)
+    && not (is_open port (step state moment event).state))
+closed-is state moment event port rising =
+    let next = (step state moment event).state in
+    let all = numbers state.ports ++ joined_between state.last_port next.last_port in
+    ap (is_among port) (closes-closed state moment event rising)
+    ∙ among-without port all (numbers next.ports)
+    ∙ ap (λ (b : Bool). is_among port all && not b) (is_among-open port next.ports)
+
+pub closed-shut : (state : State) (moment : Moment) (event : Happening) (port : ℕ) → IsRising 0 state.last_port state.ports
+    → is_among port (step state moment event).closes ≡ true → is_open port (step state moment event).state ≡ false
+closed-shut state moment event port rising closed =
+    let next = (step state moment event).state in
+    not_true (is_open port next)
+    (and_both (is_among port (numbers state.ports ++ joined_between state.last_port next.last_port))
+    (not (is_open port next)) (sym (closed-is state moment event port rising) ∙ closed)).1
+
+-- a port that was open is open where the event didn't close it
+pub open-closes : (state : State) (moment : Moment) (event : Happening) (port : ℕ) → IsRising 0 state.last_port state.ports
+    → is_open port state ≡ true
+    → is_open port (step state moment event).state ≡ not (is_among port (step state moment event).closes)
+open-closes state moment event port rising opened =
+    let next = (step state moment event).state in
+    let joined = joined_between state.last_port next.last_port in
+    let was : is_among port (numbers state.ports) ≡ true = is_among-open port state.ports ∙ opened in
+    let all : is_among port (numbers state.ports ++ joined) ≡ true =
+    among-append port (numbers state.ports) joined ∙ or_left (is_among port (numbers state.ports)) (is_among port joined) was in
+    sym (ap not (closed-is state moment event port rising)
+    ∙ ap (λ (b : Bool). not (b && not (is_open port next))) all
+    ∙ twice (is_open port next))
+  where
+    twice : (a : Bool) → not (true && not a) ≡ a
+    twice true = refl
+    twice false = refl
