@@ -10,7 +10,7 @@ import hmac
 import re
 from dataclasses import dataclass, field
 
-from .formats import CERTIFIED, CURVES, ED25519, RESTRICT, RSA
+from .formats import CERTIFIED, CURVES, ED25519, RESTRICT, RSA, USES
 from .formats import PublicKey, added_key, plain_type, public_key
 from .wire import Fault, Reader, demand, matches, string, uint32
 
@@ -37,6 +37,7 @@ class Words:
     mode: str = "add"
     confirm: bool = False
     life: int | None = None
+    uses: int | None = None
     destinations: list[str] = field(default_factory=list)
     hosts: list[str] = field(default_factory=list)
     files: list[str] = field(default_factory=list)
@@ -48,6 +49,13 @@ def read_life(text: str) -> int | None:
     parts = re.findall("([0-9]+)([a-zA-Z]?)", text)
     life = sum(int(count) * UNITS[unit.lower()] for count, unit in parts)
     return life if life < 2**32 else None
+
+
+def read_count(text: str) -> int | None:
+    """Decimal digits without leading zeros, from 1 to 2^32 - 1."""
+    if not re.fullmatch("[1-9][0-9]*", text):
+        return None
+    return int(text) if int(text) < 2**32 else None
 
 
 def read_words(given: list[str]) -> Words:
@@ -64,16 +72,20 @@ def read_words(given: list[str]) -> Words:
             demand(not words.confirm, "usage")
             words.confirm = True
         else:
-            demand(option in ("-t", "-h", "-H") and left != [], "usage")
+            demand(option in ("-t", "-u", "-h", "-H") and left != [], "usage")
             value = left.pop(0)
             if option == "-t":
                 demand(words.life is None, "usage")
                 words.life = read_life(value)
                 demand(words.life is not None, "usage")
+            elif option == "-u":
+                demand(words.uses is None, "usage")
+                words.uses = read_count(value)
+                demand(words.uses is not None, "usage")
             else:
                 (words.destinations if option == "-h" else words.hosts).append(value)
     words.files = left
-    demand(words.mode == "add" or not set(options) & {"-c", "-t", "-h", "-H"}, "usage")
+    demand(words.mode == "add" or not set(options) & {"-c", "-t", "-u", "-h", "-H"}, "usage")
     demand(not words.destinations or words.hosts != [], "usage")
     demand((words.files != []) == (words.mode in ("add", "-d")), "usage")
     return words
@@ -215,6 +227,8 @@ class Tool:
         hosts = [self.file(path, LONGEST_HOSTS_FILE) for path in words.hosts]
         terms = b"" if not words.life else b"\x01" + uint32(words.life)
         terms += b"\x02" * words.confirm
+        if words.uses:
+            terms += b"\xff" + string(USES) + uint32(words.uses)
         if words.destinations:
             rules = [destination(each, hosts) for each in words.destinations]
             terms += b"\xff" + string(RESTRICT) + string(*rules)

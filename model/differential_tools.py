@@ -262,6 +262,9 @@ def try_add_tool(
         if random.random() < 0.3:
             words += ["-t", random.choice(lives)]
         if random.random() < 0.3:
+            counts = ["1", "3", "4294967295", "4294967296", "0", "03", "+3", "-1", "3s", ""]
+            words += ["-u", random.choice(counts)] * random.choice([1] * 9 + [2])
+        if random.random() < 0.3:
             words += ["-c"] * random.choice([1] * 9 + [2])
         if random.random() < 0.7:
             words += ["-H", "k1"]
@@ -275,7 +278,7 @@ def try_add_tool(
         names = ["f1", "f2", "f3"] if mode == "add" else ["f1.pub", "f2.pub", "f3.pub"]
         words += random.sample(names, random.randrange(4)) + ["none"] * (random.random() < 0.05)
     if random.random() < 0.05:
-        words = [random.choice(["-l", "-D", "-c", "-q", "-t"]), *words]
+        words = [random.choice(["-l", "-D", "-c", "-q", "-t", "-u"]), *words]
     pairs = [string(key.blob) + string(random.choice(comments)) for key in pool.KEYS]
     pairs.append(string(b"unreadable") + string(b"x"))
     some = random.sample(pairs, random.choice([0, 1, 3, 14]))
@@ -343,6 +346,15 @@ def try_rows() -> bool:
         seen = add_tool.run(["-H", "kh", "-h", dest, "f1"], files, st(b"\x06"), b"")
         rows.append((seen, talk_wanted))
     rows.append((add_tool.run(["-l"], {}, st(b"\x0c" + uint32(0)), b""), nothing))
+    thrice = Talk(
+        st(b"\x19" + added(0x11, b"one") + b"\xff" + st(b"uses-v00@example.com") + uint32(3)),
+        b"",
+        b"Identity added: f1 (one)\n",
+    )
+    rows.append((add_tool.run(["-u", "3", "f1"], files, st(b"\x06"), b""), thrice))
+    usage = Talk(b"", b"", b"ssh-add: usage\n", 1)
+    for count in ("0", "03", "+3", "4294967296", "-1", "3s", ""):
+        rows.append((add_tool.run(["-u", count, "f1"], files, st(b"\x06"), b""), usage))
     lives = [add_tool.read_life(text) for text in ("90", "1h30", "1H30M", "10x", "")]
     rows.append((lives, [90, 3630, 5400, None, None]))
     for seen, wanted in rows:

@@ -109,6 +109,14 @@ SSH_ASKPASS=/bin/false ssh-keygen -q -Y sign -f ed25519.pub -n file message > /d
 same 'no signature without consent' 'none' "$([ -e message.sig ] && echo one || echo none)"
 "$tool" -D 2> /dev/null
 
+run "a number of uses, which OpenSSH's agent doesn't know" 1 'ssh-add: refused' "$tool" -u 3 ed25519.body
+for count in 0 03 +3 3s 4294967296; do
+    run "$count uses" 1 'ssh-add: usage' "$tool" -u "$count" ed25519.body
+done
+run 'two numbers of uses' 1 'ssh-add: usage' "$tool" -u 3 -u 3 ed25519.body
+run 'uses of what is removed' 1 'ssh-add: usage' "$tool" -d -u 3 ed25519.pub
+same 'none of them was added' 'The agent has no identities.' "$(ssh-add -l 2>&1)"
+
 run 'two files, of which the second is missing' 1 'Identity added: ed25519.body (one key)' "$tool" ed25519.body missing
 lists 'what was done before stands'
 says 'an encrypted key' 1 "ssh-add: body
@@ -183,6 +191,10 @@ if command -v python3 > /dev/null; then
     done
     same 'the requests of both tools: how many' 20 "$(wc -l < ours)"
     same 'the requests of both tools' "$(cat theirs)" "$(cat ours)"
+    SSH_AUTH_SOCK=$work/ours.sock "$tool" -t 60 -u 3 ed25519.body 2> /dev/null
+    uses=ff00000014$(printf uses-v00@example.com | od -An -tx1 | tr -d ' \n')00000003
+    case $(tail -n 1 ours) in 19*010000003c"$uses") sent=yes ;; *) sent=no ;; esac
+    same 'a number of uses is sent behind the lifetime' yes "$sent"
     kill "${recorders[@]}"
     recorders=()
 fi

@@ -4,10 +4,12 @@ import os
 import pathlib
 import shutil
 import subprocess
+import sys
 import time
 
+import rig
 from installed import Installed, Keys, check, keygen
-from rig import openssh_agent, run
+from rig import openssh_agent, run, until
 
 
 @check
@@ -119,6 +121,51 @@ def mortarleek_add_says_what_it_hands_over(folder):
             (tools / tool).symlink_to(shutil.which(tool))
         said = daemon.run(installed.add, keys.locked, status=1, environment=dict(environment, PATH=str(tools)))
         assert "isn't there" in said, said
+
+
+@check
+def a_number_of_uses_is_sent_or_the_key_isnt_added(folder):
+    installed, keys = Installed(folder), Keys(folder)
+    path, file = folder / "recorder", folder / "sent"
+    environment = dict(installed.environment, HOME=str(keys.home), SSH_AUTH_SOCK=str(path))
+    environment.update(SSH_ASKPASS=str(keys.asker), SSH_ASKPASS_REQUIRE="force")
+
+    def uses(count):
+        return b"\xff\0\0\0\x14uses-v00@example.com" + count.to_bytes(4, "big")
+
+    def add(*words, status=0):
+        """What is said, and the bodies that came to the agent."""
+        before = len(file.read_text().splitlines())
+        said = run([installed.add, *words], status, env=environment)
+        return said, [bytes.fromhex(line) for line in file.read_text().splitlines()[before:]]
+
+    with subprocess.Popen([sys.executable, rig.TOP / "tests/recorder.py", path, file]) as recorder:
+        try:
+            until(lambda: path.exists() and file.exists())
+            for words, terms, told in (
+                (["-u", "3"], uses(3), "The key may be used 3 times\n"),
+                (["-qu1", "-t", "60", "-c"], b"\x01\0\0\0\x3c\x02" + uses(1), ""),
+                (["-u", "4294967295", "-k"], uses(2**32 - 1), "The key may be used 4294967295 times\n"),
+            ):
+                said, sent = add(*words, keys.plain)
+                assert [body[:1] for body in sent] == [b"\x19"] and sent[0].endswith(b"plain key" + terms), sent
+                assert said.endswith(told), said
+            for count in ("0", "03", "+3", "-1", "3s", "", " 3", "4294967296", "99999999999999999999"):
+                said, sent = add("-u", count, keys.plain, status=1)
+                assert said == "Invalid number of uses\n" and sent == [], (count, said)
+            for words in (["-u", "3", "-u", "3", keys.plain], ["-d", "-u", "3", keys.plain], ["-lu3"], ["-Tu3", keys.plain]):
+                said, sent = add(*words, status=1)
+                assert said.startswith("mortarleek-add: -u: ") and said.count("\n") == 1 and sent == [], said
+            # what only ssh-add reads isn't added without its number
+            for key in (keys.locked, keys.old, keys.certified):
+                said, sent = add("-u", "3", key, status=1)
+                assert "isn't added" in said and str(key) in said and said.count("\n") == 1 and sent == [], said
+            said, sent = add("-u", "3", keys.locked, keys.plain, status=1)
+            assert [body[-28:] for body in sent] == [uses(3)[1:]], sent
+            said, sent = add("-ku1", keys.certified)
+            assert [body[-29:] for body in sent] == [uses(1)] and "The key may be used once\n" in said, said
+        finally:
+            recorder.kill()
 
 
 @check

@@ -43,7 +43,7 @@ def manuals_are_clean_and_name_every_option(folder):
     for option in "acDdEkOPsTtUu":
         assert f"-{option}" in text, option
     text = re.sub(".\b", "", add)
-    for option in "CcDdEeHhKklLMmNqSsTtvXx":
+    for option in "CcDdEeHhKklLMmNqSsTtuvXx":
         assert f"-{option}" in text, option
     assert "-k" in re.sub(".\b", "", filtered)
 

@@ -18,8 +18,9 @@ _mortarleek_add() {
     case $3:$2 in
     -E:*) _mortarleek_offer -W 'md5 sha256' -- "$2" ;;
     -t:*) _mortarleek_offer -W '30m 1h 8h 1d' -- "$2" ;;
+    -u:*) _mortarleek_offer -W '1 3' -- "$2" ;;
     -h:*) _mortarleek_offer -A hostname -- "$2" ;;
-    *:-*) _mortarleek_offer -W '-c -D -d -E -H -h -k -L -l -N -q -T -t -v -X -x' -- "$2" ;;
+    *:-*) _mortarleek_offer -W '-c -D -d -E -H -h -k -L -l -N -q -T -t -u -v -X -x' -- "$2" ;;
     *) _mortarleek_offer -f -- "$2" ;;
     esac
 }

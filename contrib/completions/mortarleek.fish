@@ -39,6 +39,7 @@ function __mortarleek_add
     complete $argv -s q -d 'Say nothing where all goes well'
     complete $argv -s T -d 'Try the keys, by ssh-add'
     complete $argv -s t -x -a '30m 1h 8h 1d' -d 'Forget the key after this time'
+    complete $argv -s u -x -a '1 3' -d 'Forget the key after so many uses'
     complete $argv -s v -d 'Tell what happens to each file'
     complete $argv -s X -d 'Unlock the agent'
     complete $argv -s x -d 'Lock the agent'

@@ -1,3 +1,4 @@
+pub mod FileCauseLemmas
 pub mod FileLemmas
 pub mod HearingLemmas
 pub mod ListingLemmas

@@ -1,7 +1,10 @@
 -- Files of known hosts, one after another, and what a fault of them means.
-use Rattle.std.proofs.Common.{◌≡◌, ◌<◌, ◌≤◌, ◌+◌, ℕ, List, [], ◌∷◌, ◌++◌, drop, length, get_or, Option, Result, Ok, Err, refl, sym, ap, ◌∙◌, append_assoc}
+use Rattle.std.proofs.Common.{◌≡◌, ◌<◌, ◌≤◌, ◌+◌, ℕ, List, [], ◌∷◌, ◌++◌, drop, length, get_or, Option, None, Some, Result, Ok, Err, refl, sym, ap, ◌∙◌, append_assoc}
 use Rattle.std.specs.Borrow.{Bor}
+use Rattle.std.specs.Prelude.{IfSome}
 use Rattle.std.proofs.lemmas.List.{append-nil, drop_more, drop_all}
+use Rattle.constraint_rec.specs.Constraints.{IsUseCount}
+use Rattle.add_words.specs.Counts.{IsCount}
 use Rattle.add_core.specs.declared.fault.AddFault.{AddFault}
 use Rattle.add_core.specs.declared.fault.AddFault.TheVariants as why
 use Rattle.add_core.specs.declared.fault.Stop.{Stop}
@@ -10,6 +13,11 @@ use Rattle.add_core.specs.Exchanges.{Refuses}
 use Rattle.add_core.specs.Restrictions.{with_text, hosts_held}
 use Rattle.add_core.specs.Sendings.{place_of, text_held}
 use Rattle.add_core.proofs.FileLemmas.{lent}
+
+-- a count of the words is a number of uses that a constraint may have
+pub is_use_count : (uses : Option ℕ) → IsCount uses → IfSome uses IsUseCount
+is_use_count None count = tt
+is_use_count (Some uses) count = record { some = count.0; short = count.1 }
 
 -- a fault of a part is one of the whole
 pub refuses_on : {A B : Type 0} (stop : Stop) (part : Result A AddFault) (whole : Result B AddFault)

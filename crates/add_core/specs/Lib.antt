@@ -1,4 +1,5 @@
 pub mod Exchanges
+pub mod FileCauses
 pub mod Hearing
 pub mod Listings
 pub mod Locks

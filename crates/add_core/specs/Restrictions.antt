@@ -1,5 +1,5 @@
--- The constraints of keys that are added (ssh-add(1), options -t, -c, -h and -H).
-use Rattle.std.specs.Prelude.{ℕ, ◌+◌, List, [], ◌∷◌, None, Option, Result, Ok, Err}
+-- The constraints of keys that are added (ssh-add(1), options -t, -c, -h and -H; -u is ours).
+use Rattle.std.specs.Prelude.{ℕ, ◌+◌, List, [], ◌∷◌, Option, Result, Ok, Err}
 use Rattle.constraint_rec.specs.declared.constraint.Constraint.{Constraint}
 use Rattle.constraint_rec.specs.declared.terms.Terms.{Terms}
 use Rattle.add_rules.specs.declared.fault.DestFault.{DestFault}
@@ -32,7 +32,7 @@ hosts_held held place (path ∷ paths) =
 -- the terms that the words ask for, with these destination constraints
 abbrev pub terms_with : PlainWords → Result (List Constraint) DestFault → Result Terms AddFault
 terms_with words (Ok rules) =
-    Ok record { life = words.life; confirm = words.confirm; uses = None; rules = rules }
+    Ok record { life = words.life; confirm = words.confirm; uses = words.uses; rules = rules }
 terms_with words (Err fault) = Err (Destination fault)
 
 -- the terms that the words ask for, over these texts of files of known hosts

@@ -1,5 +1,5 @@
 -- What is made of files: a request to add or to remove each key, one after another.
-use Rattle.std.specs.Prelude.{ℕ, ◌+◌, ◌^◌, ◌-◌, min, nat_lt, List, [], ◌∷◌, ◌++◌, length, codes, Option, None, Some, Result, Ok, Err, All, if◌then◌else◌}
+use Rattle.std.specs.Prelude.{ℕ, ◌+◌, ◌^◌, ◌-◌, min, nat_lt, List, [], ◌∷◌, ◌++◌, length, codes, Option, None, Some, Result, Ok, Err, if◌then◌else◌}
 use Rattle.wire_text.specs.Wire.{string}
 use Rattle.key_file.specs.declared.fault.KeyFileFault.{KeyFileFault}
 use Rattle.key_file.specs.declared.fault.KeyFileFault.TheVariants as of_body

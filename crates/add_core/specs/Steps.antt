@@ -3,7 +3,6 @@
 use Rattle.std.specs.Prelude.{◌≡◌, ◌⊎◌, ◌≤◌, ℕ, List, [], ◌++◌, Option, None, Some, Result, Ok, Err}
 use Rattle.std.specs.Io.KnownBytes.{Appends}
 use Rattle.world_ports.specs.Causes.{Rose}
-use Rattle.world_ports.specs.Files.{FilesView}
 use Rattle.world_ports.specs.Streams.{StreamView, WritesPart}
 use Rattle.add_core.specs.declared.fault.AddFault.{AddFault}
 use Rattle.add_core.specs.declared.fault.AddFault.TheVariants.{File, FileTooLong, PeerFault, InputFault, OutputFault, BadReply}
@@ -105,11 +104,6 @@ pub record HasPeerCause {T : Type 0} (result : Result T Stop) (before now : Stre
   pub writes : before.write_faults ≤ now.write_faults
   pub fault : result ≡ Err (Fault PeerFault)
       → Rose before.read_faults now.read_faults ⊎ Rose before.write_faults now.write_faults
-
--- a fault of a file was counted, and none is forgotten
-pub record HasFileCause {T : Type 0} (result : Result T Stop) (before now : FilesView) : Type 0 where
-  pub later : before.faults ≤ now.faults
-  pub fault : (place : ℕ) → result ≡ Err (Fault (File place)) → Rose before.faults now.faults
 
 -- what a reading of a file ends with
 abbrev pub IsOwnOfFiles : {T : Type 0} → Result T Stop → Type 0

@@ -2,7 +2,8 @@
 ghost use Rattle.std.specs.Prelude.{◌≡◌, ◌≢◌, ℕ, List, Option, OnOk, Some, Err, map};
 ghost use Rattle.add_core.specs.Sendings.{IsDoable, each_file, file_step, place_of, sending_of, sent_for, text_held};
 ghost use Rattle.add_core.specs.Exchanges.{Tells};
-ghost use Rattle.add_core.specs.Steps.{Follows, HasFileCause, HasPeerCause, HasSinkCause, IsOwn, IsOwnOfFiles};
+ghost use Rattle.add_core.specs.FileCauses.{HasCauseAt, HasFileCause};
+ghost use Rattle.add_core.specs.Steps.{Follows, HasPeerCause, HasSinkCause, IsOwn, IsOwnOfFiles};
 
 use crate::exchange::request;
 use crate::fault::{AddFault, Stop};
@@ -32,7 +33,7 @@ pub fn read_text<F: Files>(
     ensures told { (held : List ℕ → Option (List ℕ)) → (F.seen files.old).held ≡ Some held
         → Tells (λ text. text.items) result (text_held (place_of place) most (held path.now)) }
     ensures kept { (F.seen files.new).held ≡ (F.seen files.old).held }
-    ensures cause { HasFileCause result (F.seen files.old) (F.seen files.new) }
+    ensures cause { HasCauseAt path.now place result (F.seen files.old) (F.seen files.new) }
     ensures own { IsOwnOfFiles result }
 {
     match files.read(alloc, path, most) {
@@ -74,7 +75,7 @@ fn send_file<F: Files, P: Source + Sink, E: Sink>(
         (P.seen peer.old) (P.seen peer.new) (E.seen errors.old) (E.seen errors.new) }
     ensures task { OnOk result (task.new ≡ task.old) }
     ensures held { (F.seen files.new).held ≡ (F.seen files.old).held }
-    ensures files { HasFileCause result (F.seen files.old) (F.seen files.new) }
+    ensures files { HasCauseAt path.now place result (F.seen files.old) (F.seen files.new) }
     ensures peer { HasPeerCause result (P.seen peer.old) (P.seen peer.new) }
     ensures errors { HasSinkCause result (E.seen errors.old) (E.seen errors.new) }
     ensures input { result ≢ Err (Stop.Fault AddFault.InputFault) }
@@ -100,7 +101,8 @@ pub fn send_files<F: Files, P: Source + Sink, E: Sink>(
         (each_file task.old held 0 (map (λ path. path.now) paths.now) replies)
         (P.seen peer.old) (P.seen peer.new) (E.seen errors.old) (E.seen errors.new) }
     ensures held { (F.seen files.new).held ≡ (F.seen files.old).held }
-    ensures files { HasFileCause result (F.seen files.old) (F.seen files.new) }
+    ensures files { HasFileCause (map (λ path. path.now) paths.now) result
+        (F.seen files.old) (F.seen files.new) }
     ensures peer { HasPeerCause result (P.seen peer.old) (P.seen peer.new) }
     ensures errors { HasSinkCause result (E.seen errors.old) (E.seen errors.new) }
     ensures input { result ≢ Err (Stop.Fault AddFault.InputFault) }

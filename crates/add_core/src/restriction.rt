@@ -1,8 +1,10 @@
 // The constraints of keys that are added.
 ghost use Rattle.std.specs.Prelude.{◌≡◌, ℕ, List, Option, Some, Ok, All, IfOk, map};
 ghost use Rattle.add_core.specs.Exchanges.{Tells};
+ghost use Rattle.add_core.specs.FileCauses.{HasFileCause};
 ghost use Rattle.add_core.specs.Restrictions.{IsOwnOfTerms, hosts_held, terms_by, terms_for};
-ghost use Rattle.add_core.specs.Steps.{HasFileCause, IsOwn, IsOwnOfFiles};
+ghost use Rattle.add_core.specs.Steps.{IsOwn, IsOwnOfFiles};
+ghost use Rattle.add_words.specs.Counts.{IsCount};
 ghost use Rattle.add_words.specs.Words.{plain_words};
 ghost use Rattle.constraint_rec.specs.Writing.{MeetsRules};
 
@@ -24,7 +26,8 @@ fn read_hosts<F: Files>(alloc: Global, files: &mut F, paths: &[&str]) -> Result<
         → Tells (λ hosts. hosts.items) result
         (hosts_held held 0 (map (λ path. path.now) paths.now)) }
     ensures kept { (F.seen files.new).held ≡ (F.seen files.old).held }
-    ensures cause { HasFileCause result (F.seen files.old) (F.seen files.new) }
+    ensures cause { HasFileCause (map (λ path. path.now) paths.now) result
+        (F.seen files.old) (F.seen files.new) }
     ensures own { IsOwnOfFiles result }
 {
     let mut hosts = Vec::new(alloc);
@@ -38,7 +41,9 @@ fn read_hosts<F: Files>(alloc: Global, files: &mut F, paths: &[&str]) -> Result<
 }
 
 /// The constraints, by the texts of the files of known hosts.
+#[tactic(auto, using(crate::proofs::RestrictionLemmas::is_use_count))]
 fn terms_by(alloc: Global, words: &AddWords<'_>, hosts: &[Bytes]) -> Result<Terms, Stop>
+    requires { IsCount words.now.uses }
     ensures told { Tells (λ terms. terms) result
         (terms_by (plain_words words.now) (Ok hosts.now)) }
     ensures writable { IfOk result (λ terms. MeetsRules terms) }
@@ -48,7 +53,7 @@ fn terms_by(alloc: Global, words: &AddWords<'_>, hosts: &[Bytes]) -> Result<Term
         Ok(rules) => Ok(Terms {
             life: words.life,
             confirm: words.confirm,
-            uses: None,
+            uses: words.uses,
             rules,
         }),
         Err(fault) => Err(Stop::Fault(AddFault::Destination(fault))),
@@ -57,11 +62,13 @@ fn terms_by(alloc: Global, words: &AddWords<'_>, hosts: &[Bytes]) -> Result<Term
 
 /// The constraints that the words ask for.
 pub fn terms<F: Files>(alloc: Global, files: &mut F, words: &AddWords<'_>) -> Result<Terms, Stop>
+    requires { IsCount words.now.uses }
     ensures told { (held : List ℕ → Option (List ℕ)) → (F.seen files.old).held ≡ Some held
         → Tells (λ terms. terms) result (terms_for (plain_words words.now) held) }
     ensures writable { IfOk result (λ terms. MeetsRules terms) }
     ensures kept { (F.seen files.new).held ≡ (F.seen files.old).held }
-    ensures cause { HasFileCause result (F.seen files.old) (F.seen files.new) }
+    ensures cause { HasFileCause (plain_words words.now).hosts result
+        (F.seen files.old) (F.seen files.new) }
     ensures own { IsOwnOfTerms result }
 {
     let hosts = read_hosts(alloc, files, &words.hosts)?;

@@ -1,7 +1,9 @@
 // The tool.
-ghost use Rattle.std.specs.Prelude.{◌≡◌, ◌≢◌, ◌⊎◌, ◌≤◌, ℕ, List, Option, Some, None, Err, IfSome, MatchResult, true, is_some, map, option_map, string_bytes};
-ghost use Rattle.add_core.specs.Steps.{Follows, HasFileCause, HasPeerCause, HasSinkCause};
+ghost use Rattle.std.specs.Prelude.{◌≡◌, ◌≢◌, ◌⊎◌, ◌≤◌, ℕ, List, Option, Some, None, Err, IfOk, IfSome, MatchResult, true, is_some, map, option_map, string_bytes};
+ghost use Rattle.add_core.specs.FileCauses.{FailsByWords, FailsIn};
+ghost use Rattle.add_core.specs.Steps.{Follows, HasPeerCause, HasSinkCause};
 ghost use Rattle.add_core.specs.Talk.{Ends, Runs, WritesAllOrFails, add_step, agent_seen, ended, is_list, last_line, run_step, talk, talk_with};
+ghost use Rattle.add_words.specs.Counts.{IsCount};
 ghost use Rattle.add_words.specs.Words.{plain_words, words_of};
 ghost use Rattle.world_ports.specs.Causes.{Rose};
 ghost use Rattle.world_ports.specs.Streams.{StreamView};
@@ -24,11 +26,13 @@ fn add<F: Files, P: Source + Sink, E: Sink>(
     peer: &mut P,
     errors: &mut E,
 ) -> Result<(), Stop>
+    requires { IsCount words.now.uses }
     ensures told { (held : List ℕ → Option (List ℕ)) (replies : List ℕ)
         → (F.seen files.old).held ≡ Some held → (P.seen peer.old).left ≡ Some replies
         → Follows result (add_step (plain_words words.now) held replies)
         (P.seen peer.old) (P.seen peer.new) (E.seen errors.old) (E.seen errors.new) }
-    ensures files { HasFileCause result (F.seen files.old) (F.seen files.new) }
+    ensures files { (place : ℕ) → result ≡ Err (Stop.Fault (AddFault.File place))
+        → FailsIn (plain_words words.now) place (F.seen files.old) (F.seen files.new) }
     ensures peer { HasPeerCause result (P.seen peer.old) (P.seen peer.new) }
     ensures errors { HasSinkCause result (E.seen errors.old) (E.seen errors.new) }
     ensures input { result ≢ Err (Stop.Fault AddFault.InputFault) }
@@ -48,6 +52,7 @@ fn run<F: Files, P: Source + Sink, I: Source, O: Sink, E: Sink>(
     output: &mut O,
     errors: &mut E,
 ) -> Result<(), Stop>
+    requires { IsCount words.now.uses }
     ensures told { (held : List ℕ → Option (List ℕ)) (left replies : List ℕ)
         → (F.seen files.old).held ≡ Some held → (I.seen input.old).left ≡ Some left
         → (P.seen peer.old).left ≡ Some replies
@@ -55,7 +60,8 @@ fn run<F: Files, P: Source + Sink, I: Source, O: Sink, E: Sink>(
         (run_step (plain_words words.now) held left replies)
         (P.seen peer.old) (P.seen peer.new) (O.seen output.old) (O.seen output.new)
         (E.seen errors.old) (E.seen errors.new) }
-    ensures files { HasFileCause result (F.seen files.old) (F.seen files.new) }
+    ensures files { (place : ℕ) → result ≡ Err (Stop.Fault (AddFault.File place))
+        → FailsIn (plain_words words.now) place (F.seen files.old) (F.seen files.new) }
     ensures peer { HasPeerCause result (P.seen peer.old) (P.seen peer.new) }
     ensures input { result ≡ Err (Stop.Fault AddFault.InputFault)
         → Rose (I.seen input.old).read_faults (I.seen input.new).read_faults }
@@ -134,6 +140,7 @@ fn talk<F: Files, P: Source + Sink, I: Source, O: Sink, E: Sink>(
     output: &mut O,
     errors: &mut E,
 ) -> AddStatus
+    requires { IsCount words.now.uses }
     ensures told { (held : List ℕ → Option (List ℕ)) (left replies : List ℕ)
         → (F.seen files.old).held ≡ Some held → (I.seen input.old).left ≡ Some left
         → (P.seen peer.old).left ≡ Some replies
@@ -142,7 +149,7 @@ fn talk<F: Files, P: Source + Sink, I: Source, O: Sink, E: Sink>(
         (E.seen errors.old) (E.seen errors.new) }
     ensures reached { result ≢ AddStatus.NoAgent }
     ensures files { (place : ℕ) → result ≡ AddStatus.Failed (AddFault.File place)
-        → Rose (F.seen files.old).faults (F.seen files.new).faults }
+        → FailsIn (plain_words words.now) place (F.seen files.old) (F.seen files.new) }
     ensures agent { result ≡ AddStatus.Failed AddFault.PeerFault
         → Rose (P.seen peer.old).read_faults (P.seen peer.new).read_faults
         ⊎ Rose (P.seen peer.old).write_faults (P.seen peer.new).write_faults }
@@ -160,11 +167,12 @@ fn talk<F: Files, P: Source + Sink, I: Source, O: Sink, E: Sink>(
 
 /// The words, where they are of one of the tool's forms.
 fn read_form<'a>(alloc: Global, words: &'a [String]) -> Result<AddWords<'a>, AddStatus>
-    ensures { MatchResult result
+    ensures value { MatchResult result
         (λ read. words_of (map string_bytes words.entry.now) ≡ Some (plain_words read))
         (λ status. (status ≡ AddStatus.Memory)
         ⊎ ((status ≡ AddStatus.Failed AddFault.Usage)
         × (words_of (map string_bytes words.entry.now) ≡ None))) }
+    ensures uses { IfOk result (λ read. IsCount read.uses) }
 {
     match read_words(alloc, words) {
         Ok(words) => Ok(words),
@@ -199,9 +207,9 @@ pub fn add_main<F: Files, P: Source + Sink, I: Source, O: Sink, E: Sink>(
         → (result ≡ AddStatus.Failed AddFault.Usage) ⊎ (result ≡ AddStatus.Memory) }
     ensures no_agent { result ≡ AddStatus.NoAgent → peer.old ≡ None }
 
-    // A fault of an object was counted there.
+    // A fault of an object was counted there; that of a file on the very path that the place names.
     ensures files { (place : ℕ) → result ≡ AddStatus.Failed (AddFault.File place)
-        → Rose (F.seen files.old).faults (F.seen files.new).faults }
+        → FailsByWords (map string_bytes words.now) place (F.seen files.old) (F.seen files.new) }
     ensures agent { result ≡ AddStatus.Failed AddFault.PeerFault
         → Rose (agent_seen (option_map P.seen peer.old)).read_faults
         (agent_seen (option_map P.seen peer.new)).read_faults

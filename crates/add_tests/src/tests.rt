@@ -1,5 +1,7 @@
 // Outside vectors, each fault with its word, and replies in pieces.
-use crate::fixtures::{ADD_ONE, ADD_ONE_RESTRICTED, ENTRY, FINGERPRINT_LINE, PUBLIC};
+use crate::fixtures::{
+    ADD_ONE, ADD_ONE_RESTRICTED, ADD_ONE_THRICE, ENTRY, FINGERPRINT_LINE, PUBLIC,
+};
 use crate::play::{Failing, NOTHING, ends, play, play_words, prints, sends, words};
 use add_core::{AddFault, AddStatus, DestFault, add_main, read_life};
 use key_file::{KeyFileFault, PubFault};
@@ -21,6 +23,23 @@ fn a_key_is_added_for_a_way_between_hosts(rt: HostRuntime) -> Result<(), Fail> {
     ends(&rt, &played, AddStatus::Done, text);
     sends(&rt, &played, &wanted, text);
     prints(&rt, &played, b"", b"Identity added: f1 (one)\n", text);
+    Ok(())
+}
+
+#[test]
+fn a_key_is_added_for_three_uses(rt: HostRuntime) -> Result<(), Fail> {
+    let alloc = rt.alloc();
+    let wanted = hex::decode(alloc, ADD_ONE_THRICE)?;
+    let played = play(&rt, alloc, "-u 3 f1", b"", SUCCESS);
+    ends(&rt, &played, AddStatus::Done, "three uses");
+    sends(&rt, &played, &wanted, "three uses");
+    prints(
+        &rt,
+        &played,
+        b"",
+        b"Identity added: f1 (one)\n",
+        "three uses",
+    );
     Ok(())
 }
 
@@ -51,8 +70,14 @@ fn lifetimes_are_read(rt: HostRuntime) {
 }
 
 // Words, the agent's bytes, the fault, and all that stands on the errors. Nothing is sent in these.
-const UNSENT: [(&str, AddFault, &str); 15] = [
+const UNSENT: [(&str, AddFault, &str); 21] = [
     ("-l -L", AddFault::Usage, "ssh-add: usage\n"),
+    ("-u 0 f1", AddFault::Usage, "ssh-add: usage\n"),
+    ("-u 03 f1", AddFault::Usage, "ssh-add: usage\n"),
+    ("-u +3 f1", AddFault::Usage, "ssh-add: usage\n"),
+    ("-u 4294967296 f1", AddFault::Usage, "ssh-add: usage\n"),
+    ("-u 3 -u 3 f1", AddFault::Usage, "ssh-add: usage\n"),
+    ("-l -u 3", AddFault::Usage, "ssh-add: usage\n"),
     (
         "-h scylla.example.org f1",
         AddFault::Usage,

@@ -4,9 +4,10 @@ use Rattle.world_ports.specs.Life.{life_of}
 use Rattle.add_words.specs.declared.command.Command.{Command}
 use Rattle.add_words.specs.declared.given.Given.{Given as CodeGiven}
 use Rattle.add_words.specs.declared.option.Wanted.{Wanted}
-use Rattle.add_words.specs.declared.option.Wanted.TheVariants.{Life, Destination, Hosts}
+use Rattle.add_words.specs.declared.option.Wanted.TheVariants.{Life, Uses, Destination, Hosts}
 use Rattle.add_words.specs.declared.option.Word.{Word}
 use Rattle.add_words.specs.declared.option.Word.TheVariants.{Does, Confirm, Wants, Ends, Unknown, File}
+use Rattle.add_words.specs.Counts.{count_of}
 use Rattle.add_words.specs.Options.{option_of}
 
 -- what the words so far say, which value the next word is, and whether only files follow
@@ -14,6 +15,7 @@ pub record Given : Type 0 where
   pub command : Option Command
   pub confirm : Bool
   pub life : Option ℕ
+  pub uses : Option ℕ
   pub destinations : List (List ℕ)
   pub hosts : List (List ℕ)
   pub files : List (List ℕ)
@@ -26,6 +28,7 @@ given_of given = record {
   command = given.command;
   confirm = given.confirm;
   life = given.life;
+  uses = given.uses;
   destinations = map (λ word. word.now) given.destinations.items;
   hosts = map (λ word. word.now) given.hosts.items;
   files = map (λ word. word.now) given.files.items;
@@ -39,6 +42,7 @@ nothing_given = record {
   command = None;
   confirm = false;
   life = None;
+  uses = None;
   destinations = [];
   hosts = [];
   files = [];
@@ -53,9 +57,15 @@ abbrev pub with_life : Given → Option ℕ → Option Given
 with_life given None = None
 with_life given (Some life) = Some record given { wanted = None; life = Some life }
 
+-- what is given and a number of uses, where the word was read as one
+abbrev pub with_uses : Given → Option ℕ → Option Given
+with_uses given None = None
+with_uses given (Some uses) = Some record given { wanted = None; uses = Some uses }
+
 -- what a word adds as the value of the option before it
 abbrev pub after_value : Wanted → Given → List ℕ → Option Given
 after_value Life given word = with_life given (life_of word)
+after_value Uses given word = with_uses given (count_of word)
 after_value Destination given word =
     Some record given { wanted = None; destinations = given.destinations ++ word ∷ [] }
 after_value Hosts given word = Some record given { wanted = None; hosts = given.hosts ++ word ∷ [] }
@@ -64,13 +74,16 @@ after_value Hosts given word = Some record given { wanted = None; hosts = given.
 abbrev pub with_file : Given → List ℕ → Option Given
 with_file given word = Some record given { files = given.files ++ word ∷ [] }
 
--- what a word adds that is an option or a file: a command, `-c` and a lifetime may stand only once
+-- what a word adds that is an option or a file: a command, `-c`, a lifetime and a number of
+-- uses may stand only once
 abbrev pub after_kind : Word → Given → List ℕ → Option Given
 after_kind (Does command) given word =
     if is_some given.command then None else Some record given { command = Some command }
 after_kind Confirm given word = if given.confirm then None else Some record given { confirm = true }
 after_kind (Wants Life) given word =
     if is_some given.life then None else Some record given { wanted = Some Life }
+after_kind (Wants Uses) given word =
+    if is_some given.uses then None else Some record given { wanted = Some Uses }
 after_kind (Wants Destination) given word = Some record given { wanted = Some Destination }
 after_kind (Wants Hosts) given word = Some record given { wanted = Some Hosts }
 after_kind Ends given word = Some record given { ended = true }

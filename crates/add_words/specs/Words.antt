@@ -11,6 +11,7 @@ pub record PlainWords : Type 0 where
   pub command : Command
   pub confirm : Bool
   pub life : Option ℕ
+  pub uses : Option ℕ
   pub destinations : List (List ℕ)
   pub hosts : List (List ℕ)
   pub files : List (List ℕ)
@@ -21,6 +22,7 @@ plain_words words = record {
   command = words.command;
   confirm = words.confirm;
   life = words.life;
+  uses = words.uses;
   destinations = map (λ word. word.now) words.destinations.items;
   hosts = map (λ word. word.now) words.hosts.items;
   files = map (λ word. word.now) words.files.items;
@@ -50,8 +52,8 @@ has_some (x ∷ xs) = true
 -- no constraint is asked for
 abbrev pub is_unconstrained : Given → Bool
 is_unconstrained given =
-    not given.confirm && is_none given.life && not (has_some given.destinations)
-    && not (has_some given.hosts)
+    not given.confirm && is_none given.life && is_none given.uses
+    && not (has_some given.destinations) && not (has_some given.hosts)
 
 -- the words that there are go together with the command: files to add and to remove and nowhere
 -- else, constraints where keys are added, and files of known hosts where there are destinations
@@ -73,6 +75,7 @@ words_of_given given =
       command = command_of given.command;
       confirm = given.confirm;
       life = some_life given.life;
+      uses = given.uses;
       destinations = given.destinations;
       hosts = given.hosts;
       files = given.files;

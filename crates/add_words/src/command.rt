@@ -31,6 +31,8 @@ pub struct AddWords<'a> {
     pub confirm: bool,
     /// `-t LIFE`, in seconds. A lifetime of 0 is none.
     pub life: Option<u32>,
+    /// `-u COUNT`: how often the keys may be used, at least once.
+    pub uses: Option<u32>,
     /// `-h DEST`, as they were typed.
     pub destinations: Vec<&'a str>,
     /// `-H FILE`: files of known hosts.

@@ -5,6 +5,7 @@ ghost use Rattle.add_words.specs.Given.{given_of, nothing_given, after_option, a
 ghost use Rattle.add_words.specs.Words.{words_of_given, plain_words};
 
 use crate::command::{AddWords, Command, WordsFault};
+use crate::count::read_count;
 use crate::option::{Wanted, Word, option_of};
 use std::alloc::Global;
 use world_ports::read_life;
@@ -15,6 +16,7 @@ pub struct Given<'a> {
     pub command: Option<Command>,
     pub confirm: bool,
     pub life: Option<u32>,
+    pub uses: Option<u32>,
     pub destinations: Vec<&'a str>,
     pub hosts: Vec<&'a str>,
     pub files: Vec<&'a str>,
@@ -32,6 +34,7 @@ impl<'a> Given<'a> {
             command: None,
             confirm: false,
             life: None,
+            uses: None,
             destinations: Vec::new(alloc),
             hosts: Vec::new(alloc),
             files: Vec::new(alloc),
@@ -65,6 +68,10 @@ impl<'a> Given<'a> {
                 Some(life) => self.life = Some(life),
                 None => return Err(WordsFault::Usage),
             },
+            Wanted::Uses => match read_count(word) {
+                Some(uses) => self.uses = Some(uses),
+                None => return Err(WordsFault::Usage),
+            },
             Wanted::Destination => self.destinations.push(word)?,
             Wanted::Hosts => self.hosts.push(word)?,
         }
@@ -80,6 +87,7 @@ impl<'a> Given<'a> {
             Word::Does(command) if self.command.is_none() => self.command = Some(command),
             Word::Confirm if !self.confirm => self.confirm = true,
             Word::Wants(Wanted::Life) if self.life.is_some() => return Err(WordsFault::Usage),
+            Word::Wants(Wanted::Uses) if self.uses.is_some() => return Err(WordsFault::Usage),
             Word::Wants(wanted) => self.wanted = Some(wanted),
             Word::Ends => self.ended = true,
             Word::File => self.files.push(word)?,

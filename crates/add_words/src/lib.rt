@@ -3,6 +3,7 @@
 #![tactic(auto)]
 
 mod command;
+mod count;
 mod given;
 mod option;
 mod reading;

@@ -8,6 +8,7 @@ use crate::command::Command;
 #[derive(Clone, Copy, Debug, PartialEq, Eq)]
 pub enum Wanted {
     Life,
+    Uses,
     Destination,
     Hosts,
 }
@@ -42,6 +43,7 @@ pub fn option_of(word: &str) -> Word
         "-X" => Word::Does(Command::Unlock),
         "-c" => Word::Confirm,
         "-t" => Word::Wants(Wanted::Life),
+        "-u" => Word::Wants(Wanted::Uses),
         "-h" => Word::Wants(Wanted::Destination),
         "-H" => Word::Wants(Wanted::Hosts),
         "--" => Word::Ends,

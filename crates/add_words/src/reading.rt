@@ -1,6 +1,7 @@
 // The words as a whole.
-ghost use Rattle.std.specs.Prelude.{◌≡◌, ◌⊎◌, MatchResult, None, Some, map, string_bytes};
+ghost use Rattle.std.specs.Prelude.{◌≡◌, ◌⊎◌, IfOk, MatchResult, None, Some, map, string_bytes};
 ghost use Rattle.add_words.specs.declared.command.WordsFault.TheVariants.{Memory};
+ghost use Rattle.add_words.specs.Counts.{IsCount};
 ghost use Rattle.add_words.specs.Given.{given_of, nothing_given};
 ghost use Rattle.add_words.specs.Words.{after_words, command_of, goes_with, has_some, is_unconstrained, plain_words, some_life, words_of, words_of_given};
 
@@ -10,23 +11,27 @@ use std::alloc::Global;
 
 /// Reads the words behind the program's name, from the left.
 ///
-/// Each option is a word of its own. A word behind `-t`, `-h` or `-H` is its value, whatever it is;
+/// Each option is a word of its own. A word behind `-t`, `-u`, `-h` or `-H` is its value, whatever it is;
 /// behind `--` all words are files.
 pub fn read_words<'a>(alloc: Global, words: &'a [String]) -> Result<AddWords<'a>, WordsFault>
-    ensures { MatchResult result
+    ensures value { MatchResult result
         (λ read. words_of (map string_bytes words.entry.now) ≡ Some (plain_words read))
         (λ fault. (fault ≡ Memory) ⊎ (words_of (map string_bytes words.entry.now) ≡ None)) }
+
+    // A number of uses is one that a constraint may have.
+    ensures uses { IfOk result (λ read. IsCount read.uses) }
 {
     let given = read_given(alloc, words)?;
     whole(given)
 }
 
 fn read_given<'a>(alloc: Global, words: &'a [String]) -> Result<Given<'a>, WordsFault>
-    ensures { MatchResult result
+    ensures value { MatchResult result
         (λ given. after_words nothing_given (map string_bytes words.entry.now)
         ≡ Some (given_of given))
         (λ fault. (fault ≡ Memory)
         ⊎ (after_words nothing_given (map string_bytes words.entry.now) ≡ None)) }
+    ensures uses { IfOk result (λ given. IsCount given.uses) }
 {
     let mut given = Given::new(alloc);
     'words: for word in words {
@@ -37,9 +42,11 @@ fn read_given<'a>(alloc: Global, words: &'a [String]) -> Result<Given<'a>, Words
 
 // What is given, where nothing is missing and all goes together.
 fn whole(given: Given<'_>) -> Result<AddWords<'_>, WordsFault>
-    ensures { MatchResult result
+    requires { IsCount given.uses }
+    ensures value { MatchResult result
         (λ read. words_of_given (given_of given.entry) ≡ Some (plain_words read))
         (λ _. words_of_given (given_of given.entry) ≡ None) }
+    ensures uses { IfOk result (λ read. IsCount read.uses) }
 {
     let command = given.command.unwrap_or(Command::Add);
     if given.wanted.is_some() || !goes_with(command, &given) {
@@ -48,6 +55,7 @@ fn whole(given: Given<'_>) -> Result<AddWords<'_>, WordsFault>
     let Given {
         confirm,
         life,
+        uses,
         destinations,
         hosts,
         files,
@@ -57,6 +65,7 @@ fn whole(given: Given<'_>) -> Result<AddWords<'_>, WordsFault>
         command,
         confirm,
         life: some_life(life),
+        uses,
         destinations,
         hosts,
         files,
@@ -77,6 +86,7 @@ fn is_unconstrained(given: &Given<'_>) -> bool
 {
     !given.confirm
         && given.life.is_none()
+        && given.uses.is_none()
         && given.destinations.is_empty()
         && given.hosts.is_empty()
 }

@@ -1,6 +1,7 @@
 use Rattle.std.proofs.Common.{◌+◌, ℕ, refl, ap, ◌∙◌, rules, arith}
 use Rattle.add_core.specs.Sendings.{each_file}
 use Rattle.add_core.specs.Steps.{nothing}
+use Rattle.add_core.proofs.FileCauseLemmas.{has_cause_late}
 use Rattle.add_core.proofs.FileLemmas.{lent, stopped_file, made_file, no_file}
 use Rattle.add_core.proofs.StepLemmas.{nothing_made}
 use Rattle.add_core.proofs.files.send_files.Goals as goal
@@ -11,6 +12,7 @@ paths-init g c = record {
   told = λ held replies files_known peer_known. (nothing replies, nothing_made replies _ _ peer_known, refl);
   task = refl;
   held = refl;
+  failed = refl;
   files = omega arith;
   reads = omega arith;
   writes = omega arith;
@@ -42,6 +44,7 @@ paths-preserved g c =
           _ _ _ _ _ _ c.paths-test.true so_far.2 so_far.1 same_task;
       task = sends.task ∙ c.paths.invariant.task;
       held = sends.held ∙ c.paths.invariant.held;
+      failed = sends.files.kept ∙ c.paths.invariant.failed;
       files = omega (arith, c.paths.invariant.files, sends.files.later);
       reads = omega (arith, c.paths.invariant.reads, sends.peer.reads);
       writes = omega (arith, c.paths.invariant.writes, sends.peer.writes);
@@ -53,3 +56,9 @@ returns-clause-told g c = λ held replies files_known peer_known.
     let so_far = c.paths.invariant.told held replies files_known peer_known in
     no_file (each_file c.args.task.now held 0 (lent c.args.paths.now) replies) so_far.0 c.args.task.now held c.paths.place c.args.paths.now c.paths.path-index
     _ _ _ _ c.paths-test.false so_far.2 so_far.1
+
+pub returns-in_err-send_file-clause-files : goal.returns-in_err-send_file-clause-files
+returns-in_err-send_file-clause-files g c =
+    let inv = c.paths.invariant in
+    has_cause_late c.from_residual.result c.in_err-send_file.field-0.0 c.args.paths.now c.paths.path-index _ c.paths.place (g.F.Files.seen c.args.files.now) _
+    (g.F.Files.seen c.send_file.new.files) c.paths-test.true inv.place inv.failed inv.files c.from_residual.ensures.1 c.in_err-send_file.ensures.files

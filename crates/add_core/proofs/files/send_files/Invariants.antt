@@ -14,6 +14,7 @@ invariant-paths g l = record {
       ≡ followed made (each_file l.fn.task held l.place (map (λ path. path.now) (drop l.path-index l.paths))));
   task : l.task ≡ l.fn.task;
   held : (g.F.Files.seen l.files).held ≡ (g.F.Files.seen l.fn.files).held;
+  failed : (g.F.Files.seen l.files).failed ≡ (g.F.Files.seen l.fn.files).failed;
   files : (g.F.Files.seen l.fn.files).faults ≤ (g.F.Files.seen l.files).faults;
   reads : (g.P.Stream.seen l.fn.peer).read_faults ≤ (g.P.Stream.seen l.peer).read_faults;
   writes : (g.P.Stream.seen l.fn.peer).write_faults ≤ (g.P.Stream.seen l.peer).write_faults;

@@ -1,6 +1,7 @@
 use Rattle.std.proofs.Common.{◌≡◌, ◌+◌, ◌∷◌, ◌++◌, [], ℕ, List, Ok, ap, drop, refl, sym, ◌∙◌, arith, rules}
 use Rattle.add_core.specs.Restrictions.{hosts_held}
 use Rattle.add_core.specs.Sendings.{place_of, text_held}
+use Rattle.add_core.proofs.FileCauseLemmas.{has_cause_late}
 use Rattle.add_core.proofs.FileLemmas.{lent}
 use Rattle.add_core.proofs.RestrictionLemmas.{refuses_on, in_front, none_in_front, made_hosts, fault_hosts, no_hosts}
 use Rattle.add_core.proofs.restriction.read_hosts.Goals as goal
@@ -12,6 +13,7 @@ paths-init g c = record {
       let all = hosts_held held 0 (lent c.args.paths.now) in
       none_in_front all ∙ ap (λ (l : List (List ℕ)). in_front l all) (sym c.new-hosts.ensures.items);
   held = refl;
+  failed = refl;
   files = omega arith;
 }
 
@@ -39,6 +41,7 @@ paths-preserved g c =
           made_hosts (hosts_held held 0 (lent c.args.paths.now)) texts held c.paths.place c.args.paths.now n _ text c.paths-test.true (inv.told held known) read
           ∙ ap (λ (l : List (List ℕ)). in_front l (hosts_held held (c.paths.place + 1) (lent (drop (n + 1) c.args.paths.now)))) (sym pushed);
       held = c.in_ok-text.ensures.kept ∙ inv.held;
+      failed = c.in_ok-text.ensures.cause.kept ∙ inv.failed;
       files = omega (arith, inv.files, c.in_ok-text.ensures.cause.later);
     }
 
@@ -46,3 +49,9 @@ pub returns-clause-told : goal.returns-clause-told
 returns-clause-told g c = λ held known.
     no_hosts (hosts_held held 0 (lent c.args.paths.now)) c.paths.hosts.items held c.paths.place c.args.paths.now c.paths.path-index c.paths-test.false
     (c.paths.invariant.told held known)
+
+pub returns-in_err-text-clause-cause : goal.returns-in_err-text-clause-cause
+returns-in_err-text-clause-cause g c =
+    let inv = c.paths.invariant in
+    has_cause_late c.from_residual.result c.in_err-text.field-0.0 c.args.paths.now c.paths.path-index _ c.paths.place (g.F.Files.seen c.args.files.now) _
+    (g.F.Files.seen c.read_text.new.files) c.paths-test.true inv.place inv.failed inv.files c.from_residual.ensures.1 c.in_err-text.ensures.cause

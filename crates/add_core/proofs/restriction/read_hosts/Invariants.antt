@@ -11,5 +11,6 @@ invariant-paths g l = record {
   told : (held : List ℕ → Option (List ℕ)) → (g.F.Files.seen l.fn.files).held ≡ Some held
       → hosts_held held 0 (lent l.paths) ≡ in_front l.hosts.items (hosts_held held l.place (lent (drop l.path-index l.paths)));
   held : (g.F.Files.seen l.files).held ≡ (g.F.Files.seen l.fn.files).held;
+  failed : (g.F.Files.seen l.files).failed ≡ (g.F.Files.seen l.fn.files).failed;
   files : (g.F.Files.seen l.fn.files).faults ≤ (g.F.Files.seen l.files).faults;
 }
