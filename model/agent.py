@@ -29,6 +29,7 @@ class Identity:
     comment: bytes
     death: int | None
     confirm: bool
+    uses: int | None
     rules: Rules | None
 
 
@@ -196,7 +197,7 @@ class Agent:
         identity, signing = self.identities[blob], (blob, message, flags)
         self.test_rules(client, identity, blob, message)
         if not identity.confirm:
-            return self.put(Ask(number), formats.sign_frame, identity.private, *signing)
+            return self.put_signing(number, identity, signing)
         demand(not self.above("confirmations", len(self.confirmations) + 1), "confirmations")
         job = self.next_number("job")
         self.starts[job] = "confirm"
@@ -211,7 +212,6 @@ class Agent:
         self, number: int, client: Port, blob: bytes, private: bytes, comment: bytes, rest: bytes
     ) -> bytes:
         terms = within("constraints", formats.constraints, rest)
-        demand("uses" not in terms, "constraints: uses")
         held = self.identities.get(blob)
         demand(held is None or self.may_see(client, held), "add: not visible")
         comments = {each: identity.comment for each, identity in self.identities.items()}
@@ -222,7 +222,8 @@ class Agent:
         life = terms.get("life", self.default_life)
         death = None if life is None else self.mono + life
         number, confirm = self.next_number("addition"), "confirm" in terms
-        key = Identity(number, private, comment, death, confirm, terms.get("rules"))
+        uses, rules = terms.get("uses"), terms.get("rules")
+        key = Identity(number, private, comment, death, confirm, uses, rules)
         self.identities[blob] = key
         return SUCCESS
 
@@ -277,6 +278,17 @@ class Agent:
         owed = self.unsent if self.helper_port is None else self.ports[self.helper_port].owed
         owed += frame(number, *fields)
 
+    def put_signing(
+        self, asker: int, identity: Identity, signing: tuple[bytes, bytes, int]
+    ) -> None:
+        """Asks the helper for a signature, and then counts it as a use of the key."""
+        self.put(Ask(asker), formats.sign_frame, identity.private, *signing)
+        if identity.uses is not None:
+            identity.uses -= 1
+            if identity.uses == 0:
+                del self.identities[signing[0]]
+            self.seen["use: last" if identity.uses == 0 else "use: more are left"] += 1
+
     def settle(self, asker: int, reply: bytes, how: str) -> None:
         """Gives a client what it waits for, where it hasn't left."""
         self.seen[how] += 1
@@ -309,7 +321,7 @@ class Agent:
             demand(self.passphrase is None, "locked")
             demand(identity is not None and identity.addition == told.addition, "not held")
             self.test_rules(self.ports[told.asker], identity, *told.signing[:2])
-            self.put(Ask(told.asker), formats.sign_frame, identity.private, *told.signing)
+            self.put_signing(told.asker, identity, told.signing)
             self.seen["confirmation: granted"] += 1
         except Fault as cause:
             self.settle(told.asker, FAILURE, f"cause: granted: {cause}")

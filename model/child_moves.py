@@ -185,16 +185,20 @@ class ChildMoves(Moves):
         random, port, key = self.random, self.client(fresh=0.4), self.pick(self.keys)
         comment = random.choice([b"one", b"x" * 256 + b"y", b"\x1f\x20\x7e\x7f\xff", b""])
         add = b"\x19" + key.added + string(comment) + b"\x02"
+        if self.chance(0.4):
+            add += pool.uses(random.choice([1, 1, 2]))
+        sign = b"\x0d" + string(key.blob) + string(b"m") + uint32(4)
         if self.chance(0.7):
             self.send(port, *random.choice([[add], [add], [b"\x13", add]]), cut=0)
         if port in self.agent.ports:
-            self.send(port, b"\x0d" + string(key.blob) + string(b"m") + uint32(4), cut=0)
+            self.send(port, sign, cut=0)
         if self.chance(0.3):
             self.tend(well=0.95)
         if self.chance(0.6):
             other = self.client(fresh=0.3)
             remove, lock = b"\x12" + string(key.blob), b"\x16" + string(b"a")
             bodies = [[remove], [remove, add], [lock], [b"\x13"], [b"\x13", add], [b"\x0b"]]
+            bodies += [[sign]] * 3
             if other in self.agent.ports:
                 self.send(other, *random.choice(bodies), cut=0)
         if self.chance(0.15) and port in self.agent.ports:

@@ -237,7 +237,7 @@ GOALS = [
             cause: constraints Short; cause: constraints Unknown; cause: constraints Twice
             cause: constraints Reserved; cause: constraints FromUser; cause: constraints FromHalf
             cause: constraints ToHalf; cause: constraints NoRules; cause: constraints Key Short
-            cause: constraints NoUses; cause: constraints: uses
+            cause: constraints NoUses; use: last; use: more are left
             cause: add: list is full; cause: remove: not held; cause: lock: empty passphrase
             cause: unlock: not locked; cause: unlock: another passphrase
             limit: body of a client; limit: client; limit: client + 1; limit: list; limit: list + 1

@@ -168,6 +168,10 @@ def faulty_restrict(random: Random) -> bytes:
     return random.choice(faulty)
 
 
+def uses(count: int) -> bytes:
+    return b"\xff" + string(USES) + uint32(count)
+
+
 def terms(random: Random) -> bytes:
     """Constraints, in any order, sometimes faulty."""
     parts = []
@@ -185,7 +189,7 @@ def terms(random: Random) -> bytes:
     if random.random() < 0.15:
         parts.append(faulty_restrict(random))
     if random.random() < 0.15:
-        parts.append(b"\xff" + string(USES) + uint32(random.choice([1, 1, 2, 3, 2**32 - 1])))
+        parts.append(uses(random.choice([1, 1, 2, 3, 2**32 - 1])))
     if random.random() < 0.1:
         faulty = [uint32(0), uint32(1) + b"\xff" + string(USES), uint32(0)[:3], b""]
         parts.append(b"\xff" + string(USES) + random.choice(faulty))

@@ -225,16 +225,15 @@ row(
     [*[to(1, NO)] * 6, to(1, NOTHING), to(1, OK), to(1, listing(ONE))],
 )
 row(
-    "a number of uses of 0, twice, cut off, and one that is read: none is held",
+    "a number of uses of 0, twice, cut off, and one that is read",
     ["join client", *hear(1, TERMS1 + USES + u32(0), TERMS1 + USES + u32(1) + USES + u32(1))]
-    + hear(1, TERMS1 + USES + b"\x00\x00\x01", TERMS1 + USES + u32(1), LIST),
-    [*[to(1, NO)] * 4, to(1, NOTHING)],
+    + hear(1, TERMS1 + USES + b"\x00\x00\x01", LIST, TERMS1 + USES + u32(1), LIST),
+    [*[to(1, NO)] * 3, to(1, NOTHING), to(1, OK), to(1, listing(ONE))],
 )
 row(
-    "a number of uses while the agent is locked, and of a key that is held",
-    ["join client", *hear(1, ADD1, lock(b"pw"), TERMS1 + USES + u32(1), unlock(b"pw"))]
-    + hear(1, TERMS1 + USES + u32(1), LIST),
-    [to(1, OK), to(1, OK), to(1, NO), to(1, OK), to(1, NO), to(1, listing(ONE))],
+    "a number of uses while the agent is locked",
+    ["join client", *hear(1, lock(b"pw"), TERMS1 + USES + u32(1), unlock(b"pw"), LIST)],
+    [to(1, OK), to(1, NO), to(1, OK), to(1, NOTHING)],
 )
 row(
     "a lifetime of 0",

@@ -7,7 +7,7 @@ from pathlib import Path
 from .differential import read_wrong
 from .generate import Schedule
 from .replay import replay
-from .rows_hostile import EVERY_ROW
+from .rows_uses import EVERY_ROW
 from .wire import Fault, matches, string, take_frame, uint32, uint64
 
 

@@ -196,6 +196,35 @@ def a_use_is_confirmed_or_denied(folder):
 
 
 @check
+def a_key_that_may_be_used_so_often(folder):
+    """Our agent's alone: each login uses the key once, and nothing else of a login does."""
+    key, body = keygen(folder / "key"), folder / "body"
+    body.write_text("".join(pathlib.Path(key).read_text().splitlines(True)[1:-1]))
+    add = rig.built("add_tool")
+    share = ("-o", f"ControlPath={folder}/master")
+    with Hosts(folder, "one", "two") as hosts, our_agent(PROGRAM, folder) as agent:
+        hosts.allow(key)
+        for uses, tries in (
+            ("1", [(0, "one", "true"), (255, "one", "true")]),
+            (
+                "1",
+                [
+                    (0, *share, "-o", "ControlPersist=30", "-M", "-fN", "one"),
+                    (0, *share, "one", "true"),
+                    (0, *share, "-O", "exit", "one"),
+                    (255, "one", "true"),
+                ],
+            ),
+            ("2", [(0, "-A", "one", f"ssh -F {hosts.config} two true"), (255, "one", "true")]),
+        ):
+            agent.run(add, "-u", uses, body)
+            for status, *words in tries:
+                seen, said = hosts.ssh(agent, *words)
+                assert seen == status, (uses, words, seen, said)
+            assert agent.run("ssh-add", "-l", status=1) == "The agent has no identities.\n"
+
+
+@check
 def forwarding_over_one_two_and_three_hosts(folder):
     key = keygen(folder / "key")
     with Hosts(folder, "one", "two", "three") as hosts:

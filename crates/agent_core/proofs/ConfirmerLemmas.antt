@@ -1,5 +1,6 @@
 -- What a user's consent is in the agent's parts.
 use Rattle.std.proofs.Common.{◌≡◌, ℕ, ◌+◌, ◌≤◌, ◌==◌, List, [], ◌∷◌, ◌++◌, length, refl, ap, arith, sym, subst, ◌∙◌, Option, Some, None, Bool, true, false, if◌then◌else◌}
+use Rattle.std.specs.Prelude.{IsSome}
 use Rattle.std.specs.Option.{IsSomeAnd, option_map}
 use Rattle.lists.proofs.KeyedLemmas.{found_key}
 use Rattle.confirm_desk.specs.Confirmations.{Confirmation, Consent, No, NotYet, Yes, consent, find_asker, find_job, find_linked, job_of}
@@ -8,15 +9,18 @@ use Rattle.confirm_desk.specs.declared.held.Verdict.{Verdict as DeskVerdict}
 use Rattle.confirm_desk.specs.declared.held.Verdict.TheVariants as verdicts
 use Rattle.confirm_desk.specs.declared.held.Held.{Held as CodeHeld}
 use Rattle.identity_table.specs.Identities.{AreShort, HeldKey, answer_len, entries_len, entry_len, find_number, longest_private, max_answer}
-use Rattle.agent_model.specs.Actions.{Outcome, Stepped, closing}
+use Rattle.agent_model.specs.Actions.{Outcome, Stepped, Work, closing}
 use Rattle.agent_model.specs.Asking.{AreAsking, JobsRise}
 use Rattle.agent_model.specs.Consents.{close_confirmer, confirmer_closes, confirmer_heard, consent_by, grant_concluded, grant_to, over, without_confirmation}
-use Rattle.agent_model.specs.KeyStates.{KeyState}
+use Rattle.agent_model.specs.KeyStates.{KeyState, after_use}
+use Rattle.dest_rule.specs.declared.binding.Binding.{Binding}
+use Rattle.identity_table.proofs.NumberLemmas.{found_has_number}
+use Rattle.agent_model.proofs.GrantLemmas.{IsGranted, allowed, disallowed, unasked}
 use Rattle.agent_model.specs.NumberLists.{put_all}
 use Rattle.agent_model.specs.Children.{shut, shut_then}
 use Rattle.agent_model.specs.Sound.{IsRising}
-use Rattle.agent_model.specs.State.{Port, State, UnderWay, change_port, find_port, remove_port}
-use Rattle.agent_model.specs.Verdicts.{NotConfirmed, Refuses, tell}
+use Rattle.agent_model.specs.State.{Nothing, OnAsk, Port, State, UnderWay, change_port, find_port, remove_port}
+use Rattle.agent_model.specs.Verdicts.{Awaits, NotConfirmed, Refuses, tell, verdict_waits}
 use Rattle.agent_model.proofs.PortsLemmas.{find_port-left, find_port-remove_port}
 use Rattle.agent_model.proofs.JobLemmas.{in-by_asker, in-by_port, in-found}
 use Rattle.under_way.specs.Parts.{confirmer_told, told_by, told_if}
@@ -44,6 +48,45 @@ pub short_key : (number : ℕ) (keys : List HeldKey) (key : HeldKey) → find_nu
 short_key number keys key found short fits =
     let parts = numbered_short number keys key found short in
     omega (arith, parts.0, parts.1, fits)
+
+-- ---- what a consent uses
+
+-- where an ask is put for it, the key of its addition, which is held
+pub used_granted : {chain : List Binding} {one : Confirmation} {wall : ℕ} {held : KeyState} {going : UnderWay} {work : Work} (ask : ℕ) → IsGranted chain one wall held going work → work.verdict ≡ Awaits (OnAsk ask) → (work.used ≡ Some one.addition) × IsSome (find_number one.addition held.table.identities)
+used_granted ask (disallowed never) is = absurd (cc)
+used_granted ask (unasked cause key may fault) is = absurd (cc)
+used_granted {one = one} {held = held} ask (allowed key may free) is = (
+  ap (λ (n : ℕ). Some n) (found_has_number one.addition held.table.identities key may.found),
+  subst (λ (found : Option HeldKey). IsSome found) (sym may.found) refl,
+)
+
+-- and else none
+pub unused_granted : {chain : List Binding} {one : Confirmation} {wall : ℕ} {held : KeyState} {going : UnderWay} {work : Work} → IsGranted chain one wall held going work → verdict_waits work.verdict ≡ Nothing → work.used ≡ None
+unused_granted (disallowed never) is = refl
+unused_granted (unasked cause key may fault) is = refl
+unused_granted (allowed key may free) is = absurd (cc)
+
+-- a use changes what is held, and no second
+pub used_parts : (wall : ℕ) (used : Option ℕ) (keys : KeyState) (going : UnderWay) (ports : OpenPorts) → parts_of wall (after_use used keys) going ports ≡ (let state : State = record (state_of wall keys going ports) { held = after_use used keys } in let parts : Stepped = record { state = state; closes = ports.closed } in parts)
+used_parts wall None keys going ports = refl
+used_parts wall (Some addition) keys going ports = refl
+
+-- the parts after a grant
+pub grant_parts : (wall : ℕ) (keys new_keys : KeyState) (going left : UnderWay) (old new : OpenPorts) (work : Work) (one : Confirmation) (number asker : ℕ) →
+    new_keys ≡ after_use work.used keys → left ≡ work.under_way → new ≡ record old {
+      ports = change_port asker (tell work.verdict) (close_confirmer (Some number) old.ports);
+      closed = put_all old.closed (confirmer_closes (Some number) old.ports);
+    } → one.asker ≡ asker → one.port ≡ Some number →
+    parts_of wall new_keys left new ≡ after old.closed (grant_concluded work one (state_of wall keys going old))
+grant_parts wall keys new_keys going left old new work one number asker keys_is left_is new_is asker_is port_is =
+    let after_ports : Option ℕ → ℕ → OpenPorts = λ confirmer a. record old {
+      ports = change_port a (tell work.verdict) (close_confirmer confirmer old.ports);
+      closed = put_all old.closed (confirmer_closes confirmer old.ports);
+    } in
+    ap (λ k. parts_of wall k left new) keys_is
+    ∙ ap (λ u. parts_of wall (after_use work.used keys) u new) left_is
+    ∙ ap (λ v. parts_of wall (after_use work.used keys) work.under_way v) (new_is ∙ ap (after_ports (Some number)) (sym asker_is) ∙ ap (λ p. after_ports p one.asker) (sym port_is))
+    ∙ used_parts wall work.used keys work.under_way (after_ports one.port one.asker)
 
 -- ---- what a decision is
 

@@ -1,25 +1,34 @@
 -- Lemmas on what is held.
-use Rattle.std.proofs.Common.{◌≡◌, ℕ, ◌+◌, ◌≤◌, List, [], ◌∷◌, ◌++◌, length, map, refl, ap, sym, arith, Option, Some, None, Result, Ok, Err, is_some, not, subst, Bool, true, false, if◌then◌else◌}
-use Rattle.std.specs.Prelude.{◌↔◌, IsSome, IsTrue, OnOk}
-use Rattle.agent_msg.specs.Requests.{Addition, ClientRequest, IsRequest, session_bind, ListIdentities, Sign, Add, Remove, RemoveAll, Lock, Unlock, Bind, OtherExtension, Unsupported}
+use Rattle.std.proofs.Common.{◌≡◌, ℕ, ◌+◌, ◌≤◌, List, [], ◌∷◌, ◌++◌, length, map, refl, ap, sym, arith, ◌∙◌, Option, Some, None, Result, Ok, Err, is_some, not, subst, Bool, true, false, if◌then◌else◌, inl, inr}
+use Rattle.std.specs.Prelude.{◌↔◌, ◌⊎◌, IfOk, IfSome, IsSome, IsTrue, OnOk}
+use Rattle.std.specs.List.{AllByRecursion}
+use Rattle.std.proofs.lemmas.List.Elements.{recursion_from_All}
+use Rattle.constraint_rec.specs.Constraints.{Confirmation, IsItem, Item, Life, Rules, UseCount, no_terms, with_item, with_items}
+use Rattle.constraint_rec.specs.declared.terms.Terms.{Terms}
+use Rattle.agent_msg.specs.Requests.{Addition, ClientRequest, IsConstrainedAddition, IsPlainAddition, IsRequest, Signing, session_bind, ListIdentities, Sign, Add, Remove, RemoveAll, Lock, Unlock, Bind, OtherExtension, Unsupported}
 use Rattle.agent_msg.specs.Reading.{request_of}
-use Rattle.agent_model.specs.Binds.{add_with, and_host_key}
+use Rattle.agent_model.specs.Binds.{and_host_key}
 use Rattle.wire_text.specs.Bounds.{longest_body}
 use Rattle.agent_model.proofs.BoundLemmas.{private-within, text-within}
-use Rattle.agent_core.specs.Served.{IsShortRequest, IsStatus, asker_of, hides, keys_of, served_body, served_by}
+use Rattle.agent_core.specs.Served.{IsShortRequest, IsStatus, IsUsableRequest, asker_of, hides, served_body, served_by}
 use Rattle.agent_core.specs.declared.asker.Asker.{Asker as CoreAsker}
 use Rattle.std.proofs.lemmas.List.{length-append}
 use Rattle.wire_text.specs.Wire.{string, uint32}
 use Rattle.wire_text.proofs.WireLemmas.{length-string}
-use Rattle.identity_table.specs.Identities.{HeldKey, TableState}
+use Rattle.identity_table.specs.Identities.{HeldKey}
 use Rattle.std.specs.Str.{bytes_eq}
 use Rattle.lists.proofs.FirstLemmas.{removed_nowhere}
-use Rattle.identity_table.specs.Identities.{AreShort, answer_len, entries_len, find_identity, has_blob, longest_private, remove_identity}
+use Rattle.identity_table.specs.Identities.{AreShort, HaveOwnNumbers, answer_len, entries_len, find_identity, find_number, has_blob, longest_private, remove_identity}
 use Rattle.identity_table.proofs.FindLemmas.{found_has}
-use Rattle.agent_model.specs.Dispatch.{Asker, add_by, add_seen, remove_by, remove_seen, sees, serve, with_identities}
+use Rattle.identity_table.proofs.NumberLaws.{number_of_found}
+use Rattle.std.specs.Option.{option_map}
+use Rattle.agent_model.specs.Errands.{Signs, put_unless, raise_unless}
+use Rattle.agent_model.specs.Verdicts.{Cause}
+use Rattle.under_way.specs.Parts.{TellsOf}
+use Rattle.agent_model.specs.Dispatch.{Asker, add_by, add_seen, remove_by, remove_seen, sees, serve, serve_by, with_identities}
 use Rattle.agent_model.specs.State.{UnderWay}
 use Rattle.agent_msg.specs.Replies.{entries_length, identities_length}
-use Rattle.agent_model.specs.KeyStates.{KeyState, shown}
+use Rattle.agent_model.specs.KeyStates.{KeyState, after_use, shown}
 
 -- ---- lists of identities
 
@@ -118,6 +127,11 @@ pub after_ok : {A B : Type 0} {P Q : Type 0} (r : Result A B) → (P → Q) → 
 after_ok (Ok a) f p = f p
 after_ok (Err e) f p = p
 
+-- and so of its value
+pub value_ok : {A B : Type 0} (P Q : A → Type 0) (r : Result A B) → ((a : A) → P a → Q a) → IfOk r P → IfOk r Q
+value_ok P Q (Ok a) f p = f a p
+value_ok P Q (Err e) f p = p
+
 -- and of three
 pub all_ok : {A B : Type 0} {P Q R X : Type 0} (r : Result A B) → (P → Q → R → X) → OnOk r P → OnOk r Q → OnOk r R → OnOk r X
 all_ok (Ok a) f p q s = f p q s
@@ -129,10 +143,39 @@ all_ok (Err e) f p q s = p
 pub served-body : (asker : CoreAsker) (body : List ℕ) (request : ClientRequest) (held : KeyState) (under_way : UnderWay) → request_of body ≡ Ok request → served_by asker request held under_way ≡ served_body asker body held under_way
 served-body asker body request held under_way is = ap (λ read. serve (and_host_key read) (asker_of asker held) held under_way) (sym is)
 
--- an addition without a number of uses, where the agent isn't locked
-pub served-add : (asker : CoreAsker) (addition : Addition) (table : TableState) (under_way : UnderWay) → addition.terms.uses ≡ None → served_by asker (Add addition) (keys_of table None) under_way ≡ add_by (find_identity addition.key.blob table.identities) (asker_of asker (keys_of table None)) addition (keys_of table None) under_way
-served-add asker addition table under_way none =
-    ap (λ uses. serve (add_with addition uses) (asker_of asker (keys_of table None)) (keys_of table None) under_way) none
+-- what is held after a request to sign: the identity that was used for it has a use less
+pub served-sign : (asker : CoreAsker) (signing : Signing) (held : KeyState) (under_way : UnderWay) → (served_by asker (Sign signing) held under_way).held ≡ after_use (served_by asker (Sign signing) held under_way).work.used held
+served-sign asker signing held under_way = by_lock held.lock
+  where
+    by_lock : (lock : Option (List ℕ)) → (serve_by lock (Sign signing) (asker_of asker held) held under_way).held ≡ after_use (serve_by lock (Sign signing) (asker_of asker held) held under_way).work.used held
+    by_lock None = refl
+    by_lock (Some passphrase) = refl
+
+-- where the uses of constraints are limited, there is one at least
+usable_items : (items : List Item) (terms : Terms) → AllByRecursion IsItem items → IfSome terms.uses (λ u. 1 ≤ u) → IfSome (with_items terms items).uses (λ u. 1 ≤ u)
+usable_items [] terms fit usable = usable
+usable_items (Life seconds ∷ items) terms fit usable = usable_items items (with_item terms (Life seconds)) fit.1 usable
+usable_items (Confirmation ∷ items) terms fit usable = usable_items items (with_item terms Confirmation) fit.1 usable
+usable_items (UseCount uses ∷ items) terms fit usable = usable_items items (with_item terms (UseCount uses)) fit.1 fit.0.some
+usable_items (Rules rules ∷ items) terms fit usable = usable_items items (with_item terms (Rules rules)) fit.1 usable
+
+usable-added : (body : List ℕ) (addition : Addition) → IsPlainAddition body addition ⊎ IsConstrainedAddition body addition → IfSome addition.terms.uses (λ u. 1 ≤ u)
+usable-added body addition (inl plain) = subst (λ (t : Terms). IfSome t.uses (λ u. 1 ≤ u)) (sym plain.unconstrained) tt
+usable-added body addition (inr more) =
+    subst (λ (t : Terms). IfSome t.uses (λ u. 1 ≤ u)) (sym more.constrained.values)
+    (usable_items more.constrained.items no_terms (recursion_from_All IsItem more.constrained.items more.constrained.fit) tt)
+
+pub usable_request : (body : List ℕ) (request : ClientRequest) → IsRequest body request → IsUsableRequest request
+usable_request body ListIdentities is = tt
+usable_request body (Sign signing) is = tt
+usable_request body (Add addition) is = usable-added body addition is
+usable_request body (Remove blob) is = tt
+usable_request body RemoveAll is = tt
+usable_request body (Lock passphrase) is = tt
+usable_request body (Unlock passphrase) is = tt
+usable_request body (Bind bind) is = tt
+usable_request body (OtherExtension name) is = tt
+usable_request body (Unsupported number) is = tt
 
 -- what comes in a body that isn't long isn't long
 pub short_request : (body : List ℕ) (request : ClientRequest) → IsRequest body request → length body ≤ longest_body → IsShortRequest request
@@ -174,3 +217,27 @@ found_short blob (other ∷ keys) key found short =
 pub asked_short : (keys : List HeldKey) (key : HeldKey) (blob message : List ℕ) → find_identity blob keys ≡ Some key → AreShort keys → length blob + length message ≤ longest_body → 25 + length key.private + length key.blob + length message ≤ 1048576
 asked_short keys key blob message found short within =
     omega (arith, found_short blob keys key found short, ap length (found_has blob keys key found), within)
+
+-- ---- what a signature uses
+
+-- a confirmation uses no key yet
+pub raise_unused : (fault : Option Cause) (key : HeldKey) (signing : Signing) (asker : ℕ) (under_way : UnderWay) → None ≡ (raise_unless fault key signing asker under_way).used
+raise_unused None key signing asker under_way = refl
+raise_unused (Some cause) key signing asker under_way = refl
+
+-- an ask that is put uses its key
+pub put_used : (fault : Option Cause) (key : HeldKey) (signing : Signing) (asker : ℕ) (under_way : UnderWay) (asked : Option ℕ) → TellsOf (put_unless fault (Signs key signing) asker under_way).verdict asked → option_map (λ _. key.number) asked ≡ (put_unless fault (Signs key signing) asker under_way).used
+put_used None key signing asker under_way None told = absurd (cc)
+put_used None key signing asker under_way (Some ask) told = refl
+put_used (Some cause) key signing asker under_way None told = refl
+put_used (Some cause) key signing asker under_way (Some ask) told = absurd (cc)
+
+pub own_used : (number : ℕ) (asked : Option ℕ) → IfSome (option_map (λ _. number) asked) (λ n. n ≡ number)
+own_used number None = tt
+own_used number (Some ask) = refl
+
+-- and that is held
+pub used_held : (used : Option ℕ) (blob : List ℕ) (last : ℕ) (keys : List HeldKey) (key : HeldKey) → IfSome used (λ n. n ≡ key.number) → HaveOwnNumbers last keys → find_identity blob keys ≡ Some key → IfSome used (λ n. IsSome (find_number n keys))
+used_held None blob last keys key own numbers found = tt
+used_held (Some n) blob last keys key own numbers found =
+    subst (λ (found : Option HeldKey). IsSome found) (sym (ap (λ m. find_number m keys) own ∙ (number_of_found blob last keys key numbers found).1)) refl

@@ -1,5 +1,5 @@
 -- What the code tells of requests (ours).
-use Rattle.std.specs.Prelude.{◌≡◌, ℕ, ◌+◌, ◌≤◌, Bool, true, false, not, List, Option, None, Some, length}
+use Rattle.std.specs.Prelude.{◌≡◌, ℕ, ◌+◌, ◌≤◌, Bool, true, false, not, List, Option, None, Some, IfSome, length}
 use Rattle.identity_table.specs.Identities.{HeldKey, TableState}
 use Rattle.agent_msg.specs.Requests.{ClientRequest, ListIdentities, Sign, Add, Remove, RemoveAll, Lock, Unlock, Bind, OtherExtension, Unsupported}
 use Rattle.wire_text.specs.Bounds.{longest_body}
@@ -84,6 +84,19 @@ IsShortRequest (Unlock passphrase) = Unit {0}
 IsShortRequest (Bind bind) = length bind.host_key + length bind.session + length bind.signature ≤ longest_body
 IsShortRequest (OtherExtension name) = Unit {0}
 IsShortRequest (Unsupported number) = Unit {0}
+
+-- where it is an addition whose uses are limited, it may be used
+abbrev pub IsUsableRequest : ClientRequest → Type 0
+IsUsableRequest ListIdentities = Unit {0}
+IsUsableRequest (Sign signing) = Unit {0}
+IsUsableRequest (Add addition) = IfSome addition.terms.uses (λ uses. 1 ≤ uses)
+IsUsableRequest (Remove blob) = Unit {0}
+IsUsableRequest RemoveAll = Unit {0}
+IsUsableRequest (Lock passphrase) = Unit {0}
+IsUsableRequest (Unlock passphrase) = Unit {0}
+IsUsableRequest (Bind bind) = Unit {0}
+IsUsableRequest (OtherExtension name) = Unit {0}
+IsUsableRequest (Unsupported number) = Unit {0}
 
 -- the request is no list, and nothing is put to the helper for it
 abbrev pub IsPlainRequest : ClientRequest → Type 0

@@ -28,7 +28,7 @@ use world_ports::{Job, JobKind};
 pub fn hear_unnamed(
     ports: &mut Ports,
     under_way: &mut UnderWay,
-    keys: &Keys,
+    keys: &mut Keys,
     wall: u64,
     number: u64,
     piece: &[u8],
@@ -40,8 +40,8 @@ pub fn hear_unnamed(
     requires jobs { JobsRise 0 under_way.old.confirmations under_way.old.last_job }
 
     ensures { (port : Port) → find_port number ports.old.ports ≡ Some port → OnOk result
-        (parts_of wall keys.now under_way.new ports.new ≡ after ports.old.closed
-        (unnamed_heard port.heard piece.now number (state_of wall keys.now under_way.old ports.old))) }
+        (parts_of wall keys.new under_way.new ports.new ≡ after ports.old.closed
+        (unnamed_heard port.heard piece.now number (state_of wall keys.old under_way.old ports.old))) }
 {
     ports.push(number, piece)?;
     match first_frame(ports, number) {
@@ -65,7 +65,7 @@ fn first_frame(ports: &Ports, number: u64) -> Look
 fn take_first(
     ports: &mut Ports,
     under_way: &mut UnderWay,
-    keys: &Keys,
+    keys: &mut Keys,
     wall: u64,
     number: u64,
     body_len: u32,
@@ -79,9 +79,9 @@ fn take_first(
     requires jobs { JobsRise 0 under_way.old.confirmations under_way.old.last_job }
 
     ensures { (port : Port) → find_port number ports.old.ports ≡ Some port → OnOk result
-        (parts_of wall keys.now under_way.new ports.new ≡ after ports.old.closed
+        (parts_of wall keys.new under_way.new ports.new ≡ after ports.old.closed
         (first_message (from_child_of (front_body body_len port.heard)) number (after_front body_len port.heard)
-        (state_of wall keys.now under_way.old ports.old))) }
+        (state_of wall keys.old under_way.old ports.old))) }
 {
     let Some(job) = job_named(under_way, first_body(ports.heard(number), body_len)) else {
         ports.close_open(number);

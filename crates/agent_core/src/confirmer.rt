@@ -24,7 +24,7 @@ use under_way::UnderWay;
 pub fn hear_confirmer(
     ports: &mut Ports,
     under_way: &mut UnderWay,
-    keys: &Keys,
+    keys: &mut Keys,
     wall: u64,
     number: u64,
     piece: &[u8],
@@ -33,8 +33,8 @@ pub fn hear_confirmer(
         (λ one. IsHeldFor one ports.old.ports) }
 
     ensures { (one : Confirmation) → find_linked number under_way.old.confirmations ≡ Some one
-        → OnOk result (parts_of wall keys.now under_way.new ports.new ≡ after ports.old.closed
-        (confirmer_heard one piece.now (state_of wall keys.now under_way.old ports.old))) }
+        → OnOk result (parts_of wall keys.new under_way.new ports.new ≡ after ports.old.closed
+        (confirmer_heard one piece.now (state_of wall keys.old under_way.old ports.old))) }
 {
     match under_way.confirmer_told(number, piece)? {
         Verdict::NotYet => Ok(()),
@@ -50,7 +50,7 @@ pub fn hear_confirmer(
 fn grant(
     ports: &mut Ports,
     under_way: &mut UnderWay,
-    keys: &Keys,
+    keys: &mut Keys,
     wall: u64,
     number: u64,
     held: &Held,
@@ -61,9 +61,9 @@ fn grant(
 
     ensures { (going : AnUnderWay) (port : Port) (one : Confirmation)
         → find_port held.now.asker ports.old.ports ≡ Some port → given_back one ≡ held.now → one.port ≡ Some number
-        → OnOk result (parts_of wall keys.now under_way.new ports.new ≡ after ports.old.closed
-        (grant_concluded (grant_of port.chain one wall keys.now under_way.old) one
-        (state_of wall keys.now going ports.old))) }
+        → OnOk result (parts_of wall keys.new under_way.new ports.new ≡ after ports.old.closed
+        (grant_concluded (grant_of port.chain one wall keys.old under_way.old) one
+        (state_of wall keys.old going ports.old))) }
 {
     let asked = put_granted(ports, under_way, keys, wall, held)?;
     conclude(ports, Some(number), held.asker, asked);

@@ -3,9 +3,11 @@
 ghost use Rattle.std.specs.Prelude.{◌≡◌, ◌≤◌, ℕ, [], IfOk, IfSome, IsSome, OnOk, Some, is_none, length};
 ghost use Rattle.std.specs.Option.{option_copied};
 ghost use Rattle.dest_rule.specs.Rules.{denial_under};
+ghost use Rattle.identity_table.specs.Identities.{find_number};
 ghost use Rattle.confirm_desk.specs.Calls.{given_back};
 ghost use Rattle.confirm_desk.specs.Confirmations.{Confirmation};
 ghost use Rattle.agent_model.specs.Consents.{close_confirmer, confirmer_closes};
+ghost use Rattle.agent_model.specs.KeyStates.{after_use};
 ghost use Rattle.agent_model.specs.NumberLists.{put_all};
 ghost use Rattle.wire_text.specs.Bounds.{longest_body};
 ghost use Rattle.agent_model.specs.State.{Port, change_port, find_port};
@@ -53,8 +55,37 @@ pub fn permits(rules: &[Constraint], blob: &[u8], chain: &Chain, message: &[u8],
     rules.is_empty() || may_sign(rules, blob, chain, message, wall).is_ok()
 }
 
-/// Puts what was held to the helper, where it may be signed yet, and gives the ask's number.
+/// Puts what was held to the helper, where it may be signed yet, and then counts a use of its key. Gives the ask's
+/// number.
 pub fn put_granted(
+    ports: &Ports,
+    under_way: &mut UnderWay,
+    keys: &mut Keys,
+    wall: u64,
+    held: &Held,
+) -> Result<Option<u64>, CoreMemory>
+    requires is_open { IsSome (find_port held.now.asker ports.now.ports) }
+    requires short { length held.now.message ≤ longest_body }
+
+    ensures put { (port : Port) (one : Confirmation) → find_port held.now.asker ports.now.ports ≡ Some port
+        → given_back one ≡ held.now → IfOk result (λ asked. IsGrant asked under_way.new
+        (grant_of port.chain one wall keys.old under_way.old)) }
+    ensures keys { (port : Port) (one : Confirmation) → find_port held.now.asker ports.now.ports ≡ Some port
+        → given_back one ≡ held.now → OnOk result (keys.new
+        ≡ after_use (grant_of port.chain one wall keys.old under_way.old).used keys.old) }
+{
+    let asked = ask_granted(ports, under_way, keys, wall, held)?;
+    match asked {
+        Some(ask) => {
+            keys.spend(held.addition);
+            Ok(Some(ask))
+        }
+        None => Ok(None),
+    }
+}
+
+// Puts what was held to the helper, where it may be signed yet, and gives the ask's number.
+fn ask_granted(
     ports: &Ports,
     under_way: &mut UnderWay,
     keys: &Keys,
@@ -67,6 +98,8 @@ pub fn put_granted(
     ensures put { (port : Port) (one : Confirmation) → find_port held.now.asker ports.now.ports ≡ Some port
         → given_back one ≡ held.now → IfOk result (λ asked. IsGrant asked under_way.new
         (grant_of port.chain one wall keys.now under_way.old)) }
+    ensures held { IfOk result (λ asked. IfSome asked
+        (λ _. IsSome (find_number held.now.addition keys.now.table.identities))) }
 {
     let Some(chain) = ports.chain(held.asker) else {
         unreachable!()

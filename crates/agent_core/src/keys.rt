@@ -1,8 +1,8 @@
 //! What the agent holds.
 
-ghost use Rattle.std.specs.Prelude.{◌≡◌, ◌≤◌, [], None, IfOk, IfSome, OnOk, length};
-ghost use Rattle.identity_table.specs.Identities.{IsSound, next_death};
-ghost use Rattle.agent_model.specs.KeyStates.{expired, no_keys};
+ghost use Rattle.std.specs.Prelude.{◌≡◌, ◌≤◌, [], None, Some, IfOk, IfSome, IsSome, OnOk, length};
+ghost use Rattle.identity_table.specs.Identities.{IsSound, find_number, next_death};
+ghost use Rattle.agent_model.specs.KeyStates.{after_use, expired, no_keys};
 ghost use Rattle.wire_text.specs.Bounds.{longest_body};
 ghost use Rattle.agent_model.specs.Step.{attempts};
 ghost use Rattle.agent_model.specs.Verdicts.{verdict_text, verdict_waits};
@@ -88,6 +88,15 @@ impl Keys {
         ensures { self.new ≡ expired now self.old }
     {
         self.table.expire(now);
+    }
+
+    /// Counts one more use of the identity of this addition, where its uses are limited, and removes and wipes it after
+    /// its last. Takes no memory.
+    pub fn spend(&mut self, addition: u64)
+        requires { IsSome (find_number addition self.old.table.identities) }
+        ensures { self.new ≡ after_use (Some addition) self.old }
+    {
+        self.table.spend(addition);
     }
 
     /// Whether a body with which the client asks makes its connection count as one that tried to bind itself: a

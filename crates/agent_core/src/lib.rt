@@ -21,6 +21,7 @@ mod ports;
 mod requests;
 mod role;
 mod seen;
+mod signing;
 mod slot;
 mod waits;
 

@@ -157,7 +157,7 @@ impl Parts {
             Some(Role::Unnamed) => hear_unnamed(
                 &mut self.ports,
                 &mut self.under_way,
-                &self.keys,
+                &mut self.keys,
                 self.wall,
                 port,
                 piece,
@@ -165,7 +165,7 @@ impl Parts {
             Some(Role::Confirmer) => hear_confirmer(
                 &mut self.ports,
                 &mut self.under_way,
-                &self.keys,
+                &mut self.keys,
                 self.wall,
                 port,
                 piece,

@@ -1,28 +1,28 @@
 //! What requests do to the identities and the lock, and what they are answered.
 
-ghost use Rattle.std.specs.Prelude.{◌≡◌, ◌+◌, ℕ, List, [], true, None, Option, IsSome, OnOk, IfOk, ◌≤◌, length};
+ghost use Rattle.std.specs.Prelude.{◌≡◌, ◌+◌, ℕ, List, [], true, None, Option, IsSome, IfSome, OnOk, IfOk, ◌≤◌, length};
 ghost use Rattle.wire_text.specs.Bounds.{longest_body};
-ghost use Rattle.agent_msg.specs.Requests.{Sign, client_request};
+ghost use Rattle.agent_msg.specs.Requests.{client_request};
 ghost use Rattle.identity_table.specs.Identities.{TableState, find_identity};
 ghost use Rattle.agent_model.specs.Dispatch.{add_by, add_seen, remove_by};
 ghost use Rattle.agent_model.specs.State.{UnderWay as AnUnderWay};
 ghost use Rattle.agent_model.specs.Verdicts.{Verdict, verdict_text, verdict_waits};
-ghost use Rattle.under_way.specs.Parts.{TellsOf, TellsOfUser};
+ghost use Rattle.under_way.specs.Parts.{TellsOf};
 ghost use Rattle.confirm_desk.specs.Confirmations.{find_asker};
-ghost use Rattle.agent_core.specs.Served.{TellsWait, sign_work, IsPlainRequest, IsShortRequest, IsStatus, asker_of, binds, hides, keys_of, served_body, served_by};
+ghost use Rattle.agent_core.specs.Served.{TellsWait, IsPlainRequest, IsShortRequest, IsStatus, IsUsableRequest, asker_of, binds, hides, keys_of, served_body, served_by};
 ghost use Rattle.agent_core.specs.Slots.{waits_of};
 ghost use Rattle.agent_core.specs.declared.asker.Asker.{Asker as AnAsker};
 
 use crate::CoreMemory;
 use crate::asker::Asker;
-use crate::granted::permits;
 use crate::owed::Owed;
 use crate::seen::{list, sees};
+use crate::signing::{on_ask, sign};
 use crate::waits::Waits;
 use agent_msg::{MsgFault, Request, read_request};
 use constraint_rec::Terms;
 use dest_rule::Next;
-use identity_table::{AddFault, Identity, Lock, Table};
+use identity_table::{AddFault, Lock, Table};
 use key_blob::{AddedKey, read_public};
 use secret_buf::SecretBytes;
 use std::alloc::Global;
@@ -107,85 +107,6 @@ fn wait(asked: Option<Waits>, owed: &mut Owed) -> Waits
     }
 }
 
-// Has a signature made, where the key is held and its constraints permit it, and gives what the client waits for.
-fn sign(
-    asker: &Asker<'_>,
-    table: &Table,
-    lock: &Lock,
-    under_way: &mut UnderWay,
-    blob: &[u8],
-    message: &[u8],
-    flags: u32,
-) -> Result<Option<Waits>, CoreMemory>
-    requires short { length blob.now + length message.now ≤ longest_body }
-    requires alone { find_asker asker.now.port under_way.old.confirmations ≡ None }
-
-    ensures keys { (served_by asker.now (Sign record { blob = blob.now; message = message.now; flags = flags })
-        (keys_of table.now lock.now) under_way.old).held ≡ keys_of table.now lock.now }
-    ensures under_way { OnOk result (under_way.new ≡ (served_by asker.now
-        (Sign record { blob = blob.now; message = message.now; flags = flags })
-        (keys_of table.now lock.now) under_way.old).work.under_way) }
-    ensures told { IfOk result (TellsWait (served_by asker.now
-        (Sign record { blob = blob.now; message = message.now; flags = flags })
-        (keys_of table.now lock.now) under_way.old).work.verdict) }
-{
-    if lock.is_locked() {
-        return Ok(None);
-    }
-    match table.find(blob) {
-        Some(key) if permits(key.rules(), blob, asker.chain, message, asker.wall) => {
-            sign_with(asker.port, under_way, key, message, flags)
-        }
-        _ => Ok(None),
-    }
-}
-
-// Puts a signature with this key to the helper, or asks the user first where its uses are to be confirmed.
-fn sign_with(
-    port: u64,
-    under_way: &mut UnderWay,
-    key: &Identity,
-    message: &[u8],
-    flags: u32,
-) -> Result<Option<Waits>, CoreMemory>
-    requires short { 25 + length key.now.private + length key.now.blob + length message.now ≤ 1048576 }
-    requires message { length message.now ≤ longest_body }
-    requires alone { find_asker port under_way.old.confirmations ≡ None }
-
-    ensures under_way { OnOk result (under_way.new ≡ (sign_work key.now.confirm port key.now message.now flags
-        under_way.old).under_way) }
-    ensures told { IfOk result (TellsWait
-        (sign_work key.now.confirm port key.now message.now flags under_way.old).verdict) }
-{
-    if key.confirm() {
-        let job = under_way.ask_user(port, key, message, flags)?;
-        Ok(on_confirmation(job))
-    } else {
-        let ask = under_way.put_sign(port, key, message, flags)?;
-        Ok(on_ask(ask))
-    }
-}
-
-// The answer to this ask is waited for.
-fn on_ask(ask: Option<u64>) -> Option<Waits>
-    ensures { (verdict : Verdict) → TellsOf verdict ask → TellsWait verdict result }
-{
-    match ask {
-        Some(ask) => Some(Waits::OnAsk { ask }),
-        None => None,
-    }
-}
-
-// The user's consent is waited for, which this job asks for.
-fn on_confirmation(job: Option<u64>) -> Option<Waits>
-    ensures { (verdict : Verdict) → TellsOfUser verdict job → TellsWait verdict result }
-{
-    match job {
-        Some(job) => Some(Waits::OnConfirmation { job }),
-        None => None,
-    }
-}
-
 // Puts the verification of a binding to the helper, where the chain doesn't refuse it, and gives the ask's number.
 fn bind(
     asker: &Asker<'_>,
@@ -239,6 +160,7 @@ fn take(
 ) -> Result<bool, CoreMemory>
     requires other { IsPlainRequest (client_request request) }
     requires short { IsShortRequest (client_request request) }
+    requires usable { IsUsableRequest (client_request request) }
 
     ensures keys { (under_way : AnUnderWay) → OnOk result (keys_of table.new lock.new
         ≡ (served_by asker.now (client_request request.entry) (keys_of table.old lock.old) under_way).held) }
@@ -253,11 +175,7 @@ fn take(
             key,
             comment,
             terms,
-        } => match terms.uses {
-            // No key is held for a number of uses.
-            Some(_) => Ok(false),
-            None => add(asker, table, key, comment, terms),
-        },
+        } => add(asker, table, key, comment, terms),
         Request::Remove { blob } => Ok(remove(asker, table, blob)),
         Request::RemoveAll => {
             table.remove_all();
@@ -315,7 +233,8 @@ fn add(
     comment: &[u8],
     terms: Terms,
 ) -> Result<bool, CoreMemory>
-    requires { length key.private ≤ longest_body }
+    requires short { length key.private ≤ longest_body }
+    requires usable { IfSome terms.uses (λ uses. 1 ≤ uses) }
 
     ensures keys { (lock : Option (List ℕ)) (under_way : AnUnderWay) → OnOk result
         (keys_of table.new lock ≡ (add_by (find_identity key.blob table.old.identities) (asker_of asker.now (keys_of table.old lock))
@@ -332,7 +251,8 @@ fn add(
 
 // Adds a key, in the place of the one that has its blob.
 fn put(table: &mut Table, key: AddedKey, comment: &[u8], terms: Terms) -> Result<bool, CoreMemory>
-    requires { length key.private ≤ longest_body }
+    requires short { length key.private ≤ longest_body }
+    requires usable { IfSome terms.uses (λ uses. 1 ≤ uses) }
 
     ensures keys { (lock : Option (List ℕ)) (under_way : AnUnderWay) → OnOk result (keys_of table.new lock
         ≡ (add_seen true record { key = key; comment = comment.now; terms = terms } table.old.greatest

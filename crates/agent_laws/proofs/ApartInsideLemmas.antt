@@ -24,6 +24,7 @@ use Rattle.agent_model.proofs.PortsLemmas.{find_port-change_port, found_number}
 use Rattle.agent_laws.specs.Apart.{AreAlike, AreAlikeKeys, AreAlikePorts, Insiders, IsAlikeHeld, IsInside, IsOwnMatter, both, first_has, none, second_has}
 use Rattle.agent_laws.proofs.ApartKeyLemmas.{renumbered}
 use Rattle.agent_laws.proofs.ApartLemmas.{keeps-heard, keeps-took}
+use Rattle.agent_laws.proofs.KeyLemmas.{kept-added, kept-removed}
 use Rattle.agent_laws.proofs.ApartPortLemmas.{KeepsPlace, alike-itself, keeps-tell, ports-in_turn, ports-itself}
 
 module _ (who : Insiders) where
@@ -97,6 +98,8 @@ module _ (who : Insiders) where
     add_with None addition hidden = record {
       keys = record {
         lock = refl;
+        first_own = alike.first_own;
+        second_own = (kept-added addition asker.mono held.table alike.first_own).own;
         life = refl;
         greatest = now;
         keys = put-hidden (new_identity held.table addition.key addition.terms addition.comment asker.mono) hidden alike.keys;
@@ -115,7 +118,14 @@ module _ (who : Insiders) where
     remove_seen_so : (seen : Bool) (blob : List ℕ) → who.is_hidden blob ≡ true → IsAside held under_way (remove_seen seen blob held under_way)
     remove_seen_so false blob hidden = stays-aside _ refl refl
     remove_seen_so true blob hidden = record {
-      keys = record { lock = refl; life = refl; greatest = refl; keys = removed-hidden blob hidden alike.keys };
+      keys = record {
+        lock = refl;
+        first_own = alike.first_own;
+        second_own = (kept-removed blob held.table alike.first_own).own;
+        life = refl;
+        greatest = refl;
+        keys = removed-hidden blob hidden alike.keys;
+      };
       same = refl;
     }
 

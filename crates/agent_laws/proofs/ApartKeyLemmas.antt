@@ -1,10 +1,12 @@
 -- Lemmas on specs/Apart.antt: identities that are the same but for hidden ones.
-use Rattle.std.proofs.Common.{◌≡◌, ◌≢◌, ℕ, List, [], ◌∷◌, map, filter, refl, ap, sym, subst, ◌∙◌, Option, Some, None, Bool, true, false, cond}
+use Rattle.std.proofs.Common.{◌≡◌, ◌≢◌, ℕ, ◌-◌, ◌==◌, List, [], ◌∷◌, map, filter, arith, refl, ap, sym, subst, ◌∙◌, Option, Some, None, Bool, true, false, cond}
 use Rattle.std.specs.Option.{IfSome}
 use Rattle.std.specs.Str.{bytes_eq}
+use Rattle.std.proofs.lemmas.Bool.Decides.{nat_tests}
 use Rattle.std.proofs.lemmas.Slice.Eq.{bytes_eq-Decides}
 use Rattle.identity_table.specs.Deaths.{lives_at}
-use Rattle.identity_table.specs.Identities.{HeldKey, alive_at, find_identity, put_identity, remove_identity}
+use Rattle.identity_table.specs.Identities.{HaveOwnNumbers, HeldKey, alive_at, find_identity, find_number, in_front, put_identity, remove_identity, spend_identity, used, used_by}
+use Rattle.identity_table.proofs.NumberLaws.{number_of_found}
 use Rattle.constraint_rec.specs.declared.constraint.Constraint.{Constraint}
 use Rattle.dest_rule.specs.Rules.{denial_under, visible}
 use Rattle.dest_rule.specs.declared.binding.Binding.{Binding}
@@ -17,6 +19,27 @@ use Rattle.agent_laws.specs.Apart.{AreAlikeKeys, AreUnseen, Insiders, both, firs
 -- the same identity under another number
 abbrev pub renumbered : ℕ → HeldKey → HeldKey
 renumbered number key = record key { number = number }
+
+-- ---- numbers
+
+itself : (one two : ℕ) → one ≡ two → (one == two) ≡ true
+itself one two same = grind (arith, nat_tests, same)
+
+-- an identity whose number none of the others has isn't one that is found among them
+not_first : (blob : List ℕ) (first : HeldKey) (keys : List HeldKey) (key : HeldKey) (last : ℕ) → find_number first.number keys ≡ None → HaveOwnNumbers last keys → find_identity blob keys ≡ Some key → (first.number == key.number) ≡ false
+not_first blob first keys key last apart own found = by_test (first.number == key.number) refl
+  where
+    by_test : (same : Bool) → (first.number == key.number) ≡ same → (first.number == key.number) ≡ false
+    by_test false is = is
+    by_test true is =
+        let equal : first.number ≡ key.number = grind (arith, nat_tests, is) in
+        let clash : None ≡ Some key = sym apart ∙ ap (λ n. find_number n keys) equal ∙ (number_of_found blob last keys key own found).1 in
+        absurd (cc)
+
+-- what isn't the first is behind it
+passed : (test : Bool) (first : HeldKey) (later : Option HeldKey) (key : HeldKey) → (test ≡ true → ⊥) → cond test (Some first) later ≡ Some key → later ≡ Some key
+passed true first later key never is = absurd (never refl)
+passed false first later key never is = is
 
 module _ (who : Insiders) where
   -- a hidden identity has another blob than one that isn't
@@ -156,6 +179,48 @@ module _ (who : Insiders) where
         removed_first (bytes_eq key.blob new.blob) key (new ∷ ones) hidden (differs key new.blob hidden shown_new) (put-alike rest)
     put-alike (second_has {twos = twos} key hidden rest) =
         removed_second (bytes_eq key.blob new.blob) key (renumbered number new ∷ twos) hidden (differs key new.blob hidden shown_new) (put-alike rest)
+
+  -- ---- uses
+
+  -- in front of others, what is left of one that both hold
+  front_both : (uses : Option ℕ) (key : HeldKey) (number : ℕ) {ones twos : List HeldKey} → who.is_hidden key.blob ≡ false → key.confirm ≡ false → AreAlikeKeys who ones twos → AreAlikeKeys who (in_front (used_by uses key) ones) (in_front (used_by uses (renumbered number key)) twos)
+  front_both None key number shown_one plain rest = both key number shown_one plain rest
+  front_both (Some uses) key number {ones = ones} {twos = twos} shown_one plain rest = by_zero (uses - 1 == 0)
+    where
+      by_zero : (gone : Bool) → AreAlikeKeys who (in_front (cond gone None (Some (record key { uses = Some (uses - 1) }))) ones) (in_front (cond gone None (Some (record (renumbered number key) { uses = Some (uses - 1) }))) twos)
+      by_zero true = rest
+      by_zero false = both (record key { uses = Some (uses - 1) }) number shown_one plain rest
+
+  -- one more use of what a blob that isn't hidden finds, under its number in each list
+  pub spent-alike : (blob : List ℕ) → who.is_hidden blob ≡ false → (one two : HeldKey) (last_one last_two : ℕ) {ones twos : List HeldKey} → AreAlikeKeys who ones twos → HaveOwnNumbers last_one ones → HaveOwnNumbers last_two twos → find_identity blob ones ≡ Some one → find_identity blob twos ≡ Some two → AreAlikeKeys who (spend_identity one.number ones) (spend_identity two.number twos)
+  unfolding find_identity find_number spend_identity HaveOwnNumbers
+  spent-alike blob open_one one two last_one last_two none own own_two is is_two = none
+  spent-alike blob open_one one two last_one last_two (both {ones = ones} {twos = twos} key number shown_one plain rest) own own_two is is_two =
+      by_test (bytes_eq key.blob blob) is is_two (λ there there_two. spent-alike blob open_one one two last_one last_two rest own.2 own_two.2 there there_two)
+    where
+      by_test : (test : Bool) → cond test (Some key) (find_identity blob ones) ≡ Some one → cond test (Some (renumbered number key)) (find_identity blob twos) ≡ Some two
+          → (find_identity blob ones ≡ Some one → find_identity blob twos ≡ Some two → AreAlikeKeys who (spend_identity one.number ones) (spend_identity two.number twos))
+          → AreAlikeKeys who (cond (key.number == one.number) (in_front (used key) ones) (key ∷ spend_identity one.number ones)) (cond (number == two.number) (in_front (used (renumbered number key)) twos) (renumbered number key ∷ spend_identity two.number twos))
+      by_test true here here_two later =
+          let e : key ≡ one = cc in
+          let e_two : renumbered number key ≡ two = cc in
+          let same : (key.number == one.number) ≡ true = itself key.number one.number (ap (λ (k : HeldKey). k.number) e) in
+          let same_two : (number == two.number) ≡ true = itself number two.number (ap (λ (k : HeldKey). k.number) e_two) in
+          rw (same, same_two) (front_both key.uses key number shown_one plain rest)
+      by_test false here here_two later =
+          let differ : (key.number == one.number) ≡ false = not_first blob key ones one last_one own.1 own.2 here in
+          let differ_two : (number == two.number) ≡ false = not_first blob (renumbered number key) twos two last_two own_two.1 own_two.2 here_two in
+          rw (differ, differ_two) (both key number shown_one plain (later here here_two))
+  spent-alike blob open_one one two last_one last_two (first_has {ones = ones} {twos = twos} key hidden rest) own own_two is is_two =
+      let there : find_identity blob ones ≡ Some one = passed (bytes_eq key.blob blob) key (find_identity blob ones) one (differs key blob hidden open_one) is in
+      let differ : (key.number == one.number) ≡ false = not_first blob key ones one last_one own.1 own.2 there in
+      subst (λ b. AreAlikeKeys who (cond b (in_front (used key) ones) (key ∷ spend_identity one.number ones)) (spend_identity two.number twos)) (sym differ)
+      (first_has key hidden (spent-alike blob open_one one two last_one last_two rest own.2 own_two there is_two))
+  spent-alike blob open_one one two last_one last_two (second_has {ones = ones} {twos = twos} key hidden rest) own own_two is is_two =
+      let there : find_identity blob twos ≡ Some two = passed (bytes_eq key.blob blob) key (find_identity blob twos) two (differs key blob hidden open_one) is_two in
+      let differ : (key.number == two.number) ≡ false = not_first blob key twos two last_two own_two.1 own_two.2 there in
+      subst (λ b. AreAlikeKeys who (spend_identity one.number ones) (cond b (in_front (used key) twos) (key ∷ spend_identity two.number twos))) (sym differ)
+      (second_has key hidden (spent-alike blob open_one one two last_one last_two rest own own_two.2 is there))
 
   -- ---- one relation behind another
 

@@ -34,6 +34,7 @@ use Rattle.agent_laws.proofs.ApartKeyLemmas.{alive-alike, keys-in_turn, keys-tur
 use Rattle.agent_laws.proofs.ApartPortLemmas.{FindsPorts, KeepsPlace, clients-alike, found, keeps-tell, neither, ports-changed, ports-found, ports-in_turn, ports-joined, ports-turned, unnamed-alike}
 use Rattle.agent_laws.proofs.ApartSideLemmas.{Same, Sides, alike-helper, alike-lose, alike-shut, alike-stay, other, sides-changed, sides-closed, sides-way}
 use Rattle.agent_laws.proofs.ApartServeLemmas.{ServesAlike, serves-alike}
+use Rattle.agent_laws.proofs.KeyLemmas.{first-own, kept-opened}
 
 module _ (who : Insiders) where
   -- ---- a client is looked at
@@ -291,9 +292,16 @@ module _ (who : Insiders) where
   later_second moment state = (at_moment moment state).moment.mono
 
   sides-opened : (moment : Moment) {state : State} {q : List Port} {k : KeyState} → Sides who state q k → Sides who (at_moment moment state) q (at_moment moment (other state q k)).held
-  sides-opened moment {state = state} sides = record {
+  sides-opened moment {state = state} {q = q} {k = k} sides = record {
     ports_are = sides.ports_are;
-    held_is = record { lock = sides.held_is.lock; life = sides.held_is.life; greatest = refl; keys = alive-alike who (later_second moment state) sides.held_is.keys };
+    held_is = record {
+      lock = sides.held_is.lock;
+      first_own = (kept-opened moment state sides.held_is.first_own).own;
+      second_own = (kept-opened moment (other state q k) sides.held_is.second_own).own;
+      life = sides.held_is.life;
+      greatest = refl;
+      keys = alive-alike who (later_second moment state) sides.held_is.keys;
+    };
     calm = sides.calm;
   }
 
@@ -312,7 +320,14 @@ module _ (who : Insiders) where
   pub alike-turned : (one two : State) → AreAlike who one two → AreAlike who two one
   alike-turned one two alike = record {
     ports = ports-turned who one.ports two.ports alike.ports;
-    held = record { lock = sym alike.held.lock; life = sym alike.held.life; greatest = sym alike.held.greatest; keys = keys-turned who alike.held.keys };
+    held = record {
+      lock = sym alike.held.lock;
+      first_own = alike.held.second_own;
+      second_own = alike.held.first_own;
+      life = sym alike.held.life;
+      greatest = sym alike.held.greatest;
+      keys = keys-turned who alike.held.keys;
+    };
     rest = sym (ap (λ (s : State). record s { ports = one.ports; held = one.held }) alike.rest);
     calm = ap (λ (s : State). s.under_way.confirmations) alike.rest ∙ alike.calm;
   }
@@ -322,6 +337,8 @@ module _ (who : Insiders) where
     ports = ports-in_turn who one.ports two.ports three.ports first.ports later.ports;
     held = record {
       lock = later.held.lock ∙ first.held.lock;
+      first_own = first.held.first_own;
+      second_own = later.held.second_own;
       life = later.held.life ∙ first.held.life;
       greatest = later.held.greatest ∙ first.held.greatest;
       keys = keys-in_turn who first.held.keys later.held.keys;
@@ -353,7 +370,7 @@ module _ (who : Insiders) where
 pub first-alike : (who : Insiders) (life : Option ℕ) → AreAlike who (first_state life) (first_state life)
 first-alike who life = record {
   ports = tt;
-  held = record { lock = refl; life = refl; greatest = refl; keys = no_keys_yet };
+  held = record { lock = refl; first_own = first-own life; second_own = first-own life; life = refl; greatest = refl; keys = no_keys_yet };
   rest = refl;
   calm = refl;
 }

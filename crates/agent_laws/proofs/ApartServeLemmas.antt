@@ -13,9 +13,9 @@ use Rattle.identity_table.specs.Deaths.{death_of}
 use Rattle.identity_table.specs.Identities.{HeldKey, find_identity, identity_of, max_answer}
 use Rattle.world_ports.specs.declared.Moment.{Moment}
 use Rattle.agent_model.specs.Actions.{Work, settles}
-use Rattle.agent_model.specs.Dispatch.{Asker, Served, add_by, add_fault, add_seen, add_unless, bind_by, keeps, length_with, lock_by, refuses, remove_by, remove_seen, sees, serve, serve_by, serve_locked, serve_unlocked, sign_by, sign_unless, sign_with, unlock_by}
+use Rattle.agent_model.specs.Dispatch.{Asker, Served, add_by, add_fault, add_seen, add_unless, bind_by, keeps, length_with, lock_by, refuses, remove_by, remove_seen, sees, serve, serve_by, serve_locked, serve_unlocked, sign_by, sign_unless, sign_with, unlock_by, uses}
 use Rattle.agent_model.specs.Errands.{Errand, Signs, ask_fault, put_unless}
-use Rattle.agent_model.specs.KeyStates.{KeyState}
+use Rattle.agent_model.specs.KeyStates.{KeyState, after_use}
 use Rattle.agent_model.specs.Limits.{last_number}
 use Rattle.agent_model.specs.State.{Port, UnderWay}
 use Rattle.agent_model.specs.Step.{asker_at}
@@ -23,7 +23,8 @@ use Rattle.agent_model.specs.Unseen.{IsSameReply}
 use Rattle.agent_model.specs.Verdicts.{Cause, DestinationDenied, Identities, NotHeld, Refuses, Replies, verdict_text}
 use Rattle.agent_model.proofs.UnseenLemmas.{same_work}
 use Rattle.agent_laws.specs.Apart.{AreUnseen, Insiders, IsAlikeHeld, SaysNoMore, none}
-use Rattle.agent_laws.proofs.ApartKeyLemmas.{FindsAlike, finds-alike, found, listed-alike, neither, put-alike, removed-alike, renumbered, unseen-denied, unseen-found}
+use Rattle.agent_laws.proofs.ApartKeyLemmas.{FindsAlike, finds-alike, found, listed-alike, neither, put-alike, removed-alike, renumbered, spent-alike, unseen-denied, unseen-found}
+use Rattle.agent_laws.proofs.KeyLemmas.{kept-added, kept-emptied, kept-removed, kept-used}
 
 -- the client gets the same, the same is under way, what is held is alike, and nothing more is to be confirmed
 pub record ServesAlike (who : Insiders) (under_way : UnderWay) (one two : Served) : Type 0 where
@@ -65,33 +66,45 @@ module _ (who : Insiders) (moment : Moment) (port : Port) (one two : KeyState) (
       by_denial None is = absurd (unseen-denied key.rules signing.blob port.chain signing.message moment.wall port.attempted hidden is)
       by_denial (Some denial) is = (DestinationDenied denial, refl)
 
-  both_unsigned : (first second : Work) (a b : Cause) → first ≡ settles (Refuses a) under_way → second ≡ settles (Refuses b) under_way → Alike (keeps one first) (keeps two second)
+  both_unsigned : (first second : Work) (a b : Cause) → first ≡ settles (Refuses a) under_way → second ≡ settles (Refuses b) under_way → Alike (uses one first) (uses two second)
   both_unsigned first second a b is_first is_second =
-      subst (λ w. Alike (keeps one w) (keeps two second)) (sym is_first)
-      (subst (λ w. Alike (keeps one (settles (Refuses a) under_way)) (keeps two w)) (sym is_second)
+      subst (λ w. Alike (uses one w) (uses two second)) (sym is_first)
+      (subst (λ w. Alike (uses one (settles (Refuses a) under_way)) (uses two w)) (sym is_second)
       record { held = alike; reply = both_fail a b under_way; calm = refl })
 
-  signed_with : (confirm : Bool) (key : HeldKey) (number : ℕ) (signing : Signing) → confirm ≡ false → Alike (keeps one (sign_with confirm asker key signing under_way)) (keeps two (sign_with confirm asker (renumbered number key) signing under_way))
-  signed_with true key number signing plain = absurd (cc)
-  signed_with false key number signing plain = by_fault (ask_fault under_way)
-    where
-      by_fault : (fault : Option Cause) → Alike (keeps one (put_unless fault (Signs key signing) port.number under_way)) (keeps two (put_unless fault (Signs (renumbered number key) signing) port.number under_way))
-      by_fault None = record { held = alike; reply = record { text = refl; waits = refl; under_way = refl; put = refl }; calm = refl }
-      by_fault (Some cause) = record { held = alike; reply = both_fail cause cause under_way; calm = refl }
+  module _ (signing : Signing) (open_one : who.is_hidden signing.blob ≡ false) where
+    -- the identity that is found is used in both
+    used_alike : (first second : HeldKey) → find_identity signing.blob one.table.identities ≡ Some first → find_identity signing.blob two.table.identities ≡ Some second → IsAlikeHeld who (after_use (Some first.number) one) (after_use (Some second.number) two)
+    used_alike first second is is_two = record {
+      lock = alike.lock;
+      first_own = (kept-used (Some first.number) one alike.first_own).own;
+      second_own = (kept-used (Some second.number) two alike.second_own).own;
+      life = alike.life;
+      greatest = alike.greatest;
+      keys = spent-alike who signing.blob open_one first second one.table.last two.table.last alike.keys alike.first_own.numbers alike.second_own.numbers is is_two;
+    }
 
-  signed_unless : (result : Option Denial) (key : HeldKey) (number : ℕ) (signing : Signing) → key.confirm ≡ false → Alike (keeps one (sign_unless result asker key signing under_way)) (keeps two (sign_unless result asker (renumbered number key) signing under_way))
-  signed_unless (Some denial) key number signing plain = record { held = alike; reply = both_fail _ _ under_way; calm = refl }
-  signed_unless None key number signing plain = signed_with key.confirm key number signing plain
+    signed_with : (confirm : Bool) (key : HeldKey) (number : ℕ) → find_identity signing.blob one.table.identities ≡ Some key → find_identity signing.blob two.table.identities ≡ Some (renumbered number key) → confirm ≡ false → Alike (uses one (sign_with confirm asker key signing under_way)) (uses two (sign_with confirm asker (renumbered number key) signing under_way))
+    signed_with true key number is is_two plain = absurd (cc)
+    signed_with false key number is is_two plain = by_fault (ask_fault under_way)
+      where
+        by_fault : (fault : Option Cause) → Alike (uses one (put_unless fault (Signs key signing) port.number under_way)) (uses two (put_unless fault (Signs (renumbered number key) signing) port.number under_way))
+        by_fault None = record { held = used_alike key (renumbered number key) is is_two; reply = record { text = refl; waits = refl; under_way = refl; put = refl }; calm = refl }
+        by_fault (Some cause) = record { held = alike; reply = both_fail cause cause under_way; calm = refl }
 
-  signed-by : {first second : Option HeldKey} (signing : Signing) → FindsAlike who first second → Alike (keeps one (sign_by first asker signing under_way)) (keeps two (sign_by second asker signing under_way))
-  signed-by signing neither = stays-alike _ refl
-  signed-by signing (found key number plain) = signed_unless (denial_under key.rules signing.blob port.chain signing.message moment.wall) key number signing plain
+    signed_unless : (result : Option Denial) (key : HeldKey) (number : ℕ) → find_identity signing.blob one.table.identities ≡ Some key → find_identity signing.blob two.table.identities ≡ Some (renumbered number key) → key.confirm ≡ false → Alike (uses one (sign_unless result asker key signing under_way)) (uses two (sign_unless result asker (renumbered number key) signing under_way))
+    signed_unless (Some denial) key number is is_two plain = record { held = alike; reply = both_fail _ _ under_way; calm = refl }
+    signed_unless None key number is is_two plain = signed_with key.confirm key number is is_two plain
+
+    signed-by : {first second : Option HeldKey} → find_identity signing.blob one.table.identities ≡ first → find_identity signing.blob two.table.identities ≡ second → FindsAlike who first second → Alike (uses one (sign_by first asker signing under_way)) (uses two (sign_by second asker signing under_way))
+    signed-by is is_two neither = record { held = alike; reply = same_work _; calm = refl }
+    signed-by is is_two (found key number plain) = signed_unless (denial_under key.rules signing.blob port.chain signing.message moment.wall) key number is is_two plain
 
   signs-alike : (signing : Signing) → Alike (serve_unlocked (Sign signing) asker one under_way) (serve_unlocked (Sign signing) asker two under_way)
   signs-alike signing = by_hidden (who.is_hidden signing.blob) refl
     where
       by_hidden : (hidden : Bool) → who.is_hidden signing.blob ≡ hidden → Alike (serve_unlocked (Sign signing) asker one under_way) (serve_unlocked (Sign signing) asker two under_way)
-      by_hidden false is = signed-by signing (finds-alike who signing.blob is alike.keys)
+      by_hidden false is = signed-by signing is refl refl (finds-alike who signing.blob is alike.keys)
       by_hidden true is =
           let first = unsigned (find_identity signing.blob one.table.identities) (unseen-found who port moment.wall signing.blob is one.table.identities unseen) signing in
           let second = unsigned (find_identity signing.blob two.table.identities) (unseen-found who port moment.wall signing.blob is two.table.identities unseen_two) signing in
@@ -106,7 +119,14 @@ module _ (who : Insiders) (moment : Moment) (port : Port) (one two : KeyState) (
   removed_seen : (seen : Bool) (blob : List ℕ) → who.is_hidden blob ≡ false → Alike (remove_seen seen blob one under_way) (remove_seen seen blob two under_way)
   removed_seen false blob open_one = refuses-alike _ _
   removed_seen true blob open_one = record {
-    held = record { lock = alike.lock; life = alike.life; greatest = alike.greatest; keys = removed-alike who blob open_one alike.keys };
+    held = record {
+      lock = alike.lock;
+      first_own = (kept-removed blob one.table alike.first_own).own;
+      second_own = (kept-removed blob two.table alike.second_own).own;
+      life = alike.life;
+      greatest = alike.greatest;
+      keys = removed-alike who blob open_one alike.keys;
+    };
     reply = same_work _;
     calm = refl;
   }
@@ -137,6 +157,8 @@ module _ (who : Insiders) (moment : Moment) (port : Port) (one two : KeyState) (
     add_with None = record {
       held = record {
         lock = alike.lock;
+        first_own = (kept-added addition moment.mono one.table alike.first_own).own;
+        second_own = (kept-added addition moment.mono two.table alike.second_own).own;
         life = alike.life;
         greatest = refl;
         keys = rw alike.life (put-alike who (new_of one.table.life (one.table.last + 1)) (two.table.last + 1) no_more.shown no_more.plain alike.keys);
@@ -167,7 +189,7 @@ module _ (who : Insiders) (moment : Moment) (port : Port) (one two : KeyState) (
   locks-alike : (passphrase : List ℕ) → Alike (lock_by passphrase one under_way) (lock_by passphrase two under_way)
   locks-alike [] = refuses-alike _ _
   locks-alike (byte ∷ bytes) = record {
-    held = record { lock = refl; life = alike.life; greatest = alike.greatest; keys = alike.keys };
+    held = record { lock = refl; first_own = alike.first_own; second_own = alike.second_own; life = alike.life; greatest = alike.greatest; keys = alike.keys };
     reply = same_work _;
     calm = refl;
   }
@@ -175,7 +197,7 @@ module _ (who : Insiders) (moment : Moment) (port : Port) (one two : KeyState) (
   unlocks-alike : (same : Bool) → Alike (unlock_by same one under_way) (unlock_by same two under_way)
   unlocks-alike false = refuses-alike _ _
   unlocks-alike true = record {
-    held = record { lock = refl; life = alike.life; greatest = alike.greatest; keys = alike.keys };
+    held = record { lock = refl; first_own = alike.first_own; second_own = alike.second_own; life = alike.life; greatest = alike.greatest; keys = alike.keys };
     reply = same_work _;
     calm = refl;
   }
@@ -200,7 +222,7 @@ module _ (who : Insiders) (moment : Moment) (port : Port) (one two : KeyState) (
   unlocked-alike (Add addition) no_more = adds-alike addition (no_more addition refl)
   unlocked-alike (Remove blob) no_more = removes-alike blob
   unlocked-alike RemoveAll no_more = record {
-    held = record { lock = alike.lock; life = alike.life; greatest = alike.greatest; keys = none };
+    held = record { lock = alike.lock; first_own = (kept-emptied one.table).own; second_own = (kept-emptied two.table).own; life = alike.life; greatest = alike.greatest; keys = none };
     reply = same_work _;
     calm = refl;
   }

@@ -1,5 +1,6 @@
 -- What a signature that is put to the helper tells of the actions before.
-use Rattle.std.proofs.Common.{◌≡◌, ◌≢◌, ℕ, ◌<◌, List, [], ◌∷◌, ◌++◌, length, refl, ap, arith, sym, subst, ◌∙◌, Option, Some, None, IsSomeAnd, Bool, true, false, cond, nat_lt, not, inl, inr}
+use Rattle.std.proofs.Common.{◌≡◌, ◌≢◌, ℕ, ◌<◌, List, [], ◌∷◌, ◌++◌, length, refl, ap, arith, sym, subst, ◌∙◌, Option, Some, None, IsSomeAnd, Bool, true, false, cond, nat_lt, not, ◌&&◌, inl, inr}
+use Rattle.std.specs.Option.{option_map}
 use Rattle.std.specs.Str.{bytes_eq}
 use Rattle.std.proofs.lemmas.Bool.Decides.{nat_tests}
 use Rattle.std.proofs.lemmas.Slice.Eq.{bytes_eq-Decides}
@@ -11,7 +12,7 @@ use Rattle.agent_model.specs.Runs.{Stamped, run}
 use Rattle.agent_model.specs.State.{first_state}
 use Rattle.agent_laws.specs.Dues.{Claim, claim_of, due_signing, is_consented, is_met, is_permitted, met_by, open_asks, proved_of}
 use Rattle.agent_laws.specs.History.{HasNumbers, IsDue, IsLawful, IsPutBehind, NoneAdds, NoneUnlocks, Removes, StandsAt, onto}
-use Rattle.agent_laws.specs.Past.{DidAdd, DidLock, DidNothing, DidRemove, DidRemoveAll, DidUnlock, Done, PastAddition, added_by, done_of, held_by, is_alive, last_addition, locked_by, was_locked}
+use Rattle.agent_laws.specs.Past.{DidAdd, DidLock, DidNothing, DidRemove, DidRemoveAll, DidUnlock, DidUse, Done, PastAddition, added_by, done_of, has_uses, held_by, is_alive, last_addition, locked_by, used_again, was_locked}
 use Rattle.agent_laws.proofs.GrantedLemmas.{all_parts, none_if_permitted}
 use Rattle.agent_laws.proofs.HistoryLemmas.{first-lawful}
 use Rattle.agent_laws.proofs.PastLemmas.{onto-append}
@@ -34,7 +35,7 @@ pub record IsMetAt (life : Option ℕ) (past : List Stamped) (claim : Claim) : T
 -- what is held at a second was added last
 held_last : (last : Option PastAddition) (life : Option ℕ) (now : ℕ) (added : PastAddition) → held_by last life now ≡ Some added → last ≡ Some added
 held_last None life now added is = absurd (cc)
-held_last (Some past) life now added is = by_test (is_alive life now past) is
+held_last (Some past) life now added is = by_test (is_alive life now past && has_uses past.addition.terms.uses past.uses) is
   where
     by_test : (lives : Bool) → cond lives (Some past) None ≡ Some added → Some past ≡ Some added
     by_test true some = some
@@ -114,6 +115,7 @@ locked-on (DidRemove blob) other = refl
 locked-on DidRemoveAll other = refl
 locked-on DidLock other = refl
 locked-on DidUnlock other = absurd (other refl)
+locked-on (DidUse blob) other = refl
 
 stays_locked : (past between : List Stamped) → was_locked past ≡ true → NoneUnlocks between → was_locked (onto past between) ≡ true
 stays_locked past [] locked none = locked
@@ -137,11 +139,11 @@ put-added before port signing life events numbers put =
     let is = claimed before port signing life events numbers put in
     (is.met.added, ap (λ (s : Signing). last_addition s.blob (onto [] before)) (sym is.what) ∙ is.met.last)
 
-added-none : (done : Done) (blob : List ℕ) (second number : ℕ) → ((addition : Addition) → done ≡ DidAdd addition → addition.key.blob ≢ blob) → added_by done blob second number None ≡ None
+pub added-none : (done : Done) (blob : List ℕ) (second number : ℕ) → ((addition : Addition) → done ≡ DidAdd addition → addition.key.blob ≢ blob) → added_by done blob second number None ≡ None
 added-none DidNothing blob second number other = refl
 added-none (DidAdd addition) blob second number other = by_test (bytes_eq addition.key.blob blob) refl
   where
-    by_test : (same : Bool) → bytes_eq addition.key.blob blob ≡ same → cond same (Some (let past : PastAddition = record { number = number; second = second; addition = addition } in past)) None ≡ None
+    by_test : (same : Bool) → bytes_eq addition.key.blob blob ≡ same → cond same (Some (let past : PastAddition = record { number = number; second = second; addition = addition; uses = 0 } in past)) None ≡ None
     by_test true is = absurd (other addition refl ((bytes_eq-Decides addition.key.blob blob).0 is))
     by_test false is = refl
 added-none (DidRemove removed) blob second number other = by_test (bytes_eq removed blob)
@@ -152,6 +154,11 @@ added-none (DidRemove removed) blob second number other = by_test (bytes_eq remo
 added-none DidRemoveAll blob second number other = refl
 added-none DidLock blob second number other = refl
 added-none DidUnlock blob second number other = refl
+added-none (DidUse used) blob second number other = by_test (bytes_eq used blob)
+  where
+    by_test : (same : Bool) → cond same (option_map used_again None) None ≡ None
+    by_test true = refl
+    by_test false = refl
 
 stays_away : (blob : List ℕ) (past between : List Stamped) → last_addition blob past ≡ None → NoneAdds blob between → last_addition blob (onto past between) ≡ None
 stays_away blob past [] none adds = none

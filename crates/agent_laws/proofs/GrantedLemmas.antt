@@ -18,7 +18,7 @@ use Rattle.agent_model.specs.Askable.{IsGrantable}
 use Rattle.agent_model.specs.Asking.{JobsRise}
 use Rattle.agent_model.specs.Consents.{grant_concluded, over, signing_of, without_confirmation}
 use Rattle.agent_model.specs.Errands.{Signs, put_unless}
-use Rattle.agent_model.specs.KeyStates.{KeyState}
+use Rattle.agent_model.specs.KeyStates.{KeyState, after_use}
 use Rattle.agent_model.specs.Runs.{Stamped}
 use Rattle.agent_model.specs.State.{Port, State, UnderWay, find_port}
 use Rattle.agent_model.specs.Verdicts.{Cause, NoLongerAllowed, Refuses}
@@ -28,9 +28,9 @@ use Rattle.agent_model.proofs.RoomLemmas.{RoomFor, free, full, no_ask, no_job, r
 use Rattle.agent_laws.specs.Dues.{Claim, claim_of_raising, due_signing, is_met, is_permitted, met_by, open_asks, proved_of, raised_at}
 use Rattle.agent_laws.specs.Past.{PastAddition, held_by}
 use Rattle.agent_laws.proofs.DueLemmas.{all_pass, met_with, third_fails}
-use Rattle.agent_laws.proofs.HoldsLemmas.{Facts, Holds, facts_of, key_of}
+use Rattle.agent_laws.proofs.HoldsLemmas.{Facts, Holds, facts_of, key_of, numbers-used, used-holds}
 use Rattle.agent_laws.proofs.PastLemmas.{stamp}
-use Rattle.agent_laws.proofs.RaisedLemmas.{AllRaised, IsRaised, all_raised-more, all_raised-over}
+use Rattle.agent_laws.proofs.RaisedLemmas.{AllRaised, IsRaised, all_raised-kept, all_raised-more, all_raised-over}
 use Rattle.agent_laws.proofs.StepLemmas.{Agrees, Goes, Opened, due_as, numbers-append}
 
 -- ---- a confirmation ends
@@ -217,13 +217,13 @@ module _ {N : Type 0} (life : Option ℕ) (past : List Stamped) (confirmation : 
   goes-put : (key : HeldKey) → IsGrantable key port.chain confirmation.addition confirmation.message state.moment.wall state.held → length state.under_way.link.asks < 256 → Goes N life past state (grant_concluded (put_unless None (Signs key (signing_of key confirmation)) confirmation.asker left_over) confirmation state)
   goes-put key may room =
       let is = grantable-due life state.moment.mono state.moment.wall (facts_of past) state.held left_over (open_asks past) port.chain confirmation opened.agrees.holds opened.fresh opened.agrees.opens raised.raising raised.addition raised.message raised.flags raised.blob key may room in
-      let holds = holds_behind in
       record {
         lawful = (opened.agrees.idle, (subst (λ d. IsSomeAnd d (λ one. (one.port ≡ confirmation.asker) × (one.signing ≡ signing_of key confirmation))) (sym (due_behind ∙ is)) (raised.port, same_signing key (raised.blob key may.found)), λ n. refl));
         agrees = record {
-          holds = record { locked = holds.locked; count = holds.count; default = holds.default; own = holds.own; numbers = holds.numbers; found = holds.found };
+          holds = used-holds life state.moment.mono (facts_of behind) state.held key.blob key (blob_of_numbered confirmation.addition state.held.table.identities key holds_behind.own may.found) holds_behind;
           opens = ap (λ all. all ++ (state.under_way.link.last + 1) ∷ []) opened.agrees.opens ∙ sym (numbers-append state.under_way.link.asks _);
-          raised = all_raised-more behind _ state.held _ (λ job. refl) raised_behind;
+          raised = all_raised-more behind _ (after_use (Some key.number) state.held) _ (λ job. refl)
+              (all_raised-kept behind state.held (after_use (Some key.number) state.held) _ (numbers-used key.number state.held holds_behind.numbers) raised_behind);
           idle = λ n. refl;
         };
         moment = refl;

@@ -1,22 +1,21 @@
 -- What the past tells of the keys and the lock is what the agent holds.
-use Rattle.std.proofs.Common.{◌≡◌, ℕ, ◌+◌, ◌≤◌, List, [], refl, ap, arith, sym, subst, ◌∙◌, Option, Some, None, Bool, true, false, cond, is_some, ◌==◌, Result, Ok, Err}
+use Rattle.std.proofs.Common.{◌≡◌, ℕ, ◌+◌, ◌-◌, ◌≤◌, ◌&&◌, nat_lt, IfSome, List, [], ◌∷◌, refl, ap, arith, sym, ◌∙◌, Option, Some, None, Bool, true, false, cond, is_some, ◌==◌}
 use Rattle.std.specs.Option.{option_map}
 use Rattle.std.specs.Str.{bytes_eq}
 use Rattle.std.proofs.lemmas.Bool.Decides.{nat_tests}
-use Rattle.agent_msg.specs.declared.fault.MsgFault.{MsgFault}
-use Rattle.agent_msg.specs.Requests.{Addition, ClientRequest, ListIdentities, Sign, Add, Remove, RemoveAll, Lock, Unlock, Bind, OtherExtension, Unsupported}
+use Rattle.std.proofs.lemmas.Slice.Eq.{bytes_eq-Decides}
 use Rattle.identity_table.specs.Deaths.{death_of, lives_at}
-use Rattle.identity_table.specs.Identities.{HaveOwnBlobs, HaveOwnNumbers, HeldKey, TableState, alive_at, find_identity, find_number, identity_of, new_identity, remove_identity}
-use Rattle.identity_table.proofs.FindLemmas.{find-alive, find-put, find-remove, if_alive, own_blobs-alive, own_blobs-put, own_blobs-remove}
-use Rattle.identity_table.proofs.NumberLaws.{find_number-alive, find_number-put, find_number-remove, unless_blob}
-use Rattle.identity_table.proofs.NumberLemmas.{own_numbers-alive, own_numbers-put, own_numbers-remove}
-use Rattle.agent_model.specs.Dispatch.{Asker, Served, serve, with_addition, with_identities}
-use Rattle.agent_model.specs.KeyStates.{KeyState, expired, no_keys}
+use Rattle.identity_table.specs.Identities.{HaveOwnBlobs, HaveOwnNumbers, HeldKey, TableState, alive_at, find_identity, find_number, identity_of, used, used_by}
+use Rattle.identity_table.proofs.FindLemmas.{found_has, find-alive, if_alive, own_blobs-alive}
+use Rattle.identity_table.proofs.NumberLaws.{find_number-alive, number_of_found, unless_blob}
+use Rattle.identity_table.proofs.NumberLemmas.{own_numbers-alive}
+use Rattle.identity_table.proofs.SpendLemmas.{only_uses}
+use Rattle.agent_model.specs.Actions.{Action}
+use Rattle.agent_model.specs.KeyStates.{KeyState, after_use, expired, no_keys}
 use Rattle.agent_model.specs.Runs.{Stamped}
-use Rattle.agent_model.specs.State.{UnderWay}
-use Rattle.agent_model.specs.Verdicts.{Cause, Refuses, Verdict}
-use Rattle.agent_model.proofs.ServeLemmas.{Serves, adds, confirms, denies, empties, lists, locks, removes, serves-any, signs, unlocks, verifies}
-use Rattle.agent_laws.specs.Past.{DidAdd, DidLock, DidNothing, DidRemove, DidRemoveAll, DidUnlock, Done, PastAddition, added_by, addition_count, counted_by, done_of_request, held_by, is_alive, last_addition, locked_by, was_locked}
+use Rattle.agent_laws.specs.Grants.{WasHeld}
+use Rattle.agent_laws.specs.Past.{DidUse, Done, PastAddition, added_by, addition_count, counted_by, done_of, has_uses, held_by, is_alive, last_addition, locked_by, used_again, was_locked}
+use Rattle.agent_laws.proofs.UseLemmas.{find-used, own_blobs-used, own_numbers-used, was_held, was_held-used}
 
 -- what the past tells: whether the agent is locked, how many additions succeeded, and the last addition of each blob
 pub record Facts : Type 0 where
@@ -35,9 +34,20 @@ facts_after done second facts = record {
   last = λ blob. added_by done blob second (facts.count + 1) (facts.last blob);
 }
 
--- the identity that an addition made
+-- behind these actions
+abbrev pub facts_then : List Action → ℕ → Facts → Facts
+facts_then [] second facts = facts
+facts_then (action ∷ later) second facts = facts_then later second (facts_after (done_of action) second facts)
+
+-- how many of its uses are left
+abbrev pub uses_left : Option ℕ → ℕ → Option ℕ
+uses_left None used = None
+uses_left (Some uses) used = Some (uses - used)
+
+-- the identity that an addition made, with the uses that are left
 abbrev pub key_of : Option ℕ → PastAddition → HeldKey
-key_of life past = identity_of past.number past.addition.key past.addition.comment (death_of past.second past.addition.terms.life life) past.addition.terms
+key_of life past =
+    record (identity_of past.number past.addition.key past.addition.comment (death_of past.second past.addition.terms.life life) past.addition.terms) { uses = uses_left past.addition.terms.uses past.uses }
 
 -- the agent holds what the past tells, from this second on
 pub record Holds (life : Option ℕ) (second : ℕ) (facts : Facts) (held : KeyState) : Type 0 where
@@ -86,34 +96,34 @@ fresh-expired new held blob own =
     ∙ sym (find-alive blob new held.table.identities own)
 
 -- nothing is held
-own_none : HaveOwnBlobs []
+pub own_none : HaveOwnBlobs []
 unfolding HaveOwnBlobs
 own_none = tt
 
-no_numbers : (last : ℕ) → HaveOwnNumbers last []
+pub no_numbers : (last : ℕ) → HaveOwnNumbers last []
 unfolding HaveOwnNumbers
 no_numbers last = tt
 
-found_none : (blob : List ℕ) (later : ℕ) → if_alive later (find_identity blob []) ≡ None
+pub found_none : (blob : List ℕ) (later : ℕ) → if_alive later (find_identity blob []) ≡ None
 unfolding find_identity
 found_none blob later = refl
 
-none_numbered : (number : ℕ) (key : HeldKey) → find_number number [] ≡ Some key → ⊥
+pub none_numbered : (number : ℕ) (key : HeldKey) → find_number number [] ≡ Some key → ⊥
 unfolding find_number
 none_numbered number key found = absurd (cc)
 
 pub holds-first : (life : Option ℕ) → Holds life 0 (facts_of []) (no_keys life)
 holds-first life = record { locked = refl; count = refl; default = refl; own = own_none; numbers = no_numbers 0; found = λ blob later after. found_none blob later }
 
--- ---- requests
+-- ---- numbers
 
 -- a number that was given finds what it found, or nothing
 pub record NumbersKept (old new : KeyState) : Type 0 where
   pub last : old.table.last ≤ new.table.last
-  pub found : (number : ℕ) (key : HeldKey) → number ≤ old.table.last → find_number number new.table.identities ≡ Some key → find_number number old.table.identities ≡ Some key
+  pub found : (number : ℕ) (key : HeldKey) → number ≤ old.table.last → find_number number new.table.identities ≡ Some key → WasHeld number old.table.identities key
 
-same_numbers : (old new : KeyState) → new.table ≡ old.table → NumbersKept old new
-same_numbers old new same = record { last = rw same (omega arith); found = λ number key within found. sym (ap (λ (t : TableState). find_number number t.identities) same) ∙ found }
+pub same_numbers : (old new : KeyState) → new.table ≡ old.table → NumbersKept old new
+same_numbers old new same = record { last = rw same (omega arith); found = λ number key within found. was_held number old.table.identities key (sym (ap (λ (t : TableState). find_number number t.identities) same) ∙ found) }
 
 of_alive : (second : ℕ) (found : Option HeldKey) (key : HeldKey) → if_alive second found ≡ Some key → found ≡ Some key
 of_alive second None key is = absurd (cc)
@@ -123,7 +133,7 @@ of_alive second (Some first) key is = by_test (lives_at second first.death) is
     by_test true some = some
     by_test false some = absurd (cc)
 
-of_unless : (blob : List ℕ) (found : Option HeldKey) (key : HeldKey) → unless_blob blob found ≡ Some key → found ≡ Some key
+pub of_unless : (blob : List ℕ) (found : Option HeldKey) (key : HeldKey) → unless_blob blob found ≡ Some key → found ≡ Some key
 of_unless blob None key is = absurd (cc)
 of_unless blob (Some first) key is = by_test (bytes_eq first.blob blob) is
   where
@@ -135,154 +145,141 @@ pub numbers-expired : (life : Option ℕ) (old new : ℕ) (facts : Facts) (held 
 numbers-expired life old new facts held holds = record {
   last = omega arith;
   found = λ number key within found.
-      of_alive new (find_number number held.table.identities) key (sym (find_number-alive number held.table.last new held.table.identities holds.numbers) ∙ found);
+      was_held number held.table.identities key (of_alive new (find_number number held.table.identities) key (sym (find_number-alive number held.table.last new held.table.identities holds.numbers) ∙ found));
 }
 
--- what is held behind a request is what the past and it tell, and numbers are kept
-pub record HoldsAfter (life : Option ℕ) (asker : Asker) (facts : Facts) (held : KeyState) (done : Done) (after : KeyState) : Type 0 where
-  pub holds : Holds life asker.mono (facts_after done asker.mono facts) after
-  pub kept : NumbersKept held after
+-- a use keeps them
+pub numbers-used : (addition : ℕ) (held : KeyState) → HaveOwnNumbers held.table.last held.table.identities → NumbersKept held (after_use (Some addition) held)
+numbers-used addition held own = record {
+  last = omega arith;
+  found = λ number key within found. was_held-used addition number held.table.last held.table.identities key own found;
+}
 
-module _ (life : Option ℕ) (asker : Asker) (facts : Facts) (held : KeyState) (under_way : UnderWay) (holds : Holds life asker.mono facts held) where
-  abbrev After : Done → KeyState → Type 0
-  After done after = HoldsAfter life asker facts held done after
+-- ---- uses
 
-  nothing_done : After DidNothing held
-  nothing_done = record {
-    holds = record { locked = holds.locked; count = holds.count; default = holds.default; own = holds.own; numbers = holds.numbers; found = holds.found };
-    kept = same_numbers held held refl;
-  }
+pub uses_new : (uses : Option ℕ) → uses_left uses 0 ≡ uses
+uses_new None = refl
+uses_new (Some uses) = let same : uses - 0 ≡ uses = omega arith in ap (λ (n : ℕ). Some n) same
 
-  abbrev Told : Done → KeyState → Type 0
-  Told done after = Holds life asker.mono (facts_after done asker.mono facts) after
+pub has_new : (uses : Option ℕ) → IfSome uses (λ n. 1 ≤ n) → has_uses uses 0 ≡ true
+has_new None some = refl
+has_new (Some uses) some = grind (arith, nat_tests, some)
 
-  -- ---- additions
+-- after one more use fewer are left
+has_less : (uses : Option ℕ) (used : ℕ) → has_uses uses used ≡ false → has_uses uses (used + 1) ≡ false
+has_less None used none = absurd (cc)
+has_less (Some uses) used none = grind (arith, nat_tests, none)
 
-  added_holds : (addition : Addition) → Told (DidAdd addition) (record held { table = with_addition addition asker.mono held.table })
-  added_holds addition = record {
-    locked = holds.locked;
-    count = ap (λ n. n + 1) holds.count;
-    default = holds.default;
-    own = own_blobs-put new held.table.identities holds.own;
-    numbers = own_numbers-put held.table.last new held.table.identities refl holds.numbers;
-    found = λ blob later after.
-        ap (if_alive later) (find-put blob new held.table.identities) ∙ by_test blob later after (bytes_eq addition.key.blob blob);
-  }
+pub and_true : (b : Bool) → (b && true) ≡ b
+and_true true = refl
+and_true false = refl
+
+and_false : (b : Bool) → (b && false) ≡ false
+and_false true = refl
+and_false false = refl
+
+-- what is left of an identity that was used so often, and of which some is left
+left-used : (base : HeldKey) (uses : Option ℕ) (times : ℕ) → has_uses uses times ≡ true → used_by (uses_left uses times) (record base { uses = uses_left uses times }) ≡ cond (has_uses uses (times + 1)) (Some (record base { uses = uses_left uses (times + 1) })) None
+left-used base None times has = refl
+left-used base (Some uses) times has = by_more (nat_lt (times + 1) uses) refl
+  where
+    by_more : (more : Bool) → nat_lt (times + 1) uses ≡ more → cond (uses - times - 1 == 0) None (Some (record base { uses = Some (uses - times - 1) })) ≡ cond more (Some (record base { uses = Some (uses - (times + 1)) })) None
+    by_more true is =
+        let some : (uses - times - 1 == 0) ≡ false = grind (arith, nat_tests, is) in
+        let fewer : uses - times - 1 ≡ uses - (times + 1) = omega arith in
+        ap (λ b. cond b None (Some (record base { uses = Some (uses - times - 1) }))) some ∙ ap (λ (n : ℕ). Some (record base { uses = Some n })) fewer
+    by_more false is =
+        let none : (uses - times - 1 == 0) ≡ true = grind (arith, nat_tests, is, has) in
+        ap (λ b. cond b None (Some (record base { uses = Some (uses - times - 1) }))) none
+
+module _ (life : Option ℕ) (later : ℕ) where
+  -- what is dead stays dead
+  dead_used : (key : HeldKey) → lives_at later key.death ≡ false → if_alive later (used key) ≡ None
+  dead_used key dead = by_left (used key) refl
     where
-      new : HeldKey
-      new = new_identity held.table addition.key addition.terms addition.comment asker.mono
+      by_left : (after : Option HeldKey) → used key ≡ after → if_alive later after ≡ None
+      by_left None is = refl
+      by_left (Some after) is =
+          ap (λ (k : HeldKey). cond (lives_at later k.death) (Some after) None) (only_uses key.uses key after is) ∙ ap (λ b. cond b (Some after) None) dead
 
-      past : PastAddition
-      past = record { number = facts.count + 1; second = asker.mono; addition = addition }
-
-      is_new : key_of life past ≡ new
-      is_new =
-          ap (λ n. identity_of (n + 1) addition.key addition.comment (death_of asker.mono addition.terms.life life) addition.terms) holds.count
-          ∙ ap (λ l. identity_of (held.table.last + 1) addition.key addition.comment (death_of asker.mono addition.terms.life l) addition.terms) (sym holds.default)
-
-      by_life : (later : ℕ) (lives : Bool) → cond lives (Some new) None ≡ option_map (key_of life) (cond lives (Some past) None)
-      by_life later true = ap Some (sym is_new)
-      by_life later false = refl
-
-      same_life : (later : ℕ) → lives_at later new.death ≡ is_alive life later past
-      same_life later = ap (λ l. lives_at later (death_of asker.mono addition.terms.life l)) holds.default
-
-      by_test : (blob : List ℕ) (later : ℕ) → asker.mono ≤ later → (same : Bool) → if_alive later (cond same (Some new) (find_identity blob held.table.identities)) ≡ option_map (key_of life) (held_by (cond same (Some past) (facts.last blob)) life later)
-      by_test blob later after true =
-          ap (λ b. cond b (Some new) None) (same_life later) ∙ by_life later (is_alive life later past)
-      by_test blob later after false = holds.found blob later after
-
-  -- ---- removals
-
-  removed_holds : (removed : List ℕ) → Told (DidRemove removed) (with_identities (remove_identity removed held.table.identities) held)
-  removed_holds removed = record {
-    locked = holds.locked;
-    count = holds.count;
-    default = holds.default;
-    own = own_blobs-remove removed held.table.identities holds.own;
-    numbers = own_numbers-remove held.table.last removed held.table.identities holds.numbers;
-    found = λ blob later after.
-        ap (if_alive later) (find-remove blob removed held.table.identities holds.own) ∙ by_test blob later after (bytes_eq removed blob);
-  }
+  -- what isn't held isn't after one more use
+  gone_again : (last : Option PastAddition) → held_by last life later ≡ None → held_by (option_map used_again last) life later ≡ None
+  gone_again None gone = refl
+  gone_again (Some past) gone = by_tests (is_alive life later past) (has_uses past.addition.terms.uses past.uses) refl gone
     where
-      by_test : (blob : List ℕ) (later : ℕ) → asker.mono ≤ later → (same : Bool) → if_alive later (cond same None (find_identity blob held.table.identities)) ≡ option_map (key_of life) (held_by (cond same None (facts.last blob)) life later)
-      by_test blob later after true = refl
-      by_test blob later after false = holds.found blob later after
+      by_tests : (alive has : Bool) → has_uses past.addition.terms.uses past.uses ≡ has → cond (alive && has) (Some past) None ≡ None → cond (alive && has_uses past.addition.terms.uses (past.uses + 1)) (Some (used_again past)) None ≡ None
+      by_tests false has is none = refl
+      by_tests true true is none = absurd (cc)
+      by_tests true false is none = ap (λ b. cond b (Some (used_again past)) None) (has_less past.addition.terms.uses past.uses is)
 
-  all_holds : Told DidRemoveAll (with_identities [] held)
-  all_holds = record { locked = holds.locked; count = holds.count; default = holds.default; own = own_none; numbers = no_numbers held.table.last; found = λ blob later after. found_none blob later }
+  -- the addition that made what is held
+  pub record MadeBy (last : Option PastAddition) (key : HeldKey) : Type 0 where
+    pub past : PastAddition
+    pub is : last ≡ Some past
+    pub alive : is_alive life later past ≡ true
+    pub has : has_uses past.addition.terms.uses past.uses ≡ true
+    pub same : key_of life past ≡ key
 
-  -- numbers are kept by an addition and by removals
-  added_done : (addition : Addition) → After (DidAdd addition) (record held { table = with_addition addition asker.mono held.table })
-  added_done addition = record {
-    holds = added_holds addition;
-    kept = record {
-      last = omega arith;
-      found = λ number key within found.
-          let new : HeldKey = new_identity held.table addition.key addition.terms addition.comment asker.mono in
-          let other : (held.table.last + 1 == number) ≡ false = grind (arith, nat_tests, within) in
-          of_unless new.blob (find_number number held.table.identities) key
-          (ap (λ b. cond b (Some new) (unless_blob new.blob (find_number number held.table.identities))) (sym other)
-          ∙ sym (find_number-put number held.table.last new held.table.identities holds.own holds.numbers refl) ∙ found);
-    };
-  }
+  made_by : (last : Option PastAddition) (key : HeldKey) → Some key ≡ option_map (key_of life) (held_by last life later) → MadeBy last key
+  made_by None key is = absurd (cc)
+  made_by (Some past) key is = by_tests (is_alive life later past) (has_uses past.addition.terms.uses past.uses) refl refl is
+    where
+      by_tests : (alive has : Bool) → is_alive life later past ≡ alive → has_uses past.addition.terms.uses past.uses ≡ has → Some key ≡ option_map (key_of life) (cond (alive && has) (Some past) None) → MadeBy (Some past) key
+      by_tests true true alive has some =
+          let e : key ≡ key_of life past = cc in
+          record { past = past; is = refl; alive = alive; has = has; same = sym e }
+      by_tests true false alive has some = absurd (cc)
+      by_tests false has alive is_has some = absurd (cc)
 
-  removed_done : (removed : List ℕ) → After (DidRemove removed) (with_identities (remove_identity removed held.table.identities) held)
-  removed_done removed = record {
-    holds = removed_holds removed;
-    kept = record {
-      last = omega arith;
-      found = λ number key within found.
-          of_unless removed (find_number number held.table.identities) key (sym (find_number-remove number held.table.last removed held.table.identities holds.own holds.numbers) ∙ found);
-    };
-  }
+  -- what is held after one more use is told by the past
+  told_again : (past : PastAddition) → is_alive life later past ≡ true → has_uses past.addition.terms.uses past.uses ≡ true → if_alive later (used (key_of life past)) ≡ option_map (key_of life) (held_by (Some (used_again past)) life later)
+  told_again past alive has =
+      let base : HeldKey = identity_of past.number past.addition.key past.addition.comment (death_of past.second past.addition.terms.life life) past.addition.terms in
+      ap (if_alive later) (left-used base past.addition.terms.uses past.uses has) ∙ by_more (has_uses past.addition.terms.uses (past.uses + 1))
+    where
+      next : PastAddition
+      next = used_again past
 
-  all_removed : After DidRemoveAll (with_identities [] held)
-  all_removed = record { holds = all_holds; kept = record { last = omega arith; found = λ number key within found. absurd (none_numbered number key found) } }
+      by_more : (more : Bool) → if_alive later (cond more (Some (key_of life next)) None) ≡ option_map (key_of life) (cond (is_alive life later past && more) (Some next) None)
+      by_more true =
+          ap (λ b. cond b (Some (key_of life next)) None) alive
+          ∙ ap (λ b. option_map (key_of life) (cond (b && true) (Some next) None)) (sym alive)
+      by_more false = ap (λ b. option_map (key_of life) (cond b (Some next) None)) (sym (and_false (is_alive life later past)))
 
-  -- ---- the table of requests
+  used-told : (key : HeldKey) (last : Option PastAddition) → if_alive later (Some key) ≡ option_map (key_of life) (held_by last life later) → if_alive later (used key) ≡ option_map (key_of life) (held_by (option_map used_again last) life later)
+  used-told key last told = by_life (lives_at later key.death) refl told
+    where
+      none_held : (now : Option PastAddition) → None ≡ option_map (key_of life) now → now ≡ None
+      none_held None is = refl
+      none_held (Some past) is = absurd (cc)
 
-  nothing_by : (read : Result ClientRequest MsgFault) (cause : Cause) → done_of_request read (Refuses cause) ≡ DidNothing
-  nothing_by (Err fault) cause = refl
-  nothing_by (Ok ListIdentities) cause = refl
-  nothing_by (Ok (Sign signing)) cause = refl
-  nothing_by (Ok (Add addition)) cause = refl
-  nothing_by (Ok (Remove blob)) cause = refl
-  nothing_by (Ok RemoveAll) cause = refl
-  nothing_by (Ok (Lock passphrase)) cause = refl
-  nothing_by (Ok (Unlock passphrase)) cause = refl
-  nothing_by (Ok (Bind bind)) cause = refl
-  nothing_by (Ok (OtherExtension name)) cause = refl
-  nothing_by (Ok (Unsupported number)) cause = refl
+      by_life : (lives : Bool) → lives_at later key.death ≡ lives → cond lives (Some key) None ≡ option_map (key_of life) (held_by last life later) → if_alive later (used key) ≡ option_map (key_of life) (held_by (option_map used_again last) life later)
+      by_life false dead none =
+          dead_used key dead ∙ ap (option_map (key_of life)) (sym (gone_again last (none_held (held_by last life later) none)))
+      by_life true lives some =
+          let made = made_by last key some in
+          ap (λ k. if_alive later (used k)) (sym made.same)
+          ∙ told_again made.past made.alive made.has
+          ∙ ap (λ one. option_map (key_of life) (held_by (option_map used_again one) life later)) (sym made.is)
 
-  lock_changed : (lock : Option (List ℕ)) (done : Done) → locked_by done facts.locked ≡ is_some lock → facts_after done asker.mono facts ≡ record facts { locked = locked_by done facts.locked } → After done (record held { lock = lock })
-  lock_changed lock done locked same = record {
-    holds = subst (λ f. Holds life asker.mono f (record held { lock = lock })) (sym same)
-        record { locked = locked; count = holds.count; default = holds.default; own = holds.own; numbers = holds.numbers; found = holds.found };
-    kept = same_numbers held _ refl;
-  }
-
-  module _ (read : Result ClientRequest MsgFault) where
-    as_read : (request : ClientRequest) (verdict : Verdict) (after : KeyState) → read ≡ Ok request →
-        After (done_of_request (Ok request) verdict) after → After (done_of_request read verdict) after
-    as_read request verdict after is =
-        subst (λ r. After (done_of_request r verdict) after) (sym is)
-
-    done-served : {served : Served} → Serves read asker held under_way served →
-        After (done_of_request read served.work.verdict) served.held
-    done-served (denies cause) = subst (λ done. After done held) (sym (nothing_by read cause)) nothing_done
-    done-served (lists identities is) = as_read ListIdentities _ held is nothing_done
-    done-served (adds addition is) = as_read (Add addition) _ _ is (added_done addition)
-    done-served (removes blob is) = as_read (Remove blob) _ _ is (removed_done blob)
-    done-served (empties is) = as_read RemoveAll _ _ is all_removed
-    done-served (locks passphrase is) =
-        as_read (Lock passphrase) _ _ is (lock_changed (Some passphrase) DidLock refl refl)
-    done-served (unlocks passphrase is) =
-        as_read (Unlock passphrase) _ _ is (lock_changed None DidUnlock refl refl)
-    done-served (signs signing key is found asks free) = as_read (Sign signing) _ held is nothing_done
-    done-served (confirms signing key is found free) = as_read (Sign signing) _ held is nothing_done
-    done-served (verifies bind is_new is stands free) = as_read (Bind bind) _ held is nothing_done
-
-    -- whatever is asked, what is held behind it is what the past and it tell
-    pub holds-served : After (done_of_request read (serve read asker held under_way).work.verdict) (serve read asker held under_way).held
-    holds-served = done-served (serves-any read asker held under_way)
+-- what is used is what was found by its blob
+pub used-holds : (life : Option ℕ) (second : ℕ) (facts : Facts) (held : KeyState) (blob : List ℕ) (key : HeldKey) → find_identity blob held.table.identities ≡ Some key → Holds life second facts held → Holds life second (facts_after (DidUse blob) second facts) (after_use (Some key.number) held)
+used-holds life second facts held blob key found holds = record {
+  locked = holds.locked;
+  count = holds.count;
+  default = holds.default;
+  own = own_blobs-used key.number held.table.identities holds.own;
+  numbers = own_numbers-used key.number held.table.last held.table.identities holds.numbers;
+  found = λ other later after.
+      let its_number = number_of_found blob held.table.last held.table.identities key holds.numbers found in
+      ap (if_alive later) (find-used other key.number key held.table.identities holds.own its_number.1
+      ∙ ap (λ b. cond (bytes_eq b other) (used key) (find_identity other held.table.identities)) (found_has blob held.table.identities key found))
+      ∙ by_test other later after (bytes_eq blob other) refl;
+}
+  where
+    by_test : (other : List ℕ) (later : ℕ) → second ≤ later → (same : Bool) → bytes_eq blob other ≡ same → if_alive later (cond same (used key) (find_identity other held.table.identities)) ≡ option_map (key_of life) (held_by (cond same (option_map used_again (facts.last other)) (facts.last other)) life later)
+    by_test other later after true same =
+        let equal : blob ≡ other = (bytes_eq-Decides blob other).0 same in
+        used-told life later key (facts.last other)
+        (ap (if_alive later) (sym (ap (λ b. find_identity b held.table.identities) (sym equal) ∙ found)) ∙ holds.found other later after)
+    by_test other later after false same = holds.found other later after

@@ -17,29 +17,34 @@ use Rattle.agent_model.specs.Actions.{Outcome}
 use Rattle.agent_model.specs.Answers.{lose_if}
 use Rattle.agent_model.specs.Binds.{agent_request_of}
 use Rattle.agent_model.specs.Dispatch.{Served, Asker, with_addition}
+use Rattle.agent_model.specs.Consents.{grant_work}
 use Rattle.agent_model.specs.Events.{Happening, Timed}
-use Rattle.agent_laws.specs.Grants.{HaveOwnParts}
-use Rattle.agent_model.specs.KeyStates.{KeyState}
+use Rattle.agent_laws.specs.Grants.{HaveOwnParts, WasHeld}
+use Rattle.agent_model.specs.KeyStates.{KeyState, after_use}
 use Rattle.agent_model.specs.Runs.{run}
 use Rattle.agent_model.specs.State.{State, UnderWay, first_state}
 use Rattle.agent_model.specs.Step.{asker_at, at_moment, handle, step}
 use Rattle.agent_model.proofs.MakeLemmas.{Makes, alters, by_event, closes, first, goes_on, grants, links, loses, names, overs, serves, stays, tells}
+use Rattle.agent_laws.proofs.UseLemmas.{own_blobs-used, own_numbers-used, used_in_turn, was_held, was_held-used}
 use Rattle.agent_model.proofs.ServeLemmas.{Serves, adds, confirms, denies, empties, lists, locks, removes, serves-any, signs, unlocks, verifies}
 
 -- the numbers that were given find what they found, or nothing; and identities have parts of their own yet
 pub record KeysKept (old new : TableState) : Type 0 where
   pub own : HaveOwnParts new
   pub last : old.last ≤ new.last
-  pub found : (number : ℕ) (key : HeldKey) → number ≤ old.last → find_number number new.identities ≡ Some key → find_number number old.identities ≡ Some key
+  pub found : (number : ℕ) (key : HeldKey) → number ≤ old.last → find_number number new.identities ≡ Some key → WasHeld number old.identities key
 
 kept-same : (table : TableState) → HaveOwnParts table → KeysKept table table
-kept-same table own = record { own = own; last = omega arith; found = λ number key within is. is }
+kept-same table own = record { own = own; last = omega arith; found = λ number key within is. was_held number table.identities key is }
 
 kept-in_turn : {old mid new : TableState} → KeysKept old mid → KeysKept mid new → KeysKept old new
 kept-in_turn one two = record {
   own = two.own;
   last = omega (arith, one.last, two.last);
-  found = λ number key within is. one.found number key within (two.found number key (omega (arith, within, one.last)) is);
+  found = λ number key within is.
+      let later = two.found number key (omega (arith, within, one.last)) is in
+      let before = one.found number later.was within later.found in
+      record { was = before.was; found = before.found; used = used_in_turn before.used later.used };
 }
 
 -- the dead leave
@@ -51,12 +56,12 @@ alive_before second (Some one) key is = by_test (lives_at second one.death) is
     by_test true some = some
     by_test false some = absurd (cc)
 
-kept-alive : (second : ℕ) (table : TableState) → HaveOwnParts table → KeysKept table (record table { identities = alive_at second table.identities; greatest = second })
+pub kept-alive : (second : ℕ) (table : TableState) → HaveOwnParts table → KeysKept table (record table { identities = alive_at second table.identities; greatest = second })
 kept-alive second table own = record {
   own = record { blobs = own_blobs-alive second table.identities own.blobs; numbers = own_numbers-alive table.last second table.identities own.numbers };
   last = omega arith;
   found = λ number key within is.
-      alive_before second (find_number number table.identities) key (sym (find_number-alive number table.last second table.identities own.numbers) ∙ is);
+      was_held number table.identities key (alive_before second (find_number number table.identities) key (sym (find_number-alive number table.last second table.identities own.numbers) ∙ is));
 }
 
 -- one leaves
@@ -68,12 +73,12 @@ unless_before blob (Some one) key is = by_test (bytes_eq one.blob blob) is
     by_test true some = absurd (cc)
     by_test false some = some
 
-kept-removed : (blob : List ℕ) (table : TableState) → HaveOwnParts table → KeysKept table (record table { identities = remove_identity blob table.identities })
+pub kept-removed : (blob : List ℕ) (table : TableState) → HaveOwnParts table → KeysKept table (record table { identities = remove_identity blob table.identities })
 kept-removed blob table own = record {
   own = record { blobs = own_blobs-remove blob table.identities own.blobs; numbers = own_numbers-remove table.last blob table.identities own.numbers };
   last = omega arith;
   found = λ number key within is.
-      unless_before blob (find_number number table.identities) key (sym (find_number-remove number table.last blob table.identities own.blobs own.numbers) ∙ is);
+      was_held number table.identities key (unless_before blob (find_number number table.identities) key (sym (find_number-remove number table.last blob table.identities own.blobs own.numbers) ∙ is));
 }
 
 -- all leave
@@ -85,7 +90,7 @@ none_found : (number : ℕ) (key : HeldKey) → find_number number [] ≡ Some k
 unfolding find_number
 none_found number key is = absurd (cc)
 
-kept-emptied : (table : TableState) → KeysKept table (record table { identities = [] })
+pub kept-emptied : (table : TableState) → KeysKept table (record table { identities = [] })
 kept-emptied table = record {
   own = own_none table.last table.greatest table.life;
   last = omega arith;
@@ -93,19 +98,28 @@ kept-emptied table = record {
 }
 
 -- one comes, under the next number
-kept-added : (addition : Addition) (now : ℕ) (table : TableState) → HaveOwnParts table → KeysKept table (with_addition addition now table)
+pub kept-added : (addition : Addition) (now : ℕ) (table : TableState) → HaveOwnParts table → KeysKept table (with_addition addition now table)
 kept-added addition now table own =
     let new : HeldKey = new_identity table addition.key addition.terms addition.comment now in
     record {
       own = record { blobs = own_blobs-put new table.identities own.blobs; numbers = own_numbers-put table.last new table.identities refl own.numbers };
       last = omega arith;
       found = λ number key within is.
-          by_test new number key within (eqb new.number number) refl refl (sym (find_number-put number table.last new table.identities own.blobs own.numbers refl) ∙ is);
+          was_held number table.identities key (by_test new number key within (eqb new.number number) refl refl (sym (find_number-put number table.last new table.identities own.blobs own.numbers refl) ∙ is));
     }
   where
     by_test : (new : HeldKey) (number : ℕ) (key : HeldKey) → number ≤ table.last → (same : Bool) → new.number ≡ table.last + 1 → eqb new.number number ≡ same → cond same (Some new) (unless_blob new.blob (find_number number table.identities)) ≡ Some key → find_number number table.identities ≡ Some key
     by_test new number key within true is equal some = absurd (omega (arith, is, eqb-true new.number number equal, within))
     by_test new number key within false is equal some = unless_before new.blob (find_number number table.identities) key some
+
+-- one is used
+pub kept-used : (used : Option ℕ) (held : KeyState) → HaveOwnParts held.table → KeysKept held.table (after_use used held).table
+kept-used None held own = kept-same held.table own
+kept-used (Some addition) held own = record {
+  own = record { blobs = own_blobs-used addition held.table.identities own.blobs; numbers = own_numbers-used addition held.table.last held.table.identities own.numbers };
+  last = omega arith;
+  found = λ number key within is. was_held-used addition number held.table.last held.table.identities key own.numbers is;
+}
 
 -- ---- requests
 
@@ -117,7 +131,7 @@ kept-served {held = held} own (removes blob is) = kept-removed blob held.table o
 kept-served {held = held} own (empties is) = kept-emptied held.table
 kept-served {held = held} own (locks passphrase is) = kept-same held.table own
 kept-served {held = held} own (unlocks passphrase is) = kept-same held.table own
-kept-served {held = held} own (signs signing key is found asks free) = kept-same held.table own
+kept-served {held = held} own (signs signing key is found asks free) = kept-used (Some key.number) held own
 kept-served {held = held} own (confirms signing key is found free) = kept-same held.table own
 kept-served {held = held} own (verifies bind is_new is stands free) = kept-same held.table own
 
@@ -139,7 +153,7 @@ kept-makes (tells piece state) own = kept-fault (telling piece state.under_way.l
     kept-fault (Some fault) mid own_mid = kept-same mid.held.table own_mid
 kept-makes (loses state) own = kept-same state.held.table own
 kept-makes (overs confirmation state there) own = kept-same state.held.table own
-kept-makes (grants confirmation port state there opened) own = kept-same state.held.table own
+kept-makes (grants confirmation port state there opened) own = kept-used (grant_work port.chain confirmation state).used state.held own
 
 -- as the moment is taken in
 pub kept-opened : (moment : Moment) (state : State) → HaveOwnParts state.held.table → KeysKept state.held.table (at_moment moment state).held.table
@@ -174,5 +188,6 @@ never_again number old new kept within none = by_found (find_number number new.i
     by_found : (found : Option HeldKey) → find_number number new.identities ≡ found → find_number number new.identities ≡ None
     by_found None is = is
     by_found (Some key) is =
-        let no : None ≡ Some key = sym none ∙ kept.found number key within is in
+        let was = kept.found number key within is in
+        let no : None ≡ Some was.was = sym none ∙ was.found in
         absurd (cc)

@@ -1,8 +1,11 @@
+pub mod UsableLemmas
+pub mod UseLemmas
 pub mod KeyLemmas
 pub mod TraceLemmas
 pub mod PutLemmas
 pub mod PastLemmas
 pub mod HoldsLemmas
+pub mod ServedLemmas
 pub mod RaisedLemmas
 pub mod DueLemmas
 pub mod StepLemmas
@@ -10,6 +13,8 @@ pub mod GrantedLemmas
 pub mod MadeLemmas
 pub mod HistoryLemmas
 pub mod ConsequenceLemmas
+pub mod TimesLemmas
+pub mod UsedLemmas
 pub mod ConsentLemmas
 pub mod HostLemmas
 pub mod AnsweredLemmas

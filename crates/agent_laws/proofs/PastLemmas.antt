@@ -56,7 +56,7 @@ lawful-if life past [] n lawful = lawful n
 lawful-if life past (one ∷ some) n lawful =
     (stands-if one.action (due_signing life past) n lawful.0, lawful-if life (one ∷ past) some n lawful.1)
 
-due-purpose : (purpose : Purpose) (port : ℕ) (due : Option Claim) → IsDue purpose port due →
+pub due-purpose : (purpose : Purpose) (port : ℕ) (due : Option Claim) → IsDue purpose port due →
     IsPutWhereDue purpose port due
 due-purpose (ForSignature signing) port due is = is
 due-purpose (ForBinding binding) port due is = tt

@@ -123,8 +123,12 @@ named-kept : (waiting : ℕ → Option Raising) (old new : State) → KeysKept o
 named-kept waiting old new kept named = record {
   own = kept.own;
   named = λ job raising is.
-      let before = named.named job raising is in
-      (omega (arith, before.0, kept.last), λ key found. before.1 key (kept.found raising.addition key before.0 found));
+      let before = named.named job raising is in (
+        omega (arith, before.0, kept.last),
+        λ key found.
+            let was = kept.found raising.addition key before.0 found in
+            ap (λ (k : HeldKey). k.blob) was.used.same ∙ before.1 was.was was.found,
+      );
 }
 
 -- what is waited for after actions was before, or was raised by them
@@ -198,10 +202,10 @@ named-event event waiting state named = by_event (λ outcome. KeysKept state.hel
         let own = number_of_found raising.signing.blob state.held.table.last state.held.table.identities key.0 named.own.numbers key.1 in (
           omega (arith, own.0, key.2, kept.last),
           λ later found.
-              let was : find_number raising.addition state.held.table.identities ≡ Some later = kept.found raising.addition later (omega (arith, own.0, key.2)) found in
-              let same : Some later ≡ Some key.0 = sym was ∙ ap (λ n. find_number n state.held.table.identities) key.2 ∙ own.1 in
-              let equal : later ≡ key.0 = cc in
-              ap (λ (k : HeldKey). k.blob) equal ∙ found_has raising.signing.blob state.held.table.identities key.0 key.1,
+              let was = kept.found raising.addition later (omega (arith, own.0, key.2)) found in
+              let same : Some was.was ≡ Some key.0 = sym was.found ∙ ap (λ n. find_number n state.held.table.identities) key.2 ∙ own.1 in
+              let equal : was.was ≡ key.0 = cc in
+              ap (λ (k : HeldKey). k.blob) was.used.same ∙ ap (λ (k : HeldKey). k.blob) equal ∙ found_has raising.signing.blob state.held.table.identities key.0 key.1,
         )
 
 pub step-named : (waiting : ℕ → Option Raising) (state : State) (moment : Moment) (event : Happening) → IsNamed waiting state → IsNamed (λ job. pending_after job (step state moment event).actions (waiting job)) (step state moment event).state

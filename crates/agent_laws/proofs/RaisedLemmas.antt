@@ -60,7 +60,9 @@ all_raised-kept past old new confirmations kept all job one found =
       message = raised.message;
       flags = raised.flags;
       within = omega (arith, raised.within, kept.last);
-      blob = λ key there. raised.blob key (kept.found one.addition key raised.within there);
+      blob = λ key there.
+          let was = kept.found one.addition key raised.within there in
+          ap (λ (k : HeldKey). k.blob) was.used.same ∙ raised.blob was.was was.found;
     }
 
 -- a change of a confirmation that leaves what is to be signed and for whom

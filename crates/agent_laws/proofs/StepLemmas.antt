@@ -29,9 +29,11 @@ use Rattle.agent_laws.specs.Dues.{Claim, claim_of_request, due_signing, met_by, 
 use Rattle.agent_laws.specs.History.{IsDue, onto}
 use Rattle.agent_laws.specs.Past.{done_of_request}
 use Rattle.agent_laws.proofs.DueLemmas.{Acts, acts-served, asks, due_read, met_with, raises_it, silent}
-use Rattle.agent_laws.proofs.HoldsLemmas.{Facts, Holds, HoldsAfter, NumbersKept, facts_after, facts_of, holds-served}
+use Rattle.agent_laws.proofs.HoldsLemmas.{Facts, Holds, NumbersKept, facts_after, facts_of, facts_then}
+use Rattle.agent_laws.proofs.ServedLemmas.{HoldsAfter, holds-served}
 use Rattle.agent_laws.proofs.RaisedLemmas.{AllRaised, Stays, as_it_is, lightly, stays-kept, all_raised-kept, all_raised-more, all_raised-push, all_raised-same}
 use Rattle.agent_laws.proofs.PastLemmas.{LawfulIf, nothing_due, stamp, stamps}
+use Rattle.agent_laws.proofs.UsableLemmas.{usable-asked}
 
 abbrev pub numbers_of : List Ask → List ℕ
 numbers_of all = map (λ (one : Ask). one.number) all
@@ -130,17 +132,17 @@ pub numbers-append : (some more : List Ask) → numbers_of (some ++ more) ≡ nu
 numbers-append [] more = refl
 numbers-append (one ∷ some) more = ap (λ rest. one.number ∷ rest) (numbers-append some more)
 
+-- what the past tells behind actions
+pub facts-onto : (moment : Moment) (past : List Stamped) (actions : List Action) → facts_of (onto past (stamps moment actions)) ≡ facts_then actions moment.mono (facts_of past)
+facts-onto moment past [] = refl
+facts-onto moment past (action ∷ later) = facts-onto moment (stamp moment action ∷ past) later
+
 -- what is done behind it stands there, and agrees
 module _ (life : Option ℕ) (moment : Moment) (asker : Asker) (held after : KeyState) (under_way : UnderWay) (past : List Stamped) (due : Option Claim) (is : due_signing life past ≡ due) where
   lawful-acts : {N : Type 0} {work : Work} → Acts N due asker held under_way work → LawfulIf N life past (stamps moment work.actions)
   lawful-acts (silent verdict none) = λ n. is ∙ none n
   lawful-acts (asks errand may) = (subst (IsDue (purpose_of errand) asker.port) (sym is) may, λ n. refl)
   lawful-acts (raises_it key signing found none) = (λ n. is ∙ none n, λ n. refl)
-
-  holds-acts : {N : Type 0} {work : Work} → Acts N due asker held under_way work → Holds life moment.mono (facts_of past) after → Holds life moment.mono (facts_of (onto past (stamps moment work.actions))) after
-  holds-acts (silent verdict none) holds = holds
-  holds-acts (asks errand may) holds = record { locked = holds.locked; count = holds.count; default = holds.default; own = holds.own; numbers = holds.numbers; found = holds.found }
-  holds-acts (raises_it key signing found none) holds = record { locked = holds.locked; count = holds.count; default = holds.default; own = holds.own; numbers = holds.numbers; found = holds.found }
 
   opens-acts : {N : Type 0} {work : Work} → Acts N due asker held under_way work → open_asks past ≡ numbers_of under_way.link.asks → open_asks (onto past (stamps moment work.actions)) ≡ numbers_of work.under_way.link.asks
   opens-acts (silent verdict none) same = same
@@ -181,12 +183,12 @@ module _ {N : Type 0} (life : Option ℕ) (past : List Stamped) (body_len : ℕ)
   lawful_behind : LawfulIf N life behind (stamps state.moment served.work.actions)
   lawful_behind = lawful-acts life state.moment asker state.held served.held state.under_way behind _ due_behind acts
 
-  done : HoldsAfter life asker (facts_of past) state.held (done_of_request (agent_request_of body) served.work.verdict) served.held
-  done = holds-served life asker (facts_of past) state.held state.under_way opened.agrees.holds (agent_request_of body)
+  done : HoldsAfter life asker (facts_of past) state.held (done_of_request (agent_request_of body) served.work.verdict) served.work.actions served.held
+  done = holds-served life asker (facts_of past) state.held state.under_way opened.agrees.holds (agent_request_of body) (usable-asked body)
 
   pub served-agrees : Agrees N life state.moment.mono (onto behind (stamps state.moment served.work.actions)) served.held served.work.under_way.link.asks served.work.under_way.confirmations
   served-agrees = record {
-    holds = holds-acts life state.moment asker state.held served.held state.under_way behind _ due_behind acts done.holds;
+    holds = subst (λ facts. Holds life state.moment.mono facts served.held) (sym (facts-onto state.moment behind served.work.actions)) done.holds;
     opens = opens-acts life state.moment asker state.held served.held state.under_way behind _ due_behind acts opened.agrees.opens;
     raised = raised-acts life state.moment asker state.held served.held state.under_way behind _ due_behind acts order opened.agrees.holds.numbers done.kept (all_raised-more past behind state.held state.under_way.confirmations (λ job. refl) opened.agrees.raised);
     idle = nothing_due life behind (stamps state.moment served.work.actions) lawful_behind;

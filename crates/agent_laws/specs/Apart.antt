@@ -17,6 +17,7 @@ use Rattle.agent_model.specs.Limits.{last_number}
 use Rattle.agent_model.specs.Looks.{due}
 use Rattle.agent_model.specs.State.{Port, State, find_port}
 use Rattle.agent_model.specs.Step.{at_moment, step, took_some}
+use Rattle.agent_laws.specs.Grants.{HaveOwnParts}
 
 -- whose additions and removals the runs differ in, by port, and of which keys, by blob
 pub record Insiders : Type 0 where
@@ -50,9 +51,11 @@ pub data AreAlikeKeys (who : Insiders) : List HeldKey → List HeldKey → Type 
   second_has : {ones twos : List HeldKey} (key : HeldKey) → who.is_hidden key.blob ≡ true
       → AreAlikeKeys who ones twos → AreAlikeKeys who ones (key ∷ twos)
 
--- the lock is the same, and so are the identities
+-- the lock is the same, and so are the identities; and in neither have two one blob or one number
 pub record IsAlikeHeld (who : Insiders) (one two : KeyState) : Type 0 where
   pub lock : two.lock ≡ one.lock
+  pub first_own : HaveOwnParts one.table
+  pub second_own : HaveOwnParts two.table
   pub life : two.table.life ≡ one.table.life
   pub greatest : two.table.greatest ≡ one.table.greatest
   pub keys : AreAlikeKeys who one.table.identities two.table.identities

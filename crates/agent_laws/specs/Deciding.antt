@@ -7,7 +7,7 @@ use Rattle.agent_model.specs.Actions.{Action, Answered, Asked, ForBinding, ForSi
 use Rattle.agent_model.specs.BindRows.{bind, bind_certified, add_certified, add_only_to, right}
 use Rattle.agent_model.specs.ChildRows.{hello, number, ticket}
 use Rattle.agent_model.specs.Events.{Happening, Heard, Joined, Started, Timed, Took}
-use Rattle.agent_model.specs.Rows.{add_asking, moment_at, sign}
+use Rattle.agent_model.specs.Rows.{add_asking, add_once_asking, moment_at, sign}
 use Rattle.agent_model.specs.Runs.{Stamped, history}
 use Rattle.agent_model.specs.State.{first_state}
 use Rattle.agent_laws.specs.Dues.{Claim, due_signing}
@@ -68,6 +68,14 @@ abbrev pub asking : List Happening → List Happening
 asking events =
     Joined Clients ∷ Heard 1 (add_asking 17) ∷ Took 1 5 ∷ Heard 1 (sign 17) ∷ Started 1 (ticket 9)
     ∷ Joined Children ∷ Heard 2 (hello 1 9) ∷ events
+
+-- the clients of ports 1 and 2 wait for the user, who is asked by the child processes at ports 3 and
+-- 4, about a key that may be used once
+abbrev pub both_asking : List Happening → List Happening
+both_asking events =
+    Joined Clients ∷ Joined Clients ∷ Heard 1 (add_once_asking 17) ∷ Took 1 5 ∷ Heard 1 (sign 17)
+    ∷ Heard 2 (sign 17) ∷ Started 1 (ticket 9) ∷ Started 2 (ticket 7) ∷ Joined Children
+    ∷ Heard 3 (hello 1 9) ∷ Joined Children ∷ Heard 4 (hello 2 7) ∷ events
 
 -- the client of port 1 asked to bind its connection, under a key with constraints, and this is
 -- answered

@@ -1,10 +1,10 @@
 -- What the actions so far tell of a confirmation, without a state, and why a signature is put to
 -- the helper (ours).
-use Rattle.std.specs.Prelude.{◌≡◌, ℕ, List, [], ◌∷◌, Option, Some, None, Ok, false, ◌==◌, if◌then◌else◌}
+use Rattle.std.specs.Prelude.{◌≡◌, ◌≤◌, ℕ, List, [], ◌∷◌, Option, Some, None, Ok, false, ◌==◌, if◌then◌else◌}
 use Rattle.std.specs.List.{sum_by}
 use Rattle.std.specs.Option.{option_map}
 use Rattle.confirm_desk.specs.Confirmations.{Confirmation, find_job}
-use Rattle.identity_table.specs.Identities.{HaveOwnBlobs, HaveOwnNumbers, HeldKey, TableState, find_identity}
+use Rattle.identity_table.specs.Identities.{HaveOwnBlobs, HaveOwnNumbers, HeldKey, TableState, find_identity, find_number}
 use Rattle.agent_msg.specs.Requests.{Sign, Signing}
 use Rattle.agent_model.specs.Actions.{Action, Answered, Asked, Asking, Granted, Lost, Over, Proved, Raised, Raising, Requested, Requesting}
 use Rattle.agent_model.specs.Askable.{IsGrantable}
@@ -99,6 +99,24 @@ times_raised job actions = sum_by (raises_by job) actions
 pub record HaveOwnParts (table : TableState) : Type 0 where
   pub blobs : HaveOwnBlobs table.identities
   pub numbers : HaveOwnNumbers table.last table.identities
+
+-- the uses that are left are no more than there were
+abbrev pub AreNoMore : Option ℕ → Option ℕ → Type 0
+AreNoMore None None = Unit {0}
+AreNoMore None (Some before) = ⊥
+AreNoMore (Some left) None = ⊥
+AreNoMore (Some left) (Some before) = left ≤ before
+
+-- an identity as it was, but for its uses, of which as many are left, or fewer
+pub record IsUsed (before after : HeldKey) : Type 0 where
+  pub same : after ≡ record before { uses = after.uses }
+  pub left : AreNoMore after.uses before.uses
+
+-- the identity of this addition was among these, with as many uses as now, or more
+pub record WasHeld (number : ℕ) (keys : List HeldKey) (key : HeldKey) : Type 0 where
+  pub was : HeldKey
+  pub found : find_number number keys ≡ Some was
+  pub used : IsUsed was key
 
 -- ---- why a signature is put to the helper
 

@@ -2,6 +2,7 @@ pub mod Past
 pub mod Grants
 pub mod Dues
 pub mod History
+pub mod Uses
 pub mod PastRows
 pub mod Deciding
 pub mod Answered

@@ -16,7 +16,8 @@ ghost use Rattle.agent_laws.specs.Apart.{AreAlike, AreAlikeRuns, Insiders, IsIns
 ///
 /// The states are alike where their ports are, but for what insiders sent and are owed, their
 /// identities, but for hidden ones and for the numbers of additions, their locks, and all that is
-/// under way; nothing is to be confirmed. An event that both runs have is of no insider's
+/// under way; nothing is to be confirmed, and no two identities of a state have one blob or one
+/// number, as over all events. An event that both runs have is of no insider's
 /// connection. Where it has a request taken, no hidden key is seen on its connection in either run;
 /// and where that is an addition, it is of no hidden key, asks for no confirmation, and is refused
 /// for room or for want of numbers in both runs or in none.

@@ -10,7 +10,7 @@ ghost use Rattle.agent_model.specs.Actions.{Asked, Asking, ForSignature, Granted
 ghost use Rattle.agent_model.specs.Events.{Happening, Timed};
 ghost use Rattle.agent_model.specs.Fates.{actions_of};
 ghost use Rattle.agent_model.specs.Grants.{IsAmong};
-ghost use Rattle.agent_laws.specs.Grants.{HaveOwnParts, IsPut, noted, pending, times_ended, times_raised, wanted};
+ghost use Rattle.agent_laws.specs.Grants.{HaveOwnParts, IsPut, WasHeld, noted, pending, times_ended, times_raised, wanted};
 ghost use Rattle.agent_model.specs.Runs.{run};
 ghost use Rattle.agent_model.specs.State.{State, first_state};
 ghost use Rattle.agent_model.specs.Step.{at_moment, step};
@@ -42,16 +42,17 @@ pub fn a_signature_has_a_consent_of_its_own()
         ≡ option_map wanted (pending (actions_of (first_state life) events) job) }
 {}
 
-/// Over all events: no two identities have one number or one blob, and an addition that was
-/// replaced, removed or has run out is never found by its number again; so no consent that was
-/// asked for before leads to an ask.
+/// Over all events: no two identities have one number or one blob; what an addition's number finds
+/// is what it found before, with as many uses as it had then, or fewer; and an addition that was
+/// replaced, removed or used up, or has run out, is never found by its number again. So no consent
+/// that was asked for before leads to an ask.
 pub fn an_addition_that_left_is_never_used()
     ensures own { (life : Option ℕ) (events : List Timed)
         → HaveOwnParts (run (first_state life) events).held.table }
     ensures found { (state : State) (events : List Timed) (number : ℕ) (key : HeldKey)
         → HaveOwnParts state.held.table → number ≤ state.held.table.last
         → find_number number (run state events).held.table.identities ≡ Some key
-        → find_number number state.held.table.identities ≡ Some key }
+        → WasHeld number state.held.table.identities key }
     ensures gone { (state : State) (events : List Timed) (number : ℕ)
         → HaveOwnParts state.held.table → number ≤ state.held.table.last
         → find_number number state.held.table.identities ≡ None

@@ -10,8 +10,9 @@ ghost use Rattle.agent_laws.specs.History.{ArePutWhereDue, HasNumbers, IsLawful}
 /// Whatever happened, a signature is put to the helper directly behind a request or a consent only
 /// where what was done before says so; and while the numbers of asks and jobs are not spent exactly
 /// there, and nowhere else. It says so where, by the locks and unlocks that succeeded, the agent
-/// isn't locked; by the additions and removals that succeeded and by its lifetime, the key is held;
-/// its destination constraints permit the signature for the bindings that were proved on that
+/// isn't locked; by the additions and removals that succeeded and by its lifetime, the key is held,
+/// and if it has a number of uses, fewer signatures with it were put to the helper since; its
+/// destination constraints permit the signature for the bindings that were proved on that
 /// connection; fewer than 256 asks are open; and either the key asks for no confirmation, or the
 /// user consented to this very request and addition.
 pub fn history()

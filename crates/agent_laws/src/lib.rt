@@ -11,6 +11,7 @@ mod consequences;
 mod laws;
 mod rows;
 mod runs;
+mod uses;
 
 pub use agent_secrecy::secrecy;
 pub use answers::{a_proved_binding_was_asked_for, nothing_is_left_of_a_confirmation_that_ended};
@@ -23,6 +24,8 @@ pub use consequences::{
 };
 pub use laws::{a_client_gets_that_helpers_answer, history};
 pub use rows::{
-    the_past_tells_of_keys, the_past_tells_of_what_is_open, what_is_due_is_what_was_asked,
+    the_past_tells_of_keys, the_past_tells_of_uses, the_past_tells_of_what_is_open,
+    what_is_due_is_what_was_asked,
 };
 pub use runs::these_runs_are_lawful;
+pub use uses::a_key_signs_as_often_as_it_may;

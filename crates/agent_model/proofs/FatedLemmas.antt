@@ -22,11 +22,12 @@ use Rattle.agent_model.specs.Consents.{close_confirmer, grant_concluded, over, s
 use Rattle.confirm_desk.specs.Confirmations.{Confirmation, find_job}
 use Rattle.agent_model.specs.Actions.{Lost, Outcome, Work, acted, and_then, stay}
 use Rattle.agent_model.specs.Answers.{Answering, answer_all, close_helper, helper_tells, lose, lose_if, with_answers}
-use Rattle.agent_model.specs.Errands.{Errand, Signs, kind_of, with_ask}
+use Rattle.agent_model.specs.Errands.{Errand, Signs, addition_of, kind_of, with_ask}
 use Rattle.agent_model.specs.Events.{Happening, Timed, Tick}
 use Rattle.agent_model.specs.Fates.{Fate, Fails, Gets, IsTold, NoneEnds, Unanswered, actions_of, fate_of, fate_verdict, or_later}
 use Rattle.agent_model.specs.Runs.{run}
 use Rattle.agent_model.specs.Sound.{AreTied, IsTied, IsWaiting}
+use Rattle.agent_model.specs.KeyStates.{KeyState, after_use}
 use Rattle.agent_model.specs.State.{Nothing, OnAsk, OnConfirmation, Port, State, UnderWay, change_port, find_port, first_state, new_port, number_of}
 use Rattle.agent_model.specs.Step.{admitted, asker_at, at_moment, attempts, has_room, step, take_frame, turned_away}
 use Rattle.agent_model.specs.Verdicts.{Awaits, NoLongerAllowed, NotConfirmed, Refuses, Verdict, tell, verdict_waits}
@@ -176,19 +177,19 @@ module _ (event : Happening) (confirmation : Confirmation) (state : State) (ther
       (λ same_number. waits_on at.port (ap (λ n. find_port n rest) (sym same_number) ∙ at.found) ask at.waits) at
 
   -- what is left then
-  abbrev over_left : UnderWay → Verdict → State
-  over_left under_way verdict = record state { ports = change_port confirmation.asker (tell verdict) rest; under_way = under_way }
+  abbrev over_left : KeyState → UnderWay → Verdict → State
+  over_left held under_way verdict = record state { held = held; ports = change_port confirmation.asker (tell verdict) rest; under_way = under_way }
 
-  follows-over : (under_way : UnderWay) (verdict : Verdict) → Follows state (over_left under_way verdict)
-  follows-over under_way verdict = record {
+  follows-over : (held : KeyState) (under_way : UnderWay) (verdict : Verdict) → Follows state (over_left held under_way verdict)
+  follows-over held under_way verdict = record {
     last = refl;
     ports = changes confirmation.asker (tell verdict) _ (λ p. refl) (λ p. refl) (leads-close_confirmer state.ports confirmation.port state.ports same);
   }
 
   -- the client waits for nothing any more
-  over_tied : (verdict : Verdict) → verdict_waits verdict ≡ Nothing → IsTied (over_left (without_confirmation confirmation.job uw) verdict)
+  over_tied : (verdict : Verdict) → verdict_waits verdict ≡ Nothing → IsTied (over_left state.held (without_confirmation confirmation.job uw) verdict)
   over_tied verdict nothing =
-      assemble state _ (follows-over (without_confirmation confirmation.job uw) verdict) tied tied.order
+      assemble state _ (follows-over state.held (without_confirmation confirmation.job uw) verdict) tied tied.order
       (tied-silent rest uw.link.asks rest_tied confirmation.asker (tell verdict) waits_on (λ p. refl) (λ p a is. let no : Nothing ≡ OnAsk a = sym nothing ∙ is in absurd (cc)))
       tied.askers (λ n is. is)
       (raised-over rest rest_raised confirmation (tell verdict) found_there (λ p. refl) (λ p. refl) (λ p job is. let no : Nothing ≡ OnConfirmation job = sym nothing ∙ is in absurd (cc)))
@@ -219,7 +220,7 @@ module _ (event : Happening) (confirmation : Confirmation) (state : State) (ther
         let errand : Errand = Signs key (signing_of key confirmation) in
         let new : UnderWay = with_ask errand confirmation.asker (without_confirmation confirmation.job uw) in
         record {
-          tied = assemble state _ (follows-over new verdict) tied (push_rises 0 link.asks link.last confirmation.asker (kind_of errand) tied.order)
+          tied = assemble state _ (follows-over (after_use (addition_of errand) state.held) new verdict) tied (push_rises 0 link.asks link.last confirmation.asker (kind_of errand) tied.order)
               (tied-asked rest link.asks rest_tied confirmation.asker 0 link.last (kind_of errand) port (tell verdict) tied.order (stays_open confirmation.asker port asking.door opened) (waits_on port (stays_open confirmation.asker port asking.door opened)) asking.owed asking.door (λ p. refl) (λ p. refl) (λ p. refl) (λ p none. ap (λ bytes. bytes ++ []) none))
               (λ ask one is. new_asker (link.last + 1 == ask) (find_ask ask link.asks) (ask_of (link.last + 1) confirmation.asker (kind_of errand)) one state.last_port (tied.raised.askers confirmation.job confirmation found_there) (tied.askers ask)
               (sym (find-push ask 0 (ask_of (link.last + 1) confirmation.asker (kind_of errand)) link.asks link.last tied.order (omega arith)) ∙ is))

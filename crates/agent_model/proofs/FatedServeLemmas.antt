@@ -14,10 +14,10 @@ use Rattle.confirm_desk.specs.Prompt.{prompt_for}
 use Rattle.agent_model.specs.Actions.{Action, Asked, Outcome, Requested}
 use Rattle.agent_model.specs.Children.{changed}
 use Rattle.agent_model.specs.Dispatch.{Served}
-use Rattle.agent_model.specs.Errands.{Errand, begun_by, held_for, kind_of, message_of, purpose_of, with_ask, with_confirmation}
+use Rattle.agent_model.specs.Errands.{Errand, addition_of, begun_by, held_for, kind_of, message_of, purpose_of, with_ask, with_confirmation}
 use Rattle.agent_model.specs.Events.{Happening, Ended}
 use Rattle.agent_model.specs.Fates.{IsTold, Unanswered, fate_of, fate_verdict}
-use Rattle.agent_model.specs.KeyStates.{KeyState}
+use Rattle.agent_model.specs.KeyStates.{KeyState, after_use}
 use Rattle.agent_model.specs.Sound.{AreTied, IsTied}
 use Rattle.agent_model.specs.State.{Nothing, OnAsk, OnConfirmation, Port, State, UnderWay, change_port, find_port, Waits}
 use Rattle.agent_model.specs.Step.{asker_at, concluded}
@@ -117,7 +117,7 @@ module _ (event : Happening) (body : List ℕ) (take : Port → Port) (mild : Is
   pub fated-served : {served : Served} → IsServed (asker_at state.moment port) state.held state.under_way served → Fated event state (concluded port.number body served (changed port.number take state))
   fated-served (answered reply kept keeps) = silent kept state.under_way (Replies reply) _ _ refl (quiet (Replies reply) (λ job is. absurd (cc))) (λ ask is. absurd (cc)) (λ ask. refl)
   fated-served (refused cause) = silent state.held state.under_way (Refuses cause) _ _ refl (quiet (Refuses cause) (λ job is. absurd (cc))) (λ ask is. absurd (cc)) (λ ask. refl)
-  fated-served (asked errand free right) = puts state.held errand
+  fated-served (asked errand free right) = puts (after_use (addition_of errand) state.held) errand
   fated-served (raised key signing free) =
       let job : ℕ = state.under_way.last_job + 1 in
       silent state.held (with_confirmation key signing port.number state.under_way) (Awaits (OnConfirmation job)) _ _ refl

@@ -48,6 +48,10 @@ module _ (chain : List Binding) (confirmation : Confirmation) (wall : ℕ) (held
   ends-by None is = ends-with (find_number confirmation.addition held.table.identities) is refl
 
 -- whatever is held by now
+pub granted-ends : (chain : List Binding) (confirmation : Confirmation) (wall : ℕ) (held : KeyState) (under_way : UnderWay) → IsGranted chain confirmation wall held under_way (grant_by held.lock held chain confirmation wall under_way)
+granted-ends chain confirmation wall held under_way = ends-by chain confirmation wall held under_way held.lock refl
+
+-- the same in a state
 pub grant-ends : (chain : List Binding) (confirmation : Confirmation) (state : State) → IsGranted chain confirmation state.moment.wall state.held (without_confirmation confirmation.job state.under_way) (grant_work chain confirmation state)
 grant-ends chain confirmation state =
     ends-by chain confirmation state.moment.wall state.held (without_confirmation confirmation.job state.under_way) state.held.lock refl

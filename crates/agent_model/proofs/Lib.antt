@@ -44,3 +44,4 @@ pub mod BoundOneLemmas
 pub mod UnseenLemmas
 pub mod UnseenEventLemmas
 pub mod RoleCutLemmas
+pub mod UseLemmas

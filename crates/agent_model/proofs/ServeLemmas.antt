@@ -4,7 +4,7 @@ use Rattle.std.specs.Str.{bytes_eq}
 use Rattle.identity_table.specs.Identities.{HeldKey, find_identity, max_answer, remove_identity}
 use Rattle.agent_msg.specs.declared.fault.MsgFault.{MsgFault}
 use Rattle.agent_msg.specs.Requests.{Addition, BindRequest, ClientRequest, Signing, ListIdentities, Sign, Add, Remove, RemoveAll, Lock, Unlock, Bind, OtherExtension, Unsupported}
-use Rattle.agent_model.specs.Dispatch.{with_addition, with_identities, Asker, Served, add_by, add_fault, add_seen, add_unless, answers, bind_by, keeps, length_with, lock_by, refuses, remove_by, remove_seen, seen_by, sees, serve, serve_by, serve_locked, serve_unlocked, sign_by, sign_unless, sign_with, unlock_by, unread}
+use Rattle.agent_model.specs.Dispatch.{with_addition, with_identities, Asker, Served, add_by, add_fault, add_seen, add_unless, answers, bind_by, keeps, length_with, lock_by, refuses, remove_by, remove_seen, seen_by, sees, serve, serve_by, serve_locked, serve_unlocked, sign_by, sign_unless, sign_with, unlock_by, unread, uses}
 use Rattle.agent_model.specs.Errands.{Errand, Signs, Verifies, ask_fault, put_unless, raise_fault, raise_unless}
 use Rattle.agent_msg.specs.Reading.{request_of}
 use Rattle.key_blob.specs.PublicKeys.{KeyParts, public_key_of}
@@ -14,7 +14,7 @@ use Rattle.dest_rule.specs.declared.fault.Next.{Next as Judgement}
 use Rattle.dest_rule.specs.declared.fault.Next.TheVariants.{New, Refuse, Same}
 use Rattle.dest_rule.specs.Rules.{denial_under}
 use Rattle.dest_rule.specs.declared.denial.Denial.{Denial}
-use Rattle.agent_model.specs.Binds.{add_with, agent_request_of, and_host_key, bind_with, with_host_key}
+use Rattle.agent_model.specs.Binds.{agent_request_of, and_host_key, bind_with, with_host_key}
 use Rattle.agent_model.specs.KeyStates.{KeyState}
 use Rattle.agent_model.specs.Sound.{judged}
 use Rattle.agent_model.specs.Limits.{last_number}
@@ -30,8 +30,8 @@ MayPut asker (Verifies bind is_new) = IsOk (public_key_of bind.host_key) × (jud
 pub data IsServed (asker : Asker) (held : KeyState) (under_way : UnderWay) : Served → Type 0 where
   answered : (reply : Reply) (kept : KeyState) → (asker.mono ≡ held.table.greatest → kept.table.greatest ≡ held.table.greatest) → IsServed asker held under_way (answers reply kept under_way)
   refused : (cause : Cause) → IsServed asker held under_way (refuses cause held under_way)
-  asked : (errand : Errand) → ask_fault under_way ≡ None → MayPut asker errand → IsServed asker held under_way (keeps held (put_unless None errand asker.port under_way))
-  raised : (key : HeldKey) (signing : Signing) → raise_fault under_way ≡ None → IsServed asker held under_way (keeps held (raise_unless None key signing asker.port under_way))
+  asked : (errand : Errand) → ask_fault under_way ≡ None → MayPut asker errand → IsServed asker held under_way (uses held (put_unless None errand asker.port under_way))
+  raised : (key : HeldKey) (signing : Signing) → raise_fault under_way ≡ None → IsServed asker held under_way (uses held (raise_unless None key signing asker.port under_way))
 
 -- the ends of a request, one for each effect
 pub data Serves (read : Result ClientRequest MsgFault) (asker : Asker) (held : KeyState) (under_way : UnderWay) : Served → Type 0 where
@@ -42,8 +42,8 @@ pub data Serves (read : Result ClientRequest MsgFault) (asker : Asker) (held : K
   empties : read ≡ Ok RemoveAll → Serves read asker held under_way (answers Success (with_identities [] held) under_way)
   locks : (passphrase : List ℕ) → read ≡ Ok (Lock passphrase) → Serves read asker held under_way (answers Success (record held { lock = Some passphrase }) under_way)
   unlocks : (passphrase : List ℕ) → read ≡ Ok (Unlock passphrase) → Serves read asker held under_way (answers Success (record held { lock = None }) under_way)
-  signs : (signing : Signing) (key : HeldKey) → read ≡ Ok (Sign signing) → find_identity signing.blob held.table.identities ≡ Some key → key.confirm ≡ false → ask_fault under_way ≡ None → Serves read asker held under_way (keeps held (put_unless None (Signs key signing) asker.port under_way))
-  confirms : (signing : Signing) (key : HeldKey) → read ≡ Ok (Sign signing) → find_identity signing.blob held.table.identities ≡ Some key → raise_fault under_way ≡ None → Serves read asker held under_way (keeps held (raise_unless None key signing asker.port under_way))
+  signs : (signing : Signing) (key : HeldKey) → read ≡ Ok (Sign signing) → find_identity signing.blob held.table.identities ≡ Some key → key.confirm ≡ false → ask_fault under_way ≡ None → Serves read asker held under_way (uses held (put_unless None (Signs key signing) asker.port under_way))
+  confirms : (signing : Signing) (key : HeldKey) → read ≡ Ok (Sign signing) → find_identity signing.blob held.table.identities ≡ Some key → raise_fault under_way ≡ None → Serves read asker held under_way (uses held (raise_unless None key signing asker.port under_way))
   verifies : (bind : BindRequest) (is_new : Bool) → read ≡ Ok (Bind bind) → judge bind.host_key bind.session asker.chain ≡ judged is_new → ask_fault under_way ≡ None → Serves read asker held under_way (keeps held (put_unless None (Verifies bind is_new) asker.port under_way))
 
 -- where it is a request to bind, its host key is one that is read
@@ -67,14 +67,10 @@ readable-bind : (read : Result KeyParts KeyFault) (bind : BindRequest) → publi
 readable-bind (Ok key) bind is = subst IsOk (sym is) refl
 readable-bind (Err fault) bind is = tt
 
-readable-add : (addition : Addition) (uses : Option ℕ) → AreReadable (add_with addition uses)
-readable-add addition None = tt
-readable-add addition (Some uses) = tt
-
 readable-with : (request : ClientRequest) → AreReadable (with_host_key request)
 readable-with ListIdentities = tt
 readable-with (Sign signing) = tt
-readable-with (Add addition) = readable-add addition addition.terms.uses
+readable-with (Add addition) = tt
 readable-with (Remove blob) = tt
 readable-with RemoveAll = tt
 readable-with (Lock passphrase) = tt
@@ -99,27 +95,27 @@ module _ (read : Result ClientRequest MsgFault) (asker : Asker) (held : KeyState
   module _ (signing : Signing) (is : read ≡ Ok (Sign signing)) where
     module _ (key : HeldKey) (found : find_identity signing.blob held.table.identities ≡ Some key) where
       serves-put : (fault : Option Cause) → ask_fault under_way ≡ fault → key.confirm ≡ false →
-          Is (keeps held (put_unless fault (Signs key signing) asker.port under_way))
+          Is (uses held (put_unless fault (Signs key signing) asker.port under_way))
       serves-put (Some cause) fault asks = denies cause
       serves-put None fault asks = signs signing key is found asks fault
 
       serves-raise : (fault : Option Cause) → raise_fault under_way ≡ fault →
-          Is (keeps held (raise_unless fault key signing asker.port under_way))
+          Is (uses held (raise_unless fault key signing asker.port under_way))
       serves-raise (Some cause) fault = denies cause
       serves-raise None fault = confirms signing key is found fault
 
       serves-with : (confirm : Bool) → key.confirm ≡ confirm →
-          Is (keeps held (sign_with confirm asker key signing under_way))
+          Is (uses held (sign_with confirm asker key signing under_way))
       serves-with true asks = serves-raise (raise_fault under_way) refl
       serves-with false asks = serves-put (ask_fault under_way) refl asks
 
       serves-permitted : (denial : Option Denial) →
-          Is (keeps held (sign_unless denial asker key signing under_way))
+          Is (uses held (sign_unless denial asker key signing under_way))
       serves-permitted (Some denial) = denies (DestinationDenied denial)
       serves-permitted None = serves-with key.confirm refl
 
     serves-sign : (found : Option HeldKey) → find_identity signing.blob held.table.identities ≡ found →
-        Is (keeps held (sign_by found asker signing under_way))
+        Is (uses held (sign_by found asker signing under_way))
     serves-sign None found = denies NotHeld
     serves-sign (Some key) found =
         serves-permitted key found

@@ -1,5 +1,5 @@
 -- What the agent did that a later reader of its history needs (ours).
-use Rattle.std.specs.Prelude.{ℕ, List, [], ◌∷◌, ◌++◌, is_some, if◌then◌else◌}
+use Rattle.std.specs.Prelude.{ℕ, List, [], ◌∷◌, ◌++◌, Option, None, is_some, if◌then◌else◌}
 use Rattle.agent_msg.specs.Requests.{Signing}
 use Rattle.child_msg.specs.Messages.{ToChildMessage}
 use Rattle.helper_link.specs.declared.answer.Settled.{Settled}
@@ -92,14 +92,16 @@ pub record Stepped : Type 0 where
 abbrev pub stepped : Outcome → Stepped
 stepped outcome = record { state = outcome.state; closes = outcome.closes }
 
--- what comes of a request, or of a grant, of what is under way
+-- what comes of a request, or of a grant, of what is under way; and the addition whose identity was
+-- used for it, where one was
 pub record Work : Type 0 where
   pub under_way : UnderWay
   pub verdict : Verdict
   pub actions : List Action
   pub put : List ToChildMessage
+  pub used : Option ℕ
 
 -- nothing more is under way, and the client is told this
 abbrev pub settles : Verdict → UnderWay → Work
 settles verdict under_way =
-    record { under_way = under_way; verdict = verdict; actions = []; put = [] }
+    record { under_way = under_way; verdict = verdict; actions = []; put = []; used = None }

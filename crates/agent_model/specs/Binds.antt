@@ -1,31 +1,23 @@
 -- What a client asks of the agent: the request that a body is, where the host key of a request to
--- bind reads too, and an addition has no number of uses (ours).
-use Rattle.std.specs.Prelude.{ℕ, List, Option, None, Some, Result, Ok, Err}
+-- bind reads too (ours).
+use Rattle.std.specs.Prelude.{ℕ, List, Result, Ok, Err}
 use Rattle.key_blob.specs.PublicKeys.{KeyParts, public_key_of}
 use Rattle.key_blob.specs.declared.fault.KeyFault.{KeyFault}
-use Rattle.constraint_rec.specs.declared.fault.TermFault.TheVariants.{Unknown}
 use Rattle.agent_msg.specs.declared.fault.MsgFault.{MsgFault}
-use Rattle.agent_msg.specs.declared.fault.MsgFault.TheVariants.{Terms}
 use Rattle.agent_msg.specs.Faults.{key_fault}
 use Rattle.agent_msg.specs.Reading.{request_of}
-use Rattle.agent_msg.specs.Requests.{Addition, BindRequest, ClientRequest, ListIdentities, Sign, Add, Remove, RemoveAll, Lock, Unlock, Bind, OtherExtension, Unsupported}
+use Rattle.agent_msg.specs.Requests.{BindRequest, ClientRequest, ListIdentities, Sign, Add, Remove, RemoveAll, Lock, Unlock, Bind, OtherExtension, Unsupported}
 
 -- a request to bind, by how its host key reads
 abbrev pub bind_with : BindRequest → Result KeyParts KeyFault → Result ClientRequest MsgFault
 bind_with bind (Ok key) = Ok (Bind bind)
 bind_with bind (Err fault) = Err (key_fault fault)
 
--- an addition, by its number of uses: one that has any is refused as one with an extension that
--- isn't known
-abbrev pub add_with : Addition → Option ℕ → Result ClientRequest MsgFault
-add_with addition None = Ok (Add addition)
-add_with addition (Some uses) = Err (Terms Unknown)
-
 -- a request whose fields were read
 abbrev pub with_host_key : ClientRequest → Result ClientRequest MsgFault
 with_host_key ListIdentities = Ok ListIdentities
 with_host_key (Sign signing) = Ok (Sign signing)
-with_host_key (Add addition) = add_with addition addition.terms.uses
+with_host_key (Add addition) = Ok (Add addition)
 with_host_key (Remove blob) = Ok (Remove blob)
 with_host_key RemoveAll = Ok RemoveAll
 with_host_key (Lock passphrase) = Ok (Lock passphrase)
@@ -34,8 +26,7 @@ with_host_key (Bind bind) = bind_with bind (public_key_of bind.host_key)
 with_host_key (OtherExtension name) = Ok (OtherExtension name)
 with_host_key (Unsupported number) = Ok (Unsupported number)
 
--- a request that was read, whose host key, if it has one, is read as a public key too, and whose
--- number of uses, if it has one, is a fault
+-- a request that was read, whose host key, if it has one, is read as a public key too
 abbrev pub and_host_key : Result ClientRequest MsgFault → Result ClientRequest MsgFault
 and_host_key (Ok request) = with_host_key request
 and_host_key (Err fault) = Err fault

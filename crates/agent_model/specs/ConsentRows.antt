@@ -5,7 +5,7 @@ use Rattle.world_ports.specs.declared.Job.{Job}
 use Rattle.world_ports.specs.declared.JobKind.TheVariants as kinds
 use Rattle.agent_model.specs.ChildRows.{hello, number, then, ticket}
 use Rattle.agent_model.specs.Events.{Happening, Ended, Heard, Joined, Started, Took}
-use Rattle.agent_model.specs.Rows.{add, add_asking, blob, key, sign}
+use Rattle.agent_model.specs.Rows.{add, add_asking, add_for_two_asking, add_once_asking, blob, key, sign}
 use Rattle.agent_model.specs.State.{State, first_state}
 use Rattle.agent_model.specs.Step.{step}
 
@@ -46,6 +46,22 @@ asking events = then (first_state None) (Joined Clients ∷ Heard 1 (add_asking 
 -- the child process of port 2 asks the user for it
 abbrev pub asked : List Happening → State
 asked events = asking (Started 1 (ticket 9) ∷ Joined Children ∷ Heard 2 (hello 1 9) ∷ events)
+
+-- the clients of ports 1 and 2 asked for a signature with the key of this addition, and the child
+-- processes of ports 3 and 4 ask the user for each of them
+abbrev pub both_ask : List ℕ → List Happening → State
+both_ask addition events = then (first_state None) (Joined Clients ∷ Joined Clients
+    ∷ Heard 1 addition ∷ Took 1 5 ∷ Heard 1 (sign 17) ∷ Heard 2 (sign 17)
+    ∷ Started 1 (ticket 9) ∷ Started 2 (ticket 7) ∷ Joined Children ∷ Heard 3 (hello 1 9)
+    ∷ Joined Children ∷ Heard 4 (hello 2 7) ∷ events)
+
+-- the key has one use
+abbrev pub both_asked : List Happening → State
+both_asked events = both_ask (add_once_asking 17) events
+
+-- the key has two
+abbrev pub both_asked_of_two : List Happening → State
+both_asked_of_two events = both_ask (add_for_two_asking 17) events
 
 -- another client is there before, at port 2, and the child process is at port 3
 abbrev pub asked_beside : List Happening → State

@@ -3,7 +3,7 @@ use Rattle.std.specs.Prelude.{ℕ, List, [], ◌∷◌, ◌++◌, Option, Some, 
 use Rattle.lists.specs.Keyed.{find_by, remove_by}
 use Rattle.agent_msg.specs.Requests.{Signing}
 use Rattle.identity_table.specs.Identities.{HeldKey, find_number}
-use Rattle.agent_model.specs.KeyStates.{KeyState}
+use Rattle.agent_model.specs.KeyStates.{KeyState, after_use}
 use Rattle.dest_rule.specs.declared.binding.Binding.{Binding}
 use Rattle.confirm_desk.specs.Confirmations.{Confirmation, Consent, No, NotYet, Yes, consent, find_asker, told}
 use Rattle.confirm_desk.specs.Confirmations as desk
@@ -100,10 +100,12 @@ grant_work chain confirmation state =
     grant_by state.held.lock state.held chain confirmation state.moment.wall
     (without_confirmation confirmation.job state.under_way)
 
--- the confirmation ends, its child process's port is closed, and the client gets what comes of it
+-- the confirmation ends, its child process's port is closed, and the client gets what comes of it;
+-- the identity that was used for it has a use less
 abbrev pub grant_concluded : Work → Confirmation → State → Outcome
 grant_concluded work confirmation state = record {
   state = record state {
+    held = after_use work.used state.held;
     ports = change_port confirmation.asker (tell work.verdict)
         (close_confirmer confirmation.port state.ports);
     under_way = work.under_way;

@@ -9,7 +9,7 @@ use Rattle.identity_table.specs.Identities.{HeldKey, TableState, added, answer_l
 use Rattle.agent_msg.specs.declared.fault.MsgFault.{MsgFault}
 use Rattle.agent_msg.specs.declared.fault.MsgFault.TheVariants as fault
 use Rattle.agent_msg.specs.Requests.{Addition, BindRequest, ClientRequest, Signing, ListIdentities, Sign, Add, Remove, RemoveAll, Lock, Unlock, Bind, OtherExtension, Unsupported}
-use Rattle.agent_model.specs.KeyStates.{KeyState, shown}
+use Rattle.agent_model.specs.KeyStates.{KeyState, after_use, shown}
 use Rattle.agent_model.specs.Actions.{Work, settles}
 use Rattle.agent_model.specs.Errands.{Signs, Verifies, ask_user, put_ask}
 use Rattle.agent_model.specs.Limits.{last_number}
@@ -47,6 +47,10 @@ refuses cause held under_way = record { held = held; work = settles (Refuses cau
 -- what is held stays, and this comes of the request
 abbrev pub keeps : KeyState → Work → Served
 keeps held work = record { held = held; work = work }
+
+-- this comes of the request, and then the identity that was used for it has a use less
+abbrev pub uses : KeyState → Work → Served
+uses held work = record { held = after_use work.used held; work = work }
 
 -- ---- who sees what
 
@@ -162,7 +166,7 @@ abbrev pub serve_unlocked : ClientRequest → Asker → KeyState → UnderWay �
 serve_unlocked ListIdentities asker held under_way =
     answers (Identities (seen_by asker held)) held under_way
 serve_unlocked (Sign signing) asker held under_way =
-    keeps held (sign_by (find_identity signing.blob held.table.identities) asker signing under_way)
+    uses held (sign_by (find_identity signing.blob held.table.identities) asker signing under_way)
 serve_unlocked (Add addition) asker held under_way =
     add_by (find_identity addition.key.blob held.table.identities) asker addition held under_way
 serve_unlocked (Remove blob) asker held under_way =

@@ -80,6 +80,11 @@ abbrev pub message_of : Errand → ℕ → ToChildMessage
 message_of (Signs key signing) = sign_request key.private key.blob signing.message signing.flags
 message_of (Verifies bind is_new) = verify_request bind.host_key bind.signature bind.session
 
+-- the addition whose identity it uses: a verification uses none
+abbrev pub addition_of : Errand → Option ℕ
+addition_of (Signs key signing) = Some key.number
+addition_of (Verifies bind is_new) = None
+
 -- what an errand is for
 abbrev pub purpose_of : Errand → Purpose
 purpose_of (Signs key signing) = ForSignature signing
@@ -125,6 +130,7 @@ put_unless None errand asker under_way = record {
   verdict = Awaits (OnAsk (under_way.link.last + 1));
   actions = Asked (asking_of errand asker (under_way.link.last + 1)) ∷ [];
   put = message_of errand (under_way.link.last + 1) ∷ [];
+  used = addition_of errand;
 }
 
 -- an ask is put for a client: a helper is started where none is there, and the client waits for the
@@ -179,6 +185,7 @@ raise_unless None key signing asker under_way = record {
     signing = signing;
   }) ∷ [];
   put = [];
+  used = None;
 }
 
 -- the user is asked for a client, by a child process of its own, and the client waits for the

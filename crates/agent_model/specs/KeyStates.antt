@@ -1,7 +1,8 @@
 -- What the agent holds: its identities and its lock (draft-miller-ssh-agent, "Adding keys to the
 -- agent", "Locking and unlocking an agent").
-use Rattle.std.specs.Prelude.{ℕ, List, [], map, Option, None}
+use Rattle.std.specs.Prelude.{ℕ, List, [], map, Option, None, Some}
 use Rattle.identity_table.specs.Identities.{HeldKey, TableState, alive_at}
+use Rattle.identity_table.specs.Tables.{spent}
 
 -- the identities, and the passphrase where the agent is locked
 pub record KeyState : Type 0 where
@@ -21,6 +22,11 @@ expired second keys = record keys {
   table =
       record keys.table { identities = alive_at second keys.table.identities; greatest = second };
 }
+
+-- after one more use of the identity of this addition, where one was used (ours)
+abbrev pub after_use : Option ℕ → KeyState → KeyState
+after_use None keys = keys
+after_use (Some addition) keys = record keys { table = spent addition keys.table }
 
 -- an identity as a list of them shows it: the blob of its public key, and its comment
 abbrev pub shown : HeldKey → List ℕ × List ℕ

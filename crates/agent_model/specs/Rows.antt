@@ -89,18 +89,28 @@ add_asking tag = 0 ∷ 0 ∷ 0 ∷ 109 ∷ 25 ∷ (key tag (codes "one") ++ 2 �
 abbrev pub add_unknown : ℕ → List ℕ
 add_unknown tag = 0 ∷ 0 ∷ 0 ∷ 109 ∷ 25 ∷ (key tag (codes "one") ++ 9 ∷ [])
 
--- with one, with no and with twice one use
+-- with one, with two, with no and with twice one use (ours)
 abbrev pub uses : ℕ → List ℕ
 uses count = 255 ∷ 0 ∷ 0 ∷ 0 ∷ 20 ∷ (codes "uses-v00@example.com" ++ 0 ∷ 0 ∷ 0 ∷ count ∷ [])
 
 abbrev pub add_once : ℕ → List ℕ
 add_once tag = 0 ∷ 0 ∷ 0 ∷ 137 ∷ 25 ∷ (key tag (codes "one") ++ uses 1)
 
+abbrev pub add_for_two : ℕ → List ℕ
+add_for_two tag = 0 ∷ 0 ∷ 0 ∷ 137 ∷ 25 ∷ (key tag (codes "one") ++ uses 2)
+
 abbrev pub add_never : ℕ → List ℕ
 add_never tag = 0 ∷ 0 ∷ 0 ∷ 137 ∷ 25 ∷ (key tag (codes "one") ++ uses 0)
 
 abbrev pub add_once_twice : ℕ → List ℕ
 add_once_twice tag = 0 ∷ 0 ∷ 0 ∷ 166 ∷ 25 ∷ (key tag (codes "one") ++ (uses 1 ++ uses 1))
+
+-- with one and with two uses, and with the user to be asked
+abbrev pub add_once_asking : ℕ → List ℕ
+add_once_asking tag = 0 ∷ 0 ∷ 0 ∷ 138 ∷ 25 ∷ (key tag (codes "one") ++ uses 1 ++ 2 ∷ [])
+
+abbrev pub add_for_two_asking : ℕ → List ℕ
+add_for_two_asking tag = 0 ∷ 0 ∷ 0 ∷ 138 ∷ 25 ∷ (key tag (codes "one") ++ uses 2 ++ 2 ∷ [])
 
 -- SSH_AGENTC_REQUEST_IDENTITIES, and the answer that lists one key
 abbrev pub list : List ℕ

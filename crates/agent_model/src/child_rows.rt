@@ -1,12 +1,12 @@
 //! Literal rows of child processes: laws that are proved by computing, one a way in which an ask
 //! ends.
-#![tactic(auto, unfolding(wire_text::specs::Frames::front, wire_text::specs::Frames::split_up_to, wire_text::specs::Frames::split, wire_text::specs::Wire::uint32, wire_text::specs::Wire::uint64, wire_text::specs::Wire::string, wire_text::specs::Wire::announced_len, wire_core::specs::Fields::uint32_at, wire_core::specs::Fields::uint64_at, wire_core::specs::Fields::string_len, wire_core::specs::Fields::string_at, key_blob::specs::AddedKeys::blob_fields_at, key_blob::specs::AddedKeys::certificate_blob_at, key_blob::specs::AddedKeys::blob_at, key_blob::specs::AddedKeys::added_key_at, key_blob::specs::AddedKeys::private_at, key_blob::specs::KeyTypes::form_named, key_blob::specs::PublicKeys::public_key_of, key_blob::specs::Reading::field_at, key_blob::specs::Reading::fields_at, key_blob::specs::Reading::after_fields, key_blob::specs::Reading::form_at, constraint_rec::specs::Constraints::restrict_destination, constraint_rec::specs::Reading::kind_at, constraint_rec::specs::Reading::contents_at, constraint_rec::specs::Reading::next_at, constraint_rec::specs::Reading::terms_up_to, constraint_rec::specs::Reading::terms_of, agent_msg::specs::Reading::request_of_number, agent_msg::specs::Reading::request_of, agent_msg::specs::Reading::is_addition, agent_msg::specs::Requests::session_bind, agent_msg::specs::Requests::bind_front, agent_msg::specs::Requests::names_bind, identity_table::specs::Identities::find_identity, identity_table::specs::Identities::put_identity, identity_table::specs::Identities::remove_identity, identity_table::specs::Identities::alive_at, identity_table::specs::Identities::entries_len, dest_rule::specs::Rules::visible, dest_rule::specs::Rules::denial, dest_rule::specs::Rules::bad_place, dest_rule::specs::Rules::is_hop, dest_rule::specs::Chains::judge, child_msg::specs::Reading::from_child_of_kind, child_msg::specs::Reading::from_child_of, helper_link::specs::Settling::verdict, helper_link::specs::Settling::settling,))]
+#![tactic(auto, unfolding(wire_text::specs::Frames::front, wire_text::specs::Frames::split_up_to, wire_text::specs::Frames::split, wire_text::specs::Wire::uint32, wire_text::specs::Wire::uint64, wire_text::specs::Wire::string, wire_text::specs::Wire::announced_len, wire_core::specs::Fields::uint32_at, wire_core::specs::Fields::uint64_at, wire_core::specs::Fields::string_len, wire_core::specs::Fields::string_at, key_blob::specs::AddedKeys::blob_fields_at, key_blob::specs::AddedKeys::certificate_blob_at, key_blob::specs::AddedKeys::blob_at, key_blob::specs::AddedKeys::added_key_at, key_blob::specs::AddedKeys::private_at, key_blob::specs::KeyTypes::form_named, key_blob::specs::PublicKeys::public_key_of, key_blob::specs::Reading::field_at, key_blob::specs::Reading::fields_at, key_blob::specs::Reading::after_fields, key_blob::specs::Reading::form_at, constraint_rec::specs::Constraints::restrict_destination, constraint_rec::specs::Constraints::uses_name, constraint_rec::specs::Reading::kind_at, constraint_rec::specs::Reading::contents_at, constraint_rec::specs::Reading::next_at, constraint_rec::specs::Reading::terms_up_to, constraint_rec::specs::Reading::terms_of, agent_msg::specs::Reading::request_of_number, agent_msg::specs::Reading::request_of, agent_msg::specs::Reading::is_addition, agent_msg::specs::Requests::session_bind, agent_msg::specs::Requests::bind_front, agent_msg::specs::Requests::names_bind, identity_table::specs::Identities::find_identity, identity_table::specs::Identities::put_identity, identity_table::specs::Identities::remove_identity, identity_table::specs::Identities::spend_identity, identity_table::specs::Identities::alive_at, identity_table::specs::Identities::entries_len, dest_rule::specs::Rules::visible, dest_rule::specs::Rules::denial, dest_rule::specs::Rules::bad_place, dest_rule::specs::Rules::is_hop, dest_rule::specs::Chains::judge, child_msg::specs::Reading::from_child_of_kind, child_msg::specs::Reading::from_child_of, helper_link::specs::Settling::verdict, helper_link::specs::Settling::settling,))]
 
 ghost use Rattle.std.specs.Prelude.{◌≡◌, [], ◌∷◌, ◌++◌, codes, take, drop};
 ghost use Rattle.world_ports.specs.declared.Door.TheVariants.{Clients, Children};
-ghost use Rattle.agent_model.specs.ChildRows.{children, cut_short, hello, helper_job, holding, lost, refused, sign_frame, signature, signed, then, ticket, two_wait};
+ghost use Rattle.agent_model.specs.ChildRows.{children, cut_short, hello, helper_job, holding, holding_for_two, holding_once, lost, refused, sign_frame, signature, signed, then, ticket, two_wait};
 ghost use Rattle.agent_model.specs.Events.{Ended, Heard, Joined, StartFailed, Started, Took};
-ghost use Rattle.agent_model.specs.Rows.{closed_by, failed, sign, with_event};
+ghost use Rattle.agent_model.specs.Rows.{add, add_once, closed_by, failed, list, listed, none_listed, sign, with_event};
 ghost use Rattle.agent_model.specs.State.{owed_of, starts};
 
 /// A helper is started for the first signature, and is sent the request once it named itself; its
@@ -44,6 +44,35 @@ pub fn an_answer_goes_to_its_ask()
         (codes "two") ++ signed 1 (codes "one")) ∷ [])) ≡ signature (codes "one") }
     ensures left { owed_of 1 (holding (Heard 1 (sign 17) ∷ Started 1 (ticket 9) ∷ Joined Children
         ∷ Heard 2 (hello 1 9) ∷ Ended 1 ∷ Heard 2 (signed 1 (codes "sig")) ∷ [])) ≡ [] }
+{}
+
+/// A key that may be used once is gone as its signature is put to the helper, and one that may be
+/// used twice as its second one is; the signature is answered, and the next one fails. What isn't
+/// put uses nothing, and a replacement may be used anew.
+pub fn an_identity_is_used_up()
+    ensures started { starts (holding_once (Heard 1 (sign 17) ∷ [])) ≡ helper_job 1 ∷ [] }
+    ensures gone { owed_of 2 (holding_once (Heard 1 (sign 17) ∷ Joined Clients ∷ Heard 2 list
+        ∷ [])) ≡ none_listed }
+    ensures left { owed_of 2 (holding_for_two (Heard 1 (sign 17) ∷ Joined Clients ∷ Heard 2 list
+        ∷ [])) ≡ listed 17 }
+    ensures last { owed_of 3 (holding_for_two (Heard 1 (sign 17) ∷ Joined Clients
+        ∷ Heard 2 (sign 17) ∷ Joined Clients ∷ Heard 3 list ∷ [])) ≡ none_listed }
+    ensures put { owed_of 2 (holding_once (Heard 1 (sign 17) ∷ Started 1 (ticket 9)
+        ∷ Joined Children ∷ Heard 2 (hello 1 9) ∷ [])) ≡ sign_frame 1 17 }
+    ensures signed { owed_of 1 (holding_once (Heard 1 (sign 17) ∷ Started 1 (ticket 9)
+        ∷ Joined Children ∷ Heard 2 (hello 1 9) ∷ Heard 2 (signed 1 (codes "sig")) ∷ []))
+        ≡ signature (codes "sig") }
+    ensures again { owed_of 1 (holding_once (Heard 1 (sign 17) ∷ Started 1 (ticket 9)
+        ∷ Joined Children ∷ Heard 2 (hello 1 9) ∷ Heard 2 (signed 1 (codes "sig")) ∷ Took 1 12
+        ∷ Heard 1 (sign 17) ∷ [])) ≡ failed }
+    ensures lost { owed_of 1 (holding_once (Heard 1 (sign 17) ∷ StartFailed 1 ∷ Took 1 5
+        ∷ Heard 1 (sign 17) ∷ [])) ≡ failed }
+    ensures other { owed_of 1 (holding_once (Heard 1 (sign 18) ∷ Took 1 5 ∷ Heard 1 list ∷ []))
+        ≡ listed 17 }
+    ensures anew { owed_of 1 (holding_once (Joined Clients ∷ Heard 2 (sign 17)
+        ∷ Heard 1 (add_once 17) ∷ Took 1 5 ∷ Heard 1 list ∷ [])) ≡ listed 17 }
+    ensures unlimited { owed_of 1 (holding_once (Joined Clients ∷ Heard 1 (add 17) ∷ Took 1 5
+        ∷ Heard 2 (sign 17) ∷ Heard 1 list ∷ [])) ≡ listed 17 }
 {}
 
 /// Where the helper is lost, by its end or by a faulty frame, its port is closed and each client

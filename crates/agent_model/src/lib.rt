@@ -12,6 +12,7 @@ mod consent_rows;
 mod consents;
 mod laws;
 mod rows;
+mod uses;
 
 pub use asks::{
     a_client_gets_its_own_answer, a_signature_is_asked_for_exactly_where_it_may_be,
@@ -28,11 +29,12 @@ pub use bindings::{
 };
 pub use child_rows::{
     a_lost_helper_fails_its_asks, a_signature_goes_through_the_helper, a_ticket_names_a_job_once,
-    an_answer_goes_to_its_ask, jobs_and_child_processes_are_bounded,
+    an_answer_goes_to_its_ask, an_identity_is_used_up, jobs_and_child_processes_are_bounded,
 };
 pub use consent_rows::{
     a_client_that_leaves_ends_its_confirmation, a_confirmation_ends_without_consent,
     a_signature_waits_for_the_user, confirmations_are_bounded, consent_is_tested_again,
+    consent_uses_an_identity_once,
 };
 pub use consents::{
     a_client_waits_for_its_own_consent, consent_counts_exactly_where_it_may,
@@ -48,3 +50,4 @@ pub use rows::{
     a_locked_agent_does_nothing, a_request_waits_for_the_reply_before, a_signature_is_waited_for,
     additions_are_listed, limits_are_these_numbers, moments_are_taken_in, refusals_are_failures,
 };
+pub use uses::a_key_is_used_as_its_signature_is_put;

@@ -1,6 +1,6 @@
 -- Each private string of a key that is held was read as an addition, and so was each that a request, or a grant, puts to
 -- the helper.
-use Rattle.std.proofs.Common.{◌≡◌, inl, inr, ℕ, ◌==◌, List, [], ◌∷◌, refl, Bool, true, false, cond, nat_lt, Option, Some, None, Result, Ok, Err}
+use Rattle.std.proofs.Common.{◌≡◌, inl, inr, ℕ, ◌-◌, ◌==◌, List, [], ◌∷◌, refl, Bool, true, false, cond, nat_lt, Option, Some, None, Result, Ok, Err}
 use Rattle.std.specs.List.{All}
 use Rattle.std.specs.Str.{bytes_eq}
 use Rattle.std.proofs.lemmas.List.Elements.{All-cons, All-filter, All-head, All-nil, All-tail}
@@ -11,7 +11,7 @@ use Rattle.key_blob.specs.PublicKeys.{KeyParts, public_key_of}
 use Rattle.key_blob.specs.declared.added.AddedKey.{AddedKey}
 use Rattle.key_blob.specs.declared.fault.KeyFault.{KeyFault}
 use Rattle.identity_table.specs.Deaths.{lives_at}
-use Rattle.identity_table.specs.Identities.{HeldKey, alive_at, find_identity, find_number, has_blob, max_answer, new_identity, number_of, put_identity, remove_identity}
+use Rattle.identity_table.specs.Identities.{HeldKey, alive_at, find_identity, find_number, has_blob, in_front, max_answer, new_identity, number_of, put_identity, remove_identity, spend_identity, used_by}
 use Rattle.lists.specs.Keyed.{has_key}
 use Rattle.agent_msg.specs.declared.fault.MsgFault.{MsgFault}
 use Rattle.agent_msg.specs.Reading.{request_of}
@@ -24,11 +24,11 @@ use Rattle.dest_rule.specs.declared.denial.Denial.{Denial}
 use Rattle.dest_rule.specs.declared.fault.Next.{Next as Judgement}
 use Rattle.dest_rule.specs.declared.fault.Next.TheVariants.{New, Refuse, Same}
 use Rattle.confirm_desk.specs.Confirmations.{Confirmation}
-use Rattle.agent_model.specs.Binds.{add_with, agent_request_of, and_host_key, bind_with, with_host_key}
+use Rattle.agent_model.specs.Binds.{agent_request_of, and_host_key, bind_with, with_host_key}
 use Rattle.agent_model.specs.Consents.{grant_by, grant_unless, grant_with, signing_of}
 use Rattle.agent_model.specs.Dispatch.{Asker, Served, add_by, add_fault, add_seen, add_unless, bind_by, length_with, lock_by, remove_by, remove_seen, sees, serve, serve_by, serve_locked, serve_unlocked, sign_by, sign_unless, sign_with, unlock_by}
 use Rattle.agent_model.specs.Errands.{Errand, Signs, Verifies, ask_fault, put_unless, raise_fault, raise_unless}
-use Rattle.agent_model.specs.KeyStates.{KeyState}
+use Rattle.agent_model.specs.KeyStates.{KeyState, after_use}
 use Rattle.agent_model.specs.Limits.{last_number}
 use Rattle.agent_model.specs.State.{UnderWay}
 use Rattle.agent_model.specs.Verdicts.{Cause}
@@ -75,6 +75,29 @@ without : (blob : List ℕ) (keys : List HeldKey) → AreHeld keys → AreHeld (
 unfolding remove_identity
 without blob keys held = each_left IsAddition (has_blob blob) keys held
 
+spent_first : (uses : Option ℕ) (first : HeldKey) (keys : List HeldKey) → IsAddition first → AreHeld keys → AreHeld (in_front (used_by uses first) keys)
+spent_first None first keys is held = All-cons IsAddition first keys is held
+spent_first (Some uses) first keys is held = by_zero (uses - 1 == 0)
+  where
+    by_zero : (gone : Bool) → AreHeld (in_front (cond gone None (Some (record first { uses = Some (uses - 1) }))) keys)
+    by_zero true = held
+    by_zero false = All-cons IsAddition (record first { uses = Some (uses - 1) }) keys is held
+
+spent_one : (number : ℕ) (keys : List HeldKey) → AreHeld keys → AreHeld (spend_identity number keys)
+unfolding spend_identity
+spent_one number [] held = held
+spent_one number (first ∷ keys) held =
+    by_test (first.number == number) (spent_one number keys (All-tail IsAddition first keys held))
+  where
+    by_test : (same : Bool) → AreHeld (spend_identity number keys) → AreHeld (cond same (in_front (used_by first.uses first) keys) (first ∷ spend_identity number keys))
+    by_test true rest = spent_first first.uses first keys (All-head IsAddition first keys held) (All-tail IsAddition first keys held)
+    by_test false rest = All-cons IsAddition first (spend_identity number keys) (All-head IsAddition first keys held) rest
+
+-- after a use, where there was one
+pub used : (addition : Option ℕ) (held : KeyState) → AreHeld held.table.identities → AreHeld (after_use addition held).table.identities
+used None held keys = keys
+used (Some addition) held keys = spent_one addition held.table.identities keys
+
 pub alive : (second : ℕ) (keys : List HeldKey) → AreHeld keys → AreHeld (alive_at second keys)
 unfolding alive_at
 alive second keys held = All-filter (λ (key : HeldKey). lives_at second key.death) IsAddition keys held
@@ -101,17 +124,13 @@ with_bind : (bind : BindRequest) (read : Result KeyParts KeyFault) → AddsWhere
 with_bind bind (Ok key) = tt
 with_bind bind (Err fault) = tt
 
-with_add : (addition : Addition) (uses : Option ℕ) → Adds (Add addition) → AddsWhereRead (add_with addition uses)
-with_add addition None adds = adds
-with_add addition (Some uses) adds = tt
-
 adds_key : (body : List ℕ) (request : ClientRequest) → IsRequest body request → AddsWhereRead (with_host_key request)
 adds_key body ListIdentities is = tt
 adds_key body (Sign signing) is = tt
-adds_key body (Add added) is = with_add added added.terms.uses (elim is [
+adds_key body (Add added) is = elim is [
   | inl plain ↦ plain.key
   | inr constrained ↦ constrained.key
-])
+]
 adds_key body (Remove blob) is = tt
 adds_key body RemoveAll is = tt
 adds_key body (Lock passphrase) is = tt
@@ -199,7 +218,7 @@ unlocks false held under_way keys = record { keys = keys; put = none }
 unlocked : (request : ClientRequest) (asker : Asker) (held : KeyState) (under_way : UnderWay) → Adds request → AreHeld held.table.identities → AreKept (serve_unlocked request asker held under_way)
 unlocked ListIdentities asker held under_way is keys = record { keys = keys; put = none }
 unlocked (Sign signing) asker held under_way is keys =
-    record { keys = keys; put = signs held.table.identities (find_identity signing.blob held.table.identities) asker signing under_way refl keys }
+    record { keys = used (sign_by (find_identity signing.blob held.table.identities) asker signing under_way).used held keys; put = signs held.table.identities (find_identity signing.blob held.table.identities) asker signing under_way refl keys }
 unlocked (Add new) asker held under_way is keys = adds (find_identity new.key.blob held.table.identities) asker new held under_way is keys
 unlocked (Remove blob) asker held under_way is keys = removes (find_identity blob held.table.identities) asker blob held under_way keys
 unlocked RemoveAll asker held under_way is keys = record { keys = All-nil IsAddition; put = none }

@@ -36,7 +36,7 @@ use Rattle.agent_model.specs.State.{Client, Confirmer, Helper, Nothing, OnAsk, O
 use Rattle.agent_model.specs.Step.{admitted, asker_at, at_moment, attempts, ended_at, ended_by_role, handle, has_room, heard_at, heard_by_role, look_front, look_owed, look_port, look_waits, step, take_frame, took_at, took_by_role, took_some}
 use Rattle.agent_model.specs.Verdicts.{HelperLost, HelperRefused, NotConfirmed, Refuses, Replies, Signature, SignatureWrong, Success, Verdict, tell}
 use Rattle.agent_secrecy.proofs.EachLemmas.{each_changed, each_found, each_left}
-use Rattle.agent_secrecy.proofs.AdditionLemmas.{AreHeld, AreKept, ArePut, IsAddition, adds_read, alive, grants_by, none, serves}
+use Rattle.agent_secrecy.proofs.AdditionLemmas.{AreHeld, AreKept, ArePut, IsAddition, adds_read, alive, grants_by, none, serves, used}
 
 -- ---- ports
 
@@ -143,7 +143,7 @@ grants : (found : Option Port) (confirmation : Confirmation) (state : State) →
 grants None confirmation state keeps = stays state keeps
 grants (Some port) confirmation state keeps = record {
   state = record {
-    keys = keeps.keys;
+    keys = used (grant_work port.chain confirmation state).used state.held keeps.keys;
     sent = told-sent (grant_work port.chain confirmation state).verdict confirmation.asker (close_confirmer confirmation.port state.ports) (confirmer_closed-sent confirmation.port state.ports keeps.sent);
   };
   put = grants_by state.held.lock state.held port.chain confirmation state.moment.wall (without_confirmation confirmation.job state.under_way) keeps.keys;

@@ -17,12 +17,12 @@ use Rattle.agent_model.specs.Answers.{Answering, answer_all, answer_asker, answe
 use Rattle.agent_model.specs.Children.{changed, closed, shut, shut_then}
 use Rattle.agent_model.specs.Consents.{close_confirmer, confirmer_closes, confirmer_heard, consent_by, grant, grant_by, grant_concluded, grant_to, grant_unless, grant_with, grant_work, over, over_if, signing_of, with_heard, without_confirmation}
 use Rattle.agent_model.specs.Errands.{Signs}
-use Rattle.agent_model.specs.KeyStates.{KeyState}
+use Rattle.agent_model.specs.KeyStates.{KeyState, after_use}
 use Rattle.agent_model.specs.State.{Port, State, UnderWay, Verification, change_port, find_port}
 use Rattle.agent_model.specs.Verdicts.{HelperLost, HelperRefused, NoLongerAllowed, NotConfirmed, Refuses, Replies, Signature, SignatureWrong, Success, Verdict, tell}
 use Rattle.agent_secrecy.specs.Hiding.{Seen, SeenWork, bare, hide_held, hide_key, hide_link, hide_message, hide_port, hide_ports, hide_state, hide_under_way, seen, work_bare, work_seen}
 use Rattle.agent_secrecy.proofs.BlankLemmas.{blank-twice}
-use Rattle.agent_secrecy.proofs.TableLemmas.{find_number-hidden}
+use Rattle.agent_secrecy.proofs.TableLemmas.{after_use-hidden, find_number-hidden}
 use Rattle.agent_secrecy.proofs.WorkLemmas.{put_ask-hidden, settles-hidden, with_owed}
 use Rattle.agent_secrecy.proofs.PortLemmas.{change_port-hidden, close_confirmer-hidden, close_helper-hidden, closing-hidden, confirmer_closes-hidden, find_port-hidden, helper_closes-hidden, remove_port-hidden, tell-hidden, tell_each-hidden}
 
@@ -166,7 +166,7 @@ module _ (key : List ℕ → List ℕ) (keeps : (bytes : List ℕ) → length (k
 
   abbrev granted_with : Confirmation → State → List Port → List ℕ → SeenWork → Seen
   granted_with confirmation state ports closes work = record {
-    state = record (hide state) { ports = change_port confirmation.asker (tell work.verdict) ports; under_way = work.under_way };
+    state = record (hide state) { held = after_use work.used (hide_held key state.held); ports = change_port confirmation.asker (tell work.verdict) ports; under_way = work.under_way };
     put = work.put;
     closes = closes;
   }
@@ -176,7 +176,9 @@ module _ (key : List ℕ → List ℕ) (keeps : (bytes : List ℕ) → length (k
       ap (granted_with confirmation state (close_confirmer confirmation.port (hide_ports heard state.ports)) (confirmer_closes confirmation.port (hide_ports heard state.ports))) same
       ∙ ap (λ ports. granted_with confirmation state ports (confirmer_closes confirmation.port (hide_ports heard state.ports)) (work_seen key work)) (close_confirmer-hidden heard confirmation.port state.ports)
       ∙ ap (λ closes. granted_with confirmation state (hide_ports heard (close_confirmer confirmation.port state.ports)) closes (work_seen key work)) (confirmer_closes-hidden heard confirmation.port state.ports)
-      ∙ ap (λ ports. let new : Seen = record { state = record (hide state) { ports = ports; under_way = hide_under_way work.under_way }; put = map (hide_message key) work.put; closes = confirmer_closes confirmation.port state.ports } in new)
+      ∙ ap (λ keys. let new : Seen = record { state = record (hide state) { held = keys; ports = change_port confirmation.asker (tell work.verdict) (hide_ports heard (close_confirmer confirmation.port state.ports)); under_way = hide_under_way work.under_way }; put = map (hide_message key) work.put; closes = confirmer_closes confirmation.port state.ports } in new)
+      (after_use-hidden key work.used state.held)
+      ∙ ap (λ ports. let new : Seen = record { state = record (hide state) { held = hide_held key (after_use work.used state.held); ports = ports; under_way = hide_under_way work.under_way }; put = map (hide_message key) work.put; closes = confirmer_closes confirmation.port state.ports } in new)
       (tell-hidden heard confirmation.asker work.verdict (close_confirmer confirmation.port state.ports))
 
   grant_to-hidden : (found : Option Port) (confirmation : Confirmation) (state : State) → bare (grant_to (option_map (hide_port heard) found) confirmation (hide state)) ≡ seen key heard (grant_to found confirmation state)

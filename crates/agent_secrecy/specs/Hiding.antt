@@ -1,6 +1,6 @@
 -- A state without its secrets: private fields of held keys, what clients sent that isn't taken, and what the helper is
 -- owed are blanked. By which functions is left open: `key` for an addition, `heard` for what a client of a number sent.
-use Rattle.std.specs.Prelude.{ℕ, List, map, Result, Ok, Err}
+use Rattle.std.specs.Prelude.{ℕ, List, map, Option, Result, Ok, Err}
 use Rattle.world_ports.specs.declared.Door.{Door}
 use Rattle.world_ports.specs.declared.Door.TheVariants.{Clients, Children}
 use Rattle.identity_table.specs.Identities.{HeldKey, TableState}
@@ -89,6 +89,7 @@ pub record SeenWork : Type 0 where
   pub under_way : UnderWay
   pub verdict : Verdict
   pub put : List ToChildMessage
+  pub used : Option ℕ
 
 pub record SeenServed : Type 0 where
   pub held : KeyState
@@ -105,6 +106,7 @@ work_seen key work = record {
   under_way = hide_under_way work.under_way;
   verdict = work.verdict;
   put = map (hide_message key) work.put;
+  used = work.used;
 }
 
 abbrev pub served_seen : (List ℕ → List ℕ) → Served → SeenServed
@@ -116,7 +118,12 @@ seen key heard outcome =
 
 -- of a run whose secrets were hidden before: what was appended to what the helper is owed is blanked
 abbrev pub work_bare : Work → SeenWork
-work_bare work = record { under_way = hide_under_way work.under_way; verdict = work.verdict; put = work.put }
+work_bare work = record {
+  under_way = hide_under_way work.under_way;
+  verdict = work.verdict;
+  put = work.put;
+  used = work.used;
+}
 
 abbrev pub served_bare : Served → SeenServed
 served_bare served = record { held = served.held; work = work_bare served.work }

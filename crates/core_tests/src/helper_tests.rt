@@ -1,7 +1,7 @@
 //! Two clients' signatures through the helper: what is started, who is owed, and which faults are counted.
 
 use crate::play::{closes, finds, hear, holds, owes, starts, take_all, tell};
-use crate::tests::{ADD, FAILURE, SUCCESS};
+use crate::tests::{ADD, ADD_FOR_ONE_USE, FAILURE, SUCCESS};
 use agent_core::{Agent, Event, Settings};
 use std::process::Abort;
 use std::test::*;
@@ -93,4 +93,22 @@ fn a_faulty_helper_is_lost_behind_its_good_answers(rt: HostRuntime) {
     tell(&rt, &mut agent, &Event::StartFailed { job: 2 });
     owes(&rt, &agent, 1, &FAILURE, "no helper");
     holds(&rt, agent.link_faults() == 2, "two faults");
+}
+
+#[test]
+fn a_key_is_gone_with_its_last_use(rt: HostRuntime) {
+    let mut agent = Agent::new(rt.alloc(), Settings { default_life: None });
+    tell(&rt, &mut agent, &Event::Joined(Door::Clients));
+    hear(&rt, &mut agent, 1, ADD_FOR_ONE_USE);
+    owes(&rt, &agent, 1, &SUCCESS, "an addition");
+    take_all(&rt, &mut agent, 1);
+    holds(&rt, agent.held() == 1, "one is held");
+    finds(&rt, agent.next_due(), Some(17), "for ten seconds");
+    hear(&rt, &mut agent, 1, SIGN_REQUEST);
+    holds(&rt, agent.starts().len() == 1, "the helper is asked");
+    holds(&rt, agent.held() == 0, "none is held");
+    finds(&rt, agent.next_due(), None, "none is due");
+    tell(&rt, &mut agent, &Event::StartFailed { job: 1 });
+    owes(&rt, &agent, 1, &FAILURE, "no helper");
+    holds(&rt, agent.held() == 0, "no use comes back");
 }

@@ -10,6 +10,8 @@ pub mod QueueLemmas
 pub mod RecordLemmas
 pub mod RemovedLemmas
 pub mod ReplacedLemmas
+pub mod SpendLemmas
+pub mod SpentLemmas
 pub mod TableLemmas
 pub mod Theorems
 pub mod UpdateLemmas

@@ -1,5 +1,5 @@
 -- Records stay indexed after an addition behind the others.
-use Rattle.std.proofs.Common.{◌≡◌, ℕ, ◌+◌, ◌<◌, ◌≤◌, true, false, List, length, Option, Some, None, IsSome, ◌⊎◌, inl, inr, sym, ap, subst, ◌∙◌, arith}
+use Rattle.std.proofs.Common.{◌≡◌, ℕ, ◌+◌, ◌<◌, ◌≤◌, true, false, List, length, Option, Some, None, IsSome, IfSome, ◌⊎◌, inl, inr, sym, ap, subst, ◌∙◌, arith}
 use Rattle.std.specs.Ordering.{nat_cmp}
 use Rattle.std.specs.BTreeMap.{BTreeMap, IsOrdered, insert_entry, values}
 use Rattle.std.specs.Map.{values_of}
@@ -33,14 +33,14 @@ held-pushed old new one indexed none number entries =
 
 -- and the indices
 pub IsIndexed-pushed : (old new : Records) (one : HeldKey) → IsIndexed old → place_of_blob old one.blob ≡ None →
-    one.number ≡ old.last + 1 → answer_len (put_identity one (held old)) ≤ max_answer → length one.private ≤ longest_private →
+    one.number ≡ old.last + 1 → answer_len (put_identity one (held old)) ≤ max_answer → length one.private ≤ longest_private → IfSome one.uses (λ uses. 1 ≤ uses) →
     IsOrdered nat_cmp new.places → new.places.entries ≡ insert_entry nat_cmp old.places.entries one.number one →
     IsChanged (held_at old) (Some one.number) (Some one) (held_at new) →
     IsChanged (place_of_blob old) (Some one.blob) (Some one.number) (place_of_blob new) →
     IsChanged (place_of_number old) (Some one.number) (Some one.number) (place_of_number new) →
     IsChanged (place_of_death old) (death_key one) (Some one.number) (place_of_death new) →
     new.listed ≡ old.listed + entry_len one → new.last ≡ one.number → IsIndexed new
-IsIndexed-pushed old new one indexed none number fits short order entries places blobs numbers deaths listed last =
+IsIndexed-pushed old new one indexed none number fits short usable order entries places blobs numbers deaths listed last =
     let all : held new ≡ put_identity one (held old) = held-pushed old new.places one indexed none number entries in
     let empty : held_at old one.number ≡ None = indexed.within one.number (omega (arith, number)) in
     let taken : taken_by (find_identity one.blob (held old)) ≡ 0 = ap taken_by (blob_none old indexed one.blob none) in
@@ -64,5 +64,5 @@ IsIndexed-pushed old new one indexed none number fits short order entries places
       listed = omega (arith, listed, indexed.listed, entries_len-put one (held old), taken, ap answer_len all);
       sound = subst (λ (n : ℕ). IsSound (held new) n) (sym next)
           (subst (λ (keys : List HeldKey). IsSound keys (old.last + 1)) (sym all)
-          (IsSound-put one (held old) old.last number fits short indexed.sound));
+          (IsSound-put one (held old) old.last number fits short usable indexed.sound));
     }

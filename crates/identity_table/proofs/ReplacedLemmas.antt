@@ -1,5 +1,5 @@
 -- Records stay indexed after a replacement.
-use Rattle.std.proofs.Common.{◌≡◌, ◌≢◌, ℕ, ◌+◌, ◌<◌, ◌≤◌, List, length, Some, None, ◌⊎◌, inl, inr, sym, ap, subst, ◌∙◌, arith}
+use Rattle.std.proofs.Common.{◌≡◌, ◌≢◌, ℕ, ◌+◌, ◌<◌, ◌≤◌, List, length, Some, None, IfSome, ◌⊎◌, inl, inr, sym, ap, subst, ◌∙◌, arith}
 use Rattle.std.specs.Ordering.{nat_cmp}
 use Rattle.std.specs.BTreeMap.{BTreeMap, IsOrdered, insert_entry, values}
 use Rattle.std.specs.Map.{values_of}
@@ -29,7 +29,7 @@ held-replaced old new place one was indexed is at entries =
 -- and the indices
 pub IsIndexed-replaced : (old mid new : Records) (place : ℕ) (one was : HeldKey) → IsIndexed old →
     place_of_blob old one.blob ≡ Some place → held_at old place ≡ Some was →
-    one.number ≡ old.last + 1 → answer_len (put_identity one (held old)) ≤ max_answer → length one.private ≤ longest_private →
+    one.number ≡ old.last + 1 → answer_len (put_identity one (held old)) ≤ max_answer → length one.private ≤ longest_private → IfSome one.uses (λ uses. 1 ≤ uses) →
     IsOrdered nat_cmp new.places → new.places.entries ≡ insert_entry nat_cmp old.places.entries place one →
     IsChanged (held_at old) (Some place) (Some one) (held_at new) →
     ((key : List ℕ) → place_of_blob new key ≡ place_of_blob old key) →
@@ -38,7 +38,7 @@ pub IsIndexed-replaced : (old mid new : Records) (place : ℕ) (one was : HeldKe
     IsChanged (place_of_death old) (death_key one) (Some place) (place_of_death mid) →
     IsChanged (place_of_death mid) (death_key was) None (place_of_death new) →
     new.listed + entry_len was ≡ old.listed + entry_len one → new.last ≡ one.number → IsIndexed new
-IsIndexed-replaced old mid new place one was indexed is at number fits short order entries places blobs numbers gone deaths dead listed last =
+IsIndexed-replaced old mid new place one was indexed is at number fits short usable order entries places blobs numbers gone deaths dead listed last =
     let all : held new ≡ put_identity one (held old) = held-replaced old new.places place one was indexed is at entries in
     let same : was.blob ≡ one.blob = blob_at old indexed place one.blob was is at in
     let taken : taken_by (find_identity one.blob (held old)) ≡ entry_len was =
@@ -61,7 +61,7 @@ IsIndexed-replaced old mid new place one was indexed is at number fits short ord
       listed = omega (arith, listed, indexed.listed, entries_len-put one (held old), taken, ap answer_len all);
       sound = subst (λ (n : ℕ). IsSound (held new) n) (sym next)
           (subst (λ (keys : List HeldKey). IsSound keys (old.last + 1)) (sym all)
-          (IsSound-put one (held old) old.last number fits short indexed.sound));
+          (IsSound-put one (held old) old.last number fits short usable indexed.sound));
     }
   where
     blob_by : (other : ℕ) → was.blob ≡ one.blob → (place ≡ other) ⊎ (place ≢ other) →

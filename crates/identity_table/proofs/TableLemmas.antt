@@ -1,10 +1,10 @@
 -- Tables over many calls, and what stands against an addition.
-use Rattle.std.proofs.Common.{◌≡◌, ◌+◌, ◌-◌, ◌^◌, ◌≤◌, ◌==◌, ℕ, nat_lt, Bool, true, false, cond, List, [], ◌∷◌, length, Some, None, refl, subst, arith}
+use Rattle.std.proofs.Common.{◌≡◌, ◌+◌, ◌-◌, ◌^◌, ◌≤◌, ◌==◌, ℕ, nat_lt, Bool, true, false, cond, List, [], ◌∷◌, length, Some, None, IfSome, refl, subst, arith}
 use Rattle.std.specs.Str.{bytes_eq}
 use Rattle.constraint_rec.specs.declared.terms.Terms.{Terms}
 use Rattle.key_blob.specs.declared.added.AddedKey.{AddedKey}
 use Rattle.identity_table.specs.Identities.{HeldKey, TableState, AreShort, IsSound, added, answer_len, entries_len, entry_len, find_identity, identities_with, longest_private, max_answer, new_identity}
-use Rattle.identity_table.specs.Tables.{Call, Expire, Add, Remove, RemoveAll, RiseFrom, add_fault, add_fault_by, after_call, numbers_of}
+use Rattle.identity_table.specs.Tables.{Call, Expire, Add, Remove, RemoveAll, Spend, RiseFrom, add_fault, add_fault_by, after_call, numbers_of}
 use Rattle.identity_table.proofs.Theorems.{IsSound-put}
 
 -- one message lists all where nothing stands against an addition
@@ -18,12 +18,12 @@ fits_if false false len is none = grind arith
 pub IsSound-added : (table : TableState) (key : AddedKey) (terms : Terms) (comment : List ℕ)
     (now : ℕ) →
     add_fault table key terms comment now ≡ None → length key.private ≤ longest_private →
-    IsSound table.identities table.last →
+    IfSome terms.uses (λ uses. 1 ≤ uses) → IsSound table.identities table.last →
     IsSound (added table key terms comment now).identities (table.last + 1)
-IsSound-added table key terms comment now none short sound =
+IsSound-added table key terms comment now none short usable sound =
     let len = answer_len (identities_with table key terms comment now) in
     IsSound-put (new_identity table key terms comment now) table.identities table.last refl
-    (fits_if (nat_lt max_answer len) (table.last == 2 ^ 64 - 1) len refl none) short sound
+    (fits_if (nat_lt max_answer len) (table.last == 2 ^ 64 - 1) len refl none) short usable sound
 
 -- a key that is held is as short as all of them
 pub held_is_short : (blob : List ℕ) (keys : List HeldKey) (key : HeldKey) →
@@ -57,3 +57,4 @@ numbers_rise (Add key terms comment now ∷ calls) table =
     (omega arith, numbers_rise calls (after_call (Add key terms comment now) table))
 numbers_rise (Remove blob ∷ calls) table = numbers_rise calls (after_call (Remove blob) table)
 numbers_rise (RemoveAll ∷ calls) table = numbers_rise calls (after_call RemoveAll table)
+numbers_rise (Spend addition ∷ calls) table = numbers_rise calls (after_call (Spend addition) table)

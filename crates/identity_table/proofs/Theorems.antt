@@ -1,8 +1,8 @@
 -- Tables stay sound: each identity has its own blob and number, and one message lists them all.
-use Rattle.std.proofs.Common.{◌≡◌, ℕ, ◌+◌, ◌≤◌, length, Bool, true, false, cond, List, [], ◌∷◌, arith}
+use Rattle.std.proofs.Common.{◌≡◌, ℕ, ◌+◌, ◌≤◌, length, IfSome, Bool, true, false, cond, List, [], ◌∷◌, arith}
 use Rattle.std.specs.Str.{bytes_eq}
 use Rattle.identity_table.specs.Deaths.{lives_at}
-use Rattle.identity_table.specs.Identities.{HeldKey, put_identity, remove_identity, alive_at, entry_len, entries_len, answer_len, max_answer, AreShort, HaveOwnBlobs, HaveOwnNumbers, IsSound, longest_private}
+use Rattle.identity_table.specs.Identities.{HeldKey, put_identity, remove_identity, alive_at, entry_len, entries_len, answer_len, max_answer, AreShort, AreUsable, HaveOwnBlobs, HaveOwnNumbers, IsSound, longest_private}
 use Rattle.identity_table.proofs.FindLemmas.{own_blobs-put, own_blobs-remove, own_blobs-alive}
 use Rattle.identity_table.proofs.NumberLemmas.{own_numbers-put, own_numbers-remove, own_numbers-alive}
 
@@ -78,23 +78,65 @@ AreShort-alive second (key ∷ keys) rest =
     by_test true later = (rest.0, later)
     by_test false later = later
 
+-- ---- numbers of uses
+
+-- they stay at least 1 after an addition of such a one
+AreUsable-put : (new : HeldKey) (keys : List HeldKey) → IfSome new.uses (λ uses. 1 ≤ uses) →
+    AreUsable keys → AreUsable (put_identity new keys)
+unfolding AreUsable put_identity
+AreUsable-put new [] usable rest = (usable, tt)
+AreUsable-put new (key ∷ keys) usable rest =
+    by_test (bytes_eq key.blob new.blob) (AreUsable-put new keys usable rest.1)
+  where
+    by_test : (same : Bool) → AreUsable (put_identity new keys) →
+        AreUsable (cond same (new ∷ keys) (key ∷ put_identity new keys))
+    by_test true later = (usable, rest.1)
+    by_test false later = (rest.0, later)
+
+-- after a removal
+AreUsable-remove : (blob : List ℕ) (keys : List HeldKey) → AreUsable keys →
+    AreUsable (remove_identity blob keys)
+unfolding AreUsable remove_identity
+AreUsable-remove blob [] rest = tt
+AreUsable-remove blob (key ∷ keys) rest =
+    by_test (bytes_eq key.blob blob) (AreUsable-remove blob keys rest.1)
+  where
+    by_test : (same : Bool) → AreUsable (remove_identity blob keys) →
+        AreUsable (cond same keys (key ∷ remove_identity blob keys))
+    by_test true later = rest.1
+    by_test false later = (rest.0, later)
+
+-- after the dead are removed
+AreUsable-alive : (second : ℕ) (keys : List HeldKey) → AreUsable keys →
+    AreUsable (alive_at second keys)
+unfolding AreUsable alive_at
+AreUsable-alive second [] rest = tt
+AreUsable-alive second (key ∷ keys) rest =
+    by_test (lives_at second key.death) (AreUsable-alive second keys rest.1)
+  where
+    by_test : (alive : Bool) → AreUsable (alive_at second keys) →
+        AreUsable (cond alive (key ∷ alive_at second keys) (alive_at second keys))
+    by_test true later = (rest.0, later)
+    by_test false later = later
+
 -- ---- tables stay sound
 
 -- an empty table
 pub IsSound-none : (last : ℕ) → IsSound [] last
-unfolding AreShort HaveOwnBlobs HaveOwnNumbers entries_len
-IsSound-none last = record { blobs = tt; numbers = tt; fits = omega arith; short = tt }
+unfolding AreShort AreUsable HaveOwnBlobs HaveOwnNumbers entries_len
+IsSound-none last = record { blobs = tt; numbers = tt; fits = omega arith; short = tt; uses = tt }
 
 -- after an addition that fits, under the next number
 pub IsSound-put : (new : HeldKey) (keys : List HeldKey) (last : ℕ) → new.number ≡ last + 1 →
     answer_len (put_identity new keys) ≤ max_answer →
-    length new.private ≤ longest_private → IsSound keys last →
+    length new.private ≤ longest_private → IfSome new.uses (λ uses. 1 ≤ uses) → IsSound keys last →
     IsSound (put_identity new keys) (last + 1)
-IsSound-put new keys last number fits short sound = record {
+IsSound-put new keys last number fits short usable sound = record {
   blobs = own_blobs-put new keys sound.blobs;
   numbers = own_numbers-put last new keys number sound.numbers;
   fits = fits;
   short = AreShort-put new keys short sound.short;
+  uses = AreUsable-put new keys usable sound.uses;
 }
 
 -- after a removal
@@ -105,6 +147,7 @@ IsSound-remove blob keys last sound = record {
   numbers = own_numbers-remove last blob keys sound.numbers;
   fits = omega (arith, entries_len-remove blob keys, sound.fits);
   short = AreShort-remove blob keys sound.short;
+  uses = AreUsable-remove blob keys sound.uses;
 }
 
 -- after the dead are removed
@@ -115,4 +158,5 @@ IsSound-alive second keys last sound = record {
   numbers = own_numbers-alive last second keys sound.numbers;
   fits = omega (arith, entries_len-alive second keys, sound.fits);
   short = AreShort-alive second keys sound.short;
+  uses = AreUsable-alive second keys sound.uses;
 }

@@ -1,6 +1,6 @@
 -- The identities that an agent holds (draft-miller-ssh-agent, "Adding keys to the agent"). That they
 -- are a list in order of first addition is as in OpenSSH's ssh-agent.
-use Rattle.std.specs.Prelude.{◌≡◌, ℕ, ◌+◌, ◌≤◌, Bool, List, [], ◌∷◌, length, filter, Option, Some, None, if◌then◌else◌}
+use Rattle.std.specs.Prelude.{◌≡◌, ℕ, ◌+◌, ◌-◌, ◌≤◌, ◌==◌, Bool, List, [], ◌∷◌, length, filter, Option, Some, None, IfSome, if◌then◌else◌}
 use Rattle.std.specs.List.{find}
 use Rattle.std.specs.Str.{bytes_eq}
 use Rattle.wire_text.specs.Bounds.{longest_body}
@@ -19,6 +19,7 @@ pub record HeldKey : Type 0 where
   pub comment : List ℕ
   pub death : Option ℕ
   pub confirm : Bool
+  pub uses : Option ℕ
   pub rules : List Constraint
 
 -- the identities in order of first addition, the greatest second given, the last number given, and
@@ -60,6 +61,34 @@ remove_identity blob keys = remove_first (has_blob blob) keys
 -- those whose lifetime has not run out at this second
 unfoldable pub alive_at : ℕ → List HeldKey → List HeldKey
 alive_at second keys = filter (λ key. lives_at second key.death) keys
+
+-- ---- what is used up (ours)
+
+-- an identity with so many uses left, which is gone where none is
+abbrev pub with_uses : ℕ → HeldKey → Option HeldKey
+with_uses uses key = if uses == 0 then None else Some (record key { uses = Some uses })
+
+-- an identity after one more use: one with a number of uses has one less
+abbrev pub used_by : Option ℕ → HeldKey → Option HeldKey
+used_by None key = Some key
+used_by (Some uses) key = with_uses (uses - 1) key
+
+-- the same by the number that it has left
+abbrev pub used : HeldKey → Option HeldKey
+used key = used_by key.uses key
+
+-- in front of these, where it is there
+abbrev pub in_front : Option HeldKey → List HeldKey → List HeldKey
+in_front None keys = keys
+in_front (Some key) keys = key ∷ keys
+
+-- the identities after one more use of the one of this addition
+unfoldable pub spend_identity : ℕ → List HeldKey → List HeldKey
+spend_identity number [] = []
+spend_identity number (key ∷ keys) =
+    if key.number == number then in_front (used key) keys else key ∷ spend_identity number keys
+
+-- ---- deaths
 
 -- the first second from which one of them is dead, where the clock comes to it
 unfoldable pub next_death : List HeldKey → Option ℕ
@@ -112,17 +141,23 @@ unfoldable pub AreShort : List HeldKey → Type 0
 AreShort [] = Unit {0}
 AreShort (key ∷ keys) = (length key.private ≤ longest_private) × AreShort keys
 
--- each identity has its own blob and its own number, one message lists them all, and no private
--- string is longer than a message
+-- each number of uses that is left is at least 1
+unfoldable pub AreUsable : List HeldKey → Type 0
+AreUsable [] = Unit {0}
+AreUsable (key ∷ keys) = IfSome key.uses (λ uses. 1 ≤ uses) × AreUsable keys
+
+-- each identity has its own blob and its own number, one message lists them all, no private string
+-- is longer than a message, and each number of uses that is left is at least 1
 pub record IsSound (keys : List HeldKey) (last : ℕ) : Type 0 where
   pub blobs : HaveOwnBlobs keys
   pub numbers : HaveOwnNumbers last keys
   pub fits : answer_len keys ≤ max_answer
   pub short : AreShort keys
+  pub uses : AreUsable keys
 
 -- ---- additions
 
--- an identity of these parts; a number of uses isn't kept
+-- an identity of these parts
 abbrev pub identity_of : ℕ → AddedKey → List ℕ → Option ℕ → Terms → HeldKey
 identity_of number key comment death terms = record {
   number = number;
@@ -131,6 +166,7 @@ identity_of number key comment death terms = record {
   comment = comment;
   death = death;
   confirm = terms.confirm;
+  uses = terms.uses;
   rules = terms.rules;
 }
 

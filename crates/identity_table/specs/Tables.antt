@@ -1,10 +1,10 @@
 -- What calls do to a table (draft-miller-ssh-agent, "Adding keys to the agent", "Removing keys from
 -- the agent"). Why a key isn't added is ours.
-use Rattle.std.specs.Prelude.{◌≡◌, ℕ, ◌+◌, ◌-◌, ◌^◌, ◌==◌, nat_lt, Bool, true, false, List, [], ◌∷◌, Option, Some, None}
+use Rattle.std.specs.Prelude.{◌≡◌, ℕ, zero, suc, ◌+◌, ◌-◌, ◌^◌, ◌==◌, nat_lt, Bool, true, false, List, [], ◌∷◌, Option, Some, None}
 use Rattle.constraint_rec.specs.declared.terms.Terms.{Terms}
 use Rattle.key_blob.specs.declared.added.AddedKey.{AddedKey}
 use Rattle.lists.specs.Rising.{IsRisingNumbers}
-use Rattle.identity_table.specs.Identities.{TableState, added, alive_at, answer_len, identities_with, max_answer, remove_identity}
+use Rattle.identity_table.specs.Identities.{HeldKey, TableState, added, alive_at, answer_len, identities_with, max_answer, remove_identity, spend_identity}
 use Rattle.identity_table.specs.declared.fault.AddFault.{AddFault}
 use Rattle.identity_table.specs.declared.fault.AddFault.TheVariants.{ListFull, NumbersSpent, Memory}
 
@@ -23,6 +23,15 @@ without blob table = record table { identities = remove_identity blob table.iden
 -- the table without any identity
 abbrev pub emptied : TableState → TableState
 emptied table = record table { identities = [] }
+
+-- the table after one more use of the identity of this addition
+abbrev pub spent : ℕ → TableState → TableState
+spent addition table = record table { identities = spend_identity addition table.identities }
+
+-- the identities after so many uses of that one
+abbrev pub spent_often : ℕ → ℕ → List HeldKey → List HeldKey
+spent_often zero number keys = keys
+spent_often (suc times) number keys = spent_often times number (spend_identity number keys)
 
 -- ---- why a key isn't added
 
@@ -53,6 +62,7 @@ pub data Call : Type 0 where
   Add : (key : AddedKey) (terms : Terms) (comment : List ℕ) (now : ℕ) → Call
   Remove : (blob : List ℕ) → Call
   RemoveAll : Call
+  Spend : (addition : ℕ) → Call
 
 -- the table after it
 abbrev pub after_call : Call → TableState → TableState
@@ -60,6 +70,7 @@ after_call (Expire second) table = expired second table
 after_call (Add key terms comment now) table = added table key terms comment now
 after_call (Remove blob) table = without blob table
 after_call RemoveAll table = emptied table
+after_call (Spend addition) table = spent addition table
 
 -- the number that it gives, if it gives one, before these
 abbrev pub numbered : Call → TableState → List ℕ → List ℕ
@@ -67,6 +78,7 @@ numbered (Expire second) table later = later
 numbered (Add key terms comment now) table later = (table.last + 1) ∷ later
 numbered (Remove blob) table later = later
 numbered RemoveAll table later = later
+numbered (Spend addition) table later = later
 
 -- the numbers of all additions among these calls, in their order
 abbrev pub numbers_of : List Call → TableState → List ℕ

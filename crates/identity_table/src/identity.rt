@@ -1,4 +1,4 @@
-ghost use Rattle.std.specs.Prelude.{◌≡◌};
+ghost use Rattle.std.specs.Prelude.{◌≡◌, Some};
 ghost use Rattle.identity_table.specs.Identities.{identity_of};
 ghost use Rattle.identity_table.specs.Deaths.{lives_at, on_clock};
 
@@ -20,6 +20,7 @@ pub struct Identity {
     comment: Bytes,
     deadline: Option<Deadline>,
     confirm: bool,
+    uses: Option<u32>,
     rules: PlainList<Constraint>,
 }
 
@@ -35,6 +36,7 @@ impl Model for Identity {
       comment = identity.comment;
       death = identity.deadline;
       confirm = identity.confirm;
+      uses = identity.uses;
       rules = identity.rules;
     } };
 }
@@ -54,7 +56,7 @@ impl Identity {
         let Terms {
             life: _,
             confirm,
-            uses: _,
+            uses,
             rules,
         } = terms;
         Identity {
@@ -64,6 +66,7 @@ impl Identity {
             comment,
             deadline,
             confirm,
+            uses,
             rules,
         }
     }
@@ -101,6 +104,20 @@ impl Identity {
         ensures { result ≡ self.now.confirm }
     {
         self.confirm
+    }
+
+    /// How often it may still be used, where that is limited.
+    pub fn uses(&self) -> Option<u32>
+        ensures { result ≡ self.now.uses }
+    {
+        self.uses
+    }
+
+    /// Leaves it so many uses.
+    pub(crate) fn leave_uses(&mut self, uses: u32)
+        ensures { self.new ≡ record self.old { uses = Some uses } }
+    {
+        self.uses = Some(uses);
     }
 
     /// Where it may be used. Empty where it may be used anywhere.

@@ -15,8 +15,8 @@ mod table;
 pub use fault::AddFault;
 pub use identity::Identity;
 pub use laws::{
-    addition_numbers_never_begin_again, blob_and_number_find_the_same, tables_stay_sound,
-    what_is_held_is_short,
+    addition_numbers_never_begin_again, an_identity_is_used_up, blob_and_number_find_the_same,
+    tables_stay_sound, what_is_held_is_short,
 };
 pub use lock::Lock;
 pub use table::Table;

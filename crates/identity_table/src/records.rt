@@ -5,7 +5,7 @@ ghost use Rattle.std.specs.Option.{option_copied};
 ghost use Rattle.std.specs.Ordering.{nat_cmp};
 ghost use Rattle.std.specs.BTreeMap.{btree_map_len, get};
 ghost use Rattle.identity_table.specs.Deaths.{lives_at};
-ghost use Rattle.identity_table.specs.Identities.{HeldKey, IsSound, alive_at, answer_len, entry_len, find_identity, find_number, longest_private, max_answer, next_death, put_identity, remove_identity, taken_by};
+ghost use Rattle.identity_table.specs.Identities.{HeldKey, IsSound, alive_at, answer_len, entry_len, find_identity, find_number, longest_private, max_answer, next_death, put_identity, remove_identity, spend_identity, taken_by};
 ghost use Rattle.identity_table.specs.Indices.{IsIndexed, IsChanged, death_by, death_cmp, death_key, held, held_at, place_of_blob, place_of_death, place_of_number};
 
 use crate::identity::Identity;
@@ -113,6 +113,7 @@ impl Records {
         requires number { identity.number ≡ self.old.last + 1 }
         requires fits { answer_len (put_identity identity (held self.old)) ≤ max_answer }
         requires short { length identity.private ≤ longest_private }
+        requires usable { IfSome identity.uses (λ uses. 1 ≤ uses) }
         ensures indexed { IsIndexed self.new }
         ensures ok { OnOk result (held self.new ≡ put_identity identity (held self.old)) }
         ensures last { OnOk result (self.new.last ≡ identity.number) }
@@ -135,6 +136,7 @@ impl Records {
         requires number { identity.number ≡ self.old.last + 1 }
         requires fits { answer_len (put_identity identity (held self.old)) ≤ max_answer }
         requires short { length identity.private ≤ longest_private }
+        requires usable { IfSome identity.uses (λ uses. 1 ≤ uses) }
         ensures indexed { IsIndexed self.new }
         ensures ok { OnOk result (held self.new ≡ put_identity identity (held self.old)) }
         ensures last { OnOk result (self.new.last ≡ identity.number) }
@@ -172,6 +174,7 @@ impl Records {
         requires number { identity.number ≡ self.old.last + 1 }
         requires fits { answer_len (put_identity identity (held self.old)) ≤ max_answer }
         requires short { length identity.private ≤ longest_private }
+        requires usable { IfSome identity.uses (λ uses. 1 ≤ uses) }
         ensures indexed { IsIndexed self.new }
         ensures ok { OnOk result (held self.new ≡ put_identity identity (held self.old)) }
         ensures last { OnOk result (self.new.last ≡ identity.number) }
@@ -217,6 +220,42 @@ impl Records {
                 true
             }
             None => false,
+        }
+    }
+
+    /// Counts one more use of the identity of this addition, and removes it after its last.
+    pub fn spend(&mut self, number: u64)
+        requires { IsIndexed self.old }
+        ensures indexed { IsIndexed self.new }
+        ensures spent { held self.new ≡ spend_identity number (held self.old) }
+        ensures last { self.new.last ≡ self.old.last }
+    {
+        let Some(place) = self.numbers.get(&number) else {
+            return;
+        };
+        let place = *place;
+        let Some(identity) = self.places.get(&place) else {
+            return;
+        };
+        match identity.uses() {
+            Some(uses) if uses > 1 => self.leave_uses(place, uses - 1),
+            Some(_) => self.take(place),
+            None => {}
+        }
+    }
+
+    // Leaves the identity at this place so many uses, one less than it had.
+    fn leave_uses(&mut self, place: u64, uses: u32)
+        requires indexed { IsIndexed self.old }
+        requires some { 1 ≤ uses }
+        requires less { IfSome (held_at self.old place) (λ one. one.uses ≡ Some (uses + 1)) }
+        ensures indexed { IsIndexed self.new }
+        ensures spent { IfSome (held_at self.old place)
+            (λ one. held self.new ≡ spend_identity one.number (held self.old)) }
+        ensures last { self.new.last ≡ self.old.last }
+    {
+        if let Some(identity) = self.places.get_mut(&place) {
+            identity.leave_uses(uses);
         }
     }
 

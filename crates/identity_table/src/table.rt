@@ -1,8 +1,8 @@
-ghost use Rattle.std.specs.Prelude.{◌≡◌, ◌+◌, ◌≤◌, ◌↔◌, IsSome, IsTrue, IfOk, MatchResult, None, OnOk, OnErr, length, slice_get};
+ghost use Rattle.std.specs.Prelude.{◌≡◌, ◌+◌, ◌≤◌, ◌↔◌, IsSome, IsTrue, IfOk, IfSome, MatchResult, None, OnOk, OnErr, length, slice_get};
 ghost use Rattle.std.specs.Option.{option_copied};
 ghost use Rattle.std.specs.Map.Iter.{ShowsInOrder, deref};
 ghost use Rattle.identity_table.specs.Identities.{HeldKey, IsSound, added, answer_len, find_identity, find_number, longest_private, next_death};
-ghost use Rattle.identity_table.specs.Tables.{IsRefusedWith, add_fault, emptied, empty_table, expired, without};
+ghost use Rattle.identity_table.specs.Tables.{IsRefusedWith, add_fault, emptied, empty_table, expired, spent, without};
 
 use crate::deadline::Deadline;
 use crate::fault::AddFault;
@@ -75,6 +75,7 @@ impl Table {
     ) -> Result<u64, AddFault>
         requires clock { self.old.greatest ≤ now }
         requires short { length key.private ≤ longest_private }
+        requires usable { IfSome terms.uses (λ uses. 1 ≤ uses) }
         ensures number { IfOk result (λ number. number ≡ self.old.last + 1) }
         ensures added { OnOk result (self.new ≡ added self.old key terms comment.now now) }
         ensures fault { MatchResult result (λ _. add_fault self.old key terms comment.now now ≡ None)
@@ -163,6 +164,15 @@ impl Table {
         ensures removed { self.new ≡ without blob.now self.old }
     {
         self.records.remove(blob)
+    }
+
+    /// Counts one more use of the identity of this addition, where its uses are limited. Removes and
+    /// wipes it after its last. Takes no memory.
+    pub fn spend(&mut self, addition: u64)
+        requires { IsSome (find_number addition self.old.identities) }
+        ensures { self.new ≡ spent addition self.old }
+    {
+        self.records.spend(addition);
     }
 
     /// Removes and wipes all identities.

@@ -47,7 +47,7 @@ overflow_add-self c = omega (
 pub returns-in-Ok-clause-indexed : goal.returns-in-Ok-clause-indexed
 returns-in-Ok-clause-indexed c =
     let old = c.args.self.now in
-    IsIndexed-pushed old _ c.args.identity c.requires.indexed c.requires.blob c.requires.number c.requires.fits c.requires.short
+    IsIndexed-pushed old _ c.args.identity c.requires.indexed c.requires.blob c.requires.number c.requires.fits c.requires.short c.requires.usable
     c.in-Ok.ensures.ordered
     (rw c.addition-number.ensures at c.in-Ok.ensures.entries)
     (get-changed exact_unsigned old.places c.insert-2.new.self c.args.identity.number (Some c.args.identity)

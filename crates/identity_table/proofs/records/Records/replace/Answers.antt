@@ -56,7 +56,7 @@ returns-clause-indexed c =
     let at : held_at old c.args.place ≡ Some c.in-Some.old = sym c.in_ok-old.ensures.old ∙ c.in-Some.is in
     let entry = entry_within old c.requires.indexed c.args.place c.in-Some.old at in
     IsIndexed-replaced old (record old { numbers = c.enter.new.numbers; deaths = c.enter.new.deaths }) _ c.args.place
-    c.args.identity c.in-Some.old c.requires.indexed c.requires.blob at c.requires.number c.requires.fits c.requires.short
+    c.args.identity c.in-Some.old c.requires.indexed c.requires.blob at c.requires.number c.requires.fits c.requires.short c.requires.usable
     c.in_ok-old.ensures.ordered c.in_ok-old.ensures.entries
     (get-changed exact_unsigned old.places c.insert.new.self c.args.place (Some c.args.identity) c.in_ok-old.ensures.updates)
     (λ key. refl)
