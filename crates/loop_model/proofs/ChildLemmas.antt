@@ -21,6 +21,7 @@ use Rattle.agent_model.specs.Children.{changed, closed, confirmer_goes_on}
 use Rattle.agent_model.specs.Consents.{close_confirmer, consent_by, grant_concluded, grant_to, over, over_if, signing_of, without_confirmation}
 use Rattle.agent_model.specs.Dispatch.{Served, serve}
 use Rattle.agent_model.specs.Errands.{Errand, Signs, begun_by, with_ask}
+use Rattle.agent_model.specs.KeyStates.{KeyState, after_use}
 use Rattle.agent_model.specs.Sound.{IsRising}
 use Rattle.agent_model.specs.State.{Nothing, OnAsk, OnConfirmation, Port, State, UnderWay, Waits, change_port, find_port, is_some_bytes, remove_port}
 use Rattle.agent_model.specs.Step.{asker_at, attempts, look_front, look_owed, look_port, look_waits, take_frame, taken}
@@ -206,6 +207,10 @@ module _ (number high : ℕ) where
   keeps-over_if None state there keeps = keeps
   keeps-over_if (Some one) state there keeps = keeps-over one state (there one refl) keeps
 
+  keeps-held : (held : KeyState) (state : State) → Keeps number high state
+      → Keeps number high (record state { held = held })
+  keeps-held held state keeps = record { rising = keeps.rising; staffed = keeps.staffed; owes = keeps.owes }
+
   pub keeps-granted : (one : Confirmation) (asker : Port) (state : State)
       → find_job one.job state.under_way.confirmations ≡ Some one → {work : Work}
       → IsGranted asker.chain one state.moment.wall state.held (without_confirmation one.job state.under_way) work
@@ -215,9 +220,10 @@ module _ (number high : ℕ) where
   keeps-granted one asker state there (unasked cause key may fault) keeps =
       keeps-ended one _ state _ (λ p. refl) (λ p. refl) there (λ s. s) (λ o. o) keeps
   keeps-granted one asker state there (allowed key may free) keeps =
-      keeps-ended one _ state _ (λ p. refl) (λ p. refl) there
+      let held : KeyState = after_use (Some key.number) state.held in
+      keeps-ended one _ (record state { held = held }) _ (λ p. refl) (λ p. refl) there
       (staffed-put (Signs key (signing_of key one)) one.asker _) (owes-put (Signs key (signing_of key one)) one.asker _)
-      keeps
+      (keeps-held held state keeps)
 
   pub keeps-grant : (found : Option Port) (one : Confirmation) (state : State)
       → find_job one.job state.under_way.confirmations ≡ Some one → Keeps number high state
