@@ -1,7 +1,7 @@
 //! Orders and times as OpenSSH's ssh-agent has them, worked out by hand; each public call once with
 //! ample memory.
 
-ghost use Rattle.std.specs.Prelude.{◌≡◌, ◌≤◌, IfOk, length};
+ghost use Rattle.std.specs.Prelude.{◌≡◌, ◌≤◌, IfOk, None, length};
 
 use constraint_rec::Terms;
 use identity_table::*;
@@ -21,7 +21,9 @@ fn key(alloc: Global, blob: &[u8], private: &[u8]) -> Result<AddedKey, Fail>
     })
 }
 
-fn terms(alloc: Global, life: Option<u32>, confirm: bool) -> Terms {
+fn terms(alloc: Global, life: Option<u32>, confirm: bool) -> Terms
+    ensures { result.uses ≡ None }
+{
     Terms {
         life,
         confirm,
