@@ -268,6 +268,13 @@ def long_answers_in_pieces_and_clients_that_read_late(folder):
             assert client.reply() == cut
 
 
+def is_served(filter_):
+    """Whether a new client gets its list."""
+    with contextlib.suppress(OSError, Ended), filter_.peer() as peer:
+        return peer.ask(LIST)[0] == IDENTITIES
+    return False
+
+
 @check
 def clients_that_leave_and_floods_keep_nobody_out(folder):
     with openssh_agent(folder, stderr=subprocess.DEVNULL) as agent, filtered(folder, agent.path, "") as before:
@@ -275,6 +282,8 @@ def clients_that_leave_and_floods_keep_nobody_out(folder):
             peer = before.peer()
             peer.send(bytes([LIST]))
             peer.close()
+        # A client is closed while as many wait at the agent behind as may.
+        until(lambda: is_served(before), what="a list")
         flood = before.peer()
         flood.socket.setblocking(False)
         end, worst = time.monotonic() + 2, 0.0
@@ -417,4 +426,7 @@ if __name__ == "__main__":
     except rig.Skip as reason:
         print(f"filter: not run: {reason}")
         sys.exit(1)
+    # In a script's background these are ignored, and so they would be by all that is started here.
+    signal.signal(signal.SIGINT, signal.default_int_handler)
+    signal.signal(signal.SIGHUP, signal.SIG_DFL)
     check.run(sys.argv[1:])
