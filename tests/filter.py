@@ -426,7 +426,4 @@ if __name__ == "__main__":
     except rig.Skip as reason:
         print(f"filter: not run: {reason}")
         sys.exit(1)
-    # In a script's background these are ignored, and so they would be by all that is started here.
-    signal.signal(signal.SIGINT, signal.default_int_handler)
-    signal.signal(signal.SIGHUP, signal.SIG_DFL)
     check.run(sys.argv[1:])

@@ -347,6 +347,9 @@ class Checks:
     def run(self, words):
         """Runs all checks, or those of the parts that the words name, and those that have another word in their names.
         The process ends with 1 where one failed."""
+        # In a script's background these are ignored, and so they would be by all that is started here.
+        signal.signal(signal.SIGINT, signal.default_int_handler)
+        signal.signal(signal.SIGHUP, signal.SIG_DFL)
         passed = failed = skipped = 0
         parts = {part for part, _ in self.cases}
         for part, case in self.cases:
