@@ -1,8 +1,8 @@
 #!/usr/bin/env python3
 """Real clients against the built agent, on loopback: each check is made with OpenSSH's agent too, in the same run, and
-what that gives is the expected value. It starts an sshd of its own, with its own keys, at free ports. Words choose checks:
-the parts ssh, destinations, programs, others and scripts, or a part of a check's name. With the environment variable AGENT
-another program is taken for agent_prog."""
+what that gives is the expected value; but for a number of uses, which that agent doesn't know. It starts an sshd of its
+own, with its own keys, at free ports. Words choose checks: the parts ssh, destinations, programs, others and scripts,
+or a part of a check's name. With the environment variable AGENT another program is taken for agent_prog."""
 
 import atexit
 import contextlib

@@ -44,8 +44,9 @@ def full_pipe():
     return end, begin
 
 
-def sleeps(pid):
-    return pathlib.Path(f"/proc/{pid}/stat").read_text().rpartition(")")[2].split()[0] == "S"
+def state(pid):
+    """R for a process that runs, S for one that waits, Z for one that ended."""
+    return pathlib.Path(f"/proc/{pid}/stat").read_text().rpartition(")")[2].split()[0]
 
 
 @check
@@ -54,9 +55,12 @@ def little_memory(_):
     that ended is more: it counts the memory of the one that started it, too."""
     end, begin = full_pipe()
     with subprocess.Popen([rig.agent_program(), *WORDS], stdout=begin) as process:
-        rig.until(lambda: sleeps(process.pid), seconds=600, what="the line")
-        memory = watch.memory(process.pid, "VmHWM")
-        process.kill()
+        try:
+            rig.until(lambda: state(process.pid) in "SZ", seconds=600, what="the line")
+            assert process.poll() is None, f"status {process.returncode}"
+            memory = watch.memory(process.pid, "VmHWM")
+        finally:
+            process.kill()
     os.close(begin)
     os.close(end)
     print(f"drill: at most {memory // 1024} kB")
