@@ -16,6 +16,8 @@ from .wire import Fault, demand, string, take_frame, uint32, within
 LIMITS = {"body of a client": 262144, "body of a child": 262144, "list": 262144}
 LIMITS |= {"client": 128, "child": 32, "asks": 256, "confirmations": 16}
 LIMITS |= {"bindings": 16, "session": 128}
+# The seconds for which an ask may stay unanswered, and a confirmation open.
+WAITS = {"ask": 60, "confirmation": 300}
 
 REQUESTS = {11: "list_all", 13: "sign", 17: "add", 18: "remove", 19: "remove_all"}
 REQUESTS |= {22: "lock", 23: "unlock", 25: "add", 27: "extension"}
@@ -49,6 +51,7 @@ class Port:
 @dataclass
 class Ask:
     asker: int
+    began: int  # the second at which it was put
     binding: Binding | None = None  # what is verified; None where a key is to sign
     new: bool = False
 
@@ -56,6 +59,7 @@ class Ask:
 @dataclass
 class Confirmation:
     asker: int
+    began: int  # the second at which it was raised
     addition: int
     signing: tuple[bytes, bytes, int]
     frame: bytes
@@ -65,6 +69,7 @@ class Confirmation:
 class Agent:
     def __init__(self, default_life: int | None = None) -> None:
         self.default_life = default_life or None
+        self.waits: dict[str, int] = {}  # those of WAITS that are limited
         self.mono = self.wall = 0
         self.identities: dict[bytes, Identity] = {}
         self.passphrase: bytes | None = None
@@ -97,8 +102,30 @@ class Agent:
             if identity.death is not None and identity.death <= self.mono:
                 del self.identities[blob]
                 self.seen["lifetime ends"] += 1
-        happens(*what)
+        self.end_late()
+        if happens not in (self.hear, self.take, self.end) or what[0] not in self.closes:
+            happens(*what)
         self.closes.sort()
+
+    def is_over(self, what: str, began: int) -> bool:
+        """Whether something has waited as long as it may."""
+        if what not in self.waits:
+            return False
+        beyond = self.mono - began - self.waits[what]
+        if beyond in (-1, 0, 1):
+            self.seen[f"{what} limit: {beyond:+}"] += 1
+        return beyond >= 0
+
+    def end_late(self) -> None:
+        """Gives the helper up that left an ask unanswered, and ends old confirmations."""
+        if any([self.is_over("ask", ask.began) for ask in self.asks.values()]):
+            where = "to start" if self.helper in self.starts else "started"
+            self.seen[f"ask limit: {where if self.helper_port is None else 'joined'}"] += 1
+            self.close(self.helper_port)
+            self.lose_helper("ask limit")
+        for job, confirmation in sorted(self.confirmations.items()):
+            if self.is_over("confirmation", confirmation.began):
+                self.deny(job, "limit")
 
     def at(self) -> None:
         """Only the moment is new."""
@@ -141,14 +168,20 @@ class Agent:
             self.seen["confirmation: asker left"] += 1
 
     def started(self, job: int, ticket: bytes) -> None:
-        if self.starts.pop(job) == "helper" or job in self.confirmations:
+        kind = self.starts.pop(job)
+        if job == self.helper or job in self.confirmations:
             self.tickets[job] = ticket
+        else:
+            self.seen[f"late start: {kind}"] += 1
 
     def failed(self, job: int) -> None:
-        if self.starts.pop(job) == "helper":
+        kind = self.starts.pop(job)
+        if job == self.helper:
             self.lose_helper("start failed")
         elif job in self.confirmations:
             self.deny(job, "start failed")
+        else:
+            self.seen[f"late failure: {kind}"] += 1
 
     def look(self, number: int, client: Port) -> None:
         """Takes the next request, where the client waits for nothing and is owed nothing."""
@@ -202,7 +235,9 @@ class Agent:
         job = self.next_number("job")
         self.starts[job] = "confirm"
         frame = formats.confirm_frame(job, identity.comment, blob)
-        self.confirmations[job] = Confirmation(number, identity.addition, signing, frame)
+        self.confirmations[job] = Confirmation(
+            number, self.mono, identity.addition, signing, frame
+        )
 
     def test_rules(self, client: Port, identity: Identity, blob: bytes, message: bytes) -> None:
         within("rules", may_sign, identity.rules, blob, client.chain, message, self.wall)
@@ -252,7 +287,7 @@ class Agent:
         demand(name == formats.BIND, "unknown extension")
         host_key, session, signature, forwarding = fields
         new = self.judge(client.chain, host_key, session)
-        ask = Ask(number, Binding(host_key, session, bool(forwarding)), new)
+        ask = Ask(number, self.mono, Binding(host_key, session, bool(forwarding)), new)
         self.put(ask, formats.verify_frame, host_key, signature, session)
 
     def judge(self, chain: Chain, host_key: bytes, session: bytes) -> bool:
@@ -282,7 +317,7 @@ class Agent:
         self, asker: int, identity: Identity, signing: tuple[bytes, bytes, int]
     ) -> None:
         """Asks the helper for a signature, and then counts it as a use of the key."""
-        self.put(Ask(asker), formats.sign_frame, identity.private, *signing)
+        self.put(Ask(asker, self.mono), formats.sign_frame, identity.private, *signing)
         if identity.uses is not None:
             identity.uses -= 1
             if identity.uses == 0:
@@ -300,6 +335,7 @@ class Agent:
     def lose_helper(self, why: str) -> None:
         self.seen[f"helper lost: {why}"] += 1
         failed, self.asks = self.asks, {}
+        self.tickets.pop(self.helper, None)
         self.helper, self.helper_port, self.unsent = None, None, bytearray()
         for ask in failed.values():
             self.settle(ask.asker, FAILURE, "cause: helper lost")

@@ -224,6 +224,48 @@ class ChildMoves(Moves):
             self.say(f"at {self.run.moment[0]} {random.choice([99, 100, 199, 200])}")
             self.tend(well=0.97)
 
+    def hangs(self) -> None:
+        """Clients ask, children are started and maybe connect, and time goes on."""
+        for _ in range(self.random.choice([1, 2, 3, 5]) if self.agent.waits else 0):
+            port, key = self.client(fresh=0.4), self.keys[0]
+            held = list(self.agent.identities) or [key.blob]
+            if port in self.agent.ports:
+                if key.blob in held and self.chance(0.7):
+                    self.send(port, b"\x11" + key.added + string(b"waits"), cut=0)
+                behind = self.random.choice([b"", b"", b"", string(b"\x0b"), b"\0\0\0\0"])
+                sign = b"\x0d" + string(self.random.choice(held)) + string(b"m") + uint32(0)
+                self.hear(port, string(sign) + behind)
+            for job in self.forgotten() if self.chance(0.6) else []:
+                self.starts(job) if self.chance(0.5) else self.say(f"failed {job}")
+            for job in list(self.agent.starts) if self.chance(0.3) else []:
+                self.starts(job)
+            if self.chance(0.4):
+                self.say(f"at {self.agent.mono + self.random.choice([1, 10, 29, 59])} 0")
+            if self.chance(0.5):
+                self.raise_children() if self.chance(0.5) else self.tend(well=0.98)
+            if self.chance(0.3):
+                self.answers_oldest()
+            if self.chance(0.5):
+                self.deadline()
+            if self.chance(0.15):
+                self.strays()
+        self.deadline()
+
+    def answers_oldest(self) -> None:
+        """The helper answers its oldest ask, and then comes the second at which that was late."""
+        asks, port = self.agent.asks, self.agent.helper_port
+        if len(asks) < 2 or port is None or port in self.unsent:
+            return
+        oldest = min(asks)
+        second = asks[oldest].began + self.agent.waits["ask"]
+        self.send(port, self.answer(oldest), cut=0)
+        self.say(f"at {second} {self.run.moment[1]}")
+
+    def forgotten(self) -> list[int]:
+        """Jobs that are to be started, and that nobody waits for any more."""
+        wanted = {self.agent.helper, *self.agent.confirmations}
+        return [job for job in self.agent.starts if job not in wanted]
+
     def raise_children(self) -> None:
         """Each job is started, and each child says hello."""
         for job in list(self.agent.starts):

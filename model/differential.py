@@ -19,7 +19,7 @@ from pathlib import Path
 from .drill import drill
 from .generate import GOALS, Case, Schedule
 from .replay import LONGEST_LINE, LONGEST_SCHEDULE, replay
-from .rows_uses import EVERY_ROW
+from .rows_format2 import EVERY_ROW
 
 HERE = Path(__file__).parent
 Result = tuple[bytes, int]

@@ -35,6 +35,9 @@ class Schedule(ChildMoves):
     def write(self) -> bytes:
         random = self.random
         try:
+            if self.format == 2:
+                other = self.random.choice(["schedule 1", "schedule 3", "schedule 02", "schedule"])
+                self.say("schedule 2" if self.chance(0.97) else other)
             if random.random() < 0.15:
                 self.one_of(LONG_MOVES)
             for _ in range(random.choice([5, 15, 40, 80])):
@@ -210,6 +213,7 @@ MOVES: dict[str, int] = {
     "walk": 10,
     "confirm": 8,
     "late_grant": 3,
+    "hangs": 6,
 }
 LONG_MOVES: dict[str, int] = {
     "many_clients": 3,
@@ -276,8 +280,16 @@ GOALS = [
             cause: granted: not held; cause: granted: rules Hop; cause: granted: asks
             cause: confirmation: not granted: DENIED; cause: confirmation: not granted: GRANTED
             cause: confirmation: ended; cause: confirmation: start failed
-            cause: confirmation: bad length; cause: confirmation: Short; cause: confirmation: Kind
+            cause: confirmation: limit; cause: confirmation: bad length; cause: confirmation: Short; cause: confirmation: Kind
             cause: confirmation: Trailing; cause: confirmation: TicketLength""",
+        # what waits too long, and schedules of format 2
+        """line schedule; helper lost: ask limit
+            ask limit: -1; ask limit: +0; ask limit: +1
+            ask limit: to start; ask limit: started; ask limit: joined
+            confirmation limit: -1; confirmation limit: +0; confirmation limit: +1
+            late start: helper; late start: confirm; late failure: helper; late failure: confirm
+            behind its own closing: hear; behind its own closing: end
+            behind its own closing: take""",
     )
     for goal in part.replace("\n", ";").split(";")
 ]

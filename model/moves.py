@@ -36,9 +36,14 @@ class Moves(Writer):
 
     def ends(self) -> None:
         if self.agent.ports:
-            self.say(f"end {self.pick(self.agent.ports)}")
+            port = self.pick(self.agent.ports)
+            self.say(f"end {port}")
+            if self.chance(0.02):
+                self.say(f"hear {port} 00")
 
     def clock(self) -> None:
+        if self.agent.waits and self.chance(0.6):
+            return self.deadline()
         mono, wall = self.run.moment
         steps = [0, 0, 1, 1, 2, 3, 5, 10, 100]
         mono = max(0, mono + self.random.choice([-5, -1, *steps]))
@@ -46,6 +51,39 @@ class Moves(Writer):
         if self.chance(0.02):
             mono = 2**64 - self.random.randrange(1, 12)
         self.say(f"at {min(mono, 2**64 - 1)} {wall}")
+
+    def deadline(self) -> None:
+        """A moment at the limit of something that waits, or one second beside it."""
+        if not self.agent.waits:
+            return
+        ends = [ask.began + self.agent.waits["ask"] for ask in self.agent.asks.values()]
+        for confirmation in self.agent.confirmations.values():
+            ends.append(confirmation.began + self.agent.waits["confirmation"])
+        if self.chance(0.2):
+            # What was answered meanwhile has no end any more.
+            second = self.pick(self.seconds)
+            ends += [second + limit for limit in self.agent.waits.values()] * 9
+        later = [end for end in ends if end - 1 > self.agent.mono]
+        if not later:
+            return
+        end = self.random.choice([min(later), min(later), max(later), self.pick(later)])
+        end += self.random.choice([-1, -1, 0, 0, 0, 1, 1, 30])
+        opened = set(self.agent.ports)
+        self.say(f"at {min(end, 2**64 - 1)} {self.run.moment[1]}")
+        self.comes_late(opened - set(self.agent.ports))
+
+    def comes_late(self, closed: set[int]) -> None:
+        """Lines for a port that the moment of the line before closed, or its settling."""
+        late, settled = self.run.late, closed - self.run.late
+        late = settled if settled and (not late or self.chance(0.3)) else late
+        for port in self.random.sample(sorted(late), min(len(late), 1)):
+            lines = [f"hear {port} 00", f"hear {port} 000000010b", f"end {port}", f"take {port} 1"]
+            if self.chance(0.15):
+                self.say(self.pick([f"hold {port}", f"free {port}", "# a comment"]))
+            if self.chance(0.7):
+                self.say(self.pick(lines))
+            if self.chance(0.1):
+                self.say(self.pick(lines))
 
     def holds(self) -> None:
         if self.agent.ports:
@@ -70,7 +108,8 @@ class Moves(Writer):
             self.say(f"take {port} {count}")
 
     def comments(self) -> None:
-        self.say(self.random.choice(["", "# a comment", "#"]))
+        lines = ["", "# a comment", "#"]
+        self.say(self.random.choice(lines) if self.chance(0.98) else "schedule 2")
 
     def mistakes(self) -> None:
         """A line that is refused."""
@@ -110,6 +149,8 @@ class Moves(Writer):
             " ",
             "x",
             "joinclient",
+            "schedule 2",
+            "schedule",
             "#\n ",
             "\t",
             "hold",

@@ -2,7 +2,7 @@
 
 import re
 
-from .agent import Agent
+from .agent import WAITS, Agent
 from .wire import Fault, demand
 
 LONGEST_LINE, LONGEST_SCHEDULE = 65536, 268435456
@@ -29,6 +29,7 @@ class Run:
         self.agent = Agent(default_life)
         self.moment = (0, 0)
         self.held: set[int] = set()
+        self.late: set[int] = set()  # closed by the moment of the line before, where it is `at`
         self.known_starts: set[int] = set()
         self.lines = self.size = self.status = 0
         self.printed: list[str] = []
@@ -67,10 +68,16 @@ class Run:
     def run(self, line: bytes) -> None:
         """Runs a line, and settles."""
         demand(len(line) <= LONGEST_LINE and self.size <= LONGEST_SCHEDULE, "long")
+        agent, late, self.late = self.agent, self.late, set()
+        if line == b"schedule 2" and self.lines == 1:
+            agent.waits = WAITS
+            return self.settle([])
         if line == b"" or line.startswith(b"#"):
             return self.settle([])
         word, given = self.fields(line)
-        agent = self.agent
+        if word in (b"hear", b"end", b"take") and given[0] in late:
+            agent.seen[f"behind its own closing: {word.decode()}"] += 1
+            return self.settle([])
         if word in (b"hear", b"end", b"hold", b"free", b"take"):
             demand(given[0] in agent.ports, "port")
         elif word in (b"started", b"failed"):
@@ -86,6 +93,7 @@ class Run:
             if word == b"at":
                 self.moment, given = (given[0], given[1]), []
             agent.event(*self.moment, getattr(agent, word.decode()), *given)
+            self.late = set(agent.closes) if word == b"at" else set()
         self.settle(agent.closes)
 
     def take(self, port: int, count: int) -> None:

@@ -142,8 +142,10 @@ row("129 clients on a new agent", ["join client"] * 129, ["close 129"])
 
 # 16 clients wait for the user, and leave in orders that are drawn. Some of their children said hello.
 ORDERS = Random("sixteen leave")
-for number in range(12):
-    order = ORDERS.sample(range(1, 17), 16)
+RISING = list(range(1, 17))
+PLAIN = [RISING, RISING[::-1], RISING[::2] + RISING[1::2], RISING[8:] + RISING[:8]]
+for number in range(16):
+    order = PLAIN[number] if number < len(PLAIN) else ORDERS.sample(range(1, 17), 16)
     ready = ORDERS.sample(range(1, 17), 16)[: ORDERS.randrange(17)]
     lines, printed = ["join client", *hear(1, TERMS1 + b"\x02")], [to(1, OK)]
     for client in range(1, 17):
@@ -197,5 +199,14 @@ for number in (0, 5, 11, 13, 17, 18, 19, 22, 23, 25, 27, 200, 255):
             [*lines, *hear(2, LIST)],
             [*printed, to(2, last)],
         )
+
+NUMBERS = [number for number in range(256) if number not in (11, 13, 17, 18, 19, 22, 23, 25, 27)]
+row(
+    "bodies of 1, 2, 5 and 40 bytes of each number that no request has",
+    ["join client", *hear(1, ADD1)]
+    + [hear(1, bytes([n]) + bytes(left))[0] for n in NUMBERS for left in (0, 1, 4, 39)]
+    + hear(1, LIST),
+    [to(1, OK), *[to(1, NO)] * (4 * len(NUMBERS)), to(1, listing(ONE))],
+)
 
 EVERY_ROW = EARLIER  # with those of the files that this one stands on

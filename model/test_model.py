@@ -4,10 +4,12 @@ import importlib
 import unittest
 from pathlib import Path
 
+from .agent import WAITS
 from .differential import read_wrong
 from .generate import Schedule
-from .replay import replay
-from .rows_uses import EVERY_ROW
+from .replay import Run, replay
+from .rows_deadlines import RAISED
+from .rows_format2 import EVERY_ROW
 from .wire import Fault, matches, string, take_frame, uint32, uint64
 
 
@@ -26,6 +28,21 @@ class Rows(unittest.TestCase):
         for row in EVERY_ROW:
             with self.subTest(row.name):
                 self.assertEqual(replay(row.schedule, row.life), (row.printed, row.status))
+
+
+class Moments(unittest.TestCase):
+    """A port that the moment of an event closes."""
+
+    def test_an_event_of_such_a_port_brings_nothing(self):
+        for word, given in (("hear", b"\0\0\0\1\x0b"), ("take", 1), ("end", None)):
+            run = Run()
+            for line in RAISED[1:]:
+                run.line(line.encode())
+            agent = run.agent
+            agent.waits = WAITS
+            agent.event(300, 0, getattr(agent, word), *[2] if given is None else [2, given])
+            self.assertEqual((agent.closes, agent.confirmations, list(agent.ports)), ([2], {}, [1]))
+            self.assertEqual(agent.ports[1].owed, string(b"\x05"))
 
 
 class Schedules(unittest.TestCase):

@@ -30,6 +30,8 @@ class Writer:
         self.keys = random.sample(pool.KEYS, 3) + pool.KEYS[:2]
         self.reached: Counter[str] = Counter({f"default lifetime {self.life}": 1})
         self.tickets: dict[int, bytes] = {}  # of each start, also where the agent forgot it
+        self.format = random.choice([1, 1, 2])
+        self.seconds = [0]  # that there were
 
     def seen(self) -> Counter[str]:
         return self.run.agent.seen + self.reached
@@ -57,6 +59,7 @@ class Writer:
         word = "comment" if line.startswith(b"#") else line.split(b" ")[0].decode() or "empty"
         if word == "at":
             moved = self.run.moment[0] - before
+            self.seconds.append(self.agent.mono)
             word += " later" if moved > 0 else " again" if moved == 0 else " earlier"
         self.reached[f"line {word}"] += 1
 

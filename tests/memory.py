@@ -27,7 +27,7 @@ import rig
 from frames import Ended, string
 
 sys.path.insert(0, str(rig.TOP))
-from model.rows_uses import EVERY_ROW
+from model.rows_format2 import EVERY_ROW
 
 MEMORY = 5
 HELPER = rig.BUILT / "standin_helper"

@@ -7,7 +7,7 @@ import sys
 from rig import TOP
 
 sys.path.insert(0, str(TOP))
-from model.rows_uses import EVERY_ROW
+from model.rows_format2 import EVERY_ROW
 
 LONGEST = 1 << 17
 

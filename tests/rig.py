@@ -1,5 +1,6 @@
 """What the checks of the serving agent share: counting, packages, agents, and clients that speak for themselves."""
 
+import concurrent.futures
 import contextlib
 import os
 import pathlib
@@ -329,10 +330,21 @@ class Checks:
 
     def __init__(self, name):
         self.name, self.cases, self.part = name, [], ""
+        self.aside, self.named = set(), set()
 
     def __call__(self, case):
         self.cases.append((self.part, case))
         return case
+
+    def beside(self, case):
+        """A check that mostly waits: it begins with the first, and is told behind the last."""
+        self.aside.add(case)
+        return self(case)
+
+    def by_hand(self, case):
+        """A check that is too long for all runs: a word has to name it."""
+        self.named.add(case)
+        return self(case)
 
     def main(self, program, *packages):
         """Runs the checks that the process's words name, once a program is there, and Debian's packages."""
@@ -350,36 +362,47 @@ class Checks:
         # In a script's background these are ignored, and so they would be by all that is started here.
         signal.signal(signal.SIGINT, signal.default_int_handler)
         signal.signal(signal.SIGHUP, signal.SIG_DFL)
-        passed = failed = skipped = 0
-        parts = {part for part, _ in self.cases}
+        parts, chosen = {part for part, _ in self.cases}, []
         for part, case in self.cases:
-            what = case.__name__.replace("_", " ")
-            chosen = lambda word: word == part if word in parts else word.replace("_", " ") in what
-            if words and not any(map(chosen, words)):
-                continue
-            folder = tempfile.mkdtemp(prefix="mk-")
-            begin = time.monotonic()
-            try:
-                case(pathlib.Path(folder))
-                print(f"{self.name}: {what}: ok ({time.monotonic() - begin:.0f} s)", flush=True)
-                passed += 1
-            except Skip as reason:
-                print(f"{self.name}: {what}: skipped: {reason}", flush=True)
-                skipped += 1
-            except Exception as fault:
-                frame = traceback.extract_tb(fault.__traceback__)
-                at = next(
-                    (
-                        f
-                        for f in reversed(frame)
-                        if f.filename.startswith(str(TOP / "tests")) and "rig" not in f.filename
-                    ),
-                    frame[-1],
-                )
-                print(f"{self.name}: {what}: failed at line {at.lineno}: {type(fault).__name__}: {fault}", flush=True)
-                failed += 1
-            finally:
-                shutil.rmtree(folder, ignore_errors=True)
-        tail = f", {skipped} skipped" if skipped else ""
-        print(f"{self.name}: {passed} passed, {failed} failed{tail}")
-        sys.exit(failed != 0)
+            what = spoken(case)
+            named = lambda word: word == part if word in parts else word.replace("_", " ") in what
+            if any(map(named, words)) or not words and case not in self.named:
+                chosen.append(case)
+        counts = dict.fromkeys(("passed", "failed", "skipped"), 0)
+
+        def tell(end, said):
+            print(f"{self.name}: {said}", flush=True)
+            counts[end] += 1
+
+        with concurrent.futures.ThreadPoolExecutor(len(self.aside) or 1) as others:
+            beside = [others.submit(attempt, case) for case in chosen if case in self.aside]
+            for case in chosen:
+                if case not in self.aside:
+                    tell(*attempt(case))
+            for other in beside:
+                tell(*other.result())
+        tail = f", {counts['skipped']} skipped" if counts["skipped"] else ""
+        print(f"{self.name}: {counts['passed']} passed, {counts['failed']} failed{tail}")
+        sys.exit(counts["failed"] != 0)
+
+
+def spoken(case):
+    """A check's name, in words."""
+    return case.__name__.replace("_", " ")
+
+
+def attempt(case):
+    """Makes a check in a folder of its own: how it ended, and a line on that."""
+    what, folder, begin = spoken(case), tempfile.mkdtemp(prefix="mk-"), time.monotonic()
+    try:
+        case(pathlib.Path(folder))
+        return "passed", f"{what}: ok ({time.monotonic() - begin:.0f} s)"
+    except Skip as reason:
+        return "skipped", f"{what}: skipped: {reason}"
+    except Exception as fault:
+        frame = traceback.extract_tb(fault.__traceback__)
+        ours = lambda f: f.filename.startswith(str(TOP / "tests")) and "rig" not in f.filename
+        at = next((f for f in reversed(frame) if ours(f)), frame[-1])
+        return "failed", f"{what}: failed at line {at.lineno}: {type(fault).__name__}: {fault}"
+    finally:
+        shutil.rmtree(folder, ignore_errors=True)

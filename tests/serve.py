@@ -1,9 +1,11 @@
 #!/usr/bin/env python3
 """`agent_prog serve` on real sockets: OpenSSH's ssh-add does to it what it does to ssh-agent in the same run, and it
-bears many clients, clients that don't read, helpers that are killed, a stop, and a shortage of descriptors. Words choose
-checks by a part of their names; with the environment variable AGENT another program is taken for agent_prog."""
+bears many clients, clients that don't read, helpers that are killed or hang, a stop, and a shortage of descriptors. Words
+choose checks by a part of their names; with the environment variable AGENT another program is taken for agent_prog. Five
+minutes are only for who names it: `tests/serve.py dialog`."""
 
 import atexit
+import contextlib
 import functools
 import hashlib
 import hmac
@@ -703,6 +705,116 @@ def the_helper_for_tests_signs(folder):
         assert agent.process.wait(10) == 0
 
 
+# What waits too long.
+
+ASK_LIMIT, CONFIRM_LIMIT = 60, 300
+
+
+class Hanging:
+    """An agent with a helper that does nothing but tell its ticket, so that this process can take its place."""
+
+    def __init__(self, folder, name):
+        self.told, self.children = folder / f"{name}.told", []
+        text = f'echo $$ "$2" "$MORTARLEEK_TICKET" >> {self.told}\nexec sleep 200'
+        self.agent = serve(folder, name=name, helper=rig.script(folder / f"{name}.helper", text))
+        self.client = self.agent.peer(seconds=100)
+        self.blob = added(self.client, key=stand_in_key)
+
+    def __enter__(self):
+        return self
+
+    def __exit__(self, *_):
+        for peer in (self.client, *self.children):
+            peer.close()
+        self.agent.end()
+        for process, *_ in self.helpers():
+            with contextlib.suppress(ProcessLookupError):
+                os.kill(process, signal.SIGKILL)
+
+    def helpers(self):
+        """Of each helper that was started: its process, job and ticket."""
+        lines = self.told.read_text().splitlines() if self.told.exists() else []
+        return [(int(process), int(job), bytes.fromhex(ticket)) for process, job, ticket in map(str.split, lines)]
+
+    def ask(self):
+        self.client.send(bytes([SIGN]) + string(self.blob) + string(b"message") + bytes(4))
+        self.began = time.monotonic()
+
+    def waited(self):
+        return time.monotonic() - self.began
+
+    def hello(self, job):
+        """Connects in the place of a helper, once that was started."""
+        until(lambda: len(self.helpers()) >= job, what="the helper")
+        _, number, ticket = self.helpers()[job - 1]
+        assert number == job, self.helpers()
+        child = Peer(connected(self.agent.path + ".children"), seconds=100)
+        self.children.append(child)
+        child.socket.sendall(string(struct.pack(">BQ", 1, job) + string(ticket)))
+        return child
+
+    def request(self, child, ask):
+        """The helper is asked for a signature."""
+        body = child.reply()
+        assert body[:9] == struct.pack(">BQ", 1, ask) and self.blob in body, body
+
+    def answer(self, child, ask):
+        child.socket.sendall(string(struct.pack(">BQ", 101, ask) + string(b"signed")))
+
+    def refused(self):
+        """The client is refused by the limit; others are served meanwhile."""
+        time.sleep(ASK_LIMIT / 2)
+        with self.agent.peer() as other:
+            assert [blob for blob, _ in other.blobs()] == [self.blob]
+        assert self.client.reply() == bytes([FAILURE])
+        # Whole seconds are counted, so the first of them may be short.
+        assert ASK_LIMIT - 1 <= self.waited() < ASK_LIMIT + 15, self.waited()
+
+    def goes_on(self):
+        """The next request has a helper of its own, which signs."""
+        assert [blob for blob, _ in self.client.blobs()] == [self.blob]
+        self.ask()
+        child = self.hello(2)
+        self.request(child, 2)
+        self.answer(child, 2)
+        assert self.client.reply() == bytes([SIGNATURE]) + string(b"signed")
+        assert len(self.helpers()) == 2
+
+
+@check.beside
+def a_helper_that_never_says_hello_is_given_up(folder):
+    with Hanging(folder, "silent") as run:
+        run.ask()
+        run.refused()
+        assert run.hello(1).has_ended(), "a hello behind the limit is taken"
+        run.goes_on()
+
+
+@check.beside
+def a_helper_that_hangs_is_given_up(folder):
+    with Hanging(folder, "hanging") as run:
+        run.ask()
+        child = run.hello(1)
+        run.request(child, 1)
+        run.refused()
+        assert child.has_ended()
+        run.goes_on()
+
+
+@check.beside
+def a_helper_that_answers_after_61_seconds_answers_nobody(folder):
+    with Hanging(folder, "late") as run:
+        run.ask()
+        child = run.hello(1)
+        run.request(child, 1)
+        run.refused()
+        time.sleep(max(0, ASK_LIMIT + 1 - run.waited()))
+        with contextlib.suppress(BrokenPipeError, ConnectionResetError):
+            run.answer(child, 1)
+        assert child.has_ended()
+        run.goes_on()
+
+
 def asked_for(agent, key, question):
     """A client that has a signature tried, once the user is asked: that writes the question to a file."""
     client = subprocess.Popen(
@@ -753,6 +865,29 @@ def a_confirmation_is_asked_and_holds_up_nobody(folder):
         waiting.wait()
         assert "key" in agent.run("ssh-add", "-l")
         (folder / "go").write_text("exit 0\n")
+
+
+@check.by_hand
+def a_dialog_that_stands_for_301_seconds_goes_away_with_its_port(folder):
+    rig.built("confirm_relay")
+    key = keygen(folder / "key")
+    asker = rig.script(folder / "ask", f"echo $$ > {folder}/asked\nexec sleep 600")
+    relay = rig.BUILT / "confirm_relay"
+    with serve(folder, "--relay", relay, "--askpass", asker, stderr=subprocess.DEVNULL) as agent:
+        agent.run("ssh-add", "-q", "-c", key)
+        with agent.peer(seconds=400) as peer, agent.peer() as other:
+            ((blob, _),) = other.blobs()
+            begin = time.monotonic()
+            peer.send(bytes([SIGN]) + string(blob) + string(b"message") + bytes(4))
+            dialog = int(until(lambda: (folder / "asked").exists() and (folder / "asked").read_text()))
+            time.sleep(begin + CONFIRM_LIMIT - 5 - time.monotonic())
+            assert is_alive(dialog) and [key for key, _ in other.blobs()] == [blob]
+            assert peer.reply() == bytes([FAILURE])
+            waited = time.monotonic() - begin
+            assert CONFIRM_LIMIT - 1 <= waited < CONFIRM_LIMIT + 15, waited
+            until(lambda: not is_alive(dialog), what="the dialog's end")
+            assert [key for key, _ in other.blobs()] == [blob]
+            assert peer.ask(LIST)[0] == IDENTITIES
 
 
 if __name__ == "__main__":

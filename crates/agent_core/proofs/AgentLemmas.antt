@@ -1,37 +1,44 @@
 -- What a change of the agent's parts is in its state.
-use Rattle.std.proofs.Common.{◌≡◌, ℕ, List, [], drop, arith, refl, ap, sym, ◌∙◌, Option, Some, None, IsSome, max}
+use Rattle.std.proofs.Common.{◌≡◌, ℕ, List, [], length, drop, arith, refl, ap, sym, ◌∙◌, Option, Some, None, IsSome, Bool, true, false, max, min}
 use Rattle.world_ports.specs.declared.Moment.{Moment}
 use Rattle.agent_model.specs.NumberLists.{put_all}
 use Rattle.wire_text.specs.Frames.{Bad, More, Whole, front_body}
-use Rattle.helper_link.specs.HelperLink.{sent}
+use Rattle.helper_link.specs.HelperLink.{sendable, sent}
 use Rattle.helper_link.specs.declared.state.LinkState.TheVariants as states
-use Rattle.agent_model.specs.Children.{changed, heard_more, shut, unnamed_heard}
+use Rattle.agent_model.specs.Children.{changed, heard_more, remove_to_start, shut, unnamed_heard}
 use Rattle.agent_model.specs.Actions.{Outcome, Stepped, stay, stepped}
+use Rattle.agent_model.specs.Answers.{lose_where}
 use Rattle.agent_model.specs.Dispatch.{Served}
 use Rattle.agent_model.specs.Events.{Happening, Heard, Tick, Took}
 use Rattle.agent_model.specs.KeyStates.{KeyState, expired}
 use Rattle.agent_model.specs.Looks.{due, due_at, due_by}
 use Rattle.agent_model.specs.State.{Client, Confirmer, Helper, Nothing, OnAsk, OnConfirmation, Port, State, UnderWay, Unnamed, Waits, change_port, find_port, remove_port, role_of}
-use Rattle.agent_model.specs.Step.{asker_at, attempts, at_moment, handle, look_port, looked, step, take_frame, took_some}
+use Rattle.agent_model.specs.Step.{asker_at, attempts, handle, look_port, looked, step, take_frame}
+use Rattle.agent_model.specs.Step.{took_some as port_took}
+use Rattle.agent_model.specs.Time.{at_moment, end_late, is_helper_late, lose_late, taken_in, time_passes}
 use Rattle.agent_model.specs.Verdicts.{tell}
 use Rattle.agent_model.proofs.ClientLemmas.{looked-found, looked-whole}
 use Rattle.agent_model.proofs.PortsLemmas.{found_number}
 use Rattle.agent_model.proofs.SecondLemmas.{second-serve}
 use Rattle.agent_core.specs.Parts.{after, parts_of, state_of}
+use Rattle.lists.specs.Keyed.{has_key}
 use Rattle.lists.specs.Rising.{inserted}
+use Rattle.lists.proofs.FirstLemmas.{change-agree}
 use Rattle.agent_core.specs.Roles.{role_by}
 use Rattle.agent_core.specs.Served.{served_at}
 use Rattle.agent_core.specs.Slots.{OpenPorts}
-use Rattle.std.proofs.lemmas.List.{drop_all}
+use Rattle.std.proofs.lemmas.List.{drop_min}
 use Rattle.confirm_desk.specs.Calls.{took_at, took_by}
-use Rattle.confirm_desk.specs.Confirmations.{Confirmation, find_asker, find_linked}
+use Rattle.confirm_desk.specs.Confirmations.{Confirmation, find_asker, find_job, find_linked, job_of, took_some}
 use Rattle.agent_model.specs.Sound.{IsTied}
+use Rattle.agent_model.proofs.FatedMakeLemmas.{fated-makes}
 use Rattle.agent_model.proofs.TiedLemmas.{tied-quiet}
 use Rattle.agent_model.proofs.JobLemmas.{asker_own, in-by_asker, in-found}
-use Rattle.agent_model.proofs.MakeLemmas.{alters}
+use Rattle.agent_model.proofs.MakeLemmas.{alters, loses, mild-heard, mild-took}
 use Rattle.agent_core.specs.Bound.{AreHeldFor, IsBound, IsAtRest}
 use Rattle.agent_core.proofs.ConfirmerLemmas.{quiet-asking}
 use Rattle.agent_core.proofs.HelperLemmas.{closing-open}
+use Rattle.agent_core.proofs.LateLemmas.{after-behind}
 use Rattle.agent_core.proofs.RoleLemmas.{confirmer-as, heard-as, linked-as, port_of_role, took-as, unnamed-free}
 
 -- ---- a client is looked at
@@ -122,14 +129,14 @@ agent_hears number piece state is =
 -- a client took some of what it is owed, and is looked at
 pub agent_sends : (wall : ℕ) (keys : KeyState) (going : UnderWay) (old mid : OpenPorts) (number count : ℕ)
     → role_by (find_port number old.ports) going ≡ Some Client
-    → mid ≡ record old { ports = change_port number (took_some count) old.ports }
+    → mid ≡ record old { ports = change_port number (port_took count) old.ports }
     → after mid.closed (looked number (state_of wall keys going mid))
     ≡ after old.closed (handle (Took number count) (state_of wall keys going old))
 agent_sends wall keys going old mid number count is mid_is =
     let there = port_of_role (find_port number old.ports) going Client is in
     let state : State = state_of wall keys going old in
     ap (λ (v : OpenPorts). after v.closed (looked number (state_of wall keys going v))) mid_is
-    ∙ ap (λ n. after old.closed (looked n (changed n (took_some count) state))) (sym (found_number number old.ports there.0 there.1))
+    ∙ ap (λ n. after old.closed (looked n (changed n (port_took count) state))) (sym (found_number number old.ports there.0 there.1))
     ∙ ap (after old.closed) (sym (took-as number count there.0 Client state there.1 there.2))
 
 -- a child process that hasn't named itself sent more
@@ -140,13 +147,18 @@ agent_unnamed number piece port state found role =
     ap (λ n. unnamed_heard port.heard piece n state) (sym (found_number number state.ports port found))
     ∙ sym (heard-as number piece port Unnamed state found role)
 
--- the helper took some of what it is owed
-pub agent_pays : (wall : ℕ) (keys : KeyState) (going left : UnderWay) (ports : OpenPorts) (number count : ℕ)
-    → role_by (find_port number ports.ports) going ≡ Some Helper → left ≡ record going { link = sent count going.link }
+-- the helper took some of what it is owed, or all
+pub agent_pays : (wall : ℕ) (keys : KeyState) (going left : UnderWay) (ports : OpenPorts) (number count least : ℕ)
+    → role_by (find_port number ports.ports) going ≡ Some Helper → going.link.state ≡ states.Linked number
+    → least ≡ min count (length (sendable going.link.state going.link.owed)) → left ≡ record going { link = sent least going.link }
     → parts_of wall keys left ports ≡ after ports.closed (handle (Took number count) (state_of wall keys going ports))
-agent_pays wall keys going left ports number count is left_is =
+agent_pays wall keys going left ports number count least is linked least_is left_is =
     let there = port_of_role (find_port number ports.ports) going Helper is in
+    let all : drop least going.link.owed ≡ drop count going.link.owed =
+    ap (λ n. drop n going.link.owed) (least_is ∙ ap (λ l. min count (length (sendable l going.link.owed))) linked)
+    ∙ drop_min count going.link.owed in
     ap (λ (u : UnderWay). parts_of wall keys u ports) left_is
+    ∙ ap (λ bytes. parts_of wall keys (record going { link = record going.link { owed = bytes } }) ports) all
     ∙ ap (after ports.closed) (sym (took-as number count there.0 Helper (state_of wall keys going ports) there.1 there.2))
 
 -- the helper is at its port
@@ -167,15 +179,21 @@ agent_free number ports going is =
     let there = port_of_role (find_port number ports) going Unnamed is in
     ap (λ n. find_linked n going.confirmations) (sym (found_number number ports there.0 there.1)) ∙ (unnamed-free there.0.door there.0.number going there.2).1
 
--- a confirmer took some of what it is owed
-pub agent_asked : (wall : ℕ) (keys : KeyState) (going left : UnderWay) (ports : OpenPorts) (number count : ℕ)
+-- a confirmer took some of what it is owed, or all
+took_less : (count least : ℕ) (one : Confirmation) → least ≡ min count (length one.owed) → took_some least one ≡ took_some count one
+took_less count least one is = ap (λ bytes. record one { owed = bytes }) (ap (λ n. drop n one.owed) is ∙ drop_min count one.owed)
+
+pub agent_asked : (wall : ℕ) (keys : KeyState) (going left : UnderWay) (ports : OpenPorts) (number count least : ℕ)
     (one : Confirmation) → role_by (find_port number ports.ports) going ≡ Some (Confirmer one)
-    → left ≡ record going { confirmations = took_at number count going.confirmations }
+    → find_job one.job going.confirmations ≡ Some one → least ≡ min count (length one.owed)
+    → left ≡ record going { confirmations = took_at number least going.confirmations }
     → parts_of wall keys left ports ≡ after ports.closed (handle (Took number count) (state_of wall keys going ports))
-agent_asked wall keys going left ports number count one is left_is =
+agent_asked wall keys going left ports number count least one is there_is least_is left_is =
     let there = port_of_role (find_port number ports.ports) going (Confirmer one) is in
     ap (λ (u : UnderWay). parts_of wall keys u ports) left_is
-    ∙ ap (λ f. parts_of wall keys (record going { confirmations = took_by f count going.confirmations }) ports) (agent_asks number ports.ports going one is)
+    ∙ ap (λ f. parts_of wall keys (record going { confirmations = took_by f least going.confirmations }) ports) (agent_asks number ports.ports going one is)
+    ∙ ap (λ cs. parts_of wall keys (record going { confirmations = cs }) ports)
+    (change-agree (has_key job_of one.job) (took_some least) (took_some count) going.confirmations one there_is (took_less count least one least_is))
     ∙ ap (after ports.closed) (sym (took-as number count there.0 (Confirmer one) (state_of wall keys going ports) there.1 there.2))
 
 -- ---- what holds in between
@@ -202,29 +220,27 @@ none_asked number body_len port state tied found whole = by_found (find_asker nu
 -- who waits stays tied where more is heard of a port, or some of what it is owed was taken
 pub tied-heard : (number : ℕ) (piece : List ℕ) (state : State) → IsTied state → IsTied (changed number (heard_more piece) state)
 tied-heard number piece state tied =
-    tied-quiet {event = Tick} (alters number (heard_more piece) (record { number = λ p. refl; door = λ p. refl; waits = λ p. refl; owed = λ p none. none; chain = λ p. refl })) tied
+    tied-quiet {event = Tick} (alters number (heard_more piece) (mild-heard Tick number piece)) tied
 
-pub tied-took : (number count : ℕ) (state : State) → IsTied state → IsTied (changed number (took_some count) state)
+pub tied-took : (number count : ℕ) (state : State) → IsTied state → IsTied (changed number (port_took count) state)
 tied-took number count state tied =
-    tied-quiet {event = Tick} (alters number (took_some count) (record { number = λ p. refl; door = λ p. refl; waits = λ p. refl; owed = λ p none. ap (drop count) none ∙ drop_all count [] (omega arith); chain = λ p. refl })) tied
+    tied-quiet {event = Took number count} (alters number (port_took count) (mild-took number count refl)) tied
 
 -- what holds of the agent holds of its ports
 pub bound_of : (state : State) → IsAtRest state → IsBound state.ports state.under_way
 bound_of state calm = record { order = calm.tied.order; tied = calm.tied.tied; judged = calm.judged.verified }
 
+pub bound-taken : (moment : Moment) (state : State) → IsAtRest state → IsBound state.ports (taken_in moment state).under_way
+bound-taken moment state calm = record { order = calm.tied.order; tied = calm.tied.tied; judged = calm.judged.verified }
+
+pub bound-left : (job : ℕ) (state : State) → IsAtRest state
+    → IsBound state.ports (record state.under_way { to_start = remove_to_start job state.under_way.to_start })
+bound-left job state calm = record { order = calm.tied.order; tied = calm.tied.tied; judged = calm.judged.verified }
+
 pub held_of_all : (state : State) → IsAtRest state → AreHeldFor state.under_way.confirmations state.ports
 held_of_all state calm = λ job one found. record {
   is_open = calm.attended.askers job one found;
   silent = λ port at. quiet-asking state.ports state.under_way.confirmations calm.tied.raised.asking job one port found at;
-}
-
--- and holds once the moment was taken in
-pub rest-moved : (wall more : ℕ) (keys kept : KeyState) (going : UnderWay) (ports : OpenPorts)
-    → IsAtRest (state_of wall keys going ports) → IsAtRest (state_of more kept going (record ports { closed = [] }))
-rest-moved wall more keys kept going ports rest = record {
-  tied = record { rising = rest.tied.rising; order = rest.tied.order; tied = rest.tied.tied; askers = rest.tied.askers; helper = rest.tied.helper; known = rest.tied.known; raised = rest.tied.raised };
-  attended = rest.attended;
-  judged = record { verified = rest.judged.verified; noted = rest.judged.noted; given = rest.judged.given; chains = rest.judged.chains };
 }
 
 -- ---- what is to be taken
@@ -242,17 +258,44 @@ bad_port (Some port) announced is = (port, refl, is)
 -- ---- a step
 
 -- the moment is taken in
-pub agent_begins : (moment : Moment) (wall now : ℕ) (keys kept : KeyState) (going : UnderWay) (old new : OpenPorts)
-    → now ≡ max keys.table.greatest moment.mono → kept ≡ expired now keys → new ≡ record old { closed = [] }
-    → state_of moment.wall kept going new ≡ at_moment moment (state_of wall keys going old)
-agent_begins moment wall now keys kept going old new now_is kept_is new_is =
-    ap (λ (k : KeyState). state_of moment.wall k going new) kept_is
-    ∙ ap (λ (v : OpenPorts). state_of moment.wall (expired now keys) going v) new_is
-    ∙ ap (λ n. state_of moment.wall (expired n keys) going old) now_is
+pub agent_begins : (moment : Moment) (wall now : ℕ) (keys kept : KeyState) (going left : UnderWay) (old new : OpenPorts)
+    → now ≡ max keys.table.greatest moment.mono → kept ≡ expired now keys → left ≡ record going { second = now }
+    → new ≡ record old { closed = [] }
+    → parts_of moment.wall kept left new ≡ record { state = taken_in moment (state_of wall keys going old); closes = [] }
+agent_begins moment wall now keys kept going left old new now_is kept_is left_is new_is =
+    ap (λ (k : KeyState). parts_of moment.wall k left new) kept_is
+    ∙ ap (λ (u : UnderWay). parts_of moment.wall (expired now keys) u new) left_is
+    ∙ ap (λ (v : OpenPorts). parts_of moment.wall (expired now keys) (record going { second = now }) v) new_is
+    ∙ ap (λ n. parts_of moment.wall (expired n keys) (record going { second = n }) (record old { closed = [] })) now_is
 
--- then the event is handled
-pub agent_steps : (moment : Moment) (event : Happening) (state mid : State) (closed : List ℕ) (new : Stepped)
-    → mid ≡ at_moment moment state → closed ≡ [] → new ≡ after closed (handle event mid)
+-- then waits end, and then the event is handled
+pub agent_steps : (moment : Moment) (event : Happening) (state : State) (first second third new : Stepped)
+    → first ≡ record { state = taken_in moment state; closes = [] }
+    → second ≡ after first.closes (lose_late first.state) → third ≡ after second.closes (end_late second.state)
+    → new ≡ after third.closes (handle event third.state)
     → new ≡ stepped (step state moment event)
-agent_steps moment event state mid closed new begins none handled =
-    handled ∙ ap (λ cs. after cs (handle event mid)) none ∙ ap (λ s. after [] (handle event s)) begins
+agent_steps moment event state first second third new first_is second_is third_is new_is =
+    let passed = time_passes moment state in
+    let lost = second_is ∙ ap (λ (s : Stepped). after s.closes (lose_late s.state)) first_is in
+    let ended : third ≡ after [] passed =
+    third_is ∙ ap (λ (s : Stepped). after s.closes (end_late s.state)) lost
+    ∙ sym (after-behind [] (lose_late (taken_in moment state)) end_late) in
+    new_is ∙ ap (λ (s : Stepped). after s.closes (handle event s.state)) ended
+    ∙ sym (after-behind [] passed (handle event))
+
+-- what the moment leaves
+pub agent_opened : (moment : Moment) (state : State) (first second third : Stepped)
+    → first ≡ record { state = taken_in moment state; closes = [] }
+    → second ≡ after first.closes (lose_late first.state) → third ≡ after second.closes (end_late second.state)
+    → third.state ≡ at_moment moment state
+agent_opened moment state first second third first_is second_is third_is =
+    let lost = second_is ∙ ap (λ (s : Stepped). after s.closes (lose_late s.state)) first_is in
+    ap (λ (s : Stepped). s.state) (third_is ∙ ap (λ (s : Stepped). after s.closes (end_late s.state)) lost)
+
+-- the helper is lost where it is late
+pub tied-lost : (state : State) → IsTied state → IsTied (lose_late state).state
+tied-lost state tied = by_late (is_helper_late state.under_way)
+  where
+    by_late : (is : Bool) → IsTied (lose_where is state).state
+    by_late true = (fated-makes {event = Tick} (loses state) tied).tied
+    by_late false = tied

@@ -1,28 +1,25 @@
 -- What the end of a port and a failed start are in the agent's state.
-use Rattle.std.proofs.Common.{◌≡◌, ◌≢◌, ℕ, [], refl, ap, sym, ◌∙◌, Option, Some, None, IsSome}
+use Rattle.std.proofs.Common.{◌≡◌, ℕ, List, refl, ap, sym, ◌∙◌, Option, Some, None, IsSome}
 use Rattle.world_ports.specs.declared.Job.{Job}
 use Rattle.world_ports.specs.declared.JobKind.{JobKind}
 use Rattle.world_ports.specs.declared.JobKind.TheVariants as kinds
-use Rattle.helper_link.specs.HelperLink.{IsStarting, askers, lost}
-use Rattle.helper_link.specs.declared.state.LinkState.{LinkState}
 use Rattle.helper_link.specs.declared.state.LinkState.TheVariants as states
 use Rattle.confirm_desk.specs.Confirmations.{Confirmation, find_asker, find_job}
-use Rattle.agent_model.specs.Answers.{lose, tell_each}
-use Rattle.agent_model.specs.Children.{failed_by, failed_if, job_left, remove_to_start, shut, shut_then}
+use Rattle.agent_model.specs.Actions.{stay}
+use Rattle.agent_model.specs.Answers.{lose, lose_where}
+use Rattle.agent_model.specs.Children.{failed_by, failed_if, is_started_by, job_left, remove_to_start, shut, shut_then}
 use Rattle.agent_model.specs.Consents.{over, over_if}
-use Rattle.agent_model.specs.Events.{Ended, StartFailed}
+use Rattle.agent_model.specs.Events.{Ended, Heard, StartFailed, Took}
 use Rattle.agent_model.specs.KeyStates.{KeyState}
-use Rattle.agent_model.specs.NumberLists.{put_all}
 use Rattle.agent_model.specs.Sound.{IsRising}
 use Rattle.agent_model.specs.State.{Client, Confirmer, Helper, State, UnderWay, Unnamed, find_port, find_to_start}
-use Rattle.agent_model.specs.Step.{handle}
-use Rattle.agent_model.specs.Verdicts.{HelperLost, Refuses}
+use Rattle.agent_model.specs.Step.{ended_at, handle, heard_at, took_at}
 use Rattle.agent_model.proofs.PortsLemmas.{found_number}
-use Rattle.agent_core.specs.Parts.{after, parts_of, state_of}
+use Rattle.agent_core.specs.Parts.{state_of}
 use Rattle.agent_core.specs.Roles.{role_by}
 use Rattle.agent_core.specs.Slots.{OpenPorts}
-use Rattle.agent_core.proofs.HelperLemmas.{lose-closed, lost_parts, starting_closes, starting_none, with_left, with_link}
-use Rattle.agent_core.proofs.RoleLemmas.{ended-as, linked-as, port_of_role}
+use Rattle.agent_core.proofs.HelperLemmas.{lose-closed}
+use Rattle.agent_core.proofs.RoleLemmas.{ended-as, linked-as, port_of_role, took-as}
 
 -- ---- a port has ended
 
@@ -70,27 +67,18 @@ failed_as job kind (Some one) state some is =
     ap (λ k. failed_by k one.number (job_left one.number state)) (is one refl).0
     ∙ ap (λ n. failed_by kind n (job_left n state)) (is one refl).1
 
--- the job isn't to be started any more
-left_state : (wall : ℕ) (keys : KeyState) (going mid : UnderWay) (ports : OpenPorts) (job : ℕ)
-    → mid ≡ record going { to_start = remove_to_start job going.to_start }
-    → state_of wall keys mid ports ≡ job_left job (state_of wall keys going ports)
-left_state wall keys going mid ports job mid_is = ap (λ (u : UnderWay). state_of wall keys u ports) mid_is
-
--- a helper's
-pub helper_fails : (wall : ℕ) (keys : KeyState) (going mid left : UnderWay) (ports new : OpenPorts) (job : ℕ) (kind : JobKind)
+-- a helper's, which is lost where it was being started by that job
+pub helper_fails : (wall : ℕ) (keys : KeyState) (going mid : UnderWay) (ports : OpenPorts) (job : ℕ) (kind : JobKind)
     → IsSome (find_to_start job going.to_start)
     → ((one : Job) → find_to_start job going.to_start ≡ Some one → (one.kind ≡ kind) × (one.number ≡ job))
     → kind ≡ kinds.Helper → mid ≡ record going { to_start = remove_to_start job going.to_start }
-    → IsStarting mid.link.state → left ≡ with_left [] (with_link (lost mid.link) mid)
-    → new ≡ record ports { ports = tell_each (Refuses HelperLost) (askers mid.link.asks) ports.ports }
-    → parts_of wall keys left new ≡ after ports.closed (handle (StartFailed job) (state_of wall keys going ports))
-helper_fails wall keys going mid left ports new job kind some is helper mid_is starting left_is new_is =
+    → lose_where (is_started_by job mid.link.state) (state_of wall keys mid ports)
+    ≡ handle (StartFailed job) (state_of wall keys going ports)
+helper_fails wall keys going mid ports job kind some is helper mid_is =
     let state : State = state_of wall keys going ports in
-    lost_parts wall keys mid left ports ports new (starting_closes mid.link.state ports.ports starting)
-    (ap (put_all ports.closed) (starting_none mid.link.state ports.ports starting)) refl left_is new_is
-    ∙ ap (λ (s : State). after ports.closed (lose s)) (left_state wall keys going mid ports job mid_is)
-    ∙ ap (λ k. after ports.closed (failed_by k job (job_left job state))) (sym helper)
-    ∙ sym (ap (after ports.closed) (failed_as job kind (find_to_start job going.to_start) state some is))
+    ap (λ (u : UnderWay). lose_where (is_started_by job u.link.state) (state_of wall keys u ports)) mid_is
+    ∙ ap (λ k. failed_by k job (job_left job state)) (sym helper)
+    ∙ sym (failed_as job kind (find_to_start job going.to_start) state some is)
 
 -- that of a child process that is to ask the user
 pub confirmer_fails : (wall : ℕ) (keys : KeyState) (going mid : UnderWay) (ports : OpenPorts) (job : ℕ) (kind : JobKind)
@@ -105,8 +93,19 @@ confirmer_fails wall keys going mid ports job kind some is confirm mid_is =
     ∙ ap (λ k. failed_by k job (job_left job state)) (sym confirm)
     ∙ sym (failed_as job kind (find_to_start job going.to_start) state some is)
 
--- a helper that is being started is coming
-pub starting_some : (state : LinkState) → IsStarting state → state ≢ states.None
-starting_some states.None is = absurd is
-starting_some (states.Starting job) is = λ none. absurd (cc)
-starting_some (states.Linked port) is = absurd is
+-- ---- a port that isn't open
+
+pub absent_ends : (number : ℕ) (state : State) → find_port number state.ports ≡ None → stay state ≡ handle (Ended number) state
+absent_ends number state absent = sym (ap (λ found. ended_at found state) absent)
+
+pub absent_hears : (number : ℕ) (piece : List ℕ) (state : State) → find_port number state.ports ≡ None → stay state ≡ handle (Heard number piece) state
+absent_hears number piece state absent = sym (ap (λ found. heard_at found piece state) absent)
+
+pub absent_takes : (number count : ℕ) (state : State) → find_port number state.ports ≡ None → stay state ≡ handle (Took number count) state
+absent_takes number count state absent = sym (ap (λ found. took_at found count state) absent)
+
+-- a child process that hasn't named itself takes nothing
+pub unnamed_takes : (number count : ℕ) (state : State) → role_by (find_port number state.ports) state.under_way ≡ Some Unnamed → stay state ≡ handle (Took number count) state
+unnamed_takes number count state is =
+    let there = port_of_role (find_port number state.ports) state.under_way Unnamed is in
+    sym (took-as number count there.0 Unnamed state there.1 there.2)

@@ -1,9 +1,9 @@
 -- What the helper's answers and its loss are to the agent's parts.
-use Rattle.std.proofs.Common.{◌≡◌, ◌↔◌, IsTrue, ℕ, ◌+◌, ◌<◌, drop, get_or, length, subst, List, [], ◌∷◌, refl, ap, sym, ◌∙◌, Option, Some, None, IsSome, is_some, Bool, false, true, if◌then◌else◌, ◌==◌}
+use Rattle.std.proofs.Common.{◌≡◌, ◌≢◌, ◌↔◌, IsTrue, ℕ, ◌+◌, ◌<◌, drop, get_or, length, subst, List, [], ◌∷◌, refl, ap, sym, ◌∙◌, Option, Some, None, IsSome, is_some, Bool, false, true, if◌then◌else◌, ◌==◌}
 use Rattle.std.proofs.lemmas.List.{drop_more}
 use Rattle.lists.specs.Keyed.{has_key}
 use Rattle.lists.proofs.FirstLemmas.{changed_nowhere, removed_nowhere}
-use Rattle.helper_link.specs.HelperLink.{HelperLink, IsStarting, askers, lost}
+use Rattle.helper_link.specs.HelperLink.{HelperLink, IsLinked, askers, lost}
 use Rattle.helper_link.specs.declared.ask.Ask.{Ask}
 use Rattle.helper_link.specs.Telling.{Telling, telling}
 use Rattle.helper_link.specs.declared.answer.Answer.{Answer}
@@ -13,11 +13,11 @@ use Rattle.helper_link.specs.declared.fault.LinkFault.{LinkFault}
 use Rattle.helper_link.specs.declared.state.LinkState.{LinkState}
 use Rattle.helper_link.specs.declared.state.LinkState.TheVariants as states
 use Rattle.agent_model.specs.Actions.{Outcome, Stepped, closing}
-use Rattle.agent_model.specs.Answers.{Answering, answer_all, answer_by, answer_true, answers_in, close_helper, find_verification, helper_closes, helper_heard, lose, lose_if, remove_verification, tell_each, with_answers}
+use Rattle.agent_model.specs.Answers.{Answering, answer_all, answer_by, answer_true, answers_in, close_helper, find_verification, forget_helper, helper_closes, helper_heard, lose, lose_if, remove_verification, tell_each, with_answers}
 use Rattle.agent_model.specs.KeyStates.{KeyState}
 use Rattle.agent_model.specs.State.{Port, State, UnderWay, Verification, change_port, find_port, remove_port, number_of}
 use Rattle.agent_model.specs.Verdicts.{HelperLost, Refuses, tell}
-use Rattle.agent_model.specs.Children.{closed, shut_then}
+use Rattle.agent_model.specs.Children.{closed, is_started_by, shut_then}
 use Rattle.agent_model.specs.NumberLists.{put_all}
 use Rattle.agent_model.specs.Sound.{IsRising}
 use Rattle.agent_model.proofs.PortsLemmas.{find_port-remove_port}
@@ -163,36 +163,29 @@ heard_parts wall keys going mid left ports new piece settled fault mid_is settle
 -- ---- the helper is lost
 
 -- its port is closed, and each that waits for it is told
-pub lost_parts : (wall : ℕ) (keys : KeyState) (going left : UnderWay) (before ports new : OpenPorts)
-    → close_helper going.link.state before.ports ≡ ports.ports
-    → put_all before.closed (helper_closes going.link.state before.ports) ≡ ports.closed → before.last ≡ ports.last
-    → left ≡ with_left [] (with_link (lost going.link) going)
-    → new ≡ record ports { ports = tell_each (Refuses HelperLost) (askers going.link.asks) ports.ports }
+pub lost_parts : (wall : ℕ) (keys : KeyState) (going left : UnderWay) (before mid new : OpenPorts)
+    → mid ≡ record before {
+      ports = close_helper going.link.state before.ports;
+      closed = put_all before.closed (helper_closes going.link.state before.ports);
+    } → left ≡ record going { link = lost going.link; started = forget_helper going.link.state going.started; verifications = [] }
+    → new ≡ record mid { ports = tell_each (Refuses HelperLost) (askers going.link.asks) mid.ports }
     → parts_of wall keys left new ≡ after before.closed (lose (state_of wall keys going before))
-lost_parts wall keys going left before ports new closed closes last left_is new_is =
-    let gone : UnderWay = with_left [] (with_link (lost going.link) going) in
-    let to : List Port → List ℕ → ℕ → Stepped = λ ps cs n. parts_of wall keys gone (record {
-      ports = tell_each (Refuses HelperLost) (askers going.link.asks) ps;
-      last = n;
-      closed = cs;
-    }) in
+lost_parts wall keys going left before mid new mid_is left_is new_is =
+    let gone : UnderWay = record going { link = lost going.link; started = forget_helper going.link.state going.started; verifications = [] } in
     ap (λ (u : UnderWay). parts_of wall keys u new) left_is
     ∙ ap (λ (v : OpenPorts). parts_of wall keys gone v) new_is
-    ∙ ap (λ ps. to ps ports.closed ports.last) (sym closed)
-    ∙ ap (λ cs. to (close_helper going.link.state before.ports) cs ports.last) (sym closes)
-    ∙ ap (λ n. to (close_helper going.link.state before.ports)
-    (put_all before.closed (helper_closes going.link.state before.ports)) n) (sym last)
+    ∙ ap (λ (v : OpenPorts). parts_of wall keys gone (record v { ports = tell_each (Refuses HelperLost) (askers going.link.asks) v.ports })) mid_is
 
--- a helper that is being started has no port
-pub starting_closes : (state : LinkState) (ports : List Port) → IsStarting state → close_helper state ports ≡ ports
-starting_closes states.None ports is = absurd is
-starting_closes (states.Starting job) ports is = refl
-starting_closes (states.Linked port) ports is = absurd is
+-- a helper that is there, or is being started, may be lost
+pub linked_some : (state : LinkState) → IsLinked state → state ≢ states.None
+linked_some states.None linked = absurd linked
+linked_some (states.Starting job) linked = absurd linked
+linked_some (states.Linked port) linked = λ none. absurd (cc)
 
-pub starting_none : (state : LinkState) (ports : List Port) → IsStarting state → helper_closes state ports ≡ []
-starting_none states.None ports is = absurd is
-starting_none (states.Starting job) ports is = refl
-starting_none (states.Linked port) ports is = absurd is
+pub starting_some : (job : ℕ) (state : LinkState) → is_started_by job state ≡ true → state ≢ states.None
+starting_some job states.None is = absurd (cc)
+starting_some job (states.Starting other) is = λ none. absurd (cc)
+starting_some job (states.Linked port) is = absurd (cc)
 
 -- a port is closed once
 pub remove_port-twice : (number last : ℕ) (ports : List Port) → IsRising 0 last ports → remove_port number (remove_port number ports) ≡ remove_port number ports

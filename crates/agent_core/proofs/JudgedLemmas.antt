@@ -2,7 +2,7 @@
 use Rattle.std.proofs.Common.{◌≡◌, ◌≢◌, ℕ, List, [], ◌∷◌, refl, ap, arith, sym, subst, ◌∙◌, ◌==◌, Option, Some, None, true, cond, inl, inr}
 use Rattle.std.proofs.lemmas.Bool.{cases_eq}
 use Rattle.std.proofs.lemmas.Bool.Decides.{nat_tests}
-use Rattle.helper_link.specs.Answered.{LeadTo, kind_answered}
+use Rattle.helper_link.specs.Answered.{IsUnanswered, LeadTo, kind_answered}
 use Rattle.helper_link.specs.HelperLink.{ask_of}
 use Rattle.helper_link.specs.Settling.{find_ask, remove_ask}
 use Rattle.helper_link.specs.Sound.{RiseTo}
@@ -36,7 +36,7 @@ find-left ask gone vs differs = find_by-remove_apart ask_number ask gone vs (λ 
 
 module _ (low last : ℕ) where
   -- and stay judged as they were
-  judged-told : (one : Settled) (kind : AskKind) (f : Port → Port) (ports : List Port) (vs : List Verification) (asks : List Ask) → ((p : Port) → (f p).number ≡ p.number) → RiseTo low asks last → find_ask one.ask asks ≡ Some (ask_of one.ask one.asker kind) → AreTied ports asks → AreJudged ports vs asks → AreJudged (change_port one.asker f ports) (remove_verification one.ask vs) (remove_ask one.ask asks)
+  judged-told : (one : Settled) (kind : AskKind) (f : Port → Port) (ports : List Port) (vs : List Verification) (asks : List Ask) → ((p : Port) → (f p).number ≡ p.number) → RiseTo low asks last → IsUnanswered one.ask one.asker kind asks → AreTied ports asks → AreJudged ports vs asks → AreJudged (change_port one.asker f ports) (remove_verification one.ask vs) (remove_ask one.ask asks)
   judged-told one kind f ports vs asks keeps rise first tied judged = λ ask other v port that there found.
       elim (cases_eq one.ask ask) [
         | inl same ↦
@@ -53,18 +53,18 @@ module _ (low last : ℕ) where
       by_port ask other v port differs that there (apart away was) = judged ask other v port that there was
       by_port ask other v port differs that there (here old same was is) =
           let second : old.waits ≡ OnAsk ask = tied.asks ask other old there was in
-          let first_waits : old.waits ≡ OnAsk one.ask = tied.asks one.ask (ask_of one.ask one.asker kind) old first (ap (λ n. find_port n ports) (sym same) ∙ was) in
+          let first_waits : old.waits ≡ OnAsk one.ask = tied.asks one.ask (ask_of one.ask one.asker kind first.put_at) old first.found (ap (λ n. find_port n ports) (sym same) ∙ was) in
           let equal : one.ask ≡ ask = cc in
           absurd (differs equal)
 
   -- what the asker verifies is, too
-  provable-one : (one : Settled) (kind : AskKind) (ports : List Port) (vs : List Verification) (asks : List Ask) → find_ask one.ask asks ≡ Some (ask_of one.ask one.asker kind) → AreJudged ports vs asks → IsProvable (find_verification one.ask vs) (find_port one.asker ports)
+  provable-one : (one : Settled) (kind : AskKind) (ports : List Port) (vs : List Verification) (asks : List Ask) → IsUnanswered one.ask one.asker kind asks → AreJudged ports vs asks → IsProvable (find_verification one.ask vs) (find_port one.asker ports)
   provable-one one kind ports vs asks first judged = by_found (find_verification one.ask vs) (find_port one.asker ports) refl refl
     where
       by_found : (v : Option Verification) (p : Option Port) → find_verification one.ask vs ≡ v → find_port one.asker ports ≡ p → IsProvable v p
       by_found None p that found = tt
       by_found (Some v) None that found = tt
-      by_found (Some v) (Some port) that found = judged one.ask (ask_of one.ask one.asker kind) v port that first found
+      by_found (Some v) (Some port) that found = judged one.ask (ask_of one.ask one.asker kind first.put_at) v port that first.found found
 
   -- ---- answers, one after another
 

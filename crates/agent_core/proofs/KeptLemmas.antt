@@ -1,5 +1,5 @@
 -- Lemmas on the storage of the open ports.
-use Rattle.std.proofs.Common.{◌≡◌, ℕ, zero, suc, ◌+◌, ◌^◌, ◌<◌, ◌≤◌, List, [], ◌∷◌, ◌++◌, length, get_or, set, refl, ap, arith, sym, ◌∙◌, Some, subst, slice_get, true, ◌&&◌}
+use Rattle.std.proofs.Common.{◌≡◌, ℕ, zero, suc, ◌+◌, ◌^◌, ◌<◌, ◌≤◌, List, [], ◌∷◌, ◌++◌, length, get_or, set, refl, ap, arith, sym, ◌∙◌, Some, subst, slice_get}
 use Rattle.std.proofs.lemmas.List.{map-set, map-append, drop-map, take-map, length-append}
 use Rattle.std.proofs.lemmas.Option.{slice_get-map}
 use Rattle.secret_buf.specs.Buffers.{Buffer, no_bytes}
@@ -9,15 +9,12 @@ use Rattle.std.specs.Option.{option_map}
 use Rattle.lists.specs.Keyed.{has_key}
 use Rattle.lists.proofs.FirstLemmas.{length-change}
 use Rattle.world_ports.specs.declared.Door.{Door}
-use Rattle.world_ports.specs.declared.Door.TheVariants.{Clients}
 use Rattle.agent_core.specs.declared.waits.Waits.TheVariants as waits
 use Rattle.agent_core.specs.declared.slot.Slot.{Slot}
 use Rattle.agent_core.specs.Places.{IsPlace}
-use Rattle.agent_core.specs.Listed.{noted}
-use Rattle.lists.specs.Rising.{IsRisingList, inserted, removed}
-use Rattle.lists.proofs.RisingLemmas.{length-inserted, rising_list, rising_list-inserted}
-use Rattle.agent_core.specs.Slots.{IsKept, is_owing, owing_of, port_of, ports_of, waits_of}
-use Rattle.agent_core.proofs.OwingLemmas.{length-owing_of, listed-changed, owing_of-owed, owing_of-append, owing_of-kept, owing_of-remove_port, rising_numbers}
+use Rattle.lists.specs.Rising.{inserted}
+use Rattle.lists.proofs.RisingLemmas.{length-inserted, rising_list-inserted}
+use Rattle.agent_core.specs.Slots.{IsKept, port_of, ports_of, waits_of}
 use Rattle.agent_core.proofs.PlaceLemmas.{length-ports_of}
 use Rattle.agent_model.specs.KeyStates.{KeyState}
 use Rattle.agent_model.specs.Sound.{IsRising}
@@ -25,7 +22,7 @@ use Rattle.agent_model.specs.Step.{attempts, take_frame}
 use Rattle.agent_model.specs.Verdicts.{tell}
 use Rattle.agent_core.specs.Served.{served_at}
 use Rattle.wire_text.specs.Frames.{front_body}
-use Rattle.agent_model.specs.State.{Port, UnderWay, change_port, find_port, is_client, is_some_bytes, new_port, remove_port, number_of}
+use Rattle.agent_model.specs.State.{Port, UnderWay, change_port, find_port, new_port, remove_port, number_of}
 use Rattle.agent_model.proofs.PortsLemmas.{rising-append, rising-change_port, rising-remove_port, rising_higher}
 
 -- edits of the slots are edits of the ports
@@ -36,13 +33,8 @@ pub ports_of-push : (slots : List Slot) (slot : Slot) → ports_of (slots ++ slo
 ports_of-push slots slot = map-append port_of slots (slot ∷ [])
 
 -- the numbers fit the clock of ports
-pub kept_rising : (slots : List Slot) (owing closed : List ℕ) (room more last : ℕ) → IsKept slots owing closed room more last → IsRising 0 (2 ^ 64) (ports_of slots)
-kept_rising slots owing closed room more last kept = rising_higher 0 last (2 ^ 64) (ports_of slots) (omega (arith, kept.fits)) kept.rising
-
-pub kept_numbers : (slots : List Slot) (owing closed : List ℕ) (room more last : ℕ) → IsKept slots owing closed room more last → IsRisingList owing
-kept_numbers slots owing closed room more last kept =
-    let P : List ℕ → Type 0 = λ xs. IsRisingList xs in
-    subst P (sym kept.listed) (rising_list 0 _ (rising_numbers 0 last (ports_of slots) kept.rising))
+pub kept_rising : (slots : List Slot) (closed : List ℕ) (room last : ℕ) → IsKept slots closed room last → IsRising 0 (2 ^ 64) (ports_of slots)
+kept_rising slots closed room last kept = rising_higher 0 last (2 ^ 64) (ports_of slots) (omega (arith, kept.fits)) kept.rising
 
 -- a port at its place
 within_place : (slots : List Slot) (number place : ℕ) → IsPlace number (ports_of slots) place → place < length slots
@@ -96,61 +88,19 @@ length-set_slots slots number place slot ports same =
 length-change_port : (number : ℕ) (f : Port → Port) (ports : List Port) → length (change_port number f ports) ≡ length ports
 length-change_port number f ports = length-change (has_key number_of number) f ports
 
--- one port is changed, and listed or not
-pub kept-changed : (slots : List Slot) (owing closed : List ℕ) (room croom last number place more : ℕ) (slot old : Slot) → IsKept slots owing closed room croom last → IsPlace number (ports_of slots) place → find_port number (ports_of slots) ≡ Some (port_of old) → slot.number ≡ old.number → slot.door ≡ old.door → room ≤ more → IsKept (set slots place slot) (noted (is_owing (port_of slot)) number owing) closed more croom last
-kept-changed slots owing closed room croom last number place more slot old kept is found same door roomy =
+-- one port is changed under its number and its door
+pub kept-changed : (slots : List Slot) (closed : List ℕ) (room last number place : ℕ) (slot old : Slot) → IsKept slots closed room last → IsPlace number (ports_of slots) place → find_port number (ports_of slots) ≡ Some (port_of old) → slot.number ≡ old.number → slot.door ≡ old.door → IsKept (set slots place slot) closed room last
+kept-changed slots closed room last number place slot old kept is found same door =
     let changed = set_bytes slots number place slot old is found same door in
     let P : List Port → Type 0 = λ ports. IsRising 0 last ports in
     let count : length (set slots place slot) ≡ length slots =
     length-set_slots slots number place slot (change_port number (with_bytes slot) (ports_of slots)) changed ∙ length-change_port number (with_bytes slot) (ports_of slots) ∙ length-ports_of slots in
     record {
       rising = subst P (sym changed) (rising-change_port number 0 last (with_bytes slot) (ports_of slots) (λ p. refl) kept.rising);
-      listed = ap (noted (is_owing (port_of slot)) number) kept.listed ∙ ap (λ p. noted (is_owing p) number (owing_of (ports_of slots))) (same_port slot old same door) ∙ sym (ap owing_of changed ∙ listed-changed (ports_of slots) number last (with_bytes slot) (port_of old) (λ p. refl) kept.rising found);
-      room = omega (arith, kept.room);
       closed_rising = kept.closed_rising;
       closed_fits = rw count kept.closed_fits;
-      spare = rw count kept.spare;
       fits = kept.fits;
     }
-
--- one that is owed the same is listed where it was
-same_owing : (slot old : Slot) → slot.owed ≡ old.owed → is_owing (with_bytes slot (port_of old)) ≡ is_owing (port_of old)
-unfolding is_owing
-same_owing slot old owed = ap (λ bytes. is_client old.door && is_some_bytes bytes) owed
-
--- one port is changed, and is owed what it was owed before
-pub kept-heard : (slots : List Slot) (owing closed : List ℕ) (room croom last number place : ℕ) (slot old : Slot) → IsKept slots owing closed room croom last → IsPlace number (ports_of slots) place → find_port number (ports_of slots) ≡ Some (port_of old) → slot.number ≡ old.number → slot.door ≡ old.door → slot.owed ≡ old.owed → IsKept (set slots place slot) owing closed room croom last
-kept-heard slots owing closed room croom last number place slot old kept is found same door owed =
-    let changed = set_bytes slots number place slot old is found same door in
-    let P : List Port → Type 0 = λ ports. IsRising 0 last ports in
-    let count : length (set slots place slot) ≡ length slots =
-    length-set_slots slots number place slot (change_port number (with_bytes slot) (ports_of slots)) changed ∙ length-change_port number (with_bytes slot) (ports_of slots) ∙ length-ports_of slots in
-    record {
-      rising = subst P (sym changed) (rising-change_port number 0 last (with_bytes slot) (ports_of slots) (λ p. refl) kept.rising);
-      listed = kept.listed ∙ sym (ap owing_of changed ∙ owing_of-kept number (with_bytes slot) (ports_of slots) (port_of old) found refl (same_owing slot old owed));
-      room = omega (arith, kept.room);
-      closed_rising = kept.closed_rising;
-      closed_fits = rw count kept.closed_fits;
-      spare = rw count kept.spare;
-      fits = kept.fits;
-    }
-
--- a client that is owed a byte is listed
-owing_client : (port : Port) → is_owing (record port { door = Clients; owed = 0 ∷ [] }) ≡ true
-unfolding is_owing
-owing_client port = refl
-
--- there is room to list a port that is open
-pub kept_room : (slots : List Slot) (owing closed : List ℕ) (room croom last number : ℕ) (port : Port) → IsKept slots owing closed room croom last → find_port number (ports_of slots) ≡ Some port → length (inserted number owing) ≤ room
-kept_room slots owing closed room croom last number port kept found =
-    let owed : Port → Port = λ p. record p { door = Clients; owed = 0 ∷ [] } in
-    let after : owing_of (change_port number owed (ports_of slots)) ≡ inserted number (owing_of (ports_of slots)) = owing_of-owed number 0 last owed (ports_of slots) port (λ p. refl) kept.rising found (owing_client port) in
-    let same : inserted number owing ≡ owing_of (change_port number owed (ports_of slots)) = ap (inserted number) kept.listed ∙ sym after in
-    let few : length (owing_of (change_port number owed (ports_of slots))) ≤ length (change_port number owed (ports_of slots)) = length-owing_of (change_port number owed (ports_of slots)) in
-    let count : length (change_port number owed (ports_of slots)) ≡ length (ports_of slots) = length-change_port number owed (ports_of slots) in
-    let here : length (ports_of slots) ≡ length slots = length-ports_of slots in
-    let as_long : length (inserted number owing) ≡ length (owing_of (change_port number owed (ports_of slots))) = ap length same in
-    omega (arith, kept.room)
 
 -- ---- ports that go and come
 
@@ -162,8 +112,8 @@ length-remove_slot (slot ∷ slots) (suc place) within =
     grind (arith, length-append {A = Slot})
 
 -- one port goes, and is listed among the closed ones
-pub kept-removed : (slots : List Slot) (owing closed : List ℕ) (room croom last number place more cmore : ℕ) → IsKept slots owing closed room croom last → IsPlace number (ports_of slots) place → room ≤ more → croom ≤ cmore → IsKept (remove slots place) (removed number owing) (inserted number closed) more cmore last
-kept-removed slots owing closed room croom last number place more cmore kept is roomy croomy =
+pub kept-removed : (slots : List Slot) (closed : List ℕ) (room last number place more : ℕ) → IsKept slots closed room last → IsPlace number (ports_of slots) place → room ≤ more → IsKept (remove slots place) (inserted number closed) more last
+kept-removed slots closed room last number place more kept is roomy =
     let same : ports_of (remove slots place) ≡ remove_port number (ports_of slots) = ports_of-remove slots place ∙ sym is.removed in
     let P : List Port → Type 0 = λ ports. IsRising 0 last ports in
     let within : place < length slots = within_place slots number place is in
@@ -171,49 +121,39 @@ kept-removed slots owing closed room croom last number place more cmore kept is 
     let longer = length-inserted number closed in
     record {
       rising = subst P (sym same) (rising-remove_port number 0 last (ports_of slots) kept.rising);
-      listed = ap (removed number) kept.listed ∙ sym (owing_of-remove_port number 0 last (ports_of slots) kept.rising) ∙ ap owing_of (sym same);
-      room = omega (arith, kept.room);
       closed_rising = rising_list-inserted number closed kept.closed_rising;
       closed_fits = omega (arith, longer, kept.closed_fits);
-      spare = λ some. omega (arith, kept.closed_fits);
       fits = kept.fits;
     }
 
 -- there is room to list it there
-pub closed_room : (slots : List Slot) (owing closed : List ℕ) (room croom last number place : ℕ) → IsKept slots owing closed room croom last → IsPlace number (ports_of slots) place → length (inserted number closed) ≤ croom
-closed_room slots owing closed room croom last number place kept is =
+pub closed_room : (slots : List Slot) (closed : List ℕ) (room last number place : ℕ) → IsKept slots closed room last → IsPlace number (ports_of slots) place → length (inserted number closed) ≤ room
+closed_room slots closed room last number place kept is =
     let within : place < length slots = within_place slots number place is in
     let longer = length-inserted number closed in
     omega (arith, longer, kept.closed_fits)
 
 -- one port more
-pub kept-joined : (slots : List Slot) (owing closed : List ℕ) (room croom last more cmore : ℕ) (door : Door) (slot : Slot) → IsKept slots owing closed room croom last → port_of slot ≡ new_port (suc last) door → length slots + 1 ≤ more → length slots + length closed + 2 ≤ cmore → suc last < 2 ^ 64 → IsKept (slots ++ slot ∷ []) owing closed more cmore (suc last)
-kept-joined slots owing closed room croom last more cmore door slot kept new roomy croomy below =
+pub kept-joined : (slots : List Slot) (closed : List ℕ) (room last more : ℕ) (door : Door) (slot : Slot) → IsKept slots closed room last → port_of slot ≡ new_port (suc last) door → length slots + length closed + 1 ≤ more → suc last < 2 ^ 64 → IsKept (slots ++ slot ∷ []) closed more (suc last)
+kept-joined slots closed room last more door slot kept new roomy below =
     let same : ports_of (slots ++ slot ∷ []) ≡ ports_of slots ++ new_port (suc last) door ∷ [] = ports_of-push slots slot ∙ ap (λ port. ports_of slots ++ port ∷ []) new in
     let P : List Port → Type 0 = λ ports. IsRising 0 (suc last) ports in
     let count : length (slots ++ slot ∷ []) ≡ length slots + 1 = length-append slots (slot ∷ []) in
     record {
       rising = subst P (sym same) (rising-append 0 last (suc last) door (ports_of slots) (omega arith) kept.rising);
-      listed = kept.listed ∙ sym (ap owing_of same ∙ owing_of-append (suc last) door (ports_of slots));
-      room = omega (arith, count);
       closed_rising = kept.closed_rising;
       closed_fits = omega (arith, count);
-      spare = λ some. omega (arith, count);
       fits = below;
     }
 
 -- one that isn't let in: the last number rises, and the port is listed among the closed ones
-pub kept-refused : (slots : List Slot) (owing closed : List ℕ) (room croom last cmore : ℕ) → IsKept slots owing closed room croom last → closed ≡ [] → croom ≤ cmore → 0 < length slots → suc last < 2 ^ 64 → IsKept slots owing (inserted (suc last) closed) room cmore (suc last)
-kept-refused slots owing closed room croom last cmore kept none croomy some below =
-    let fitted : length slots + 1 ≤ croom = kept.spare some in
-    let one : length (inserted (suc last) closed) ≤ 1 = rw none (omega arith) in
+pub kept-refused : (slots : List Slot) (closed : List ℕ) (room last more : ℕ) → IsKept slots closed room last → length slots + length closed + 1 ≤ more → suc last < 2 ^ 64 → IsKept slots (inserted (suc last) closed) more (suc last)
+kept-refused slots closed room last more kept roomy below =
+    let longer = length-inserted (suc last) closed in
     record {
       rising = rising_higher 0 last (suc last) (ports_of slots) (omega arith) kept.rising;
-      listed = kept.listed;
-      room = kept.room;
       closed_rising = rising_list-inserted (suc last) closed kept.closed_rising;
-      closed_fits = omega (arith, fitted, one);
-      spare = λ there. omega (arith, fitted);
+      closed_fits = omega (arith, longer, roomy);
       fits = below;
     }
 

@@ -8,13 +8,12 @@ use Rattle.helper_link.specs.declared.state.LinkState.{LinkState}
 use Rattle.helper_link.specs.declared.state.LinkState.TheVariants as states
 use Rattle.confirm_desk.specs.Calls.{lesser, next_owed}
 use Rattle.confirm_desk.specs.Confirmations.{Confirmation, find_linked}
-use Rattle.lists.specs.Rising.{first_above}
 use Rattle.agent_model.specs.Asking.{AreAttended, AreRaised}
 use Rattle.agent_model.specs.Sound.{IsRising}
 use Rattle.agent_model.specs.State.{Port, UnderWay, find_port, is_client, is_linked_to, is_some_bytes, next_owed_in, owed_as, owed_by_port, role_by_helper, role_by_link, role_of, number_of}
 use Rattle.agent_core.specs.Owing.{next_child_owed_in}
 use Rattle.agent_core.specs.Roles.{door_by, helper_owed, next_of, owed_helper, owed_helper_by}
-use Rattle.agent_core.specs.Slots.{is_owing, owing_of}
+use Rattle.agent_core.specs.Slots.{first_above, is_owing, owing_of}
 use Rattle.agent_core.proofs.NextConfirmerLemmas.{alone, next-confirmed}
 use Rattle.agent_core.proofs.NextLemmas.{next-is}
 

@@ -10,9 +10,9 @@ use Rattle.helper_link.specs.HelperLink.{sendable}
 use Rattle.agent_model.specs.Sound.{IsRising}
 use Rattle.agent_model.proofs.PortsLemmas.{find_port-below, found_above}
 use Rattle.agent_model.specs.State.{Port, UnderWay, find_port, is_client, is_linked_to, is_some_bytes, next_owed_in, owed_as, owed_by_port, role_by_helper, role_of}
-use Rattle.lists.specs.Rising.{IsRisingNumbers, first_above}
+use Rattle.lists.specs.Rising.{IsRisingNumbers}
 use Rattle.agent_core.specs.Roles.{door_by, helper_owed, helper_owed_if, next_of, owed_helper, owed_helper_by}
-use Rattle.agent_core.specs.Slots.{is_owing, owing_of}
+use Rattle.agent_core.specs.Slots.{first_above, is_owing, owing_of}
 use Rattle.agent_core.proofs.OwingLemmas.{rising_numbers}
 use Rattle.agent_core.proofs.RoleLemmas.{linked_number}
 

@@ -1,5 +1,6 @@
 -- The place of a port among slots whose numbers rise.
-use Rattle.std.proofs.Common.{◌≡◌, ℕ, List, [], ◌∷◌, length, get_or, sym, ap, ◌∙◌, arith, Some, None, Result, Ok, Err, MatchOption, slice_set, refl}
+use Rattle.std.proofs.Common.{◌≡◌, ℕ, List, [], ◌∷◌, length, get_or, sym, ap, ◌∙◌, arith, Some, None, Result, Ok, Err, MatchOption, ◌<◌, slice_set, refl}
+use Rattle.std.specs.List.{HoldsAt}
 use Rattle.std.specs.List.Sorted.{IsBinarySearchResult, IsSearchInRange}
 use Rattle.std.specs.Option.{option_map}
 use Rattle.std.specs.Ordering.{nat_cmp}
@@ -9,7 +10,7 @@ use Rattle.secret_buf.specs.Buffers.{no_bytes}
 use Rattle.lists.specs.Firsts.{IsFirst}
 use Rattle.lists.specs.Keyed.{has_key}
 use Rattle.lists.proofs.FirstLemmas.{changed_there, find-map, found_there, removed_there}
-use Rattle.lists.proofs.SearchLemmas.{first-seen, rise-seen, searched_by}
+use Rattle.lists.proofs.SearchLemmas.{first-at, first-seen, rise-seen, searched_by}
 use Rattle.dest_rule.specs.Chains.{no_chain}
 use Rattle.world_ports.specs.declared.Door.TheVariants.{Clients}
 use Rattle.agent_core.specs.declared.slot.Slot.{Slot}
@@ -53,3 +54,11 @@ searched_ports slots number high (Err place) within answer rising =
     find-map port_of (has_key number_of number) (λ slot. has_key number_of number (port_of slot)) (λ _. refl) slots
     ∙ ap (option_map port_of)
     (searched_by (λ slot. number_of (port_of slot)) number 0 high slots (Err place) within answer (rise-seen port_of number_of 0 high slots rising))
+
+-- the port at a place whose number it has
+pub port_there : (slots : List Slot) (number high place : ℕ) (slot : Slot) → place < length slots → HoldsAt (λ other. slot ≡ other) slots place → slot.number ≡ number → IsRising 0 high (ports_of slots) → IsPlace number (ports_of slots) place
+port_there slots number high place slot within at is rising =
+    place_of_first number (ports_of slots) place
+    (first-seen port_of (has_key number_of number) slots place
+    (first-at (λ slot. number_of (port_of slot)) number 0 high slots place (rise-seen port_of number_of 0 high slots rising) within
+    (λ other. ap (λ (one : Slot). one.number) (sym (at other)) ∙ is)))

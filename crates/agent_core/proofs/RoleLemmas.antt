@@ -1,5 +1,5 @@
 -- Who is at a port, and what an event brings there.
-use Rattle.std.proofs.Common.{◌≡◌, ℕ, List, refl, ap, ◌∙◌, Option, Some, None, Bool, true, false, arith, ◌==◌}
+use Rattle.std.proofs.Common.{◌≡◌, ℕ, List, refl, ap, ◌∙◌, Option, Some, None, Bool, true, false, arith, ◌==◌, IsSome}
 use Rattle.std.proofs.lemmas.Bool.Decides.{nat_tests}
 use Rattle.world_ports.specs.declared.Door.{Door}
 use Rattle.world_ports.specs.declared.Door.TheVariants.{Clients, Children}
@@ -115,6 +115,16 @@ confirmer-kind (Some Client) is = let no : core.Client ≡ core.Confirmer = cc i
 confirmer-kind (Some Unnamed) is = let no : core.Unnamed ≡ core.Confirmer = cc in absurd (cc)
 confirmer-kind (Some Helper) is = let no : core.Helper ≡ core.Confirmer = cc in absurd (cc)
 confirmer-kind (Some (Confirmer one)) is = (one, refl)
+
+-- where somebody is, a port is open
+pub some_of_role : (number : ℕ) (ports : List Port) (going : UnderWay) (role : Role) → role_by (find_port number ports) going ≡ Some role → IsSome (find_port number ports)
+some_of_role number ports going role is =
+    let there = port_of_role (find_port number ports) going role is in rw there.1 refl
+
+-- where nobody is, no port is open
+pub none-kind : (found : Option Port) (going : UnderWay) → option_map role_kind (role_by found going) ≡ None → found ≡ None
+none-kind None going is = refl
+none-kind (Some port) going is = absurd (cc)
 
 -- whether it has named itself
 pub unnamed_of_kind : (role : Role) → is_unnamed_kind (role_kind role) ≡ is_unnamed role

@@ -1,5 +1,5 @@
 -- Lists of the identities that are seen.
-use Rattle.std.proofs.Common.{◌≡◌, ℕ, ◌+◌, ◌<◌, ◌≤◌, List, [], ◌∷◌, ◌++◌, length, map, drop, get_or, refl, ap, sym, arith, ◌∙◌, filter, cond, Bool, true, false}
+use Rattle.std.proofs.Common.{◌≡◌, ◌+◌, ◌≤◌, List, [], ◌∷◌, ◌++◌, length, map, refl, ap, arith, ◌∙◌, filter, cond, Bool, true, false}
 use Rattle.identity_table.specs.Identities.{HeldKey, entries_len, entry_len}
 use Rattle.agent_msg.specs.Replies.{entries}
 use Rattle.agent_model.specs.KeyStates.{shown}

@@ -1,9 +1,9 @@
 -- What holds between the open ports and the unanswered asks, so that the loss of the helper wants no memory (ours).
-use Rattle.std.specs.Prelude.{◌≡◌, ℕ, List, [], ◌∷◌, Some}
+use Rattle.std.specs.Prelude.{◌≡◌, ℕ, ◌-◌, ◌^◌, ◌<◌, List, [], ◌∷◌, Some, IsSome}
 use Rattle.helper_link.specs.Sound.{RiseTo}
 use Rattle.agent_model.specs.Events.{Happening, Joined, Heard, Ended, Took, Started, StartFailed, Tick}
 use Rattle.agent_model.specs.Sound.{AreJudged, AreTied, IsJudged, IsTied}
-use Rattle.agent_model.specs.State.{Port, State, UnderWay, change_port, find_port}
+use Rattle.agent_model.specs.State.{Port, State, UnderWay, change_port, find_port, find_to_start}
 use Rattle.confirm_desk.specs.Confirmations.{Confirmation, find_job}
 use Rattle.agent_model.specs.Asking.{IsAttended}
 use Rattle.agent_core.specs.Confirmers.{IsHeldFor}
@@ -23,16 +23,27 @@ AreSilent (asker ∷ others) ports =
     × AreSilent others (change_port asker (tell (Refuses HelperLost)) ports)
 
 -- the agent between two events: who waits is tied to the asks and the confirmations, whose clients and child processes
--- are open, and what is verified is judged as it was
+-- are open, and what is verified is judged as it was; and what is under way was brought to the moment's second
 pub record IsAtRest (state : State) : Type 0 where
   pub tied : IsTied state
   pub attended : IsAttended state
   pub judged : IsJudged state
+  pub second : state.under_way.second ≡ state.moment.mono
 
 -- the client of each confirmation is open, and owed nothing
 abbrev pub AreHeldFor : List Confirmation → List Port → Type 0
 AreHeldFor confirmations ports =
     (job : ℕ) (one : Confirmation) → find_job job confirmations ≡ Some one → IsHeldFor one ports
+
+-- what stays of an event's fitting when its moment was taken in: its port may have been closed by that
+abbrev pub StillFits : Happening → State → Type 0
+StillFits (Joined door) state = state.last_port < 2 ^ 64 - 1
+StillFits (Heard port piece) state = Unit {0}
+StillFits (Ended port) state = Unit {0}
+StillFits (Took port count) state = Unit {0}
+StillFits (Started job ticket) state = IsSome (find_to_start job state.under_way.to_start)
+StillFits (StartFailed job) state = IsSome (find_to_start job state.under_way.to_start)
+StillFits Tick state = Unit {0}
 
 -- the event wants no memory: a port ends, a child process was started or couldn't be, or nothing but the time
 abbrev pub WantsNoMemory : Happening → Type 0

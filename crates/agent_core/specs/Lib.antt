@@ -1,5 +1,4 @@
 pub mod Happenings
-pub mod Listed
 pub mod Owing
 pub mod Slots
 pub mod Places

@@ -1,10 +1,11 @@
 -- The parts of the agent's storage as the abstract agent (ours).
-use Rattle.std.specs.Prelude.{ℕ, List, Option, []}
+use Rattle.std.specs.Prelude.{ℕ, List, []}
 use Rattle.agent_model.specs.Actions.{Outcome, Stepped}
 use Rattle.agent_model.specs.KeyStates.{KeyState}
 use Rattle.agent_model.specs.NumberLists.{put_all}
-use Rattle.agent_model.specs.State.{State, UnderWay, first_state}
+use Rattle.agent_model.specs.State.{Settings, State, UnderWay, first_state}
 use Rattle.agent_core.specs.Slots.{OpenPorts}
+use Rattle.agent_core.specs.declared.event.Settings.{Settings as Stored}
 
 -- what is held, what is under way and the open ports, at a second of the wall clock; the greatest monotonic second is the
 -- one that the table knows
@@ -26,6 +27,17 @@ parts_of wall held under_way ports =
 abbrev pub after : List ℕ → Outcome → Stepped
 after closed outcome = record { state = outcome.state; closes = put_all closed outcome.closes }
 
--- an agent to which nothing has happened, with this default lifetime
-abbrev pub opening : Option ℕ → Stepped
-opening life = record { state = first_state life; closes = [] }
+-- the settings as the abstract agent sees them
+abbrev pub settings_of : Stored → Settings
+settings_of settings = record {
+  life = settings.default_life;
+  limits = record { ask = settings.ask_limit; confirmation = settings.confirm_limit };
+}
+
+-- the settings with which an agent in this state was started
+abbrev pub settings_in : State → Settings
+settings_in state = record { life = state.held.table.life; limits = state.under_way.limits }
+
+-- an agent to which nothing has happened, with these settings
+abbrev pub opening : Settings → Stepped
+opening settings = record { state = first_state settings; closes = [] }

@@ -1,5 +1,5 @@
 -- The storage of the open ports as the abstract agent sees it.
-use Rattle.std.specs.Prelude.{◌≡◌, ℕ, ◌+◌, ◌^◌, ◌<◌, ◌≤◌, List, [], ◌∷◌, length, map, Option, Some, None, Bool, ◌&&◌, if◌then◌else◌}
+use Rattle.std.specs.Prelude.{ℕ, ◌+◌, ◌^◌, ◌<◌, ◌≤◌, List, [], ◌∷◌, length, map, Option, Some, None, Bool, nat_lt, ◌&&◌, if◌then◌else◌}
 use Rattle.dest_rule.specs.Chains.{ChainState}
 use Rattle.agent_core.specs.declared.slot.Slot.{Slot}
 use Rattle.agent_core.specs.declared.waits.Waits.{Waits as CoreWaits}
@@ -52,19 +52,20 @@ abbrev pub owing_of : List Port → List ℕ
 owing_of [] = []
 owing_of (port ∷ ports) = if is_owing port then port.number ∷ owing_of ports else owing_of ports
 
+-- the first of these numbers above this one
+abbrev pub first_above : ℕ → List ℕ → Option ℕ
+first_above after [] = None
+first_above after (number ∷ others) = if nat_lt after number then Some number else first_above after others
+
 -- the open ports, the number of the last one that joined, and those that were closed since the event began, rising
 pub record OpenPorts : Type 0 where
   pub ports : List Port
   pub last : ℕ
   pub closed : List ℕ
 
--- the numbers rise up to the last one; the clients that are owed bytes are listed, in a list with room for all; and
--- those that were closed, in a list with room for all that are open and for one that isn't let in
-pub record IsKept (slots : List Slot) (owing closed : List ℕ) (owing_room closed_room last : ℕ) : Type 0 where
+-- the numbers rise up to the last one; those that were closed are listed, in a list with room for all that are open
+pub record IsKept (slots : List Slot) (closed : List ℕ) (closed_room last : ℕ) : Type 0 where
   pub rising : IsRising 0 last (ports_of slots)
-  pub listed : owing ≡ owing_of (ports_of slots)
-  pub room : length slots ≤ owing_room
   pub closed_rising : IsRisingList closed
   pub closed_fits : length slots + length closed ≤ closed_room
-  pub spare : 0 < length slots → length slots + 1 ≤ closed_room
   pub fits : last < 2 ^ 64

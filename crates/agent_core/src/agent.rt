@@ -9,7 +9,8 @@ ghost use Rattle.agent_model.specs.Step.{step};
 ghost use Rattle.agent_core.specs.Bound.{WantsNoMemory};
 ghost use Rattle.agent_core.specs.Happenings.{happening};
 ghost use Rattle.agent_core.specs.Owing.{is_client_at, next_child_owed};
-ghost use Rattle.agent_core.specs.Parts.{opening};
+ghost use Rattle.agent_core.specs.Parts.{opening, settings_in, settings_of};
+ghost use Rattle.under_way.specs.Times.{limits_of};
 
 use crate::keys::Keys;
 use crate::parts::Parts;
@@ -17,7 +18,7 @@ use crate::ports::Ports;
 use crate::{CoreMemory, Event, Settings};
 use std::alloc::Global;
 use std::marker::Model;
-use under_way::UnderWay;
+use under_way::{TimeLimits, UnderWay, earlier};
 use world_ports::{Job, Moment};
 
 /// An SSH agent without its outside: it is told what happens, and tells what is owed to whom.
@@ -44,14 +45,14 @@ impl Model for Agent {
 impl Agent {
     /// An agent that holds nothing and to which nobody is connected. Takes no memory.
     pub fn new(alloc: Global, settings: Settings) -> Agent
-        ensures { result ≡ opening settings.default_life }
+        ensures { result ≡ opening (settings_of settings) }
     {
         Agent {
             alloc,
             parts: Parts {
                 wall: 0,
                 keys: Keys::new(alloc, settings.default_life),
-                under_way: UnderWay::new(alloc),
+                under_way: UnderWay::new(alloc, limits_of(settings)),
                 ports: Ports::new(alloc),
             },
         }
@@ -76,7 +77,8 @@ impl Agent {
     }
 
     /// Takes one event at a moment. The monotonic clock counts as never falling, and the wall clock as it is given.
-    /// First the identities whose lifetime has run out leave.
+    /// First the identities whose lifetime has run out leave, a helper that hasn't answered in time is lost, and what
+    /// the user hasn't answered in time is refused. Where that closed the port that the event names, nothing more follows.
     ///
     /// Where memory runs out, all that was held and owed is wiped, and the agent is as a new one: the run is over,
     /// and it is to be dropped.
@@ -85,12 +87,12 @@ impl Agent {
         ensures stepped { OnOk result
             (self.new ≡ stepped (step self.old.state moment (happening event.now))) }
         ensures succeeds { WantsNoMemory (happening event.now) → IsOk result }
-        ensures wiped { OnErr result (self.new ≡ opening self.old.state.held.table.life) }
+        ensures wiped { OnErr result (self.new ≡ opening (settings_in self.old.state)) }
     {
-        let default_life = self.parts.keys.default_life();
+        let settings = self.settings();
         let stepped = self.parts.take(moment, event);
         if stepped.is_err() {
-            *self = Agent::new(self.alloc, Settings { default_life });
+            *self = Agent::new(self.alloc, settings);
         }
         stepped
     }
@@ -154,11 +156,15 @@ impl Agent {
         self.parts.ports.closed()
     }
 
-    /// The first second from which an identity is dead, or `None` where the clock comes to none.
+    /// The first second from which an identity is dead, or something has been waited for as long as it may be: `None`
+    /// where the clock comes to none.
     pub fn next_due(&self) -> Option<u64>
         ensures { result ≡ next_due self.now.state }
     {
-        self.parts.keys.next_death()
+        earlier(
+            self.parts.keys.next_death(),
+            self.parts.under_way.next_limit(),
+        )
     }
 
     /// The greatest second of the monotonic clock so far, 0 before the first event.
@@ -197,5 +203,29 @@ impl Agent {
         ensures steady { IsSteady self.now.state }
     {
         self.parts.ports.last()
+    }
+}
+
+impl Agent {
+    // What it was started with.
+    fn settings(&self) -> Settings
+        ensures { settings_of result ≡ settings_in self.now.state }
+    {
+        let limits = self.parts.under_way.limits();
+        Settings {
+            default_life: self.parts.keys.default_life(),
+            ask_limit: limits.ask,
+            confirm_limit: limits.confirmation,
+        }
+    }
+}
+
+// How long the settings let wait.
+fn limits_of(settings: Settings) -> TimeLimits
+    ensures { limits_of result ≡ (settings_of settings).limits }
+{
+    TimeLimits {
+        ask: settings.ask_limit,
+        confirmation: settings.confirm_limit,
     }
 }

@@ -92,7 +92,7 @@ fn take_first(
     match job.kind {
         JobKind::Helper => {
             under_way.helper_named(job.number, number);
-            hear_helper(ports, under_way, number, rest)
+            hear_helper(ports, under_way, rest)
         }
         JobKind::Confirm => {
             under_way.confirmer_named(job.number, number);

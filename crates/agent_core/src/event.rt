@@ -7,6 +7,10 @@ use world_ports::Door;
 pub struct Settings {
     /// The lifetime, in seconds, of identities that are added without one.
     pub default_life: Option<u32>,
+    /// How many seconds an ask may be unanswered, before its helper is lost.
+    pub ask_limit: Option<u32>,
+    /// How many seconds a confirmation may be open, before it is refused.
+    pub confirm_limit: Option<u32>,
 }
 
 /// What happens to the agent: the atomic step of its clients, its children and the clock. Prints

@@ -1,15 +1,16 @@
 //! What comes of the helper: its answers, and its loss.
 
-ghost use Rattle.std.specs.Prelude.{◌≡◌, ◌≢◌, ℕ, [], IsSome, OnOk, Some};
-ghost use Rattle.helper_link.specs.HelperLink.{IsStarting, askers, lost};
-ghost use Rattle.agent_model.specs.Answers.{find_verification, helper_heard, lose, remove_verification, tell_each};
+ghost use Rattle.std.specs.Prelude.{◌≡◌, ◌≢◌, ℕ, List, [], OnOk, Some};
+ghost use Rattle.helper_link.specs.HelperLink.{IsLinked, askers};
+ghost use Rattle.helper_link.specs.declared.ask.Ask.{Ask as AnAsk};
+ghost use Rattle.agent_model.specs.Answers.{close_helper, find_verification, helper_closes, helper_heard, lose, remove_verification, tell_each};
 ghost use Rattle.agent_model.specs.KeyStates.{KeyState};
-ghost use Rattle.agent_model.specs.Sound.{IsRising};
+ghost use Rattle.agent_model.specs.NumberLists.{put_all};
+ghost use Rattle.agent_model.specs.Sound.{AreTied};
 ghost use Rattle.agent_model.specs.State.{Port, change_port, find_port};
 ghost use Rattle.agent_model.specs.Verdicts.{HelperLost, Refuses, tell};
 ghost use Rattle.agent_core.specs.Bound.{AreSilent, IsBound};
 ghost use Rattle.agent_core.specs.Parts.{after, parts_of, state_of};
-ghost use Rattle.under_way.specs.Parts.{HasNoHelper};
 ghost use Rattle.agent_core.specs.Settlings.{AreProvable, AreShortAnswers, IsProvable, IsShortAnswer, answered, told_with, unanswered};
 
 use crate::CoreMemory;
@@ -21,11 +22,9 @@ use under_way::UnderWay;
 pub fn hear_helper(
     ports: &mut Ports,
     under_way: &mut UnderWay,
-    helper: u64,
     piece: &[u8],
 ) -> Result<(), CoreMemory>
-    requires linked { under_way.old.link.state ≡ LinkState.Linked helper }
-    requires is_open { IsSome (find_port helper ports.old.ports) }
+    requires linked { IsLinked under_way.old.link.state }
     requires bound { IsBound ports.old.ports under_way.old }
 
     ensures { (wall : ℕ) (keys : KeyState) → OnOk result (parts_of wall keys under_way.new ports.new
@@ -35,41 +34,39 @@ pub fn hear_helper(
     answer_all(ports, under_way, told.settled.as_slice())?;
     match told.fault {
         Some(_) => {
-            lose_helper(ports, under_way, helper);
+            lose_helper(ports, under_way);
             Ok(())
         }
         None => Ok(()),
     }
 }
 
-/// The helper is gone: its port is closed, and each client that waits for an answer of it is told. Takes no memory.
-pub fn lose_helper(ports: &mut Ports, under_way: &mut UnderWay, helper: u64)
-    requires linked { under_way.old.link.state ≡ LinkState.Linked helper }
-    requires is_open { IsSome (find_port helper ports.old.ports) }
+/// The helper is lost: its port is closed, where it came, and each client that waits for an answer of it is told. Takes
+/// no memory.
+pub fn lose_helper(ports: &mut Ports, under_way: &mut UnderWay)
+    requires some { under_way.old.link.state ≢ LinkState.None }
     requires bound { IsBound ports.old.ports under_way.old }
 
-    ensures parts { (wall : ℕ) (keys : KeyState) → parts_of wall keys under_way.new ports.new
+    ensures { (wall : ℕ) (keys : KeyState) → parts_of wall keys under_way.new ports.new
         ≡ after ports.old.closed (lose (state_of wall keys under_way.old ports.old)) }
-    ensures rising { IsRising 0 ports.old.last ports.old.ports }
 {
-    ports.close(helper);
-    lose_link(ports, under_way);
-}
-
-/// No helper is there or coming any more: each client that waits for an answer of it is told. Takes no memory.
-pub fn lose_link(ports: &mut Ports, under_way: &mut UnderWay)
-    requires some { under_way.old.link.state ≢ LinkState.None }
-    requires jobs { IsStarting under_way.old.link.state → HasNoHelper under_way.old }
-    requires silent { AreSilent (askers under_way.old.link.asks) ports.old.ports }
-
-    ensures ports { ports.new ≡ record ports.old {
-      ports = tell_each (Refuses HelperLost) (askers under_way.old.link.asks) ports.old.ports;
-    } }
-    ensures under_way { under_way.new
-        ≡ record under_way.old { link = lost under_way.old.link; verifications = [] } }
-{
+    close_helper(ports, under_way.link_state());
     let failed = under_way.lose();
     refuse_all(ports, failed.as_slice());
+}
+
+// The helper's port is closed, where it came.
+fn close_helper(ports: &mut Ports, state: LinkState)
+    ensures ports { ports.new ≡ record ports.old {
+      ports = close_helper state ports.old.ports;
+      closed = put_all ports.old.closed (helper_closes state ports.old.ports);
+    } }
+    ensures tied { (asks : List AnAsk) → AreTied ports.old.ports asks → AreTied ports.new.ports asks }
+{
+    match state {
+        LinkState::Linked { port } => ports.close_open(port),
+        LinkState::None | LinkState::Starting { .. } => {}
+    }
 }
 
 // Tells who asked that the helper is lost, in the order of the asks. Takes no memory.

@@ -13,7 +13,6 @@ mod event;
 mod granted;
 mod helper;
 mod keys;
-mod listed;
 mod owed;
 mod parts;
 mod places;

@@ -2,19 +2,21 @@
 
 ghost use Rattle.std.specs.Prelude.{◌≡◌, [], IsOk, IsSome, OnOk};
 ghost use Rattle.agent_model.specs.Actions.{stepped};
-ghost use Rattle.agent_model.specs.Children.{changed, heard_more};
+ghost use Rattle.agent_model.specs.Answers.{lose_where};
+ghost use Rattle.agent_model.specs.Children.{changed, heard_more, is_started_by};
 ghost use Rattle.agent_model.specs.Events.{Ended, Heard, Joined, StartFailed, Started, Took};
 ghost use Rattle.agent_model.specs.Sound.{IsSteady, IsTied};
 ghost use Rattle.agent_model.specs.State.{Fits, find_port, next_owed, owed_of};
 ghost use Rattle.agent_model.specs.Step.{handle, looked, step};
-ghost use Rattle.agent_core.specs.Bound.{IsAtRest, WantsNoMemory};
+ghost use Rattle.agent_model.specs.Time.{end_late, lose_late, taken_in};
+ghost use Rattle.agent_core.specs.Bound.{IsAtRest, IsBound, StillFits, WantsNoMemory};
 ghost use Rattle.agent_core.specs.Happenings.{happening};
 ghost use Rattle.agent_core.specs.Owing.{next_child_owed};
 ghost use Rattle.agent_core.specs.Parts.{after};
 
 use crate::children::hear_unnamed;
-use crate::confirmer::{end_if, hear_confirmer, lose_client, lose_confirmer};
-use crate::helper::{hear_helper, lose_helper, lose_link};
+use crate::confirmer::{end_confirmation, end_if, hear_confirmer, lose_client, lose_confirmer};
+use crate::helper::{hear_helper, lose_helper};
 use crate::keys::Keys;
 use crate::ports::Ports;
 use crate::role::{Role, lesser, owed_helper_above, role_at};
@@ -58,9 +60,9 @@ impl Parts {
             (self.new ≡ stepped (step self.old.state moment (happening event.now))) }
         ensures succeeds { WantsNoMemory (happening event.now) → IsOk result }
     {
-        self.wall = moment.wall;
-        self.keys.expire(self.keys.second().max(moment.mono));
-        self.ports.begin();
+        self.take_in(moment);
+        self.lose_late();
+        self.end_late();
         self.handle(event)
     }
 
@@ -99,11 +101,45 @@ impl Parts {
         lesser(helper, confirmer)
     }
 
+    // The moment is taken in: identities whose lifetime has run out leave.
+    fn take_in(&mut self, moment: Moment)
+        requires { self.old.state.under_way.second ≡ self.old.state.moment.mono }
+
+        ensures { self.new ≡ record { state = taken_in moment self.old.state; closes = [] } }
+    {
+        let now = self.keys.second().max(moment.mono);
+        self.wall = moment.wall;
+        self.keys.expire(now);
+        self.under_way.pass(now);
+        self.ports.begin();
+    }
+
+    // A helper that hasn't answered in time is lost.
+    fn lose_late(&mut self)
+        requires { IsBound self.old.state.ports self.old.state.under_way }
+
+        ensures { self.new ≡ after self.old.closes (lose_late self.old.state) }
+    {
+        if self.under_way.is_helper_late() {
+            lose_helper(&mut self.ports, &mut self.under_way);
+        }
+    }
+
+    // What the user hasn't answered in time is over, in the order of the jobs.
+    fn end_late(&mut self)
+        requires { IsTied self.old.state }
+
+        ensures { self.new ≡ after self.old.closes (end_late self.old.state) }
+    {
+        'late: while let Some(job) = self.under_way.late_confirmation() {
+            end_confirmation(&mut self.ports, &mut self.under_way, job);
+        }
+    }
+
     // Takes one event after its moment.
     fn handle(&mut self, event: &Event<'_>) -> Result<(), CoreMemory>
-        requires fits { Fits (happening event.now) self.old.state }
+        requires fits { StillFits (happening event.now) self.old.state }
         requires rest { IsAtRest self.old.state }
-        requires closes { self.old.closes ≡ [] }
 
         ensures handled { OnOk result
             (self.new ≡ after self.old.closes (handle (happening event.now) self.old.state)) }
@@ -131,8 +167,7 @@ impl Parts {
 
     // A client or a child process joins.
     fn join(&mut self, door: Door) -> Result<(), CoreMemory>
-        requires fits { Fits (Joined door) self.old.state }
-        requires closes { self.old.closes ≡ [] }
+        requires { StillFits (Joined door) self.old.state }
 
         ensures { OnOk result
             (self.new ≡ after self.old.closes (handle (Joined door) self.old.state)) }
@@ -144,9 +179,8 @@ impl Parts {
         self.ports.join(door, has_room)
     }
 
-    // A port sent more.
+    // A port sent more: nothing comes of it where its moment closed the port.
     fn hear(&mut self, port: u64, piece: &[u8]) -> Result<(), CoreMemory>
-        requires is_open { IsSome (find_port port self.old.state.ports) }
         requires rest { IsAtRest self.old.state }
 
         ensures { OnOk result
@@ -170,8 +204,8 @@ impl Parts {
                 port,
                 piece,
             ),
-            Some(Role::Helper) => hear_helper(&mut self.ports, &mut self.under_way, port, piece),
-            None => unreachable!(),
+            Some(Role::Helper) => hear_helper(&mut self.ports, &mut self.under_way, piece),
+            None => Ok(()),
         }
     }
 
@@ -187,9 +221,8 @@ impl Parts {
         self.look(port)
     }
 
-    // A port took some of what it is owed.
+    // A port took some of what it is owed, or all: nothing comes of it where its moment closed the port.
     fn send(&mut self, port: u64, count: usize) -> Result<(), CoreMemory>
-        requires fits { Fits (Took port count) self.old.state }
         requires rest { IsAtRest self.old.state }
 
         ensures { OnOk result
@@ -201,21 +234,23 @@ impl Parts {
                 self.look(port)
             }
             Some(Role::Helper) => {
+                let count = count.min(self.under_way.owed().len());
                 self.under_way.helper_took(count);
                 Ok(())
             }
             Some(Role::Confirmer) => {
+                let count = count.min(self.under_way.confirmer_owed(port).len());
                 self.under_way.confirmer_took(port, count);
                 Ok(())
             }
             // It is owed nothing.
-            Some(Role::Unnamed) | None => unreachable!(),
+            Some(Role::Unnamed) => Ok(()),
+            None => Ok(()),
         }
     }
 
-    // A port has ended.
+    // A port has ended: nothing comes of it where its moment closed the port.
     fn end(&mut self, port: u64)
-        requires is_open { IsSome (find_port port self.old.state.ports) }
         requires rest { IsAtRest self.old.state }
 
         ensures { self.new ≡ after self.old.closes (handle (Ended port) self.old.state) }
@@ -223,15 +258,15 @@ impl Parts {
         match role_at(&self.ports, &self.under_way, port) {
             Some(Role::Client) => lose_client(&mut self.ports, &mut self.under_way, port),
             Some(Role::Unnamed) => self.ports.close(port),
-            Some(Role::Helper) => lose_helper(&mut self.ports, &mut self.under_way, port),
+            Some(Role::Helper) => lose_helper(&mut self.ports, &mut self.under_way),
             Some(Role::Confirmer) => lose_confirmer(&mut self.ports, &mut self.under_way, port),
-            None => unreachable!(),
+            None => {}
         }
     }
 
     // A child process was started.
     fn start(&mut self, job: u64, ticket: [u8; 16])
-        requires fits { Fits (Started job ticket) self.old.state }
+        requires { StillFits (Started job ticket) self.old.state }
 
         ensures { self.new ≡ after self.old.closes (handle (Started job ticket) self.old.state) }
     {
@@ -240,14 +275,26 @@ impl Parts {
 
     // A child process could not be started.
     fn fail(&mut self, job: u64)
-        requires fits { Fits (StartFailed job) self.old.state }
+        requires fits { StillFits (StartFailed job) self.old.state }
         requires rest { IsAtRest self.old.state }
 
         ensures { self.new ≡ after self.old.closes (handle (StartFailed job) self.old.state) }
     {
         match self.under_way.job_failed(job) {
-            JobKind::Helper => lose_link(&mut self.ports, &mut self.under_way),
+            JobKind::Helper => self.lose_starting(job),
             JobKind::Confirm => end_if(&mut self.ports, &mut self.under_way, job),
+        }
+    }
+
+    // A helper is lost that was being started by this job.
+    fn lose_starting(&mut self, job: u64)
+        requires { IsBound self.old.state.ports self.old.state.under_way }
+
+        ensures { self.new ≡ after self.old.closes
+            (lose_where (is_started_by job self.old.state.under_way.link.state) self.old.state) }
+    {
+        if self.under_way.is_starting(job) {
+            lose_helper(&mut self.ports, &mut self.under_way);
         }
     }
 

@@ -13,19 +13,18 @@ ghost use Rattle.agent_model.specs.State.{Port, change_port, client_count, find_
 ghost use Rattle.agent_model.specs.Step.{admitted, attempts, take_frame, took_some, turned_away};
 ghost use Rattle.agent_model.specs.Verdicts.{Verdict, tell};
 ghost use Rattle.under_way.specs.Parts.{TellsOf};
-ghost use Rattle.lists.specs.Rising.{first_above, inserted};
+ghost use Rattle.lists.specs.Rising.{inserted};
 ghost use Rattle.agent_core.specs.Owing.{is_client_at};
 ghost use Rattle.agent_core.specs.Roles.{door_by};
 ghost use Rattle.confirm_desk.specs.Confirmations.{find_asker};
 ghost use Rattle.agent_core.specs.Served.{served_at};
 ghost use Rattle.agent_core.specs.Settlings.{IsProvable, IsShortAnswer, verdict_of};
-ghost use Rattle.agent_core.specs.Slots.{chain_of, heard_in, owed_in, owing_of, port_of};
+ghost use Rattle.agent_core.specs.Slots.{chain_of, first_above, heard_in, owed_in, owing_of, port_of};
 ghost use Rattle.under_way.specs.Verifications.{verification_of};
 
 use crate::keys::Keys;
-use crate::listed::{conclude_at, drop_sent_at, prove_at, serve_at, tell_at};
 use crate::owed::Owed;
-use crate::places::place_of;
+use crate::places::{next_owing, place_near};
 use crate::slot::{self, Slot};
 use crate::waits::Waits;
 use crate::{CoreMemory, counting};
@@ -41,8 +40,8 @@ use world_ports::Door;
 /// The open ports in the order of their numbers.
 pub struct Ports {
     slots: Vec<Slot>,
-    // The numbers of the clients that are owed bytes, rising.
-    owing: Vec<u64>,
+    // Where the port stands that sent or took last, which is looked at first.
+    near: usize,
     // Those that were closed since the event began, rising.
     closed: Vec<u64>,
     last: u64,
@@ -56,8 +55,7 @@ impl Model for Ports {
 
     ghost view = { λ p. record { ports = ports_of p.slots.items; last = p.last; closed = p.closed.items } };
 
-    ghost invariant = { λ p. IsKept p.slots.items p.owing.items p.closed.items
-        (vec_capacity p.owing) (vec_capacity p.closed) p.last };
+    ghost invariant = { λ p. IsKept p.slots.items p.closed.items (vec_capacity p.closed) p.last };
 }
 
 impl Ports {
@@ -66,7 +64,7 @@ impl Ports {
     {
         Ports {
             slots: Vec::new(alloc),
-            owing: Vec::new(alloc),
+            near: 0,
             closed: Vec::new(alloc),
             last: 0,
         }
@@ -160,7 +158,7 @@ impl Ports {
         ensures next { result ≡ first_above after (owing_of self.now.ports) }
         ensures rising { IsRising 0 self.now.last self.now.ports }
     {
-        lists::next_above(&self.owing, after)
+        next_owing(&self.slots, after)
     }
 
     /// An event begins: none was closed by it yet.
@@ -172,19 +170,18 @@ impl Ports {
 
     /// Lets a port join, where there is room for it. Its number is the next in either case.
     pub fn join(&mut self, door: Door, has_room: bool) -> Result<(), CoreMemory>
-        requires last { self.old.last < 2 ^ 64 - 1 }
-        requires some { has_room ≡ false → 0 < length self.old.ports }
-        requires closed { self.old.closed ≡ [] }
+        requires { self.old.last < 2 ^ 64 - 1 }
 
         ensures { OnOk result (self.new ≡ record {
           ports = admitted has_room (suc self.old.last) door self.old.ports;
           last = suc self.old.last;
-          closed = turned_away has_room (suc self.old.last);
+          closed = put_all self.old.closed (turned_away has_room (suc self.old.last));
         }) }
     {
         if has_room {
             self.admit(door)?;
         } else {
+            self.closed.reserve(self.slots.len() + 1)?;
             self.last += 1;
             lists::put_in(&mut self.closed, self.last);
         }
@@ -209,9 +206,10 @@ impl Ports {
           ports = change_port number (heard_more piece.now) self.old.ports;
         }) }
     {
-        let Some(place) = place_of(&self.slots, number) else {
+        let Some(place) = place_near(&self.slots, self.near, number) else {
             unreachable!()
         };
+        self.near = place;
         slot::push(&mut self.slots[place], piece)
     }
 
@@ -222,25 +220,25 @@ impl Ports {
         ensures ports { self.new ≡ record self.old { ports = change_port number unheard self.old.ports } }
         ensures heard { (port : Port) → find_port number self.old.ports ≡ Some port → result.live ≡ port.heard }
     {
-        let Some(place) = place_of(&self.slots, number) else {
+        let Some(place) = place_near(&self.slots, self.near, number) else {
             unreachable!()
         };
         slot::take_heard(&mut self.slots[place])
     }
 
-    /// Drops the first `count` bytes that an open port is owed.
+    /// Drops the first `count` bytes that an open port is owed: all where it is owed fewer.
     pub fn drop_sent(&mut self, number: u64, count: usize)
-        requires is_open { IsSome (find_port number self.old.ports) }
-        requires count { (port : Port) → find_port number self.old.ports ≡ Some port → count ≤ length port.owed }
+        requires { IsSome (find_port number self.old.ports) }
 
         ensures ports { self.new ≡ record self.old {
           ports = change_port number (took_some count) self.old.ports;
         } }
     {
-        let Some(place) = place_of(&self.slots, number) else {
+        let Some(place) = place_near(&self.slots, self.near, number) else {
             unreachable!()
         };
-        drop_sent_at(&mut self.slots[place], &mut self.owing, count);
+        self.near = place;
+        slot::drop_sent(&mut self.slots[place], count);
     }
 
     /// Takes the request with a body of this length, and owes its reply or lets the client wait.
@@ -266,17 +264,10 @@ impl Ports {
         ensures under_way { (port : Port) → find_port number self.old.ports ≡ Some port
             → OnOk result (under_way.new ≡ (served_at body_len wall port keys.old under_way.old).work.under_way) }
     {
-        let Some(place) = place_of(&self.slots, number) else {
+        let Some(place) = place_near(&self.slots, self.near, number) else {
             unreachable!()
         };
-        serve_at(
-            &mut self.slots[place],
-            &mut self.owing,
-            keys,
-            under_way,
-            wall,
-            body_len,
-        )
+        slot::serve(&mut self.slots[place], keys, under_way, wall, body_len)
     }
 
     /// Binds an asker's connection as it was verified, and tells the asker so: nobody's, where it has left.
@@ -287,8 +278,8 @@ impl Ports {
           ports = change_port number (prove (verification_of verification.now)) self.old.ports;
         }) }
     {
-        match place_of(&self.slots, number) {
-            Some(place) => prove_at(&mut self.slots[place], &mut self.owing, verification),
+        match place_near(&self.slots, self.near, number) {
+            Some(place) => slot::prove(&mut self.slots[place], verification),
             None => Ok(()),
         }
     }
@@ -301,8 +292,8 @@ impl Ports {
           ports = change_port number (tell (verdict_of answer.now)) self.old.ports;
         }) }
     {
-        match place_of(&self.slots, number) {
-            Some(place) => tell_at(&mut self.slots[place], &mut self.owing, answer),
+        match place_near(&self.slots, self.near, number) {
+            Some(place) => slot::tell(&mut self.slots[place], answer),
             None => Ok(()),
         }
     }
@@ -317,11 +308,10 @@ impl Ports {
         } }
         ensures rising { IsRising 0 self.old.last self.old.ports }
     {
-        let Some(place) = place_of(&self.slots, number) else {
+        let Some(place) = place_near(&self.slots, self.near, number) else {
             unreachable!()
         };
         self.slots.remove(place).close();
-        lists::take_out(&mut self.owing, number);
         lists::put_in(&mut self.closed, number);
     }
 }
@@ -332,7 +322,7 @@ impl Drop for Ports {
     {
         let Ports {
             mut slots,
-            owing: _,
+            near: _,
             closed: _,
             last: _,
         } = self;
@@ -348,13 +338,13 @@ impl Ports {
         ensures { MatchOption result (find_port number self.now.ports ≡ None)
             (λ slot. find_port number self.now.ports ≡ Some (port_of slot.now)) }
     {
-        match place_of(&self.slots, number) {
+        match place_near(&self.slots, self.near, number) {
             Some(place) => Some(&self.slots[place]),
             None => None,
         }
     }
 
-    // A port joins; room is taken to list it when it is owed bytes and when it is closed.
+    // A port joins; room is taken to list it when it is closed.
     fn admit(&mut self, door: Door) -> Result<(), CoreMemory>
         requires { self.old.last < 2 ^ 64 - 1 }
 
@@ -365,8 +355,7 @@ impl Ports {
     {
         let alloc = *self.slots.allocator();
         let owed = Owed::new(alloc)?;
-        self.owing.reserve(self.slots.len() + 1)?;
-        self.closed.reserve(self.slots.len() + 2)?;
+        self.closed.reserve(self.slots.len() + 1)?;
         let slot = Slot {
             number: self.last + 1,
             door,
@@ -405,8 +394,8 @@ impl Ports {
           ports = change_port number (tell verdict) self.old.ports;
         } }
     {
-        match place_of(&self.slots, number) {
-            Some(place) => conclude_at(&mut self.slots[place], &mut self.owing, asked),
+        match place_near(&self.slots, self.near, number) {
+            Some(place) => slot::conclude(&mut self.slots[place], asked),
             None => {}
         }
     }
@@ -429,7 +418,7 @@ impl Ports {
         ensures value { IsTrue result ↔ IsSome (find_port number self.now.ports) }
         ensures rising { IsRising 0 self.now.last self.now.ports }
     {
-        match place_of(&self.slots, number) {
+        match place_near(&self.slots, self.near, number) {
             Some(_) => true,
             None => false,
         }

@@ -74,14 +74,13 @@ pub fn push(slot: &mut Slot, piece: &[u8]) -> Result<(), CoreMemory>
     Ok(())
 }
 
-/// Drops the first `count` bytes that are owed.
+/// Drops the first `count` bytes that are owed: all where fewer are.
 pub fn drop_sent(slot: &mut Slot, count: usize)
-    requires { count ≤ length slot.old.owed }
     ensures port { port_of slot.new ≡ took_some count (port_of slot.old) }
     ensures number { slot.new.number ≡ slot.old.number }
     ensures door { slot.new.door ≡ slot.old.door }
 {
-    slot.owed.consume(count);
+    slot.owed.consume(count.min(slot.owed.bytes().len()));
 }
 
 /// What is to be taken of a client: nothing while it waits or bytes are owed.

@@ -18,9 +18,11 @@ use Rattle.agent_model.specs.Events.{Heard, Took}
 use Rattle.agent_model.specs.KeyStates.{KeyState}
 use Rattle.agent_model.specs.Looks.{due}
 use Rattle.agent_model.specs.State.{Nothing, OnAsk, OnConfirmation, Port, State, UnderWay, Waits, change_port, find_port}
-use Rattle.agent_model.specs.Step.{asker_at, at_moment, attempts, handle, heard_at, look_front, look_owed, look_port, look_waits, looked, step, take_frame, taken, took_at, took_some}
+use Rattle.agent_model.specs.Step.{asker_at, attempts, handle, heard_at, look_front, look_owed, look_port, look_waits, looked, step, take_frame, taken, took_at, took_some}
+use Rattle.agent_model.specs.Time.{at_moment}
 use Rattle.agent_model.specs.Verdicts.{Cause, Verdict, tell}
 use Rattle.agent_model.proofs.PortsLemmas.{find_port-change_port, found_number}
+use Rattle.agent_model.proofs.TimeLemmas.{at_moment-keeps}
 use Rattle.agent_laws.specs.Apart.{AreAlike, AreAlikeKeys, AreAlikePorts, Insiders, IsAlikeHeld, IsInside, IsOwnMatter, both, first_has, none, second_has}
 use Rattle.agent_laws.proofs.ApartKeyLemmas.{renumbered}
 use Rattle.agent_laws.proofs.ApartLemmas.{keeps-heard, keeps-took}
@@ -229,7 +231,10 @@ module _ (who : Insiders) where
 
   module _ (state : State) (moment : Moment) (same : at_moment moment state ≡ state) (alike : AreAlike who state state) (number : ℕ) (port : Port) (found : find_port number state.ports ≡ Some port) (client : port.door ≡ Clients) where
     now : state.moment.mono ≡ state.held.table.greatest
-    now = sym (ap (λ (s : State). s.moment.mono) same) ∙ ap (λ (s : State). s.held.table.greatest) same
+    now = sym (ap (λ (s : State). s.moment.mono) same) ∙ at_greatest ∙ ap (λ (s : State). s.held.table.greatest) same
+      where
+        at_greatest : (at_moment moment state).moment.mono ≡ (at_moment moment state).held.table.greatest
+        at_greatest = at_moment-keeps (λ s. s.moment.mono ≡ s.held.table.greatest) moment state (λ s is. is) (λ one s there is. is) refl
 
     pub heard-own : (piece : List ℕ) → IsInside who port (heard_more piece port) → AreAlike who state (step state moment (Heard number piece)).state
     heard-own piece inside =

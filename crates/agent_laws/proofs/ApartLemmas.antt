@@ -17,24 +17,25 @@ use Rattle.child_msg.specs.declared.fault.ChildFault.{ChildFault}
 use Rattle.confirm_desk.specs.Confirmations.{Confirmation, find_asker, find_job, find_linked, linked}
 use Rattle.agent_model.specs.Actions.{Outcome}
 use Rattle.agent_model.specs.Binds.{agent_request_of}
-use Rattle.agent_model.specs.Children.{confirmer_goes_on, confirmer_named, failed_by, failed_if, first_frame, first_message, heard_more, hello_by, helper_named, job_left, job_started, named_by, ticket_by, unheard}
+use Rattle.agent_model.specs.Children.{confirmer_goes_on, confirmer_named, failed_by, failed_if, first_frame, first_message, heard_more, hello_by, helper_named, is_started_by, job_left, job_started, named_by, ticket_by, unheard}
 use Rattle.agent_model.specs.Consents.{find_started, over_if}
 use Rattle.agent_model.specs.Dispatch.{serve}
 use Rattle.agent_model.specs.Events.{Happening, Timed, Joined, Heard, Ended, Took, Started, StartFailed, Tick}
 use Rattle.agent_model.specs.KeyStates.{KeyState}
 use Rattle.agent_model.specs.Looks.{due}
 use Rattle.agent_model.specs.Runs.{run}
-use Rattle.agent_model.specs.State.{Client, Confirmer, Helper, Nothing, OnAsk, OnConfirmation, Port, Role, StartedJob, State, UnderWay, Unnamed, Waits, change_port, find_port, find_to_start, first_state, new_port, owed_by, owed_of, role_of}
-use Rattle.agent_model.specs.Step.{admitted, asker_at, at_moment, attempts, ended_at, ended_by_role, handle, has_room, heard_at, heard_by_role, helper_took, join, look_front, look_owed, look_port, look_waits, looked, step, take_frame, taken, took_at, took_by_role, took_some}
+use Rattle.agent_model.specs.State.{Client, Confirmer, Helper, Nothing, OnAsk, OnConfirmation, Port, Role, Settings, StartedJob, State, UnderWay, Unnamed, Waits, change_port, find_port, find_to_start, first_state, new_port, owed_by, owed_of, role_of}
+use Rattle.agent_model.specs.Step.{admitted, asker_at, attempts, ended_at, ended_by_role, handle, has_room, heard_at, heard_by_role, helper_took, join, look_front, look_owed, look_port, look_waits, looked, step, take_frame, taken, took_at, took_by_role, took_some}
+use Rattle.agent_model.specs.Time.{at_moment, time_passes}
 use Rattle.agent_model.specs.Verdicts.{tell, verdict_text, verdict_waits}
 use Rattle.agent_model.proofs.MakeLemmas.{role-client, role-confirmer}
 use Rattle.agent_model.proofs.PortsLemmas.{find_port-change_port, found_number}
 use Rattle.agent_laws.specs.Apart.{AreAlike, AreAlikeOutcomes, AreAlikePorts, AreAlikeRuns, AreUnseen, Insiders, IsBlind, IsOutside, IsShared, SaysNoMore, aside_first, aside_second, none as no_keys_yet, over, shared}
-use Rattle.agent_laws.proofs.ApartKeyLemmas.{alive-alike, keys-in_turn, keys-turned}
+use Rattle.agent_laws.proofs.ApartKeyLemmas.{keys-in_turn, keys-turned}
 use Rattle.agent_laws.proofs.ApartPortLemmas.{FindsPorts, KeepsPlace, clients-alike, found, keeps-tell, neither, ports-changed, ports-found, ports-in_turn, ports-joined, ports-turned, unnamed-alike}
-use Rattle.agent_laws.proofs.ApartSideLemmas.{Same, Sides, alike-helper, alike-lose, alike-shut, alike-stay, other, sides-changed, sides-closed, sides-way}
+use Rattle.agent_laws.proofs.ApartSideLemmas.{Same, Sides, alike-helper, alike-lose, alike-shut, alike-stay, lost-alike, moment-alike, other, sides-changed, sides-closed, sides-way}
 use Rattle.agent_laws.proofs.ApartServeLemmas.{ServesAlike, serves-alike}
-use Rattle.agent_laws.proofs.KeyLemmas.{first-own, kept-opened}
+use Rattle.agent_laws.proofs.KeyLemmas.{first-own}
 
 module _ (who : Insiders) where
   -- ---- a client is looked at
@@ -251,7 +252,7 @@ module _ (who : Insiders) where
         (λ confirmation role. no_confirmer one.number confirmation (role-confirmer one.door one.number state.under_way confirmation role))))
 
     failed-kind : (kind : JobKind) (number : ℕ) → Does (failed_by kind number)
-    failed-kind kinds.Helper number = alike-lose sides
+    failed-kind kinds.Helper number = lost-alike who (is_started_by number state.under_way.link.state) sides
     failed-kind kinds.Confirm number = over_none (find_job number state.under_way.confirmations) (ap (find_job number) sides.calm) sides
 
     admitted-alike : (door : Door) (one two : Bool) → one ≡ two → AreAlikePorts who (admitted one (suc state.last_port) door state.ports) (admitted two (suc state.last_port) door q)
@@ -288,32 +289,19 @@ module _ (who : Insiders) where
 
   -- ---- a step
 
-  abbrev later_second : Moment → State → ℕ
-  later_second moment state = (at_moment moment state).moment.mono
-
-  sides-opened : (moment : Moment) {state : State} {q : List Port} {k : KeyState} → Sides who state q k → Sides who (at_moment moment state) q (at_moment moment (other state q k)).held
-  sides-opened moment {state = state} {q = q} {k = k} sides = record {
-    ports_are = sides.ports_are;
-    held_is = record {
-      lock = sides.held_is.lock;
-      first_own = (kept-opened moment state sides.held_is.first_own).own;
-      second_own = (kept-opened moment (other state q k) sides.held_is.second_own).own;
-      life = sides.held_is.life;
-      greatest = refl;
-      keys = alive-alike who (later_second moment state) sides.held_is.keys;
-    };
-    calm = sides.calm;
-  }
-
-  steps-so : (moment : Moment) (event : Happening) {state : State} {q : List Port} {k : KeyState} → Sides who state q k → IsShared who event (at_moment moment state) (at_moment moment (other state q k)) → Same who (step state moment event) (step (other state q k) moment event)
-  steps-so moment event sides tells =
-      let after = handles-alike event (sides-opened moment sides) tells in
-      record { state = after.state; put = after.put }
+  handles-so : (event : Happening) (one two : State) → AreAlike who one two → IsShared who event one two → Same who (handle event one) (handle event two)
+  handles-so event one two alike =
+      subst (λ (s : State). IsShared who event one s → Same who (handle event one) (handle event s)) (sym alike.rest)
+      (handles-alike event {state = one} {q = two.ports} {k = two.held} (record { ports_are = alike.ports; held_is = alike.held; calm = alike.calm }))
 
   pub steps-alike : (moment : Moment) (event : Happening) (one two : State) → AreAlike who one two → IsShared who event (at_moment moment one) (at_moment moment two) → AreAlikeOutcomes who (step one moment event) (step two moment event)
-  steps-alike moment event one two alike =
-      subst (λ (s : State). IsShared who event (at_moment moment one) (at_moment moment s) → AreAlikeOutcomes who (step one moment event) (step s moment event)) (sym alike.rest)
-      (λ tells. steps-so moment event {state = one} {q = two.ports} {k = two.held} (record { ports_are = alike.ports; held_is = alike.held; calm = alike.calm }) tells)
+  steps-alike moment event one two alike tells =
+      let before = moment-alike who moment one two alike in
+      let after = handles-so event (at_moment moment one) (at_moment moment two) before.state tells in
+      record {
+        state = after.state;
+        put = ap (λ put. put ++ (handle event (at_moment moment one)).put) before.put ∙ ap (λ put. (time_passes moment two).put ++ put) after.put;
+      }
 
   -- ---- runs
 
@@ -367,10 +355,10 @@ module _ (who : Insiders) where
   pub runs-owe : (one two : State) (ones twos : List Timed) (number : ℕ) → AreAlikeRuns who one ones two twos → AreAlike who one two → who.is_insider number ≡ false → owed_of number (run one ones) ≡ owed_of number (run two twos)
   runs-owe one two ones twos number runs alike outside = owed-alike_by number (run one ones) (run two twos) (runs-alike runs alike) outside
 
-pub first-alike : (who : Insiders) (life : Option ℕ) → AreAlike who (first_state life) (first_state life)
-first-alike who life = record {
+pub first-alike : (who : Insiders) (settings : Settings) → AreAlike who (first_state settings) (first_state settings)
+first-alike who settings = record {
   ports = tt;
-  held = record { lock = refl; first_own = first-own life; second_own = first-own life; life = refl; greatest = refl; keys = no_keys_yet };
+  held = record { lock = refl; first_own = first-own settings; second_own = first-own settings; life = refl; greatest = refl; keys = no_keys_yet };
   rest = refl;
   calm = refl;
 }

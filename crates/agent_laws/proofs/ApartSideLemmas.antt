@@ -1,18 +1,22 @@
 -- Lemmas on specs/Apart.antt: small changes, and what the helper says, leave states alike.
-use Rattle.std.proofs.Common.{◌≡◌, ℕ, List, [], ◌∷◌, ◌++◌, refl, ap, sym, subst, Option, Some, None}
+use Rattle.std.proofs.Common.{◌≡◌, ℕ, List, [], ◌∷◌, ◌++◌, refl, ap, sym, subst, ◌∙◌, Option, Some, None, Bool, true, false}
+use Rattle.world_ports.specs.declared.Moment.{Moment}
 use Rattle.helper_link.specs.Telling.{Telling, telling}
 use Rattle.helper_link.specs.HelperLink.{askers}
 use Rattle.helper_link.specs.declared.answer.Answer.{Answer}
 use Rattle.helper_link.specs.declared.answer.Answer.TheVariants as answer
 use Rattle.helper_link.specs.declared.answer.Settled.{Settled}
 use Rattle.helper_link.specs.declared.fault.LinkFault.{LinkFault}
-use Rattle.agent_model.specs.Actions.{Outcome, stay}
-use Rattle.agent_model.specs.Answers.{Answering, answer_all, answer_asker, answer_by, answer_true, answers_in, close_helper, find_verification, helper_heard, lose, lose_if, prove, remove_verification, with_answers}
+use Rattle.agent_model.specs.Actions.{Outcome, and_then, behind, stay}
+use Rattle.agent_model.specs.Answers.{Answering, answer_all, answer_asker, answer_by, answer_true, answers_in, close_helper, find_verification, helper_heard, lose, lose_if, lose_where, prove, remove_verification, with_answers}
 use Rattle.agent_model.specs.Children.{changed, closed, shut}
 use Rattle.agent_model.specs.KeyStates.{KeyState}
 use Rattle.agent_model.specs.State.{Port, State, UnderWay, Verification, change_port}
+use Rattle.agent_model.specs.Time.{all_over, end_late, is_helper_late, taken_in, time_passes}
 use Rattle.agent_model.specs.Verdicts.{HelperLost, HelperRefused, Refuses, Replies, Signature, SignatureWrong, Success, Verdict, tell}
 use Rattle.agent_laws.specs.Apart.{AreAlike, AreAlikeOutcomes, AreAlikePorts, Insiders, IsAlikeHeld}
+use Rattle.agent_laws.proofs.ApartKeyLemmas.{alive-alike}
+use Rattle.agent_laws.proofs.KeyLemmas.{kept-taken}
 use Rattle.agent_laws.proofs.ApartPortLemmas.{KeepsPlace, keeps-tell, ports-changed, ports-helper_closed, ports-removed, ports-told}
 
 -- the same state with other ports and other keys
@@ -141,3 +145,42 @@ module _ {who : Insiders} {state : State} {q : List Port} {k : KeyState} (sides 
       let told = telling piece state.under_way.link in
       let after = alike-told told told.fault in
       record { state = after.state; put = ap (λ (l : List _). [] ++ l) after.put }
+
+-- ---- a moment
+
+-- nothing is to be confirmed, so that nobody is late to confirm
+none_late : (state : State) → state.under_way.confirmations ≡ [] → end_late state ≡ stay state
+none_late state calm = ap (λ all. all_over all state) calm
+
+module _ (who : Insiders) where
+  sides-taken : (moment : Moment) {state : State} {q : List Port} {k : KeyState} → Sides who state q k → Sides who (taken_in moment state) q (taken_in moment (other state q k)).held
+  sides-taken moment {state = state} {q = q} {k = k} sides = record {
+    ports_are = sides.ports_are;
+    held_is = record {
+      lock = sides.held_is.lock;
+      first_own = (kept-taken moment state sides.held_is.first_own).own;
+      second_own = (kept-taken moment (other state q k) sides.held_is.second_own).own;
+      life = sides.held_is.life;
+      greatest = refl;
+      keys = alive-alike who (taken_in moment state).moment.mono sides.held_is.keys;
+    };
+    calm = sides.calm;
+  }
+
+  pub lost-alike : (is : Bool) {state : State} {q : List Port} {k : KeyState} → Sides who state q k → Same who (lose_where is state) (lose_where is (other state q k))
+  lost-alike true sides = alike-lose sides
+  lost-alike false sides = alike-stay sides
+
+  ended-alike : (one two : Outcome) → Same who one two → Same who (and_then one end_late) (and_then two end_late)
+  ended-alike one two alike =
+      subst (λ o. Same who o (and_then two end_late)) (sym (ap (behind one) (none_late one.state alike.state.calm)))
+      (subst (Same who (behind one (stay one.state))) (sym (ap (behind two) (none_late two.state (ap (λ (s : State). s.under_way.confirmations) alike.state.rest ∙ alike.state.calm))))
+      record { state = alike.state; put = ap (λ put. put ++ []) alike.put })
+
+  moment-sides : (moment : Moment) {state : State} {q : List Port} {k : KeyState} → Sides who state q k → Same who (time_passes moment state) (time_passes moment (other state q k))
+  moment-sides moment {state = state} sides = ended-alike _ _ (lost-alike (is_helper_late (taken_in moment state).under_way) (sides-taken moment sides))
+
+  pub moment-alike : (moment : Moment) (one two : State) → AreAlike who one two → Same who (time_passes moment one) (time_passes moment two)
+  moment-alike moment one two alike =
+      subst (λ (s : State). Same who (time_passes moment one) (time_passes moment s)) (sym alike.rest)
+      (moment-sides moment {state = one} {q = two.ports} {k = two.held} (record { ports_are = alike.ports; held_is = alike.held; calm = alike.calm }))

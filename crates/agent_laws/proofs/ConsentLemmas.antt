@@ -7,7 +7,7 @@ use Rattle.agent_model.specs.Actions.{Action, Answered, Asked, Granted, Lost, Ov
 use Rattle.agent_model.specs.Binds.{agent_request_of}
 use Rattle.agent_model.specs.Events.{Timed}
 use Rattle.agent_model.specs.Runs.{Stamped, run}
-use Rattle.agent_model.specs.State.{first_state}
+use Rattle.agent_model.specs.State.{Settings, first_state}
 use Rattle.agent_laws.specs.Dues.{Claim, claim_of, claim_of_raising, claim_of_request, is_consented, raised_at}
 use Rattle.agent_laws.specs.History.{HasNumbers, IsConsented, IsPutBehind, onto}
 use Rattle.agent_laws.specs.Past.{PastAddition, last_addition}
@@ -69,9 +69,9 @@ consents (Granted job) rest claim added claims consented confirm = by_raised job
 consents (Over job) rest claim added claims consented confirm = absurd (cc)
 consents Lost rest claim added claims consented confirm = absurd (cc)
 
-pub put-consented : (before : List Stamped) (port : ℕ) (signing : Signing) (life : Option ℕ) (events : List Timed) (past : PastAddition) → HasNumbers (run (first_state life) events) → IsPutBehind before port signing life events → last_addition signing.blob (onto [] before) ≡ Some past → past.addition.terms.confirm ≡ true → IsConsented (onto [] before) port past.number signing
-put-consented before port signing life events past numbers put last confirm =
-    let by = claimed before port signing life events numbers put in
+pub put-consented : (before : List Stamped) (port : ℕ) (signing : Signing) (settings : Settings) (events : List Timed) (past : PastAddition) → HasNumbers (run (first_state settings) events) → IsPutBehind before port signing settings events → last_addition signing.blob (onto [] before) ≡ Some past → past.addition.terms.confirm ≡ true → IsConsented (onto [] before) port past.number signing
+put-consented before port signing settings events past numbers put last confirm =
+    let by = claimed before port signing settings events numbers put in
     let same : Some by.met.added ≡ Some past = sym by.met.last ∙ ap (λ (s : Signing). last_addition s.blob (onto [] before)) by.what ∙ last in
     let added : by.met.added ≡ past = cc in
     let consent = consents by.met.newest.action by.met.rest by.claim by.met.added by.met.claims by.met.consented (ap (λ (p : PastAddition). p.addition.terms.confirm) added ∙ confirm) in

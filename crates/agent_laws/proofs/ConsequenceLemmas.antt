@@ -9,7 +9,7 @@ use Rattle.dest_rule.specs.Rules.{denial_under}
 use Rattle.agent_model.specs.Actions.{Action}
 use Rattle.agent_model.specs.Events.{Timed}
 use Rattle.agent_model.specs.Runs.{Stamped, run}
-use Rattle.agent_model.specs.State.{first_state}
+use Rattle.agent_model.specs.State.{Settings, first_state}
 use Rattle.agent_laws.specs.Dues.{Claim, claim_of, due_signing, is_consented, is_met, is_permitted, met_by, open_asks, proved_of}
 use Rattle.agent_laws.specs.History.{HasNumbers, IsDue, IsLawful, IsPutBehind, NoneAdds, NoneUnlocks, Removes, StandsAt, onto}
 use Rattle.agent_laws.specs.Past.{DidAdd, DidLock, DidNothing, DidRemove, DidRemoveAll, DidUnlock, DidUse, Done, PastAddition, added_by, done_of, has_uses, held_by, is_alive, last_addition, locked_by, used_again, was_locked}
@@ -98,13 +98,13 @@ claimed_by : (life : Option ℕ) (before : List Stamped) (port : ℕ) (signing :
 claimed_by life before port signing None is some = absurd some
 claimed_by life before port signing (Some claim) is some = record { claim = claim; met = due-met life (onto [] before) claim is; asker = some.0; what = some.1 }
 
-pub claimed : (before : List Stamped) (port : ℕ) (signing : Signing) (life : Option ℕ) (events : List Timed) → HasNumbers (run (first_state life) events) → IsPutBehind before port signing life events → IsClaimed life before port signing
-claimed before port signing life events numbers put =
-    let lawful = subst (IsLawful life []) put.is (first-lawful life events numbers) in
-    let stands = subst (λ action. StandsAt action (due_signing life (onto [] before))) put.action (lawful-at life [] before put.one put.later lawful) in
-    let due = subst (λ purpose. IsDue purpose put.asking.port (due_signing life (onto [] before))) put.purpose stands in
-    claimed_by life before port signing (due_signing life (onto [] before)) refl
-    (subst (λ n. IsSomeAnd (due_signing life (onto [] before)) (λ claim. (claim.port ≡ n) × (claim.signing ≡ signing))) put.asker due)
+pub claimed : (before : List Stamped) (port : ℕ) (signing : Signing) (settings : Settings) (events : List Timed) → HasNumbers (run (first_state settings) events) → IsPutBehind before port signing settings events → IsClaimed settings.life before port signing
+claimed before port signing settings events numbers put =
+    let lawful = subst (IsLawful settings.life []) put.is (first-lawful settings events numbers) in
+    let stands = subst (λ action. StandsAt action (due_signing settings.life (onto [] before))) put.action (lawful-at settings.life [] before put.one put.later lawful) in
+    let due = subst (λ purpose. IsDue purpose put.asking.port (due_signing settings.life (onto [] before))) put.purpose stands in
+    claimed_by settings.life before port signing (due_signing settings.life (onto [] before)) refl
+    (subst (λ n. IsSomeAnd (due_signing settings.life (onto [] before)) (λ claim. (claim.port ≡ n) × (claim.signing ≡ signing))) put.asker due)
 
 -- ---- the lock
 
@@ -122,21 +122,21 @@ stays_locked past [] locked none = locked
 stays_locked past (one ∷ between) locked none =
     stays_locked (one ∷ past) between (ap (locked_by (done_of one.action)) locked ∙ locked-on (done_of one.action) none.0) none.1
 
-pub put-unlocked : (before : List Stamped) (port : ℕ) (signing : Signing) (life : Option ℕ) (events : List Timed) → HasNumbers (run (first_state life) events) → IsPutBehind before port signing life events → was_locked (onto [] before) ≡ false
-put-unlocked before port signing life events numbers put = (claimed before port signing life events numbers put).met.unlocked
+pub put-unlocked : (before : List Stamped) (port : ℕ) (signing : Signing) (settings : Settings) (events : List Timed) → HasNumbers (run (first_state settings) events) → IsPutBehind before port signing settings events → was_locked (onto [] before) ≡ false
+put-unlocked before port signing settings events numbers put = (claimed before port signing settings events numbers put).met.unlocked
 
-pub locked-none : (before between : List Stamped) (lock : Stamped) (port : ℕ) (signing : Signing) (life : Option ℕ) (events : List Timed) → HasNumbers (run (first_state life) events) → done_of lock.action ≡ DidLock → NoneUnlocks between → IsPutBehind (before ++ lock ∷ between) port signing life events → ⊥
-locked-none before between lock port signing life events numbers did none put =
+pub locked-none : (before between : List Stamped) (lock : Stamped) (port : ℕ) (signing : Signing) (settings : Settings) (events : List Timed) → HasNumbers (run (first_state settings) events) → done_of lock.action ≡ DidLock → NoneUnlocks between → IsPutBehind (before ++ lock ∷ between) port signing settings events → ⊥
+locked-none before between lock port signing settings events numbers did none put =
     let locked : was_locked (onto [] (before ++ lock ∷ between)) ≡ true =
     ap was_locked (onto-append [] before (lock ∷ between)) ∙ stays_locked (lock ∷ onto [] before) between (ap (λ done. locked_by done (was_locked (onto [] before))) did) none in
-    let unlocked = put-unlocked (before ++ lock ∷ between) port signing life events numbers put in
+    let unlocked = put-unlocked (before ++ lock ∷ between) port signing settings events numbers put in
     absurd (cc)
 
 -- ---- additions
 
-pub put-added : (before : List Stamped) (port : ℕ) (signing : Signing) (life : Option ℕ) (events : List Timed) → HasNumbers (run (first_state life) events) → IsPutBehind before port signing life events → (past : PastAddition) × (last_addition signing.blob (onto [] before) ≡ Some past)
-put-added before port signing life events numbers put =
-    let is = claimed before port signing life events numbers put in
+pub put-added : (before : List Stamped) (port : ℕ) (signing : Signing) (settings : Settings) (events : List Timed) → HasNumbers (run (first_state settings) events) → IsPutBehind before port signing settings events → (past : PastAddition) × (last_addition signing.blob (onto [] before) ≡ Some past)
+put-added before port signing settings events numbers put =
+    let is = claimed before port signing settings events numbers put in
     (is.met.added, ap (λ (s : Signing). last_addition s.blob (onto [] before)) (sym is.what) ∙ is.met.last)
 
 pub added-none : (done : Done) (blob : List ℕ) (second number : ℕ) → ((addition : Addition) → done ≡ DidAdd addition → addition.key.blob ≢ blob) → added_by done blob second number None ≡ None
@@ -165,14 +165,14 @@ stays_away blob past [] none adds = none
 stays_away blob past (one ∷ between) none adds =
     stays_away blob (one ∷ past) between (ap (added_by (done_of one.action) blob one.moment.mono _) none ∙ added-none (done_of one.action) blob one.moment.mono _ adds.0) adds.1
 
-away-none : (before : List Stamped) (port : ℕ) (signing : Signing) (life : Option ℕ) (events : List Timed) → HasNumbers (run (first_state life) events) → last_addition signing.blob (onto [] before) ≡ None → IsPutBehind before port signing life events → ⊥
-away-none before port signing life events numbers none put =
-    let added = put-added before port signing life events numbers put in
+away-none : (before : List Stamped) (port : ℕ) (signing : Signing) (settings : Settings) (events : List Timed) → HasNumbers (run (first_state settings) events) → last_addition signing.blob (onto [] before) ≡ None → IsPutBehind before port signing settings events → ⊥
+away-none before port signing settings events numbers none put =
+    let added = put-added before port signing settings events numbers put in
     let clash : None ≡ Some added.0 = sym none ∙ added.1 in
     absurd (cc)
 
-pub never-none : (before : List Stamped) (port : ℕ) (signing : Signing) (life : Option ℕ) (events : List Timed) → HasNumbers (run (first_state life) events) → NoneAdds signing.blob before → IsPutBehind before port signing life events → ⊥
-never-none before port signing life events numbers adds put = away-none before port signing life events numbers (stays_away signing.blob [] before refl adds) put
+pub never-none : (before : List Stamped) (port : ℕ) (signing : Signing) (settings : Settings) (events : List Timed) → HasNumbers (run (first_state settings) events) → NoneAdds signing.blob before → IsPutBehind before port signing settings events → ⊥
+never-none before port signing settings events numbers adds put = away-none before port signing settings events numbers (stays_away signing.blob [] before refl adds) put
 
 removed_then : (blob : List ℕ) (action : Action) (second number : ℕ) (last : Option PastAddition) → Removes blob action → added_by (done_of action) blob second number last ≡ None
 removed_then blob action second number last (inl is) =
@@ -180,18 +180,18 @@ removed_then blob action second number last (inl is) =
     ap (λ done. added_by done blob second number last) is ∙ ap (λ b. cond b None last) same
 removed_then blob action second number last (inr is) = ap (λ done. added_by done blob second number last) is
 
-pub removed-none : (before between : List Stamped) (removal : Stamped) (port : ℕ) (signing : Signing) (life : Option ℕ) (events : List Timed) → HasNumbers (run (first_state life) events) → Removes signing.blob removal.action → NoneAdds signing.blob between → IsPutBehind (before ++ removal ∷ between) port signing life events → ⊥
-removed-none before between removal port signing life events numbers removes adds put =
-    away-none (before ++ removal ∷ between) port signing life events numbers
+pub removed-none : (before between : List Stamped) (removal : Stamped) (port : ℕ) (signing : Signing) (settings : Settings) (events : List Timed) → HasNumbers (run (first_state settings) events) → Removes signing.blob removal.action → NoneAdds signing.blob between → IsPutBehind (before ++ removal ∷ between) port signing settings events → ⊥
+removed-none before between removal port signing settings events numbers removes adds put =
+    away-none (before ++ removal ∷ between) port signing settings events numbers
     (ap (last_addition signing.blob) (onto-append [] before (removal ∷ between))
     ∙ stays_away signing.blob (removal ∷ onto [] before) between (removed_then signing.blob removal.action removal.moment.mono _ _ removes) adds)
     put
 
 -- ---- destination constraints, and open asks
 
-pub put-permitted : (before rest : List Stamped) (newest : Stamped) (port : ℕ) (signing : Signing) (life : Option ℕ) (events : List Timed) (past : PastAddition) → HasNumbers (run (first_state life) events) → IsPutBehind before port signing life events → onto [] before ≡ newest ∷ rest → last_addition signing.blob (onto [] before) ≡ Some past → denial_under past.addition.terms.rules signing.blob (proved_of port (onto [] before)) signing.message newest.moment.wall ≡ None
-put-permitted before rest newest port signing life events past numbers put is last =
-    let by = claimed before port signing life events numbers put in
+pub put-permitted : (before rest : List Stamped) (newest : Stamped) (port : ℕ) (signing : Signing) (settings : Settings) (events : List Timed) (past : PastAddition) → HasNumbers (run (first_state settings) events) → IsPutBehind before port signing settings events → onto [] before ≡ newest ∷ rest → last_addition signing.blob (onto [] before) ≡ Some past → denial_under past.addition.terms.rules signing.blob (proved_of port (onto [] before)) signing.message newest.moment.wall ≡ None
+put-permitted before rest newest port signing settings events past numbers put is last =
+    let by = claimed before port signing settings events numbers put in
     let same : Some by.met.added ≡ Some past = sym by.met.last ∙ ap (λ (s : Signing). last_addition s.blob (onto [] before)) by.what ∙ last in
     let added : by.met.added ≡ past = cc in
     let lists : by.met.newest ∷ by.met.rest ≡ newest ∷ rest = sym by.met.is ∙ is in
@@ -202,5 +202,5 @@ put-permitted before rest newest port signing life events past numbers put is la
     ∙ ap (λ (n : Stamped). denial_under by.met.added.addition.terms.rules by.claim.signing.blob (proved_of by.claim.port (onto [] before)) by.claim.signing.message n.moment.wall) (sym first)
     ∙ by.met.permitted
 
-pub put-few : (before : List Stamped) (port : ℕ) (signing : Signing) (life : Option ℕ) (events : List Timed) → HasNumbers (run (first_state life) events) → IsPutBehind before port signing life events → length (open_asks (onto [] before)) < 256
-put-few before port signing life events numbers put = (claimed before port signing life events numbers put).met.few
+pub put-few : (before : List Stamped) (port : ℕ) (signing : Signing) (settings : Settings) (events : List Timed) → HasNumbers (run (first_state settings) events) → IsPutBehind before port signing settings events → length (open_asks (onto [] before)) < 256
+put-few before port signing settings events numbers put = (claimed before port signing settings events numbers put).met.few

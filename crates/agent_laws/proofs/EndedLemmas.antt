@@ -9,7 +9,7 @@ use Rattle.agent_model.specs.Events.{Timed}
 use Rattle.agent_model.specs.Fates.{actions_of}
 use Rattle.agent_model.specs.Grants.{IsAmong}
 use Rattle.agent_model.specs.Runs.{run}
-use Rattle.agent_model.specs.State.{UnderWay, first_state}
+use Rattle.agent_model.specs.State.{Settings, UnderWay, first_state}
 use Rattle.agent_model.proofs.FatedLemmas.{first-tied}
 use Rattle.agent_laws.specs.Grants.{ends_by, times_ended, wanted_of}
 use Rattle.agent_laws.proofs.TraceLemmas.{endable, endable_most, noted_by, run-ended}
@@ -43,12 +43,12 @@ ends_by-own job =
     let one = ap (λ (b : Bool). if b then 1 else 0) test in
     (one, one)
 
-ended-by : (life : Option ℕ) (events : List Timed) (job : ℕ) → 1 ≤ times_ended job (actions_of (first_state life) events) → find_job job (run (first_state life) events).under_way.confirmations ≡ None
-ended-by life events job some =
-    none_left job (run (first_state life) events).under_way
-    (omega (arith, some, run-ended job (first_state life) events (first-tied life), endable_most job (first_state life).under_way))
+ended-by : (settings : Settings) (events : List Timed) (job : ℕ) → 1 ≤ times_ended job (actions_of (first_state settings) events) → find_job job (run (first_state settings) events).under_way.confirmations ≡ None
+ended-by settings events job some =
+    none_left job (run (first_state settings) events).under_way
+    (omega (arith, some, run-ended job (first_state settings) events (first-tied settings), endable_most job (first_state settings).under_way))
 
-pub first-ended : (life : Option ℕ) (events : List Timed) (job : ℕ) → IsAmong (Granted job) (actions_of (first_state life) events) ⊎ IsAmong (Over job) (actions_of (first_state life) events)
-    → find_job job (run (first_state life) events).under_way.confirmations ≡ None
-first-ended life events job (inl granted) = ended-by life events job (counted job (Granted job) (actions_of (first_state life) events) (ends_by-own job).0 granted)
-first-ended life events job (inr over) = ended-by life events job (counted job (Over job) (actions_of (first_state life) events) (ends_by-own job).1 over)
+pub first-ended : (settings : Settings) (events : List Timed) (job : ℕ) → IsAmong (Granted job) (actions_of (first_state settings) events) ⊎ IsAmong (Over job) (actions_of (first_state settings) events)
+    → find_job job (run (first_state settings) events).under_way.confirmations ≡ None
+first-ended settings events job (inl granted) = ended-by settings events job (counted job (Granted job) (actions_of (first_state settings) events) (ends_by-own job).0 granted)
+first-ended settings events job (inr over) = ended-by settings events job (counted job (Over job) (actions_of (first_state settings) events) (ends_by-own job).1 over)

@@ -10,7 +10,7 @@ use Rattle.dest_rule.specs.declared.binding.Binding.{Binding}
 use Rattle.dest_rule.proofs.LawLemmas.{every_hop, origin_alone, signed_is_newest, unbound_is_denied}
 use Rattle.agent_model.specs.Events.{Timed}
 use Rattle.agent_model.specs.Runs.{Stamped, run}
-use Rattle.agent_model.specs.State.{first_state}
+use Rattle.agent_model.specs.State.{Settings, first_state}
 use Rattle.agent_laws.specs.Dues.{proved_of}
 use Rattle.agent_laws.specs.History.{HasNumbers, IsLoginTo, IsPutBehind, onto}
 use Rattle.agent_laws.specs.Past.{PastAddition, last_addition}
@@ -61,8 +61,8 @@ one_host rule (first ∷ next ∷ later) signing wall keys none =
     let is = is_login rule signing.blob signing.message wall first (next ∷ later) none in
     absurd (origin_alone rule (Some is.login.user) wall first next later keys is.good)
 
-pub put-to_host : (before rest : List Stamped) (newest : Stamped) (port : ℕ) (signing : Signing) (life : Option ℕ) (events : List Timed) (past : PastAddition) (rule : Constraint) → HasNumbers (run (first_state life) events) → IsPutBehind before port signing life events → onto [] before ≡ newest ∷ rest → last_addition signing.blob (onto [] before) ≡ Some past → past.addition.terms.rules ≡ rule ∷ [] → rule.from.keys ≡ [] → IsLoginTo rule (proved_of port (onto [] before)) signing newest.moment.wall
-put-to_host before rest newest port signing life events past rule numbers put is last rules keys =
+pub put-to_host : (before rest : List Stamped) (newest : Stamped) (port : ℕ) (signing : Signing) (settings : Settings) (events : List Timed) (past : PastAddition) (rule : Constraint) → HasNumbers (run (first_state settings) events) → IsPutBehind before port signing settings events → onto [] before ≡ newest ∷ rest → last_addition signing.blob (onto [] before) ≡ Some past → past.addition.terms.rules ≡ rule ∷ [] → rule.from.keys ≡ [] → IsLoginTo rule (proved_of port (onto [] before)) signing newest.moment.wall
+put-to_host before rest newest port signing settings events past rule numbers put is last rules keys =
     one_host rule (proved_of port (onto [] before)) signing newest.moment.wall keys
     (ap (λ all. denial_under all signing.blob (proved_of port (onto [] before)) signing.message newest.moment.wall) (sym rules)
-    ∙ put-permitted before rest newest port signing life events past numbers put is last)
+    ∙ put-permitted before rest newest port signing settings events past numbers put is last)

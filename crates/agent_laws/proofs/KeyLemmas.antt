@@ -22,9 +22,11 @@ use Rattle.agent_model.specs.Events.{Happening, Timed}
 use Rattle.agent_laws.specs.Grants.{HaveOwnParts, WasHeld}
 use Rattle.agent_model.specs.KeyStates.{KeyState, after_use}
 use Rattle.agent_model.specs.Runs.{run}
-use Rattle.agent_model.specs.State.{State, UnderWay, first_state}
-use Rattle.agent_model.specs.Step.{asker_at, at_moment, handle, step}
+use Rattle.agent_model.specs.State.{Settings, State, UnderWay, first_state}
+use Rattle.agent_model.specs.Step.{asker_at, handle, step}
+use Rattle.agent_model.specs.Time.{at_moment, taken_in}
 use Rattle.agent_model.proofs.MakeLemmas.{Makes, alters, by_event, closes, first, goes_on, grants, links, loses, names, overs, serves, stays, tells}
+use Rattle.agent_model.proofs.TimeLemmas.{at_moment-keeps}
 use Rattle.agent_laws.proofs.UseLemmas.{own_blobs-used, own_numbers-used, used_in_turn, was_held, was_held-used}
 use Rattle.agent_model.proofs.ServeLemmas.{Serves, adds, confirms, denies, empties, lists, locks, removes, serves-any, signs, unlocks, verifies}
 
@@ -156,8 +158,13 @@ kept-makes (overs confirmation state there) own = kept-same state.held.table own
 kept-makes (grants confirmation port state there opened) own = kept-used (grant_work port.chain confirmation state).used state.held own
 
 -- as the moment is taken in
+pub kept-taken : (moment : Moment) (state : State) → HaveOwnParts state.held.table → KeysKept state.held.table (taken_in moment state).held.table
+kept-taken moment state own = kept-alive (max state.moment.mono moment.mono) state.held.table own
+
 pub kept-opened : (moment : Moment) (state : State) → HaveOwnParts state.held.table → KeysKept state.held.table (at_moment moment state).held.table
-kept-opened moment state own = kept-alive (max state.moment.mono moment.mono) state.held.table own
+kept-opened moment state own =
+    at_moment-keeps (λ s. KeysKept state.held.table s.held.table) moment state (λ s kept. kept) (λ one s there kept. kept)
+    (kept-taken moment state own)
 
 -- by what the event makes
 pub kept-event : (event : Happening) (state : State) → HaveOwnParts state.held.table → KeysKept state.held.table (handle event state).state.held.table
@@ -178,8 +185,8 @@ run-kept state (timed ∷ later) own =
     let now = step-kept state timed.moment timed.event own in
     kept-in_turn now (run-kept (step state timed.moment timed.event).state later now.own)
 
-pub first-own : (life : Option ℕ) → HaveOwnParts (first_state life).held.table
-first-own life = own_none 0 0 life
+pub first-own : (settings : Settings) → HaveOwnParts (first_state settings).held.table
+first-own settings = own_none 0 0 settings.life
 
 -- a number that finds nothing never will
 pub never_again : (number : ℕ) (old new : TableState) → KeysKept old new → number ≤ old.last → find_number number old.identities ≡ None → find_number number new.identities ≡ None

@@ -1,3 +1,5 @@
+pub mod MomentLemmas
+pub mod PendingLemmas
 pub mod UsableLemmas
 pub mod UseLemmas
 pub mod KeyLemmas

@@ -39,12 +39,12 @@ numbers-removed number (one ∷ pending) = by_test (one.number == number) (numbe
     by_test false rest = ap (λ numbers. one.number ∷ numbers) rest
 
 -- more is done, and agrees
-agrees-more : {N : Type 0} (life : Option ℕ) (moment : Moment) (past : List Stamped) (some more : List Action) (held : KeyState) (pending : List Ask) (confirmations : List Confirmation) → Agrees N life moment.mono (onto (onto past (stamps moment some)) (stamps moment more)) held pending confirmations → Agrees N life moment.mono (onto past (stamps moment (some ++ more))) held pending confirmations
+pub agrees-more : {N : Type 0} (life : Option ℕ) (moment : Moment) (past : List Stamped) (some more : List Action) (held : KeyState) (pending : List Ask) (confirmations : List Confirmation) → Agrees N life moment.mono (onto (onto past (stamps moment some)) (stamps moment more)) held pending confirmations → Agrees N life moment.mono (onto past (stamps moment (some ++ more))) held pending confirmations
 agrees-more {N = N} life moment past some more held pending confirmations agrees =
     subst (λ whole. Agrees N life moment.mono whole held pending confirmations)
     (sym (ap (onto past) (stamps-append moment some more) ∙ onto-append past (stamps moment some) (stamps moment more))) agrees
 
-lawful-more : (N : Type 0) (life : Option ℕ) (moment : Moment) (past : List Stamped) (some more : List Action) → LawfulIf N life past (stamps moment some) → LawfulIf N life (onto past (stamps moment some)) (stamps moment more) → LawfulIf N life past (stamps moment (some ++ more))
+pub lawful-more : (N : Type 0) (life : Option ℕ) (moment : Moment) (past : List Stamped) (some more : List Action) → LawfulIf N life past (stamps moment some) → LawfulIf N life (onto past (stamps moment some)) (stamps moment more) → LawfulIf N life past (stamps moment (some ++ more))
 lawful-more N life moment past some more first_is later_is =
     subst (LawfulIf N life past) (sym (stamps-append moment some more)) (lawful-append N life past (stamps moment some) (stamps moment more) first_is later_is)
 

@@ -20,18 +20,19 @@ use Rattle.helper_link.specs.declared.ask.AskKind.{AskKind}
 use Rattle.helper_link.specs.declared.fault.LinkFault.{LinkFault}
 use Rattle.helper_link.proofs.AnswerLemmas.{settling_leads}
 use Rattle.helper_link.proofs.OrderLemmas.{find-push, remove_rises}
-use Rattle.agent_model.specs.Actions.{Action, Answered, Asked, ForBinding, Lost, Outcome, Proved, Proving, Purpose, Work, acted, and_then}
+use Rattle.agent_model.specs.Actions.{Action, Answered, Asked, ForBinding, Lost, Outcome, Proved, Proving, Purpose, Work, acted, and_then, behind}
 use Rattle.agent_model.specs.Answers.{Answering, answer_all, answer_asker, answer_by, answer_true, find_verification, lose_if, proved_at, remove_verification, with_answers}
 use Rattle.agent_model.specs.Children.{changed}
 use Rattle.agent_model.specs.Consents.{grant_concluded, signing_of, without_confirmation}
 use Rattle.agent_model.specs.Dispatch.{Served}
 use Rattle.agent_model.specs.Errands.{Errand, Signs, Verifies, asking_of, binding_of, kind_of, noted_verification, purpose_of}
-use Rattle.agent_model.specs.Events.{Happening, Timed}
+use Rattle.agent_model.specs.Events.{Happening, Tick, Timed}
 use Rattle.agent_model.specs.Fates.{actions_of}
 use Rattle.agent_model.specs.Grants.{IsAmong}
 use Rattle.agent_model.specs.Sound.{IsJudged, IsTied}
-use Rattle.agent_model.specs.State.{Port, State, Verification, find_port, first_state}
-use Rattle.agent_model.specs.Step.{asker_at, at_moment, attempts, concluded, join, step, take_frame}
+use Rattle.agent_model.specs.State.{Port, Settings, State, Verification, find_port, first_state}
+use Rattle.agent_model.specs.Step.{asker_at, attempts, concluded, handle, join, step, take_frame}
+use Rattle.agent_model.specs.Time.{at_moment, time_passes}
 use Rattle.agent_model.specs.Verdicts.{HelperRefused, Refuses, Replies, Signature, SignatureWrong, Success, Verdict}
 use Rattle.agent_model.proofs.BindLemmas.{AreGiven}
 use Rattle.agent_model.proofs.FatedLemmas.{first-tied, step-fated, tied-opened}
@@ -43,18 +44,11 @@ use Rattle.agent_model.proofs.MakeLemmas.{Makes, by_event, first, grants, loses,
 use Rattle.agent_model.proofs.PortsLemmas.{found_number}
 use Rattle.agent_model.proofs.ServeLemmas.{IsServed, answered, asked, raised, refused, serve-ends}
 use Rattle.agent_model.proofs.TiedLemmas.{tied-quiet}
+use Rattle.agent_laws.proofs.MomentLemmas.{judged-brings, judged-moment}
+use Rattle.agent_laws.proofs.PendingLemmas.{among-back, among-front}
 use Rattle.agent_laws.specs.Proven.{AnswerTheirAsks, AnswersItsAsk, IsRightAnswer}
 
 -- ---- actions behind actions
-
-among-front : (action : Action) (some more : List Action) → IsAmong action some → IsAmong action (some ++ more)
-among-front action [] more among = absurd among
-among-front action (one ∷ some) more (inl same) = inl same
-among-front action (one ∷ some) more (inr later) = inr (among-front action some more later)
-
-among-back : (action : Action) (some more : List Action) → IsAmong action more → IsAmong action (some ++ more)
-among-back action [] more among = among
-among-back action (one ∷ some) more among = inr (among-back action some more among)
 
 answer-append : (past some more : List Action) → AnswerTheirAsks past some → AnswerTheirAsks (past ++ some) more → AnswerTheirAsks past (some ++ more)
 answer-append past [] more none later = subst (λ p. AnswerTheirAsks p more) (append-nil past) later
@@ -98,9 +92,9 @@ module _ (errand : Errand) (asker last : ℕ) where
           (numbered, ap (λ (v : Verification). ForBinding v.binding) this)
       by_test false test some = absurd (cc)
 
-  module _ (past : List Action) (asks : List Ask) (verifications : List Verification) (rise : RiseTo 0 asks last) (given : AreGiven verifications last) (were : WereAsked past verifications asks) where
+  module _ (past : List Action) (second : ℕ) (asks : List Ask) (verifications : List Verification) (rise : RiseTo 0 asks last) (given : AreGiven verifications last) (were : WereAsked past verifications asks) where
     abbrev new : Ask
-    new = ask_of (last + 1) asker (kind_of errand)
+    new = ask_of (last + 1) asker (kind_of errand) second
 
     abbrev noted : List Verification
     noted = noted_verification errand (last + 1)
@@ -143,7 +137,7 @@ record HoldsSo (past : List Action) (last : ℕ) (answering : Answering) (asks :
   right : AnswerTheirAsks past answering.actions
   were : WereAsked (past ++ answering.actions) answering.verifications asks
 
-module _ (past : List Action) (last : ℕ) (one : Settled) (before : Answering) (asks : List Ask) (kind : AskKind) (found : find_ask one.ask asks ≡ Some (ask_of one.ask one.asker kind)) (holds : HoldsSo past last before asks) where
+module _ (past : List Action) (last : ℕ) (one : Settled) (before : Answering) (asks : List Ask) (kind : AskKind) (put_at : ℕ) (found : find_ask one.ask asks ≡ Some (ask_of one.ask one.asker kind put_at)) (holds : HoldsSo past last before asks) where
   -- the others were asked for
   others : (more : List Action) → WereAsked (past ++ (before.actions ++ more)) (remove_verification one.ask before.verifications) (remove_ask one.ask asks)
   others more ask what verification noted there =
@@ -163,7 +157,7 @@ module _ (past : List Action) (last : ℕ) (one : Settled) (before : Answering) 
     proves-right : (opened : Option Port) → find_port one.asker before.ports ≡ opened → AnswerTheirAsks (past ++ before.actions) (Answered one ∷ proved_at opened verification)
     proves-right None is = (tt, tt)
     proves-right (Some port) is =
-        let was = holds.were one.ask (ask_of one.ask one.asker kind) verification noted found in
+        let was = holds.were one.ask (ask_of one.ask one.asker kind put_at) verification noted found in
         let numbered : port.number ≡ one.asker = found_number one.asker before.ports port is in (
           tt,
           (
@@ -201,7 +195,7 @@ holds-answers : (past : List Action) (last : ℕ) (settled : List Settled) (befo
 holds-answers past last [] before asks left leads holds = subst (HoldsSo past last before) (sym leads) holds
 holds-answers past last (one ∷ later) before asks left leads holds =
     holds-answers past last later (answer_by one.answer one before) (remove_ask one.ask asks) left leads.1
-    (holds-answer past last one before asks (kind_answered one.answer) leads.0 holds one.answer refl)
+    (holds-answer past last one before asks (kind_answered one.answer) leads.0.put_at leads.0.found holds one.answer refl)
 
 -- ---- events
 
@@ -246,7 +240,7 @@ module _ (past : List Action) (body : List ℕ) (port : Port) (state changed_sta
   proves-served (refused cause) = record { right = (tt, tt); were = asked-more past _ state.under_way.verifications state.under_way.link.asks were }
   proves-served (asked errand free right) = record {
     right = (tt, (tt, tt));
-    were = asked-put errand port.number state.under_way.link.last past state.under_way.link.asks state.under_way.verifications tied.order given were _ (inr (inl refl));
+    were = asked-put errand port.number state.under_way.link.last past state.under_way.second state.under_way.link.asks state.under_way.verifications tied.order given were _ (inr (inl refl));
   }
   proves-served (raised key signing free) = record { right = (tt, (tt, tt)); were = asked-more past _ state.under_way.verifications state.under_way.link.asks were }
 
@@ -256,7 +250,7 @@ module _ (past : List Action) (confirmation : Confirmation) (state : State) (tie
   proves-granted (unasked cause key may fault) = record { right = (tt, tt); were = asked-more past _ state.under_way.verifications state.under_way.link.asks were }
   proves-granted (allowed key may free) = record {
     right = (tt, (tt, tt));
-    were = asked-put (Signs key (signing_of key confirmation)) confirmation.asker state.under_way.link.last past state.under_way.link.asks state.under_way.verifications tied.order given were _ (inr (inl refl));
+    were = asked-put (Signs key (signing_of key confirmation)) confirmation.asker state.under_way.link.last past state.under_way.second state.under_way.link.asks state.under_way.verifications tied.order given were _ (inr (inl refl));
   }
 
 proves-makes : {event : Happening} {old : State} {outcome : Outcome} (past : List Action) → Makes event old outcome → IsTied old → AreGiven old.under_way.verifications old.under_way.link.last → WereAsked past old.under_way.verifications old.under_way.link.asks → Proves past outcome
@@ -276,12 +270,31 @@ proves-makes past (grants confirmation port state there found) tied given were =
 
 -- ---- runs
 
+-- one thing, and then another
+proves-in_turn : (past : List Action) (some more : Outcome) → Proves past some → Proves (past ++ some.actions) more → Proves past (behind some more)
+proves-in_turn past some more one two = record {
+  right = answer-append past some.actions more.actions one.right two.right;
+  were = subst (λ all. WereAsked all more.state.under_way.verifications more.state.under_way.link.asks) (append_assoc past some.actions more.actions) two.were;
+}
+
+-- a moment proves nothing
+proves-moment : (moment : Moment) (state : State) → IsTied state → IsJudged state → (past : List Action) → WereAsked past state.under_way.verifications state.under_way.link.asks → Proves past (time_passes moment state)
+proves-moment moment state tied judged =
+    judged-brings (λ s outcome. (past : List Action) → WereAsked past s.under_way.verifications s.under_way.link.asks → Proves past outcome) moment state tied judged
+    (λ s past were. record { right = tt; were = asked-more past [] s.under_way.verifications s.under_way.link.asks were })
+    (λ s at so past were. proves-makes {event = Tick} past (loses s) at so.given were)
+    (λ one s there at so past were. proves-makes {event = Tick} past (overs one s there) at so.given were)
+    (λ s first later one two past were. proves-in_turn past first later (one past were) (two (past ++ first.actions) (one past were).were))
+
 proves-step : (past : List Action) (state : State) (moment : Moment) (event : Happening) → IsTied state → IsJudged state → WereAsked past state.under_way.verifications state.under_way.link.asks → Proves past (step state moment event)
 proves-step past state moment event tied judged were =
     let opened : State = at_moment moment state in
-    let joins : (door : Door) → Proves past (join door opened) = λ door. record { right = tt; were = asked-more past [] state.under_way.verifications state.under_way.link.asks were } in
-    let made = by_event (Proves past) event opened joins (λ outcome makes. proves-makes past makes (tied-opened moment state tied) judged.given were) in
-    record { right = made.right; were = made.were }
+    let before = proves-moment moment state tied judged past were in
+    let done : List Action = past ++ (time_passes moment state).actions in
+    let joins : (door : Door) → Proves done (join door opened) = λ door. record { right = tt; were = asked-more done [] opened.under_way.verifications opened.under_way.link.asks before.were } in
+    let made = by_event (Proves done) event opened joins (λ outcome makes. proves-makes done makes (tied-opened moment state tied) (judged-moment moment state tied judged).given before.were) in
+    let both = proves-in_turn past (time_passes moment state) (handle event opened) before made in
+    record { right = both.right; were = both.were }
 
 run-answers : (past : List Action) (state : State) (events : List Timed) → IsTied state → IsJudged state → WereAsked past state.under_way.verifications state.under_way.link.asks → AnswerTheirAsks past (actions_of state events)
 run-answers past state [] tied judged were = tt
@@ -292,7 +305,7 @@ run-answers past state (timed ∷ later) tied judged were =
     (run-answers (past ++ after_it.actions) after_it.state later (step-fated state timed.moment timed.event tied).tied
     (step-judged state timed.moment timed.event tied judged).judged now.were)
 
-pub first-answers : (life : Option ℕ) (events : List Timed) (before later : List Action) (proving : Proving) → actions_of (first_state life) events ≡ before ++ Proved proving ∷ later → IsRightAnswer before proving
-first-answers life events before later proving is =
+pub first-answers : (settings : Settings) (events : List Timed) (before later : List Action) (proving : Proving) → actions_of (first_state settings) events ≡ before ++ Proved proving ∷ later → IsRightAnswer before proving
+first-answers settings events before later proving is =
     answer-at [] before (Proved proving) later
-    (subst (AnswerTheirAsks []) is (run-answers [] (first_state life) events (first-tied life) (first-judged life) (λ ask what one noted there. absurd (cc))))
+    (subst (AnswerTheirAsks []) is (run-answers [] (first_state settings) events (first-tied settings) (first-judged settings) (λ ask what one noted there. absurd (cc))))

@@ -1,5 +1,5 @@
 -- Why a signature is put to the helper: the client asked for it at once, or the user agreed to what it asked for.
-use Rattle.std.proofs.Common.{◌≡◌, ℕ, ◌+◌, ◌≤◌, List, [], ◌∷◌, refl, ap, arith, sym, subst, ◌∙◌, ◌==◌, ◌⊎◌, Option, Some, None, IsSome, Bool, true, false, cond, inl, inr, Result, Ok}
+use Rattle.std.proofs.Common.{◌≡◌, ℕ, ◌+◌, ◌≤◌, List, [], ◌∷◌, ◌++◌, refl, ap, arith, sym, subst, ◌∙◌, ◌==◌, ◌⊎◌, Option, Some, None, IsSome, Bool, true, false, cond, inl, inr, Result, Ok}
 use Rattle.std.specs.Option.{option_map}
 use Rattle.world_ports.specs.declared.Moment.{Moment}
 use Rattle.wire_text.specs.Frames.{front_body}
@@ -25,9 +25,10 @@ use Rattle.agent_laws.specs.Grants.{HaveOwnParts, IsPut, Wanted, at_once, by_con
 use Rattle.agent_model.specs.KeyStates.{KeyState}
 use Rattle.agent_model.specs.Runs.{run}
 use Rattle.agent_model.specs.Sound.{IsTied}
-use Rattle.agent_model.specs.State.{Port, State, UnderWay, find_port, first_state}
-use Rattle.agent_model.specs.Step.{asker_at, at_moment, handle, step}
-use Rattle.agent_model.proofs.ActionLemmas.{Each, among-each, each-tells}
+use Rattle.agent_model.specs.State.{Port, Settings, State, UnderWay, find_port, first_state}
+use Rattle.agent_model.specs.Step.{asker_at, handle, step}
+use Rattle.agent_model.specs.Time.{at_moment, time_passes}
+use Rattle.agent_model.proofs.ActionLemmas.{Each, among-each, each-append, each-tells}
 use Rattle.agent_model.proofs.FatedLemmas.{first-tied, run-tied, tied-opened}
 use Rattle.agent_model.proofs.TiedLemmas.{tied-quiet}
 use Rattle.agent_model.proofs.GrantLemmas.{IsGranted, allowed, disallowed, grant-ends, unasked}
@@ -36,8 +37,10 @@ use Rattle.agent_model.proofs.JudgedLemmas.{keeps-quiet}
 use Rattle.agent_model.proofs.JudgeLemmas.{KeepsChains}
 use Rattle.agent_laws.proofs.KeyLemmas.{KeysKept, first-own, kept-event, kept-opened, run-kept}
 use Rattle.agent_model.proofs.MakeLemmas.{Makes, Quiet, alters, by_event, closes, first, goes_on, grants, links, loses, names, overs, serves, stays, tells}
+use Rattle.agent_model.proofs.TimeLemmas.{time_passes-brings}
 use Rattle.agent_model.proofs.ServeLemmas.{Serves, adds, confirms, denies, empties, lists, locks, removes, serves-any, signs, unlocks, verifies}
-use Rattle.agent_laws.proofs.TraceLemmas.{pending-append, quiet-noted, run-pending}
+use Rattle.agent_laws.proofs.PendingLemmas.{among-back, among-either, pending-append}
+use Rattle.agent_laws.proofs.TraceLemmas.{moment-pending, quiet-noted, run-pending}
 
 -- ---- what a request does
 
@@ -208,10 +211,36 @@ named-event event waiting state named = by_event (λ outcome. KeysKept state.hel
               ap (λ (k : HeldKey). k.blob) was.used.same ∙ ap (λ (k : HeldKey). k.blob) equal ∙ found_has raising.signing.blob state.held.table.identities key.0 key.1,
         )
 
+-- a moment puts and raises nothing
+idle-moment : (moment : Moment) (state : State) → Each IsIdle (time_passes moment state).actions
+idle-moment moment state =
+    time_passes-brings (λ s outcome. Each IsIdle outcome.actions) moment state (λ s. tt) (λ s. (tt, tt)) (λ one s there. (tt, tt))
+    (λ s first later. each-append IsIdle first.actions later.actions)
+
+-- what is waited for at a moment
+abbrev waits_at : Moment → State → (ℕ → Option Raising) → ℕ → Option Raising
+waits_at moment state waiting job = pending_after job (time_passes moment state).actions (waiting job)
+
+-- it was before
+waited : (moment : Moment) (state : State) (waiting : ℕ → Option Raising) (job : ℕ) (raising : Raising) → waits_at moment state waiting job ≡ Some raising → waiting job ≡ Some raising
+waited moment state waiting job raising is = by_case (pending-cases job (time_passes moment state).actions (waiting job) raising is)
+  where
+    by_case : (waiting job ≡ Some raising) ⊎ IsAmong (Raised raising) (time_passes moment state).actions → waiting job ≡ Some raising
+    by_case (inl was) = was
+    by_case (inr there) = absurd (among-each IsIdle (Raised raising) (time_passes moment state).actions (λ is. is) (idle-moment moment state) there)
+
+named-moment : (moment : Moment) (state : State) (waiting : ℕ → Option Raising) → IsNamed waiting state → IsNamed (waits_at moment state waiting) (at_moment moment state)
+named-moment moment state waiting named =
+    let kept = named-kept waiting state (at_moment moment state) (kept-opened moment state named.own) named in
+    record { own = kept.own; named = λ job raising is. kept.named job raising (waited moment state waiting job raising is) }
+
 pub step-named : (waiting : ℕ → Option Raising) (state : State) (moment : Moment) (event : Happening) → IsNamed waiting state → IsNamed (λ job. pending_after job (step state moment event).actions (waiting job)) (step state moment event).state
 step-named waiting state moment event named =
-    let left = named-event event waiting (at_moment moment state) (named-kept waiting state (at_moment moment state) (kept-opened moment state named.own) named) in
-    record { own = left.own; named = left.named }
+    let left = named-event event (waits_at moment state waiting) (at_moment moment state) (named-moment moment state waiting named) in
+    record {
+      own = left.own;
+      named = λ job raising is. left.named job raising (sym (pending-append job (time_passes moment state).actions (handle event (at_moment moment state)).actions (waiting job)) ∙ is);
+    }
 
 pub run-named : (waiting : ℕ → Option Raising) (state : State) (events : List Timed) → IsNamed waiting state → (job : ℕ) (raising : Raising) → pending_after job (actions_of state events) (waiting job) ≡ Some raising → (raising.addition ≤ (run state events).held.table.last) × ((key : HeldKey) → find_number raising.addition (run state events).held.table.identities ≡ Some key → key.blob ≡ raising.signing.blob)
 run-named waiting state [] named job raising is = named.named job raising is
@@ -304,32 +333,59 @@ module _ (asking : Asking) (signing : Signing) (waiting : ℕ → Option Raising
   put-makes (grants confirmation port state there opened) tied named tie purpose (inr later) =
       put-granted confirmation port state opened named (tie confirmation.job) (in-found confirmation 0 state.under_way.last_job tied.raised.order there) (grant-ends port.chain confirmation state) purpose later
 
-  pub step-put : (state : State) (moment : Moment) (event : Happening) → IsTied state → IsNamed waiting state → ((job : ℕ) → noted job state.under_way.confirmations ≡ option_map wanted (waiting job)) → asking.purpose ≡ ForSignature signing → IsAmong (Asked asking) (step state moment event).actions → IsPut asking signing waiting (at_moment moment state) (step state moment event).actions
-  step-put state moment event tied named tie purpose among =
-      let opened : State = at_moment moment state in
-      by_event (λ outcome. IsAmong (Asked asking) outcome.actions → IsPut asking signing waiting opened outcome.actions) event opened
-      (λ door none. absurd none)
-      (λ outcome makes. put-makes makes (tied-opened moment state tied) (named-kept waiting state opened (kept-opened moment state named.own) named) tie purpose)
-      among
+pub step-put : (asking : Asking) (signing : Signing) (waiting : ℕ → Option Raising) (state : State) (moment : Moment) (event : Happening) → IsTied state → IsNamed waiting state → ((job : ℕ) → noted job state.under_way.confirmations ≡ option_map wanted (waiting job)) → asking.purpose ≡ ForSignature signing → IsAmong (Asked asking) (step state moment event).actions → IsPut asking signing waiting (at_moment moment state) (step state moment event).actions
+step-put asking signing waiting state moment event tied named tie purpose among = by_either (among-either (Asked asking) before now.actions among)
+  where
+    opened : State
+    opened = at_moment moment state
+
+    before : List Action
+    before = (time_passes moment state).actions
+
+    now : Outcome
+    now = handle event opened
+
+    at : ℕ → Option Raising
+    at = waits_at moment state waiting
+
+    tie_at : (job : ℕ) → noted job opened.under_way.confirmations ≡ option_map wanted (at job)
+    tie_at job = moment-pending job moment state tied (waiting job) (tie job)
+
+    -- it is put by the event
+    put : IsAmong (Asked asking) now.actions → IsPut asking signing at opened now.actions
+    put there =
+        by_event (λ outcome. IsAmong (Asked asking) outcome.actions → IsPut asking signing at opened outcome.actions) event opened
+        (λ door none. absurd none)
+        (λ outcome makes. put-makes asking signing at makes (tied-opened moment state tied) (named-moment moment state waiting named) tie_at purpose)
+        there
+
+    behind : IsPut asking signing at opened now.actions → IsPut asking signing waiting opened (before ++ now.actions)
+    behind (at_once requesting key there port read found confirm) = at_once requesting key (among-back (Requested requesting) before now.actions there) port read found confirm
+    behind (by_consent job raising key port there is whose what found may) =
+        by_consent job raising key port (among-back (Granted job) before now.actions there) (waited moment state waiting job raising is) whose what found may
+
+    by_either : IsAmong (Asked asking) before ⊎ IsAmong (Asked asking) now.actions → IsPut asking signing waiting opened (before ++ now.actions)
+    by_either (inl there) = absurd (among-each IsIdle (Asked asking) before (λ is. is) (idle-moment moment state) there)
+    by_either (inr there) = behind (put there)
 
 -- ---- runs
 
-pub first-named : (life : Option ℕ) → IsNamed (λ job. None) (first_state life)
-first-named life = record { own = first-own life; named = λ job raising is. absurd (cc) }
+pub first-named : (settings : Settings) → IsNamed (λ job. None) (first_state settings)
+first-named settings = record { own = first-own settings; named = λ job raising is. absurd (cc) }
 
-pub run-all_named : (life : Option ℕ) (events : List Timed) → IsNamed (pending (actions_of (first_state life) events)) (run (first_state life) events)
-run-all_named life events = record {
-  own = (run-kept (first_state life) events (first-own life)).own;
-  named = λ job raising is. run-named (λ n. None) (first_state life) events (first-named life) job raising is;
+pub run-all_named : (settings : Settings) (events : List Timed) → IsNamed (pending (actions_of (first_state settings) events)) (run (first_state settings) events)
+run-all_named settings events = record {
+  own = (run-kept (first_state settings) events (first-own settings)).own;
+  named = λ job raising is. run-named (λ n. None) (first_state settings) events (first-named settings) job raising is;
 }
 
-pub run-tie : (life : Option ℕ) (events : List Timed) (job : ℕ) → noted job (run (first_state life) events).under_way.confirmations ≡ option_map wanted (pending (actions_of (first_state life) events) job)
-run-tie life events job = run-pending job (first_state life) events None (first-tied life) refl
+pub run-tie : (settings : Settings) (events : List Timed) (job : ℕ) → noted job (run (first_state settings) events).under_way.confirmations ≡ option_map wanted (pending (actions_of (first_state settings) events) job)
+run-tie settings events job = run-pending job (first_state settings) events None (first-tied settings) refl
 
-pub run-put : (life : Option ℕ) (events : List Timed) (moment : Moment) (event : Happening) (asking : Asking) (signing : Signing) → asking.purpose ≡ ForSignature signing → IsAmong (Asked asking) (step (run (first_state life) events) moment event).actions → IsPut asking signing (pending (actions_of (first_state life) events)) (at_moment moment (run (first_state life) events)) (step (run (first_state life) events) moment event).actions
-run-put life events moment event asking signing =
-    step-put asking signing (pending (actions_of (first_state life) events)) (run (first_state life) events) moment event
-    (run-tied (first_state life) events (first-tied life)) (run-all_named life events) (run-tie life events)
+pub run-put : (settings : Settings) (events : List Timed) (moment : Moment) (event : Happening) (asking : Asking) (signing : Signing) → asking.purpose ≡ ForSignature signing → IsAmong (Asked asking) (step (run (first_state settings) events) moment event).actions → IsPut asking signing (pending (actions_of (first_state settings) events)) (at_moment moment (run (first_state settings) events)) (step (run (first_state settings) events) moment event).actions
+run-put settings events moment event asking signing =
+    step-put asking signing (pending (actions_of (first_state settings) events)) (run (first_state settings) events) moment event
+    (run-tied (first_state settings) events (first-tied settings)) (run-all_named settings events) (run-tie settings events)
 
 -- what is noted was raised
 pub noted_some : (one : Option Wanted) (was : Option Raising) → one ≡ option_map wanted was → IsSome one → IsSome was

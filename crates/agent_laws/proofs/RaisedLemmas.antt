@@ -121,12 +121,12 @@ all_raised-over past more held over low last confirmations order same all job on
         raised-more past more held one (same one.job other) (all job one there)
 
 -- one more: the key that is held is of the addition that is told
-module _ (moment : Moment) (past : List Stamped) (held : KeyState) (asker : ℕ) (key : HeldKey) (signing : Signing) (prompt : List ℕ) (last : ℕ) (confirmations : List Confirmation) (order : JobsRise 0 confirmations last) (numbers : HaveOwnNumbers held.table.last held.table.identities) (found : find_identity signing.blob held.table.identities ≡ Some key) where
+module _ (moment : Moment) (past : List Stamped) (held : KeyState) (asker : ℕ) (key : HeldKey) (signing : Signing) (prompt : List ℕ) (last second : ℕ) (confirmations : List Confirmation) (order : JobsRise 0 confirmations last) (numbers : HaveOwnNumbers held.table.last held.table.identities) (found : find_identity signing.blob held.table.identities ≡ Some key) where
   abbrev raising_now : Raising
   raising_now = record { job = last + 1; port = asker; addition = key.number; signing = signing }
 
   abbrev new : Confirmation
-  new = confirmation_of (last + 1) (held_for asker key signing) prompt
+  new = confirmation_of (last + 1) (held_for asker key signing) prompt second
 
   abbrev more : List Stamped
   more = record { moment = moment; action = Raised raising_now } ∷ past

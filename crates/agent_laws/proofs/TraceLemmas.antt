@@ -10,13 +10,13 @@ use Rattle.confirm_desk.specs.Prompt.{prompt_for}
 use Rattle.dest_rule.specs.declared.binding.Binding.{Binding}
 use Rattle.helper_link.specs.Telling.{telling}
 use Rattle.helper_link.specs.declared.fault.LinkFault.{LinkFault}
-use Rattle.agent_model.specs.Actions.{Action, Answered, Asked, Granted, Lost, Outcome, Over, Proved, Raised, Raising, Requested, Requesting, Work}
+use Rattle.agent_model.specs.Actions.{Action, Granted, Outcome, Over, Raised, Raising, Requested, Requesting, Work}
 use Rattle.agent_model.specs.Answers.{answers_in, lose_if, with_answers}
 use Rattle.agent_model.specs.Asking.{JobsRise}
 use Rattle.agent_model.specs.Consents.{without_confirmation}
 use Rattle.agent_model.specs.Dispatch.{Asker, Served}
 use Rattle.agent_model.specs.Errands.{held_for}
-use Rattle.agent_model.specs.Events.{Happening, Timed}
+use Rattle.agent_model.specs.Events.{Happening, Tick, Timed}
 use Rattle.agent_model.specs.Fates.{actions_of}
 use Rattle.agent_model.specs.Grants.{IsAmong}
 use Rattle.agent_laws.specs.Grants.{Wanted, ends_by, noted, pending_after, pending_by, raises_by, times_ended, times_raised, wanted, wanted_of}
@@ -24,7 +24,8 @@ use Rattle.agent_model.specs.KeyStates.{KeyState}
 use Rattle.agent_model.specs.Runs.{run}
 use Rattle.agent_model.specs.Sound.{IsTied}
 use Rattle.agent_model.specs.State.{State, UnderWay}
-use Rattle.agent_model.specs.Step.{asker_at, at_moment, step}
+use Rattle.agent_model.specs.Step.{asker_at, handle, step}
+use Rattle.agent_model.specs.Time.{at_moment, taken_in, time_passes}
 use Rattle.agent_model.proofs.ActionLemmas.{ArePlain, IsPlain, among-each, plain-tells}
 use Rattle.agent_model.proofs.FatedLemmas.{step-fated, tied-opened}
 use Rattle.agent_model.proofs.TiedLemmas.{tied-quiet}
@@ -33,37 +34,9 @@ use Rattle.agent_model.proofs.GrowLemmas.{jobs-for}
 use Rattle.agent_model.proofs.JobLemmas.{find_job-push, find_job-remove, in-found, job_within}
 use Rattle.agent_model.proofs.MakeLemmas.{IsFaint, Kept, Makes, Quiet, altered, alters, by_event, closes, first, goes_on, grants, links, loses, names, overs, serves, stays, tells, unchanged}
 use Rattle.agent_model.proofs.OnceLemmas.{unused}
+use Rattle.agent_laws.proofs.MomentLemmas.{tied-brings}
+use Rattle.agent_laws.proofs.PendingLemmas.{among-either, ended-plain, pending-append, pending-plain}
 use Rattle.agent_model.proofs.ServeLemmas.{IsServed, answered, asked, raised, refused, serve-ends}
-
--- ---- plain actions
-
--- they leave what is waited for
-pending-plain : (job : ℕ) (actions : List Action) (before : Option Raising) → ArePlain actions → pending_after job actions before ≡ before
-pending-plain job [] before plain = refl
-pending-plain job (Requested requesting ∷ later) before plain = pending-plain job later before plain.1
-pending-plain job (Asked asking ∷ later) before plain = pending-plain job later before plain.1
-pending-plain job (Answered one ∷ later) before plain = pending-plain job later before plain.1
-pending-plain job (Proved proving ∷ later) before plain = pending-plain job later before plain.1
-pending-plain job (Raised raising ∷ later) before plain = absurd plain.0
-pending-plain job (Granted other ∷ later) before plain = absurd plain.0
-pending-plain job (Over other ∷ later) before plain = absurd plain.0
-pending-plain job (Lost ∷ later) before plain = pending-plain job later before plain.1
-
-ended-plain : (job : ℕ) (actions : List Action) → ArePlain actions → (times_ended job actions ≡ 0) × (times_raised job actions ≡ 0)
-ended-plain job [] plain = (refl, refl)
-ended-plain job (Requested requesting ∷ later) plain = ended-plain job later plain.1
-ended-plain job (Asked asking ∷ later) plain = ended-plain job later plain.1
-ended-plain job (Answered one ∷ later) plain = ended-plain job later plain.1
-ended-plain job (Proved proving ∷ later) plain = ended-plain job later plain.1
-ended-plain job (Raised raising ∷ later) plain = absurd plain.0
-ended-plain job (Granted other ∷ later) plain = absurd plain.0
-ended-plain job (Over other ∷ later) plain = absurd plain.0
-ended-plain job (Lost ∷ later) plain = ended-plain job later plain.1
-
--- actions one after another
-pub pending-append : (job : ℕ) (some more : List Action) (before : Option Raising) → pending_after job (some ++ more) before ≡ pending_after job more (pending_after job some before)
-pending-append job [] more before = refl
-pending-append job (action ∷ some) more before = pending-append job some more (pending_by job action before)
 
 -- ---- what is noted of a confirmation
 
@@ -271,7 +244,7 @@ module _ (job : ℕ) where
       traces-plain job under_way _ _ (tt, (tt, tt)) (jobs-for under_way.link.state under_way.last_job) refl
   traces-served {asker = asker} {under_way = under_way} requesting rise (raised key signing free) =
       traces-raised job under_way _ requesting (record { job = under_way.last_job + 1; port = asker.port; addition = key.number; signing = signing })
-      (confirmation_of (under_way.last_job + 1) (held_for asker.port key signing) (prompt_for key.comment key.blob)) rise refl refl refl refl refl
+      (confirmation_of (under_way.last_job + 1) (held_for asker.port key signing) (prompt_for key.comment key.blob) under_way.second) rise refl refl refl refl refl
 
   module _ (confirmation : Confirmation) (under_way : UnderWay) (rise : JobsRise 0 under_way.confirmations under_way.last_job) (there : find_job confirmation.job under_way.confirmations ≡ Some confirmation) where
     traces-over : Traces job under_way (Over confirmation.job ∷ []) (without_confirmation confirmation.job under_way)
@@ -314,10 +287,52 @@ module _ (job : ℕ) where
   traces-makes (grants confirmation port state there opened) tied =
       traces-granted confirmation state.under_way tied.raised.order (in-found confirmation 0 state.under_way.last_job tied.raised.order there) (grant-ends port.chain confirmation state)
 
+  -- what a moment ends, it ends alone: nothing is raised
+  record Ends (old : State) (outcome : Outcome) : Type 0 where
+    traces : Traces job old.under_way outcome.actions outcome.state.under_way
+    fewer : IsSome (noted job outcome.state.under_way.confirmations) → IsSome (noted job old.under_way.confirmations)
+
+  left_noted : (other : ℕ) (under_way : UnderWay) → JobsRise 0 under_way.confirmations under_way.last_job → IsSome (noted job (remove_job other under_way.confirmations)) → IsSome (noted job under_way.confirmations)
+  left_noted other under_way rise some = by_test (other == job) (subst (λ found. IsSome (option_map wanted_of found)) (find_job-remove job other 0 under_way.confirmations under_way.last_job rise) some)
+    where
+      by_test : (is : Bool) → IsSome (option_map wanted_of (cond is None (find_job job under_way.confirmations))) → IsSome (noted job under_way.confirmations)
+      by_test true none = absurd (let no : IsSome {T = Wanted} None = none in cc)
+      by_test false is = is
+
+  ends-in_turn : {old mid new : UnderWay} (some more : List Action) → (IsSome (noted job mid.confirmations) → IsSome (noted job old.confirmations)) → Traces job old some mid → Traces job mid more new → Traces job old (some ++ more) new
+  ends-in_turn some more fewer one two = record {
+    pending = λ before is. two.pending (pending_after job some before) (one.pending before is) ∙ ap (option_map wanted) (sym (pending-append job some more before));
+    ended = omega (arith, one.ended, two.ended, sum_by-append (ends_by job) some more);
+    raised = omega (arith, one.raised, two.raised, sum_by-append (raises_by job) some more);
+    granted = λ among. by_either one.granted (λ is. fewer (two.granted is)) (among-either (Granted job) some more among);
+    over = λ among. by_either one.over (λ is. fewer (two.over is)) (among-either (Over job) some more among);
+  }
+    where
+      by_either : {A B C : Type 0} → (A → C) → (B → C) → A ⊎ B → C
+      by_either left right (inl a) = left a
+      by_either left right (inr b) = right b
+
+  moment-ends : (moment : Moment) (state : State) → IsTied state → Ends (taken_in moment state) (time_passes moment state)
+  moment-ends moment state tied =
+      tied-brings Ends moment state tied
+      (λ s. record { traces = traces-plain job s.under_way s.under_way [] tt (omega arith) refl; fewer = λ is. is })
+      (λ s at. record { traces = traces-makes {event = Tick} (loses s) at; fewer = λ is. is })
+      (λ one s there at. record { traces = traces-makes {event = Tick} (overs one s there) at; fewer = left_noted one.job s.under_way at.raised.order })
+      (λ s first later one two. record { traces = ends-in_turn first.actions later.actions one.fewer one.traces two.traces; fewer = λ is. one.fewer (two.fewer is) })
+
+  -- what is waited for at a moment is what its actions leave
+  pub moment-pending : (moment : Moment) (state : State) → IsTied state → (before : Option Raising) → noted job state.under_way.confirmations ≡ option_map wanted before → noted job (at_moment moment state).under_way.confirmations ≡ option_map wanted (pending_after job (time_passes moment state).actions before)
+  moment-pending moment state tied before is = (moment-ends moment state tied).traces.pending before is
+
   pub step-traces : (state : State) (moment : Moment) (event : Happening) → IsTied state → Traces job state.under_way (step state moment event).actions (step state moment event).state.under_way
   step-traces state moment event tied =
-      by_event (λ outcome. Traces job state.under_way outcome.actions outcome.state.under_way) event (at_moment moment state)
-      (λ door. traces-plain job state.under_way state.under_way [] tt (omega arith) refl) (λ outcome makes. traces-makes makes (tied-opened moment state tied))
+      let opened : State = at_moment moment state in
+      let before = moment-ends moment state tied in
+      let now : Traces job opened.under_way (handle event opened).actions (handle event opened).state.under_way =
+      by_event (λ outcome. Traces job opened.under_way outcome.actions outcome.state.under_way) event opened
+      (λ door. traces-plain job opened.under_way opened.under_way [] tt (omega arith) refl) (λ outcome makes. traces-makes makes (tied-opened moment state tied)) in
+      let both = ends-in_turn (time_passes moment state).actions (handle event opened).actions before.fewer before.traces now in
+      record { pending = both.pending; ended = both.ended; raised = both.raised; granted = both.granted; over = both.over }
 
   -- ---- runs
 

@@ -10,7 +10,7 @@ use Rattle.agent_model.specs.Actions.{Action, Answered, Asked, ForBinding, ForSi
 use Rattle.agent_model.specs.Binds.{agent_request_of}
 use Rattle.agent_model.specs.Events.{Timed}
 use Rattle.agent_model.specs.Runs.{Stamped, history, run}
-use Rattle.agent_model.specs.State.{first_state}
+use Rattle.agent_model.specs.State.{Settings, first_state}
 use Rattle.agent_model.specs.Verdicts.{Awaits, Identities, Refuses, Replies, Signature, Success, Verdict}
 use Rattle.agent_laws.specs.Dues.{Claim, due_signing}
 use Rattle.agent_laws.specs.History.{ArePutWhereDue, HasNumbers, IsDue, IsLawful, IsPutBehind, IsPutWhereDue, NoneAdds, StandsAt, StandsWhereDue, onto}
@@ -333,12 +333,12 @@ module _ (past : List Stamped) (one : Stamped) (addition : Addition) (did : done
       ap (λ done. added_by done addition.key.blob one.moment.mono (addition_count past + 1) (last_addition addition.key.blob past)) did
       ∙ ap (λ b. cond b (Some new) (last_addition addition.key.blob past)) same
 
-pub used-most : (before later rest : List Stamped) (one : Stamped) (addition : Addition) (uses : ℕ) (life : Option ℕ) (events : List Timed) → history (first_state life) events ≡ before ++ one ∷ (later ++ rest) → done_of one.action ≡ DidAdd addition → addition.terms.uses ≡ Some uses → NoneAdds addition.key.blob later → times_used addition.key.blob later ≤ uses
-used-most before later rest one addition uses life events is did terms adds =
-    let put = put-behind life [] before (one ∷ (later ++ rest)) (subst (ArePutWhereDue life []) is (first-only life events)) in
+pub used-most : (before later rest : List Stamped) (one : Stamped) (addition : Addition) (uses : ℕ) (settings : Settings) (events : List Timed) → history (first_state settings) events ≡ before ++ one ∷ (later ++ rest) → done_of one.action ≡ DidAdd addition → addition.terms.uses ≡ Some uses → NoneAdds addition.key.blob later → times_used addition.key.blob later ≤ uses
+used-most before later rest one addition uses settings events is did terms adds =
+    let put = put-behind settings.life [] before (one ∷ (later ++ rest)) (subst (ArePutWhereDue settings.life []) is (first-only settings events)) in
     let past : List Stamped = onto [] before in
     let most : 0 + times_used addition.key.blob later ≤ uses =
-    most-used life addition.key.blob (one ∷ past) later (new past one addition did) uses (just_added past one addition did) terms (omega arith) (put-front life (one ∷ past) later rest put.1) adds in
+    most-used settings.life addition.key.blob (one ∷ past) later (new past one addition did) uses (just_added past one addition did) terms (omega arith) (put-front settings.life (one ∷ past) later rest put.1) adds in
     omega (arith, most)
 
 -- what is put behind others is one more
@@ -360,8 +360,8 @@ regrouped [] some one last rest = ap (λ l. one ∷ l) (inner some)
     inner (first ∷ some) = ap (λ l. first ∷ l) (inner some)
 regrouped (first ∷ before) some one last rest = ap (λ l. first ∷ l) (regrouped before some one last rest)
 
-pub used-fewer : (before between : List Stamped) (one : Stamped) (addition : Addition) (uses port : ℕ) (signing : Signing) (life : Option ℕ) (events : List Timed) → done_of one.action ≡ DidAdd addition → addition.key.blob ≡ signing.blob → addition.terms.uses ≡ Some uses → NoneAdds signing.blob between → IsPutBehind (before ++ one ∷ between) port signing life events → times_used signing.blob between < uses
-used-fewer before between one addition uses port signing life events did its terms adds put =
+pub used-fewer : (before between : List Stamped) (one : Stamped) (addition : Addition) (uses port : ℕ) (signing : Signing) (settings : Settings) (events : List Timed) → done_of one.action ≡ DidAdd addition → addition.key.blob ≡ signing.blob → addition.terms.uses ≡ Some uses → NoneAdds signing.blob between → IsPutBehind (before ++ one ∷ between) port signing settings events → times_used signing.blob between < uses
+used-fewer before between one addition uses port signing settings events did its terms adds put =
     let did_use : done_of put.one.action ≡ DidUse signing.blob =
     ap done_of put.action ∙ ap done_by_ask put.purpose in
     let none : NoneAdds signing.blob (put.one ∷ []) = ((λ other is. let clash : DidUse signing.blob ≡ DidAdd other = sym did_use ∙ is in absurd (cc)), tt) in
@@ -369,23 +369,23 @@ used-fewer before between one addition uses port signing life events did its ter
     subst (λ b. NoneAdds b (between ++ put.one ∷ [])) (sym its) (none_adds-more signing.blob between (put.one ∷ []) adds none) in
     let most : times_used signing.blob (between ++ put.one ∷ []) ≤ uses =
     subst (λ b. times_used b (between ++ put.one ∷ []) ≤ uses) its
-    (used-most before (between ++ put.one ∷ []) put.later one addition uses life events (put.is ∙ regrouped before between one put.one put.later) did terms all) in
+    (used-most before (between ++ put.one ∷ []) put.later one addition uses settings events (put.is ∙ regrouped before between one put.one put.later) did terms all) in
     let once : used_in signing.blob (done_of put.one.action) ≡ 1 =
     ap (used_in signing.blob) did_use ∙ ap one_if ((bytes_eq-Decides signing.blob signing.blob).1 refl) in
     let sum : times_used signing.blob (between ++ put.one ∷ []) ≡ times_used signing.blob between + (used_in signing.blob (done_of put.one.action) + 0) = times-append signing.blob between (put.one ∷ []) in
     omega (arith, most, once, sum)
 
-used-cut : (before later : List Stamped) (one : Stamped) (addition : Addition) (uses : ℕ) (life : Option ℕ) (events : List Timed) → HasNumbers (run (first_state life) events) → history (first_state life) events ≡ before ++ one ∷ later → done_of one.action ≡ DidAdd addition → addition.terms.uses ≡ Some uses → NoneAdds addition.key.blob later → IsCut (uses - 0) (times_wanted addition.key.blob life (one ∷ onto [] before) later) (times_used addition.key.blob later)
-used-cut before later one addition uses life events numbers is did terms adds =
-    let lawful = lawful-behind life [] before (one ∷ later) (subst (IsLawful life []) is (first-lawful life events numbers)) in
+used-cut : (before later : List Stamped) (one : Stamped) (addition : Addition) (uses : ℕ) (settings : Settings) (events : List Timed) → HasNumbers (run (first_state settings) events) → history (first_state settings) events ≡ before ++ one ∷ later → done_of one.action ≡ DidAdd addition → addition.terms.uses ≡ Some uses → NoneAdds addition.key.blob later → IsCut (uses - 0) (times_wanted addition.key.blob settings.life (one ∷ onto [] before) later) (times_used addition.key.blob later)
+used-cut before later one addition uses settings events numbers is did terms adds =
+    let lawful = lawful-behind settings.life [] before (one ∷ later) (subst (IsLawful settings.life []) is (first-lawful settings events numbers)) in
     let past : List Stamped = onto [] before in
-    exactly-used life addition.key.blob (one ∷ past) later (new past one addition did) uses (just_added past one addition did) terms (omega arith) lawful.1 adds
+    exactly-used settings.life addition.key.blob (one ∷ past) later (new past one addition did) uses (just_added past one addition did) terms (omega arith) lawful.1 adds
 
-pub used-each : (before later : List Stamped) (one : Stamped) (addition : Addition) (uses : ℕ) (life : Option ℕ) (events : List Timed) → HasNumbers (run (first_state life) events) → history (first_state life) events ≡ before ++ one ∷ later → done_of one.action ≡ DidAdd addition → addition.terms.uses ≡ Some uses → NoneAdds addition.key.blob later → times_wanted addition.key.blob life (one ∷ onto [] before) later ≤ uses → times_used addition.key.blob later ≡ times_wanted addition.key.blob life (one ∷ onto [] before) later
-used-each before later one addition uses life events numbers is did terms adds few =
-    (used-cut before later one addition uses life events numbers is did terms adds).each (omega (arith, few))
+pub used-each : (before later : List Stamped) (one : Stamped) (addition : Addition) (uses : ℕ) (settings : Settings) (events : List Timed) → HasNumbers (run (first_state settings) events) → history (first_state settings) events ≡ before ++ one ∷ later → done_of one.action ≡ DidAdd addition → addition.terms.uses ≡ Some uses → NoneAdds addition.key.blob later → times_wanted addition.key.blob settings.life (one ∷ onto [] before) later ≤ uses → times_used addition.key.blob later ≡ times_wanted addition.key.blob settings.life (one ∷ onto [] before) later
+used-each before later one addition uses settings events numbers is did terms adds few =
+    (used-cut before later one addition uses settings events numbers is did terms adds).each (omega (arith, few))
 
-pub used-all : (before later : List Stamped) (one : Stamped) (addition : Addition) (uses : ℕ) (life : Option ℕ) (events : List Timed) → HasNumbers (run (first_state life) events) → history (first_state life) events ≡ before ++ one ∷ later → done_of one.action ≡ DidAdd addition → addition.terms.uses ≡ Some uses → NoneAdds addition.key.blob later → uses ≤ times_wanted addition.key.blob life (one ∷ onto [] before) later → times_used addition.key.blob later ≡ uses
-used-all before later one addition uses life events numbers is did terms adds many =
-    let all : times_used addition.key.blob later ≡ uses - 0 = (used-cut before later one addition uses life events numbers is did terms adds).full (omega (arith, many)) in
+pub used-all : (before later : List Stamped) (one : Stamped) (addition : Addition) (uses : ℕ) (settings : Settings) (events : List Timed) → HasNumbers (run (first_state settings) events) → history (first_state settings) events ≡ before ++ one ∷ later → done_of one.action ≡ DidAdd addition → addition.terms.uses ≡ Some uses → NoneAdds addition.key.blob later → uses ≤ times_wanted addition.key.blob settings.life (one ∷ onto [] before) later → times_used addition.key.blob later ≡ uses
+used-all before later one addition uses settings events numbers is did terms adds many =
+    let all : times_used addition.key.blob later ≡ uses - 0 = (used-cut before later one addition uses settings events numbers is did terms adds).full (omega (arith, many)) in
     omega (arith, all)

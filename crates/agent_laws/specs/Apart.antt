@@ -16,7 +16,8 @@ use Rattle.agent_model.specs.KeyStates.{KeyState}
 use Rattle.agent_model.specs.Limits.{last_number}
 use Rattle.agent_model.specs.Looks.{due}
 use Rattle.agent_model.specs.State.{Port, State, find_port}
-use Rattle.agent_model.specs.Step.{at_moment, step, took_some}
+use Rattle.agent_model.specs.Step.{step, took_some}
+use Rattle.agent_model.specs.Time.{at_moment}
 use Rattle.agent_laws.specs.Grants.{HaveOwnParts}
 
 -- whose additions and removals the runs differ in, by port, and of which keys, by blob

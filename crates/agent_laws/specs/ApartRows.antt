@@ -1,12 +1,12 @@
 -- Literal rows of two runs, with a key that a client doesn't see and without it (ours): the client
 -- of port 1 adds the key 17 for one host alone, and the client of port 2 asked to bind its
 -- connection in vain, so that it doesn't see it.
-use Rattle.std.specs.Prelude.{ℕ, List, ◌∷◌, codes, None}
+use Rattle.std.specs.Prelude.{ℕ, List, ◌∷◌, codes}
 use Rattle.world_ports.specs.declared.Door.TheVariants.{Clients}
 use Rattle.agent_model.specs.BindRows.{add_only_to}
 use Rattle.agent_model.specs.ChildRows.{then}
 use Rattle.agent_model.specs.Events.{Happening, Heard, Joined, Took}
-use Rattle.agent_model.specs.State.{first_state, owed_of}
+use Rattle.agent_model.specs.State.{first_state, no_settings, owed_of}
 
 -- EXTENSION of the name and nothing more
 abbrev pub cut_bind : List ℕ
@@ -20,7 +20,7 @@ blinded later = Heard 2 cut_bind ∷ Took 2 5 ∷ later
 -- second one that
 abbrev pub owed_to_second : List Happening → List ℕ
 owed_to_second events =
-    owed_of 2 (then (first_state None) (Joined Clients ∷ Joined Clients ∷ events))
+    owed_of 2 (then (first_state no_settings) (Joined Clients ∷ Joined Clients ∷ events))
 
 -- the key is added, and then this happens
 abbrev pub behind_key : List Happening → List Happening

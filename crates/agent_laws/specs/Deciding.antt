@@ -9,7 +9,7 @@ use Rattle.agent_model.specs.ChildRows.{hello, number, ticket}
 use Rattle.agent_model.specs.Events.{Happening, Heard, Joined, Started, Timed, Took}
 use Rattle.agent_model.specs.Rows.{add_asking, add_once_asking, moment_at, sign}
 use Rattle.agent_model.specs.Runs.{Stamped, history}
-use Rattle.agent_model.specs.State.{first_state}
+use Rattle.agent_model.specs.State.{first_state, no_settings}
 use Rattle.agent_laws.specs.Dues.{Claim, due_signing}
 
 -- ---- the law, as a test
@@ -54,7 +54,7 @@ at_wall wall event = record { moment = record { mono = 0; wall = wall }; event =
 -- these events, all at second 0, and then these
 abbrev pub lawful_then : List Happening → List Timed → Bool
 lawful_then events later =
-    is_lawful None [] (history (first_state None) (map (at 0) events ++ later))
+    is_lawful None [] (history (first_state no_settings) (map (at 0) events ++ later))
 
 abbrev pub lawful : List Happening → Bool
 lawful events = lawful_then events []

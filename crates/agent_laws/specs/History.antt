@@ -11,7 +11,7 @@ use Rattle.agent_model.specs.Events.{Timed}
 use Rattle.agent_laws.specs.Past.{DidAdd, DidRemove, DidRemoveAll, DidUnlock, done_of}
 use Rattle.agent_model.specs.Actions.{Action, Answered, Asked, Asking, ForBinding, ForSignature, Granted, Lost, Over, Proved, Purpose, Raised, Raising, Requested}
 use Rattle.agent_model.specs.Runs.{Stamped, history}
-use Rattle.agent_model.specs.State.{State, first_state}
+use Rattle.agent_model.specs.State.{Settings, State, first_state}
 use Rattle.agent_laws.specs.Dues.{Claim, due_signing, raised_at}
 
 -- a signature is put where it is due, and a verification where no signature is
@@ -78,12 +78,12 @@ pub record HasNumbers (state : State) : Type 0 where
 -- ---- a signature that is put to the helper
 
 -- behind these actions a signature is put to the helper for the client of a port
-pub record IsPutBehind (before : List Stamped) (port : ℕ) (signing : Signing) (life : Option ℕ)
+pub record IsPutBehind (before : List Stamped) (port : ℕ) (signing : Signing) (settings : Settings)
     (events : List Timed) : Type 0 where
   pub one : Stamped
   pub later : List Stamped
   pub asking : Asking
-  pub is : history (first_state life) events ≡ before ++ one ∷ later
+  pub is : history (first_state settings) events ≡ before ++ one ∷ later
   pub action : one.action ≡ Asked asking
   pub purpose : asking.purpose ≡ ForSignature signing
   pub asker : asking.port ≡ port

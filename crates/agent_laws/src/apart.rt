@@ -1,13 +1,14 @@
 //! Noninterference over runs: what a client doesn't see changes nothing that it gets.
 
-ghost use Rattle.std.specs.Prelude.{◌≡◌, ℕ, List, Option, Some, false};
+ghost use Rattle.std.specs.Prelude.{◌≡◌, ℕ, List, Some, false};
 ghost use Rattle.world_ports.specs.declared.Door.TheVariants.{Clients};
 ghost use Rattle.world_ports.specs.declared.Moment.{Moment};
 ghost use Rattle.agent_model.specs.Children.{heard_more};
 ghost use Rattle.agent_model.specs.Events.{Heard, Timed, Took};
 ghost use Rattle.agent_model.specs.Runs.{run};
-ghost use Rattle.agent_model.specs.State.{Port, State, find_port, first_state, owed_of};
-ghost use Rattle.agent_model.specs.Step.{at_moment, step, took_some};
+ghost use Rattle.agent_model.specs.State.{Port, Settings, State, find_port, first_state, owed_of};
+ghost use Rattle.agent_model.specs.Step.{step, took_some};
+ghost use Rattle.agent_model.specs.Time.{at_moment};
 ghost use Rattle.agent_laws.specs.Apart.{AreAlike, AreAlikeRuns, Insiders, IsInside};
 
 /// Two runs whose events are the same, but for what insiders send and take, and for the additions
@@ -29,8 +30,8 @@ pub fn what_is_hidden_changes_nothing_over_runs()
     ensures alike { (who : Insiders) (one two : State) (ones twos : List Timed)
         → AreAlikeRuns who one ones two twos → AreAlike who one two
         → AreAlike who (run one ones) (run two twos) }
-    ensures first { (who : Insiders) (life : Option ℕ)
-        → AreAlike who (first_state life) (first_state life) }
+    ensures first { (who : Insiders) (settings : Settings)
+        → AreAlike who (first_state settings) (first_state settings) }
 {}
 
 /// What an insider sends and takes leaves a state alike, at the moment that it has: where no

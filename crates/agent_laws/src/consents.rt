@@ -1,7 +1,7 @@
 //! Laws of the user's consent over all events: each signature with a key that asks for confirmation
 //! has one of its own.
 
-ghost use Rattle.std.specs.Prelude.{◌≡◌, ◌≤◌, ℕ, List, Option, None, Some, IsSome};
+ghost use Rattle.std.specs.Prelude.{◌≡◌, ◌≤◌, ℕ, List, None, Some, IsSome};
 ghost use Rattle.std.specs.Option.{option_map};
 ghost use Rattle.world_ports.specs.declared.Moment.{Moment};
 ghost use Rattle.identity_table.specs.Identities.{HeldKey, find_number};
@@ -12,8 +12,9 @@ ghost use Rattle.agent_model.specs.Fates.{actions_of};
 ghost use Rattle.agent_model.specs.Grants.{IsAmong};
 ghost use Rattle.agent_laws.specs.Grants.{HaveOwnParts, IsPut, WasHeld, noted, pending, times_ended, times_raised, wanted};
 ghost use Rattle.agent_model.specs.Runs.{run};
-ghost use Rattle.agent_model.specs.State.{State, first_state};
-ghost use Rattle.agent_model.specs.Step.{at_moment, step};
+ghost use Rattle.agent_model.specs.State.{Settings, State, first_state};
+ghost use Rattle.agent_model.specs.Step.{step};
+ghost use Rattle.agent_model.specs.Time.{at_moment};
 
 /// Over all events: each signature that is put to the helper was asked for in that very event, with
 /// a key that asks for no confirmation; or the user agreed in that event to this very request of
@@ -21,25 +22,27 @@ ghost use Rattle.agent_model.specs.Step.{at_moment, step};
 /// under its job, and ends at most once: after it was granted, or ended otherwise, it is never
 /// granted again. What waits is what the actions so far tell.
 pub fn a_signature_has_a_consent_of_its_own()
-    ensures put { (life : Option ℕ) (events : List Timed) (moment : Moment) (event : Happening)
+    ensures put { (settings : Settings) (events : List Timed) (moment : Moment) (event : Happening)
         (asking : Asking) (signing : Signing) → asking.purpose ≡ ForSignature signing
-        → IsAmong (Asked asking) (step (run (first_state life) events) moment event).actions
-        → IsPut asking signing (pending (actions_of (first_state life) events)) (at_moment moment
-        (run (first_state life) events)) (step (run (first_state life) events) moment
-        event).actions }
-    ensures granted { (life : Option ℕ) (events : List Timed) (moment : Moment) (event : Happening)
-        (job : ℕ) → IsAmong (Granted job) (step (run (first_state life) events) moment
-        event).actions → IsSome (pending (actions_of (first_state life) events) job) }
-    ensures over { (life : Option ℕ) (events : List Timed) (moment : Moment) (event : Happening)
-        (job : ℕ) → IsAmong (Over job) (step (run (first_state life) events) moment event).actions
-        → IsSome (pending (actions_of (first_state life) events) job) }
-    ensures ended { (life : Option ℕ) (events : List Timed) (job : ℕ)
-        → times_ended job (actions_of (first_state life) events) ≤ 1 }
-    ensures raised { (life : Option ℕ) (events : List Timed) (job : ℕ)
-        → times_raised job (actions_of (first_state life) events) ≤ 1 }
-    ensures waits { (life : Option ℕ) (events : List Timed) (job : ℕ)
-        → noted job (run (first_state life) events).under_way.confirmations
-        ≡ option_map wanted (pending (actions_of (first_state life) events) job) }
+        → IsAmong (Asked asking) (step (run (first_state settings) events) moment event).actions
+        → IsPut asking signing (pending (actions_of (first_state settings) events))
+        (at_moment moment (run (first_state settings) events))
+        (step (run (first_state settings) events) moment event).actions }
+    ensures granted { (settings : Settings) (events : List Timed) (moment : Moment)
+        (event : Happening) (job : ℕ) → IsAmong (Granted job) (step (run (first_state settings)
+        events) moment event).actions
+        → IsSome (pending (actions_of (first_state settings) events) job) }
+    ensures over { (settings : Settings) (events : List Timed) (moment : Moment) (event : Happening)
+        (job : ℕ)
+        → IsAmong (Over job) (step (run (first_state settings) events) moment event).actions
+        → IsSome (pending (actions_of (first_state settings) events) job) }
+    ensures ended { (settings : Settings) (events : List Timed) (job : ℕ)
+        → times_ended job (actions_of (first_state settings) events) ≤ 1 }
+    ensures raised { (settings : Settings) (events : List Timed) (job : ℕ)
+        → times_raised job (actions_of (first_state settings) events) ≤ 1 }
+    ensures waits { (settings : Settings) (events : List Timed) (job : ℕ)
+        → noted job (run (first_state settings) events).under_way.confirmations
+        ≡ option_map wanted (pending (actions_of (first_state settings) events) job) }
 {}
 
 /// Over all events: no two identities have one number or one blob; what an addition's number finds
@@ -47,8 +50,8 @@ pub fn a_signature_has_a_consent_of_its_own()
 /// replaced, removed or used up, or has run out, is never found by its number again. So no consent
 /// that was asked for before leads to an ask.
 pub fn an_addition_that_left_is_never_used()
-    ensures own { (life : Option ℕ) (events : List Timed)
-        → HaveOwnParts (run (first_state life) events).held.table }
+    ensures own { (settings : Settings) (events : List Timed)
+        → HaveOwnParts (run (first_state settings) events).held.table }
     ensures found { (state : State) (events : List Timed) (number : ℕ) (key : HeldKey)
         → HaveOwnParts state.held.table → number ≤ state.held.table.last
         → find_number number (run state events).held.table.identities ≡ Some key
@@ -57,7 +60,7 @@ pub fn an_addition_that_left_is_never_used()
         → HaveOwnParts state.held.table → number ≤ state.held.table.last
         → find_number number state.held.table.identities ≡ None
         → find_number number (run state events).held.table.identities ≡ None }
-    ensures given { (life : Option ℕ) (events : List Timed) (job : ℕ) (raising : Raising)
-        → pending (actions_of (first_state life) events) job ≡ Some raising
-        → raising.addition ≤ (run (first_state life) events).held.table.last }
+    ensures given { (settings : Settings) (events : List Timed) (job : ℕ) (raising : Raising)
+        → pending (actions_of (first_state settings) events) job ≡ Some raising
+        → raising.addition ≤ (run (first_state settings) events).held.table.last }
 {}

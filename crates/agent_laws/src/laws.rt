@@ -1,9 +1,9 @@
 //! The law of history.
 
-ghost use Rattle.std.specs.Prelude.{ℕ, List, [], Option};
+ghost use Rattle.std.specs.Prelude.{List, []};
 ghost use Rattle.agent_model.specs.Events.{Timed};
 ghost use Rattle.agent_model.specs.Runs as runs;
-ghost use Rattle.agent_model.specs.State.{first_state};
+ghost use Rattle.agent_model.specs.State.{Settings, first_state};
 ghost use Rattle.agent_laws.specs.Answered.{IsAnswered};
 ghost use Rattle.agent_laws.specs.History.{ArePutWhereDue, HasNumbers, IsLawful};
 
@@ -16,16 +16,17 @@ ghost use Rattle.agent_laws.specs.History.{ArePutWhereDue, HasNumbers, IsLawful}
 /// connection; fewer than 256 asks are open; and either the key asks for no confirmation, or the
 /// user consented to this very request and addition.
 pub fn history()
-    ensures lawful { (life : Option ℕ) (events : List Timed)
-        → HasNumbers (runs.run (first_state life) events)
-        → IsLawful life [] (runs.history (first_state life) events) }
-    ensures only { (life : Option ℕ) (events : List Timed)
-        → ArePutWhereDue life [] (runs.history (first_state life) events) }
+    ensures lawful { (settings : Settings) (events : List Timed)
+        → HasNumbers (runs.run (first_state settings) events)
+        → IsLawful settings.life [] (runs.history (first_state settings) events) }
+    ensures only { (settings : Settings) (events : List Timed)
+        → ArePutWhereDue settings.life [] (runs.history (first_state settings) events) }
 {}
 
 /// Whatever happened, and while its port stays: a client that waits for an ask is owed nothing, and goes on waiting until
 /// the helper's first answer to that ask, of which it is told as the helper gave it, or until the helper is lost, of which
 /// it is told SSH_AGENT_FAILURE.
 pub fn a_client_gets_that_helpers_answer()
-    ensures { (life : Option ℕ) (events : List Timed) → IsAnswered (first_state life) events }
+    ensures { (settings : Settings) (events : List Timed)
+        → IsAnswered (first_state settings) events }
 {}

@@ -1,44 +1,36 @@
 -- What becomes of a client that waits for the user: nothing until its confirmation ends, and then what comes of that.
-use Rattle.std.proofs.Common.{◌≡◌, ◌≢◌, ℕ, suc, ◌+◌, List, [], ◌∷◌, ◌++◌, refl, ap, arith, sym, subst, ◌∙◌, ◌⊎◌, Option, Some, None, Bool, true, false, inl, inr}
+use Rattle.std.proofs.Common.{◌≡◌, ◌≢◌, ℕ, suc, ◌+◌, List, [], ◌∷◌, ◌++◌, refl, ap, sym, subst, ◌∙◌, ◌⊎◌, Some, Bool, true, false, inl, inr}
 use Rattle.std.proofs.lemmas.Bool.{cases_eq}
-use Rattle.std.proofs.lemmas.Bool.Decides.{nat_tests}
 use Rattle.world_ports.specs.declared.Door.{Door}
 use Rattle.world_ports.specs.declared.Moment.{Moment}
 use Rattle.wire_text.specs.Frames.{front_body}
 use Rattle.confirm_desk.specs.Confirmations.{Confirmation, find_job}
-use Rattle.helper_link.specs.Answered.{LeadTo}
-use Rattle.helper_link.specs.HelperLink.{askers}
 use Rattle.dest_rule.specs.declared.binding.Binding.{Binding}
-use Rattle.helper_link.specs.Settling.{find_ask, remove_ask}
-use Rattle.helper_link.specs.Sound.{RiseTo}
 use Rattle.helper_link.specs.Telling.{telling}
-use Rattle.helper_link.specs.declared.answer.Settled.{Settled}
-use Rattle.helper_link.specs.declared.ask.Ask.{Ask}
-use Rattle.helper_link.specs.declared.fault.LinkFault.{LinkFault}
-use Rattle.helper_link.proofs.AnswerLemmas.{settling_leads}
-use Rattle.helper_link.proofs.OrderLemmas.{remove_rises}
-use Rattle.agent_model.specs.Actions.{Action, Asked, ForSignature, Granted, Outcome, Over, Work}
-use Rattle.agent_model.specs.Answers.{Answering, answer_all, answer_by, answers_in, lose, lose_if, tell_each, with_answers}
+use Rattle.agent_model.specs.Actions.{Action, Asked, ForSignature, Granted, Outcome, Over, Work, behind}
 use Rattle.agent_model.specs.Children.{changed}
 use Rattle.agent_model.specs.Consents.{close_confirmer, grant_concluded, over, signing_of, without_confirmation}
 use Rattle.agent_model.specs.Dispatch.{Served}
-use Rattle.agent_model.specs.Events.{Ended, Happening}
+use Rattle.agent_model.specs.Events.{Ended, Happening, Tick, Took}
 use Rattle.agent_model.specs.Fates.{IsTold}
 use Rattle.agent_model.specs.Grants.{IsAgreed, IsAmong, agreed, disagreed, unagreed, ungranted}
-use Rattle.agent_model.specs.Sound.{AreTied, IsTied}
+use Rattle.agent_model.specs.Sound.{IsTied}
 use Rattle.agent_model.specs.State.{Nothing, OnAsk, OnConfirmation, Port, State, change_port, find_port}
-use Rattle.agent_model.specs.Step.{admitted, asker_at, at_moment, attempts, concluded, has_room, step, take_frame}
-use Rattle.agent_model.specs.Verdicts.{Awaits, HelperLost, NoLongerAllowed, NotConfirmed, Refuses, Replies, Verdict, tell, verdict_text, verdict_waits}
-use Rattle.agent_model.proofs.FateLemmas.{answers_as, one_answer, one_lost, told-apart, told-here}
-use Rattle.agent_model.proofs.FatedLemmas.{found_still, tied-close, tied-opened, tied_mid}
+use Rattle.agent_model.specs.Step.{admitted, asker_at, attempts, concluded, handle, has_room, step, take_frame}
+use Rattle.agent_model.specs.Time.{at_moment, time_passes}
+use Rattle.agent_model.specs.Verdicts.{Awaits, NoLongerAllowed, NotConfirmed, Refuses, Replies, Verdict, tell, verdict_text, verdict_waits}
+use Rattle.agent_model.proofs.FateLemmas.{told-apart, told-here}
+use Rattle.agent_model.proofs.FatedLemmas.{tied-opened}
+use Rattle.agent_model.proofs.FatedMakeLemmas.{fated-makes, found_still, tied-taken}
 use Rattle.agent_model.proofs.TiedLemmas.{tied-quiet}
 use Rattle.agent_model.proofs.GrantLemmas.{IsGranted, allowed, disallowed, grant-ends, unasked}
 use Rattle.agent_model.proofs.JobLemmas.{IsIn, in-found}
 use Rattle.agent_model.proofs.MakeLemmas.{Makes, by_event, first, grants, loses, overs, serves, stays, tells}
 use Rattle.agent_model.proofs.ServeLemmas.{IsServed, answered, asked, raised, refused, serve-ends}
-use Rattle.agent_model.proofs.TieLemmas.{not_asker}
 use Rattle.agent_model.proofs.ActionLemmas.{ArePlain, IsPlain, among-each, plain-tells}
-use Rattle.agent_model.proofs.WaitLemmas.{told-close_confirmer, told-close_helper, waits-quiet, waits-served}
+use Rattle.agent_model.proofs.WaitLemmas.{told-close_confirmer, waits-quiet, waits-served}
+use Rattle.agent_model.proofs.StillLemmas.{heard-refused, still-handle, still-lost, still-makes, still-tells}
+use Rattle.agent_model.proofs.TimeLemmas.{time_passes-brings}
 
 -- who waits for the user
 abbrev Waits : ℕ → ℕ → List Port → Type 0
@@ -51,32 +43,37 @@ not_ask job ask is = absurd (cc)
 for_it : (job : ℕ) → OnConfirmation job ≢ Nothing
 for_it job is = absurd (cc)
 
--- ---- the helper
+-- none of these actions ends the confirmation
+abbrev Unended : ℕ → List Action → Type 0
+Unended job actions = (IsAmong (Granted job) actions → ⊥) × (IsAmong (Over job) actions → ⊥)
 
-waits-answers : (number job low last : ℕ) (settled : List Settled) (before : Answering) (asks left : List Ask) → LeadTo settled asks left → RiseTo low asks last → AreTied before.ports asks → Waits number job before.ports → Waits number job (answer_all settled before).ports
-waits-answers number job low last [] before asks left leads rise tied told = told
-waits-answers number job low last (one ∷ later) before asks left leads rise tied told =
-    let told_as = answers_as one.answer one before in
-    let other : number ≢ one.asker = not_asker before.ports asks tied number one.ask _ (Awaits (OnConfirmation job)) leads.0 told (not_ask job one.ask) in
-    waits-answers number job low last later (answer_by one.answer one before) (remove_ask one.ask asks) left leads.1 (remove_rises one.ask low asks last rise) (one_answer low last one before asks leads.0 rise tied)
-    (subst (Waits number job) (sym told_as.ports) (told-apart number one.asker (Awaits (OnConfirmation job)) told_as.change before.ports told_as.number other told))
+-- who waits for it goes on waiting where it didn't end, and is told where it ended without consent
+abbrev Settles : ℕ → ℕ → Outcome → Type 0
+Settles number job outcome =
+    (Unended job outcome.actions × Waits number job outcome.state.ports)
+    ⊎ (IsAmong (Over job) outcome.actions × IsTold number (Refuses NotConfirmed) outcome.state.ports)
 
-waits-tell_each : (number job low last : ℕ) (asks : List Ask) (ports : List Port) → RiseTo low asks last → AreTied ports asks → Waits number job ports → Waits number job (tell_each (Refuses HelperLost) (askers asks) ports)
-waits-tell_each number job low last [] ports rise tied told = told
-waits-tell_each number job low last (one ∷ asks) ports rise tied told =
-    let here : find_ask one.number (one ∷ asks) ≡ Some one = grind (arith, nat_tests) in
-    waits-tell_each number job one.number last asks _ rise.1 (one_lost low last one asks ports rise tied)
-    (told-apart number one.asker (Awaits (OnConfirmation job)) (tell (Refuses HelperLost)) ports (λ p. refl)
-    (not_asker ports (one ∷ asks) tied number one.number one (Awaits (OnConfirmation job)) here told (not_ask job one.number)) told)
+-- the same of a tied state, in which who was told so has it yet
+abbrev Ends : ℕ → ℕ → State → Outcome → Type 0
+Ends number job old outcome =
+    IsTied old → IsTied outcome.state × (Waits number job old.ports → Settles number job outcome)
+    × (IsTold number (Refuses NotConfirmed) old.ports → IsTold number (Refuses NotConfirmed) outcome.state.ports)
 
-waits-lost : (number job : ℕ) (state : State) → IsTied state → Waits number job state.ports → Waits number job (lose state).state.ports
-waits-lost number job state tied told =
-    waits-tell_each number job 0 state.under_way.link.last state.under_way.link.asks _ tied.order (tied-close state tied state.under_way.link.state)
-    (told-close_helper number _ state.under_way.link.state state.ports (λ at port is there. tied.helper at port is there) told)
+-- ---- which actions are there
 
-waits-fault : (number job : ℕ) (fault : Option LinkFault) (state : State) → IsTied state → Waits number job state.ports → Waits number job (lose_if fault state).state.ports
-waits-fault number job None state tied told = told
-waits-fault number job (Some fault) state tied told = waits-lost number job state tied told
+among_first : (action : Action) (some more : List Action) → IsAmong action some → IsAmong action (some ++ more)
+among_first action [] more among = absurd among
+among_first action (one ∷ some) more (inl is) = inl is
+among_first action (one ∷ some) more (inr there) = inr (among_first action some more there)
+
+among_later : (action : Action) (some more : List Action) → IsAmong action more → IsAmong action (some ++ more)
+among_later action [] more among = among
+among_later action (one ∷ some) more among = inr (among_later action some more among)
+
+none_of : (action : Action) (some more : List Action) → (IsAmong action some → ⊥) → (IsAmong action more → ⊥) → IsAmong action (some ++ more) → ⊥
+none_of action [] more none nothing among = nothing among
+none_of action (one ∷ some) more none nothing (inl is) = none (inl is)
+none_of action (one ∷ some) more none nothing (inr there) = none_of action some more (λ among. none (inr among)) nothing there
 
 -- ---- confirmations
 
@@ -134,12 +131,12 @@ module _ (number job : ℕ) (confirmation : Confirmation) (state : State) (there
       subst (λ n. IsTold number verdict (change_port n (tell verdict) (close_confirmer confirmation.port state.ports))) same
       (told-here number (Awaits (OnConfirmation job)) verdict (tell verdict) _ (λ p. refl) (λ p. refl) (λ p none. ap (λ bytes. bytes ++ verdict_text verdict) none) (λ p waits. refl) left_open)
 
-  agreed-over : IsAgreed number job (over confirmation state).actions (over confirmation state).state.ports
-  agreed-over = by_own (own (cases_eq number confirmation.asker))
+  settles-over : Settles number job (over confirmation state)
+  settles-over = by_own (own (cases_eq number confirmation.asker))
     where
-      by_own : ((job ≡ confirmation.job) × (number ≡ confirmation.asker)) ⊎ ((job ≢ confirmation.job) × (number ≢ confirmation.asker)) → IsAgreed number job (over confirmation state).actions (over confirmation state).state.ports
-      by_own (inl mine) = disagreed (inl (ap Over (sym mine.0))) (now (Refuses NotConfirmed) mine.1)
-      by_own (inr other) = unagreed (λ among. by_grant among) (λ among. by_over among) (still (Refuses NotConfirmed) other.1)
+      by_own : ((job ≡ confirmation.job) × (number ≡ confirmation.asker)) ⊎ ((job ≢ confirmation.job) × (number ≢ confirmation.asker)) → Settles number job (over confirmation state)
+      by_own (inl mine) = inr (inl (ap Over (sym mine.0)), now (Refuses NotConfirmed) mine.1)
+      by_own (inr other) = inl ((λ among. by_grant among, λ among. by_over among), still (Refuses NotConfirmed) other.1)
         where
           by_grant : IsAmong (Granted job) (over confirmation state).actions → ⊥
           by_grant (inl is) = absurd (cc)
@@ -148,6 +145,13 @@ module _ (number job : ℕ) (confirmation : Confirmation) (state : State) (there
           by_over : IsAmong (Over job) (over confirmation state).actions → ⊥
           by_over (inl is) = let equal : confirmation.job ≡ job = cc in other.0 (sym equal)
           by_over (inr none) = none
+
+  agreed-over : IsAgreed number job (over confirmation state).actions (over confirmation state).state.ports
+  agreed-over = by_end settles-over
+    where
+      by_end : Settles number job (over confirmation state) → IsAgreed number job (over confirmation state).actions (over confirmation state).state.ports
+      by_end (inl waits) = unagreed waits.0.0 waits.0.1 waits.1
+      by_end (inr ended) = disagreed ended.0 ended.1
 
   agreed-grant : {chain : List Binding} {work : Work} → IsGranted chain confirmation state.moment.wall state.held (without_confirmation confirmation.job state.under_way) work → IsAgreed number job (grant_concluded work confirmation state).actions (grant_concluded work confirmation state).state.ports
   agreed-grant granted = by_own granted (own (cases_eq number confirmation.asker))
@@ -192,13 +196,9 @@ agreed-makes number job (serves body_len port state found door nothing owed) ope
     let body : List ℕ = front_body body_len port.heard in
     agreed-served number job body (take_frame body_len (attempts state.held.lock body)) (λ p. refl) port state found nothing told (serve-ends (asker_at state.moment port) state.held state.under_way body)
 agreed-makes number job (tells piece state) open_yet tied told =
-    let said = telling piece state.under_way.link in
-    let before : Answering = record { ports = state.ports; verifications = state.under_way.verifications; actions = [] } in
-    let mid : State = with_answers said.link (answers_in said.settled state) state in
-    agreed-plain number job _ _ (plain-tells said state)
-    (waits-fault number job said.fault mid (tied_mid piece state tied)
-    (waits-answers number job 0 state.under_way.link.last said.settled before state.under_way.link.asks said.link.asks (settling_leads (state.under_way.link.heard ++ piece) state.under_way.link.asks) tied.order tied.tied told))
-agreed-makes number job (loses state) open_yet tied told = agreed-plain number job _ _ (tt, tt) (waits-lost number job state tied told)
+    agreed-plain number job _ _ (plain-tells (telling piece state.under_way.link) state)
+    (still-tells number (Awaits (OnConfirmation job)) (not_ask job) piece state tied told)
+agreed-makes number job (loses state) open_yet tied told = agreed-plain number job _ _ (tt, tt) (still-lost number (Awaits (OnConfirmation job)) (not_ask job) state tied told)
 agreed-makes number job (overs confirmation state there) open_yet tied told = agreed-over number job confirmation state there tied told
 agreed-makes number job (grants confirmation port state there opened) open_yet tied told =
     agreed-grant number job confirmation state there tied told (grant-ends port.chain confirmation state)
@@ -208,10 +208,66 @@ agreed-admitted number job false door state told = agreed-plain number job [] _ 
 agreed-admitted number job true door state told =
     agreed-plain number job [] _ tt record { port = told.port; found = found_still number told.port state.ports _ told.found; door = told.door; owed = told.owed; waits = told.waits }
 
+-- ---- a moment
+
+-- what a moment brings to who waits for the user
+time-settles : (number job : ℕ) (moment : Moment) (state : State) → IsTied state → Waits number job state.ports → Settles number job (time_passes moment state)
+time-settles number job moment state tied told =
+    (time_passes-brings (Ends number job) moment state
+    (λ s at. (at, λ waits. inl ((λ among. among, λ among. among), waits), λ has. has))
+    (λ s at. (
+      (fated-makes {event = Tick} (loses s) at).tied,
+      λ waits. inl ((by_one (λ is. absurd (cc)), by_one (λ is. absurd (cc))), still-lost number (Awaits (OnConfirmation job)) (not_ask job) s at waits),
+      λ has. still-makes number (Refuses NotConfirmed) (heard-refused NotConfirmed) {event = Tick} (loses s) (λ is. absurd (cc)) (λ count is. absurd (cc)) at has,
+    ))
+    (λ one s there at. (
+      (fated-makes {event = Tick} (overs one s there) at).tied,
+      λ waits. settles-over number job one s there at waits,
+      λ has. still-makes number (Refuses NotConfirmed) (heard-refused NotConfirmed) {event = Tick} (overs one s there) (λ is. absurd (cc)) (λ count is. absurd (cc)) at has,
+    ))
+    (λ s before later first rest at.
+    let a = first at in
+    let b = rest a.0 in
+    (b.0, λ waits. by_either before later (a.1 waits) b.1 b.2, λ has. b.2 (a.2 has)))
+    (tied-taken moment state tied)).1 told
+  where
+    by_one : {action one : Action} → (one ≡ action → ⊥) → IsAmong action (one ∷ []) → ⊥
+    by_one other (inl is) = other is
+    by_one other (inr none) = none
+
+    by_either : (before later : Outcome) → Settles number job before → (Waits number job before.state.ports → Settles number job later) → (IsTold number (Refuses NotConfirmed) before.state.ports → IsTold number (Refuses NotConfirmed) later.state.ports) → Settles number job (behind before later)
+    by_either before later (inl open_yet) goes stay = by_later (goes open_yet.1)
+      where
+        by_later : Settles number job later → Settles number job (behind before later)
+        by_later (inl more) = inl ((none_of (Granted job) before.actions later.actions open_yet.0.0 more.0.0, none_of (Over job) before.actions later.actions open_yet.0.1 more.0.1), more.1)
+        by_later (inr ended) = inr (among_later (Over job) before.actions later.actions ended.0, ended.1)
+    by_either before later (inr ended) goes stay = inr (among_first (Over job) before.actions later.actions ended.0, stay ended.1)
+
+-- actions before that don't end it make no difference
+agreed-behind : (number job : ℕ) (some more : List Action) (ports : List Port) → Unended job some → IsAgreed number job more ports → IsAgreed number job (some ++ more) ports
+agreed-behind number job some more ports none (unagreed not_granted not_over told) =
+    unagreed (none_of (Granted job) some more none.0 not_granted) (none_of (Over job) some more none.1 not_over) told
+agreed-behind number job some more ports none (disagreed over_it told) = disagreed (among_later (Over job) some more over_it) told
+agreed-behind number job some more ports none (agreed asking granted put its told) =
+    agreed asking (among_later (Granted job) some more granted) (among_later (Asked asking) some more put) its told
+agreed-behind number job some more ports none (ungranted cause granted told) = ungranted cause (among_later (Granted job) some more granted) told
+
 -- each event
-pub step-agreed : (number job : ℕ) (state : State) (moment : Moment) (event : Happening) → event ≢ Ended number → IsTied state → Waits number job state.ports → IsAgreed number job (step state moment event).actions (step state moment event).state.ports
-step-agreed number job state moment event open_yet tied told =
-    let opened : State = at_moment moment state in
-    by_event (λ outcome. IsAgreed number job outcome.actions outcome.state.ports) event opened
-    (λ door. agreed-admitted number job (has_room door state.ports state.under_way) door opened told)
-    (λ outcome makes. agreed-makes number job makes open_yet (tied-opened moment state tied) told)
+pub step-agreed : (number job : ℕ) (state : State) (moment : Moment) (event : Happening) → event ≢ Ended number → ((count : ℕ) → event ≢ Took number count) → IsTied state → Waits number job state.ports → IsAgreed number job (step state moment event).actions (step state moment event).state.ports
+step-agreed number job state moment event open_yet untaken tied told = by_time (time-settles number job moment state tied told)
+  where
+    opened : State
+    opened = at_moment moment state
+
+    tied_yet : IsTied (at_moment moment state)
+    tied_yet = tied-opened moment state tied
+
+    by_time : Settles number job (time_passes moment state) → IsAgreed number job (step state moment event).actions (step state moment event).state.ports
+    by_time (inl waits) =
+        agreed-behind number job (time_passes moment state).actions (handle event opened).actions (handle event opened).state.ports waits.0
+        (by_event (λ outcome. IsAgreed number job outcome.actions outcome.state.ports) event opened
+        (λ door. agreed-admitted number job (has_room door opened.ports opened.under_way) door opened waits.1)
+        (λ outcome makes. agreed-makes number job makes open_yet tied_yet waits.1))
+    by_time (inr ended) =
+        disagreed (among_first (Over job) (time_passes moment state).actions (handle event opened).actions ended.0)
+        (still-handle number (Refuses NotConfirmed) (heard-refused NotConfirmed) event opened open_yet untaken tied_yet ended.1)

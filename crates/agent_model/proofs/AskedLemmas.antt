@@ -41,10 +41,10 @@ module _ (asker : Asker) (errand : Errand) (last : ℕ) where
       let test : (last + 1 == last + 1) ≡ true = grind (arith, nat_tests) in
       subst IsSome (sym (ap (λ b. cond b (Some (one_for bind is_new (last + 1))) None) test)) refl
 
-  module _ (asks : List Ask) (verifications : List Verification) (rise : RiseTo 0 asks last) where
+  module _ (second : ℕ) (asks : List Ask) (verifications : List Verification) (rise : RiseTo 0 asks last) where
     -- the new ask
     abbrev new : Ask
-    new = ask_of (last + 1) asker.port (kind_of errand)
+    new = ask_of (last + 1) asker.port (kind_of errand) second
 
     abbrev noted : List Verification
     noted = noted_verification errand (last + 1)
@@ -87,7 +87,7 @@ module _ (asker : Asker) (errand : Errand) (last : ℕ) where
 
     -- each ask to verify has its binding
     pub noted-asked : AreNoted verifications asks → AreNoted (verifications ++ noted) (asks ++ new ∷ [])
-    noted-asked noted_before ask who there = by_test (last + 1 == ask) refl (sym (pushed ask) ∙ there)
+    noted-asked noted_before ask who put_at there = by_test (last + 1 == ask) refl (sym (pushed ask) ∙ there)
       where
         some_of : (first later : Option Verification) → IsSome first → IsSome (either first later)
         some_of None later some = absurd (cc)
@@ -97,16 +97,16 @@ module _ (asker : Asker) (errand : Errand) (last : ℕ) where
         some_behind None later some = some
         some_behind (Some one) later some = refl
 
-        by_test : (same : Bool) → (last + 1 == ask) ≡ same → cond same (Some new) (find_ask ask asks) ≡ Some (ask_of ask who kinds.Verifying) → IsSome (find_verification ask (verifications ++ noted))
+        by_test : (same : Bool) → (last + 1 == ask) ≡ same → cond same (Some new) (find_ask ask asks) ≡ Some (ask_of ask who kinds.Verifying put_at) → IsSome (find_verification ask (verifications ++ noted))
         by_test true test is =
             let numbered : last + 1 ≡ ask = grind (arith, nat_tests) in
-            let this : new ≡ ask_of ask who kinds.Verifying = cc in
+            let this : new ≡ ask_of ask who kinds.Verifying put_at = cc in
             let kind : kind_of errand ≡ kinds.Verifying = ap (λ (a : Ask). a.kind) this in
             subst IsSome (sym (find_verification-append ask verifications noted))
             (some_behind (find_verification ask verifications) (find_verification ask noted) (subst (λ n. IsSome (find_verification n noted)) numbered (noted_new errand kind)))
         by_test false test is =
             subst IsSome (sym (find_verification-append ask verifications noted))
-            (some_of (find_verification ask verifications) (find_verification ask noted) (noted_before ask who is))
+            (some_of (find_verification ask verifications) (find_verification ask noted) (noted_before ask who put_at is))
 
     -- and is of an ask that was put
     pub given-asked : MayPut asker errand → AreGiven verifications last → AreGiven (verifications ++ noted) (last + 1)

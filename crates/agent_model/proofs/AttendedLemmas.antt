@@ -24,10 +24,12 @@ use Rattle.agent_model.specs.Events.{Happening, Joined, Heard, Ended, Took, Star
 use Rattle.agent_model.specs.Limits.{most_confirmations}
 use Rattle.agent_model.specs.Runs.{run}
 use Rattle.agent_model.specs.Sound.{IsTied}
-use Rattle.agent_model.specs.State.{Client, Confirmer, Helper, Nothing, OnAsk, OnConfirmation, Port, Role, State, UnderWay, Unnamed, change_port, find_port, first_state, role_of}
-use Rattle.agent_model.specs.Step.{admitted, asker_at, at_moment, attempts, concluded, ended_at, ended_by_role, handle, has_room, step, take_frame}
+use Rattle.agent_model.specs.State.{Client, Confirmer, Helper, Nothing, OnAsk, OnConfirmation, Port, Role, Settings, State, UnderWay, Unnamed, change_port, find_port, first_state, role_of}
+use Rattle.agent_model.specs.Step.{admitted, asker_at, attempts, concluded, ended_at, ended_by_role, handle, has_room, step, take_frame}
+use Rattle.agent_model.specs.Time.{at_moment}
 use Rattle.agent_model.specs.Verdicts.{Awaits, HelperLost, NoLongerAllowed, NotConfirmed, Refuses, Replies, Verdict, tell}
-use Rattle.agent_model.proofs.FatedLemmas.{found_still, step-fated, tied-opened, tied_mid}
+use Rattle.agent_model.proofs.FatedLemmas.{step-fated}
+use Rattle.agent_model.proofs.FatedMakeLemmas.{fated-makes, found_still, tied-taken, tied_mid}
 use Rattle.agent_model.proofs.FatedServeLemmas.{linked-begun}
 use Rattle.agent_model.proofs.TiedLemmas.{tied-quiet}
 use Rattle.agent_model.proofs.GrantLemmas.{IsGranted, allowed, disallowed, grant-ends, unasked}
@@ -36,6 +38,7 @@ use Rattle.agent_model.proofs.MakeLemmas.{Makes, MayClose, Quiet, alters, child,
 use Rattle.agent_model.proofs.PortsLemmas.{found_number}
 use Rattle.agent_model.proofs.ServeLemmas.{IsServed, answered, asked, raised, refused, serve-ends}
 use Rattle.agent_model.proofs.OpenLemmas.{Opens, attended-kept, attended-link, attended-linked, attended-opens, attended-over, attended-raised, attended-removed, is_found, none_asks, none_linked, opens-answers, opens-changed, opens-in_turn, opens-tell_each, removed-apart, some_port}
+use Rattle.agent_model.proofs.TimeLemmas.{at_moment-keeps}
 
 -- ---- quiet changes
 
@@ -70,7 +73,7 @@ module _ (state : State) (tied : IsTied state) (attended : IsAttended state) whe
   not_linked job number one there free = none_linked number one (in-by_job job uw.confirmations one there) free
 
   nobody_at : {event : Happening} (number : ℕ) → MayClose event number state.ports uw.confirmations → ((n : ℕ) → event ≢ Ended n) → (job : ℕ) (one : Confirmation) → find_job job uw.confirmations ≡ Some one → (one.asker ≢ number) × (one.port ≢ Some number)
-  nobody_at number (idle port found nothing client) none job one there = (
+  nobody_at number (idle port found nothing unowed client) none job one there = (
     not_its_port job number one port there found (λ waits door. let no : Nothing ≡ OnConfirmation job = sym nothing ∙ waits in absurd (cc)),
     not_client job number one port there found client,
   )
@@ -153,7 +156,7 @@ module _ (body : List ℕ) (take : Port → Port) (keeps : (p : Port) → (take 
   served-attended (raised key signing free) =
       let job : ℕ = state.under_way.last_job + 1 in
       attended-opens state.ports _ (opens-served (Awaits (OnConfirmation job)))
-      (attended-raised state.under_way.last_job (confirmation_of job (held_for port.number key signing) (prompt_for key.comment key.blob)) tied.raised.order refl refl (raised_room state.under_way free) (is_found _ port found) attended)
+      (attended-raised state.under_way.last_job (confirmation_of job (held_for port.number key signing) (prompt_for key.comment key.blob) state.under_way.second) tied.raised.order refl refl (raised_room state.under_way free) (is_found _ port found) attended)
 
 -- ---- events
 
@@ -259,15 +262,25 @@ attended-handle (Started job ticket) state tied attended = attended-makes (makes
 attended-handle (StartFailed job) state tied attended = attended-makes (makes-handle (StartFailed job) state (λ door is. absurd (cc))) (λ n is. absurd (cc)) tied attended
 attended-handle Tick state tied attended = attended
 
+-- what a moment brings
+pub opened-attended : (moment : Moment) (state : State) → IsTied state → IsAttended state → IsTied (at_moment moment state) × IsAttended (at_moment moment state)
+opened-attended moment state tied attended =
+    at_moment-keeps (λ s. IsTied s × IsAttended s) moment state (λ s both. keep (loses s) both) (λ one s there both. keep (overs one s there) both)
+    (tied-taken moment state tied, attended)
+  where
+    keep : {old : State} {outcome : Outcome} → Makes Tick old outcome → IsTied old × IsAttended old → IsTied outcome.state × IsAttended outcome.state
+    keep makes both = ((fated-makes makes both.0).tied, attended-makes makes (λ n is. absurd (cc)) both.0 both.1)
+
 -- each event
 pub step-attended : (state : State) (moment : Moment) (event : Happening) → IsTied state → IsAttended state → IsAttended (step state moment event).state
 step-attended state moment event tied attended =
-    attended-handle event (at_moment moment state) (tied-opened moment state tied) attended
+    let opened = opened-attended moment state tied attended in
+    attended-handle event (at_moment moment state) opened.0 opened.1
 
 -- ---- runs
 
-pub first-attended : (life : Option ℕ) → IsAttended (first_state life)
-first-attended life = record {
+pub first-attended : (settings : Settings) → IsAttended (first_state settings)
+first-attended settings = record {
   few = omega arith;
   askers = λ job one found. absurd (cc);
   confirmers = λ job number one found at. absurd (cc);

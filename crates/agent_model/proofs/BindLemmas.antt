@@ -5,9 +5,9 @@ use Rattle.std.proofs.lemmas.Bool.{cases_eq}
 use Rattle.std.proofs.lemmas.Bool.Decides.{nat_tests}
 use Rattle.dest_rule.specs.Chains.{IsChain}
 use Rattle.dest_rule.specs.declared.binding.Binding.{Binding}
-use Rattle.helper_link.specs.Answered.{LeadTo, kind_answered}
+use Rattle.helper_link.specs.Answered.{IsUnanswered, LeadTo, kind_answered}
 use Rattle.helper_link.specs.HelperLink.{ask_of}
-use Rattle.helper_link.specs.Settling.{find_ask, remove_ask}
+use Rattle.helper_link.specs.Settling.{remove_ask}
 use Rattle.helper_link.specs.Sound.{RiseTo}
 use Rattle.helper_link.specs.declared.answer.Answer.{Answer}
 use Rattle.helper_link.specs.declared.answer.Answer.TheVariants as answer
@@ -66,7 +66,7 @@ answer_is answer.Refused one before = tells (Refuses HelperRefused)
 answer_is answer.True one before = answer_is_true (find_verification one.ask before.verifications) one before refl
 answer_is answer.False one before = tells (Refuses SignatureWrong)
 
-module _ (low last : ℕ) (one : Settled) (before : Answering) (asks : List Ask) (found : find_ask one.ask asks ≡ Some (ask_of one.ask one.asker (kind_answered one.answer))) (rise : RiseTo low asks last) (tied : AreTied before.ports asks) (judged : AreJudged before.ports before.verifications asks) where
+module _ (low last : ℕ) (one : Settled) (before : Answering) (asks : List Ask) (found : IsUnanswered one.ask one.asker (kind_answered one.answer) asks) (rise : RiseTo low asks last) (tied : AreTied before.ports asks) (judged : AreJudged before.ports before.verifications asks) where
   -- what was judged stands
   pub judged_answer : AreJudged (answer_by one.answer one before).ports (answer_by one.answer one before).verifications (remove_ask one.ask asks)
   judged_answer =
@@ -77,7 +77,7 @@ module _ (low last : ℕ) (one : Settled) (before : Answering) (asks : List Ask)
 
   -- the verification that is found was judged by the asker's chain
   of_asker : (verification : Verification) (port : Port) → find_verification one.ask before.verifications ≡ Some verification → find_port one.asker before.ports ≡ Some port → IsRight verification port.chain
-  of_asker verification port noted there = judged one.ask (ask_of one.ask one.asker (kind_answered one.answer)) verification port noted found there
+  of_asker verification port noted there = judged one.ask (ask_of one.ask one.asker (kind_answered one.answer) found.put_at) verification port noted found.found there
 
   chains_by : {after : Answering} → AnswerIs one before after → AreChains before.ports → AreChains after.ports
   chains_by (tells verdict) chains number port opened =
@@ -165,7 +165,7 @@ pub record HoldsAt (low last : ℕ) (answering : Answering) (asks : List Ask) : 
   pub given : AreGiven answering.verifications last
   pub chains : AreChains answering.ports
 
-holds_answer : (low last : ℕ) (one : Settled) (before : Answering) (asks : List Ask) → find_ask one.ask asks ≡ Some (ask_of one.ask one.asker (kind_answered one.answer)) → HoldsAt low last before asks → HoldsAt low last (answer_by one.answer one before) (remove_ask one.ask asks)
+holds_answer : (low last : ℕ) (one : Settled) (before : Answering) (asks : List Ask) → IsUnanswered one.ask one.asker (kind_answered one.answer) asks → HoldsAt low last before asks → HoldsAt low last (answer_by one.answer one before) (remove_ask one.ask asks)
 holds_answer low last one before asks found holds = record {
   rise = remove_rises one.ask low asks last holds.rise;
   tied = one_answer low last one before asks found holds.rise holds.tied;

@@ -1,5 +1,5 @@
 -- The ports that an event closes are those that were open or joined and aren't open after.
-use Rattle.std.proofs.Common.{◌≡◌, ◌≢◌, ◌==◌, ◌&&◌, ◌<◌, ◌+◌, ℕ, List, [], ◌∷◌, ◌++◌, refl, ap, arith, sym, subst, ◌∙◌, suc, Option, Some, None, is_some, Bool, true, false, not, nat_lt, inl, inr, if◌then◌else◌}
+use Rattle.std.proofs.Common.{◌≡◌, ◌≢◌, ◌==◌, ◌&&◌, ◌||◌, ◌<◌, ◌+◌, ℕ, List, [], ◌∷◌, ◌++◌, refl, ap, arith, sym, subst, ◌∙◌, suc, Option, Some, None, is_some, Bool, true, false, not, nat_lt, inl, inr, if◌then◌else◌}
 use Rattle.std.proofs.lemmas.Bool.{cases_eq}
 use Rattle.std.proofs.lemmas.Bool.Decides.{nat_tests}
 use Rattle.std.proofs.lemmas.List.{append-nil}
@@ -14,21 +14,24 @@ use Rattle.lists.specs.Rising.{IsRisingList, IsRisingNumbers, inserted, is_among
 use Rattle.lists.proofs.RisingLemmas.{is_among-above, is_among-removed, removed-not_among, rising_list, rising_list-removed}
 use Rattle.world_ports.specs.declared.Door.{Door}
 use Rattle.world_ports.specs.declared.Moment.{Moment}
-use Rattle.agent_model.specs.Actions.{Outcome, closing}
+use Rattle.agent_model.specs.Actions.{Outcome, behind, closing}
 use Rattle.agent_model.specs.Answers.{Answering, answer_all, answer_by, answers_in, close_helper, helper_closes, lose, lose_if, tell_each, with_answers}
 use Rattle.agent_model.specs.Children.{unheard}
 use Rattle.agent_model.specs.Closings.{closed_between, joined_between}
 use Rattle.agent_model.specs.Consents.{close_confirmer, confirmer_closes, grant_work}
-use Rattle.agent_model.specs.Events.{Happening}
+use Rattle.agent_model.specs.Events.{Happening, Tick}
 use Rattle.agent_model.specs.NumberLists.{put_all, without}
 use Rattle.agent_model.specs.Sound.{IsRising}
 use Rattle.agent_model.specs.State.{Port, State, change_port, find_port, new_port, numbers, remove_port, number_of}
-use Rattle.agent_model.specs.Step.{admitted, at_moment, has_room, step, turned_away}
+use Rattle.agent_model.specs.Step.{admitted, has_room, step, turned_away}
+use Rattle.agent_model.specs.Time.{at_moment, time_passes}
 use Rattle.agent_model.specs.Verdicts.{HelperLost, NotConfirmed, Refuses, Verdict, tell}
 use Rattle.agent_model.proofs.FateLemmas.{answers_as}
-use Rattle.agent_model.proofs.LeadLemmas.{follows-makes, same}
+use Rattle.agent_model.proofs.LeadLemmas.{Follows, follows-makes}
 use Rattle.agent_model.proofs.MakeLemmas.{Makes, Quiet, alters, by_event, closes, first, goes_on, grants, links, loses, names, overs, serves, shuts, stays, tells}
-use Rattle.agent_model.proofs.PortsLemmas.{numbers-change_port, rising_bound}
+use Rattle.agent_model.proofs.PortsLemmas.{numbers-change_port, rising-append, rising_bound}
+use Rattle.agent_model.proofs.RunLemmas.{at_moment-follows, leads-rising}
+use Rattle.agent_model.proofs.TimeLemmas.{time_passes-makes}
 
 -- ---- numbers that are taken out one after another
 
@@ -250,16 +253,6 @@ without-all (x ∷ xs) ys stay =
     let rest : without xs ys ≡ [] = without-all xs ys (λ y there. stay y (grind (arith, nat_tests))) in
     grind (arith, nat_tests)
 
--- a number behind others that stay is left out where it isn't among them
-without-behind : (x : ℕ) (xs ys : List ℕ) → ((y : ℕ) → is_among y xs ≡ true → is_among y ys ≡ true) →
-    is_among x ys ≡ false → without (xs ++ x ∷ []) ys ≡ x ∷ []
-without-behind x [] ys stay absent = grind (arith, nat_tests)
-without-behind x (y ∷ xs) ys stay absent =
-    let here : is_among y ys ≡ true = stay y (grind (arith, nat_tests)) in
-    let rest : without (xs ++ x ∷ []) ys ≡ x ∷ [] =
-    without-behind x xs ys (λ z there. stay z (grind (arith, nat_tests))) absent in
-    grind (arith, nat_tests)
-
 -- a number above the last isn't there
 among-above : (number low high : ℕ) (ports : List Port) → high < number → IsRising low high ports →
     is_among number (numbers ports) ≡ false
@@ -275,21 +268,81 @@ numbers-append : (number : ℕ) (door : Door) (ports : List Port) →
 numbers-append number door [] = refl
 numbers-append number door (port ∷ ports) = ap (λ xs. port.number ∷ xs) (numbers-append number door ports)
 
+-- what is taken out of numbers is taken out of them with one more behind
+taken-with : (number : ℕ) (out before after : List ℕ) → TakenOut out before after →
+    TakenOut out (before ++ number ∷ []) (after ++ number ∷ [])
+taken-with number [] before after same = ap (λ ns. ns ++ number ∷ []) same
+taken-with number (one ∷ out) before after taken =
+    let both = one_with before taken.0 in (
+      both.0,
+      subst (λ ns. TakenOut out ns (after ++ number ∷ [])) (sym both.1)
+          (taken-with number out (removed one before) after taken.1),
+    )
+  where
+    one_with : (ns : List ℕ) → is_among one ns ≡ true →
+        (is_among one (ns ++ number ∷ []) ≡ true)
+        × (removed one (ns ++ number ∷ []) ≡ removed one ns ++ number ∷ [])
+    one_with [] there = absurd (cc)
+    one_with (n ∷ ns) there = by_test (one == n) there (one_with ns)
+      where
+        by_test : (is : Bool) → (is || is_among one ns) ≡ true →
+            (is_among one ns ≡ true → (is_among one (ns ++ number ∷ []) ≡ true)
+            × (removed one (ns ++ number ∷ []) ≡ removed one ns ++ number ∷ [])) →
+            ((is || is_among one (ns ++ number ∷ [])) ≡ true)
+            × ((if is then ns ++ number ∷ [] else n ∷ removed one (ns ++ number ∷ []))
+            ≡ (if is then ns else n ∷ removed one ns) ++ number ∷ [])
+        by_test true is rest = (refl, refl)
+        by_test false is rest = ((rest is).0, ap (λ ms. n ∷ ms) (rest is).1)
+
+-- the last of numbers is taken out, where it isn't among the others
+taken-last : (number : ℕ) (ns : List ℕ) → is_among number ns ≡ false →
+    (is_among number (ns ++ number ∷ []) ≡ true) × (ns ≡ removed number (ns ++ number ∷ []))
+taken-last number [] absent = (grind (arith, nat_tests), grind (arith, nat_tests))
+taken-last number (n ∷ ns) absent = by_test (number == n) absent (taken-last number ns)
+  where
+    by_test : (is : Bool) → (is || is_among number ns) ≡ false →
+        (is_among number ns ≡ false → (is_among number (ns ++ number ∷ []) ≡ true)
+        × (ns ≡ removed number (ns ++ number ∷ []))) →
+        ((is || is_among number (ns ++ number ∷ [])) ≡ true)
+        × ((n ∷ ns) ≡ (if is then ns ++ number ∷ [] else n ∷ removed number (ns ++ number ∷ [])))
+    by_test true is rest = absurd (cc)
+    by_test false is rest = ((rest is).0, ap (λ ms. n ∷ ms) (rest is).1)
+
 -- a port that joins is closed where it isn't admitted
-closed-joined : (is_in : Bool) (last : ℕ) (door : Door) (ports : List Port) → IsRising 0 last ports →
-    put_all [] (turned_away is_in (suc last))
-    ≡ without (numbers ports ++ joined_between last (suc last)) (numbers (admitted is_in (suc last) door ports))
-closed-joined true last door ports rising =
-    let above : nat_lt last (suc last) ≡ true = grind (arith, nat_tests) in
-    let all : List Port = ports ++ new_port (suc last) door ∷ [] in
-    sym (ap (λ b. without (numbers ports ++ (if b then suc last ∷ [] else [])) (numbers all)) above
-    ∙ ap (λ ns. without ns (numbers all)) (sym (numbers-append (suc last) door ports))
-    ∙ without-all (numbers all) (numbers all) (λ x there. there))
-closed-joined false last door ports rising =
-    let above : nat_lt last (suc last) ≡ true = grind (arith, nat_tests) in
-    sym (ap (λ b. without (numbers ports ++ (if b then suc last ∷ [] else [])) (numbers ports)) above
-    ∙ without-behind (suc last) (numbers ports) (numbers ports) (λ y there. there)
-    (among-above (suc last) 0 last ports (omega arith) rising))
+taken-admitted : (is_in : Bool) (number : ℕ) (door : Door) (ports : List Port) →
+    is_among number (numbers ports) ≡ false →
+    TakenOut (turned_away is_in number) (numbers ports ++ number ∷ [])
+    (numbers (admitted is_in number door ports))
+taken-admitted true number door ports absent = numbers-append number door ports
+taken-admitted false number door ports absent = taken-last number (numbers ports) absent
+
+-- what is closed before it joins, and it itself where it isn't admitted
+closed-joined : (old mid : State) (out : List ℕ) (is_in : Bool) (door : Door) →
+    IsRising 0 old.last_port old.ports → Follows old mid →
+    TakenOut out (numbers old.ports) (numbers mid.ports) →
+    put_all [] (out ++ turned_away is_in (suc mid.last_port))
+    ≡ without (numbers old.ports ++ joined_between old.last_port (suc mid.last_port))
+    (numbers (admitted is_in (suc mid.last_port) door mid.ports))
+closed-joined old mid out is_in door rising follows taken =
+    let new : ℕ = suc mid.last_port in
+    let higher : old.last_port < new = omega (arith, follows.last) in
+    let all : List ℕ = numbers old.ports ++ new ∷ [] in
+    let left : List ℕ = numbers (admitted is_in new door mid.ports) in
+    let order : IsRisingNumbers 0 all =
+    subst (IsRisingNumbers 0) (numbers-append new door old.ports)
+    (rising-numbers 0 new (old.ports ++ new_port new door ∷ [])
+    (rising-append 0 old.last_port new door old.ports higher rising)) in
+    let absent : is_among new (numbers mid.ports) ≡ false =
+    among-above new 0 old.last_port mid.ports higher
+    (leads-rising 0 old.last_port old.ports follows.ports rising) in
+    let above : nat_lt old.last_port new ≡ true = grind (arith, nat_tests) in
+    ap (λ ns. put_all ns (out ++ turned_away is_in new)) (sym (without-all all all (λ x there. there)))
+    ∙ put-taken 0 all (out ++ turned_away is_in new) all left order (rising_list 0 all order)
+    (λ x there. there)
+    (taken-append out (turned_away is_in new) all (numbers mid.ports ++ new ∷ []) left
+    (taken-with new out (numbers old.ports) (numbers mid.ports) taken)
+    (taken-admitted is_in new door mid.ports absent))
+    ∙ ap (λ b. without (numbers old.ports ++ (if b then new ∷ [] else [])) left) (sym above)
 
 -- where the last number stays, only the open ports can have been closed
 closed-stays : (old : State) (outcome : Outcome) → IsRising 0 old.last_port old.ports →
@@ -306,16 +359,36 @@ closed-stays old outcome rising last out =
     ∙ ap (λ b. without (all ++ (if b then old.last_port ∷ [] else [])) left) (sym not_above)
     ∙ ap (λ n. without (all ++ joined_between old.last_port n) left) (sym last)
 
+-- what a moment closes is taken out
+closed-time : (moment : Moment) (state : State) → Closed state (time_passes moment state)
+closed-time moment state =
+    time_passes-makes Closed Tick moment state (λ s outcome makes. closed-makes makes)
+    (λ s before later out rest.
+    taken-append before.closes later.closes (numbers s.ports) (numbers before.state.ports)
+    (numbers later.state.ports) out rest)
+
 -- the ports that an event closed are those that were open or joined and aren't open after
 pub closes-closed : (state : State) (moment : Moment) (event : Happening) →
     IsRising 0 state.last_port state.ports →
     (step state moment event).closes ≡ closed_between state (step state moment event).state
 closes-closed state moment event rising =
-    by_event (λ outcome. put_all [] outcome.closes ≡ closed_between state outcome.state) event start
-    (λ door. closed-joined (has_room door start.ports start.under_way) state.last_port door state.ports rising)
+    by_event
+    (λ outcome. put_all [] (time.closes ++ outcome.closes) ≡ closed_between state outcome.state) event start
+    (λ door. closed-joined state start time.closes (has_room door start.ports start.under_way) door rising
+    follows out)
     (λ outcome makes.
-    closed-stays start outcome rising
-    (follows-makes event start makes record { last = refl; ports = same }).last (closed-makes makes))
+    closed-stays state (behind time outcome) rising (follows-makes event state makes follows).last
+    (taken-append time.closes outcome.closes (numbers state.ports) (numbers start.ports)
+    (numbers outcome.state.ports) out (closed-makes makes)))
   where
+    time : Outcome
+    time = time_passes moment state
+
     start : State
     start = at_moment moment state
+
+    out : Closed state time
+    out = closed-time moment state
+
+    follows : Follows state start
+    follows = at_moment-follows moment state

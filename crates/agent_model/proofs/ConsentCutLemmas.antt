@@ -18,19 +18,20 @@ use Rattle.agent_model.specs.Events.{Heard}
 use Rattle.agent_model.specs.KeyStates.{KeyState}
 use Rattle.agent_model.specs.Sound.{IsTied}
 use Rattle.agent_model.specs.State.{Confirmer, Port, State, UnderWay, change_port, find_port, is_linked_to, role_by_helper, role_of}
-use Rattle.agent_model.specs.Step.{at_moment, handle, heard_at, heard_by_role, step}
+use Rattle.agent_model.specs.Step.{handle, heard_at, heard_by_role, step}
+use Rattle.agent_model.specs.Time.{GiveTime, at_moment, taken_in}
 use Rattle.agent_model.specs.Verdicts.{NotConfirmed, Refuses, tell}
 use Rattle.agent_model.proofs.OpenLemmas.{some_port}
 use Rattle.agent_model.proofs.BudgetLemmas.{confirmer_role}
-use Rattle.agent_model.proofs.FatedLemmas.{tied-opened}
 use Rattle.agent_model.proofs.JobLemmas.{in-by_port, in-found, linked-changed, linked_port}
 use Rattle.confirm_desk.proofs.CutLemmas.{consent-append, told-told}
 use Rattle.agent_model.proofs.LeadLemmas.{changes, same}
 use Rattle.agent_model.proofs.MakeLemmas.{role-confirmer, role-door}
 use Rattle.agent_model.specs.Pieces.{Agree}
-use Rattle.agent_model.proofs.PiecesLemmas.{agree-over, agree-waits, heard_next}
+use Rattle.agent_model.proofs.PiecesLemmas.{agree-over, agree-stepped, agree-waits, heard_next}
 use Rattle.agent_model.proofs.PortsLemmas.{find_port-remove_port, found_number}
-use Rattle.agent_model.proofs.RunLemmas.{at_moment-twice, leads-absent}
+use Rattle.agent_model.proofs.OnTimeLemmas.{taken_in-at_moment}
+use Rattle.agent_model.proofs.RunLemmas.{leads-absent}
 
 -- ---- what the user says
 
@@ -77,7 +78,7 @@ pub handle-confirmer : (number : ℕ) (piece : List ℕ) (port : Port) (confirma
 handle-confirmer number piece port confirmation state found role =
     ap (λ o. heard_at o piece state) found ∙ ap (λ r. heard_by_role r port piece state) role
 
-module _ (moment : Moment) (state : State) (number : ℕ) (a b : List ℕ) (port : Port) (confirmation : Confirmation) (taken_in : at_moment moment state ≡ state) (tied : IsTied state) (attended : IsAttended state) (found : find_port number state.ports ≡ Some port) (role : role_of port.door port.number state.under_way ≡ Confirmer confirmation) where
+module _ (moment : Moment) (state : State) (number : ℕ) (a b : List ℕ) (port : Port) (confirmation : Confirmation) (begun : taken_in moment state ≡ state) (tied : IsTied state) (attended : IsAttended state) (found : find_port number state.ports ≡ Some port) (role : role_of port.door port.number state.under_way ≡ Confirmer confirmation) where
   abbrev uw : UnderWay
   uw = state.under_way
 
@@ -109,8 +110,8 @@ module _ (moment : Moment) (state : State) (number : ℕ) (a b : List ℕ) (port
   abbrev next : State
   next = with_heard confirmation.job a state
 
-  next_is : at_moment moment next ≡ next
-  next_is = ap (λ s. let t : State = record s { under_way = next.under_way } in t) taken_in
+  next_is : taken_in moment next ≡ next
+  next_is = ap (λ (s : State). let t : State = record s { under_way = record next.under_way { second = s.under_way.second } } in t) begun
 
   next_role : role_of port.door port.number next.under_way ≡ Confirmer (heard_more a confirmation)
   next_role =
@@ -163,16 +164,16 @@ module _ (moment : Moment) (state : State) (number : ℕ) (a b : List ℕ) (port
       ∙ rest_alike says ∙ sym (handle-confirmer number b port (heard_more a confirmation) next found next_role))
 
 -- two parts of a confirmer's piece are the piece
-pub confirmer_parts_agree : (state : State) (moment : Moment) (number : ℕ) (a b : List ℕ) (port : Port) (confirmation : Confirmation) → IsTied state → IsAttended state → find_port number state.ports ≡ Some port → role_of port.door port.number state.under_way ≡ Confirmer confirmation →
+pub confirmer_parts_agree : (state : State) (moment : Moment) (number : ℕ) (a b : List ℕ) (port : Port) (confirmation : Confirmation) → GiveTime state.under_way.limits → IsTied (at_moment moment state) → IsAttended (at_moment moment state) → find_port number (at_moment moment state).ports ≡ Some port → role_of port.door port.number (at_moment moment state).under_way ≡ Confirmer confirmation →
     Agree moment (step state moment (Heard number (a ++ b))) (step state moment (Heard number a))
     (step (step state moment (Heard number a)).state moment (Heard number b))
-confirmer_parts_agree state moment number a b port confirmation tied attended found role =
+confirmer_parts_agree state moment number a b port confirmation time tied attended found role =
     let start : State = at_moment moment state in
     let first : handle (Heard number a) start ≡ confirmer_heard confirmation a start = handle-confirmer number a port confirmation start found role in
     let whole : handle (Heard number (a ++ b)) start ≡ confirmer_heard confirmation (a ++ b) start = handle-confirmer number (a ++ b) port confirmation start found role in
     let second : (o : Outcome) → Outcome = λ o. heard_next moment number b o.state in
-    let parts = confirmer_parts moment start number a b port confirmation (at_moment-twice state moment) (tied-opened moment state tied) attended found role _ refl in
-    record {
+    let parts = confirmer_parts moment start number a b port confirmation (taken_in-at_moment moment state) tied attended found role _ refl in
+    agree-stepped state moment number a b time record {
       state = ap (λ (o : Outcome). at_moment moment o.state) whole ∙ parts.state ∙ ap (λ (o : Outcome). at_moment moment (second o).state) (sym first);
       actions = ap (λ (o : Outcome). o.actions) whole ∙ parts.actions ∙ ap (λ (o : Outcome). o.actions ++ (second o).actions) (sym first);
       put = ap (λ (o : Outcome). o.put) whole ∙ parts.put ∙ ap (λ (o : Outcome). o.put ++ (second o).put) (sym first);

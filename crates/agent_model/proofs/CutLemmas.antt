@@ -16,16 +16,20 @@ use Rattle.helper_link.proofs.CutLemmas.{told_in_turn-joined}
 use Rattle.agent_model.specs.Actions.{Action, Outcome, acted, and_then}
 use Rattle.agent_model.specs.Answers.{Answering, answer_all, answer_by, answer_true, answers_in, find_verification, helper_tells, lose_if, with_answers}
 use Rattle.agent_model.specs.Events.{Heard}
-use Rattle.agent_model.specs.Fates.{answer_verdict, fate_of, fault_fate, or_later, settled_fate}
+use Rattle.helper_link.specs.HelperLink.{HelperLink}
+use Rattle.agent_model.specs.Fates.{Unanswered, answer_verdict, fate_of, fault_fate, or_later, settled_fate}
 use Rattle.agent_model.specs.Sound.{IsRising, IsSound}
 use Rattle.agent_model.specs.State.{Port, State, Verification, change_port, find_port, is_linked_to, role_by_helper, role_of}
-use Rattle.agent_model.specs.Step.{at_moment, handle, heard_at, heard_by_role, step}
+use Rattle.agent_model.specs.Step.{handle, heard_at, heard_by_role, step}
+use Rattle.agent_model.specs.Time.{GiveTime, at_moment, taken_in, time_passes}
 use Rattle.agent_model.proofs.FateLemmas.{AnswersAs, answers_as, fate-append, settled-fates}
 use Rattle.agent_model.proofs.LeadLemmas.{leads-answers, same}
 use Rattle.agent_model.specs.Pieces.{Agree}
-use Rattle.agent_model.proofs.PiecesLemmas.{agree-over, heard_next}
+use Rattle.agent_model.proofs.PiecesLemmas.{agree-over, agree-stepped, heard_next}
 use Rattle.agent_model.proofs.PortsLemmas.{find_port-apart, find_port-change_port, found_number}
-use Rattle.agent_model.proofs.RunLemmas.{at_moment-twice, leads-rising, lost-closed}
+use Rattle.agent_model.proofs.OnTimeLemmas.{taken_in-at_moment}
+use Rattle.agent_model.proofs.RunLemmas.{leads-rising, lost-closed}
+use Rattle.agent_model.proofs.TimeLemmas.{time_passes-brings}
 
 -- ---- answers
 
@@ -98,7 +102,7 @@ handle-helper number piece port state found door linked =
     ∙ ap (λ l. heard_by_role (role_by_helper (is_linked_to number l) number state.under_way.confirmations) port piece state) linked
     ∙ ap (λ b. heard_by_role (role_by_helper b number state.under_way.confirmations) port piece state) here_it_is
 
-module _ (moment : Moment) (state : State) (number : ℕ) (a b : List ℕ) (port : Port) (taken_in : at_moment moment state ≡ state) (rising : IsRising 0 state.last_port state.ports) (found : find_port number state.ports ≡ Some port) (door : port.door ≡ Children) (linked : state.under_way.link.state ≡ states.Linked number) where
+module _ (moment : Moment) (state : State) (number : ℕ) (a b : List ℕ) (port : Port) (begun : taken_in moment state ≡ state) (rising : IsRising 0 state.last_port state.ports) (found : find_port number state.ports ≡ Some port) (door : port.door ≡ Children) (linked : state.under_way.link.state ≡ states.Linked number) where
   abbrev first_told : Telling
   first_told = telling a state.under_way.link
 
@@ -109,8 +113,8 @@ module _ (moment : Moment) (state : State) (number : ℕ) (a b : List ℕ) (port
   mid = with_answers first_told.link first_answers state
 
   -- as the next event begins
-  mid_is : at_moment moment mid ≡ mid
-  mid_is = ap (λ s. let t : State = record s { ports = mid.ports; under_way = mid.under_way } in t) taken_in
+  mid_is : taken_in moment mid ≡ mid
+  mid_is = ap (λ (s : State). let t : State = record s { ports = mid.ports; under_way = record mid.under_way { second = s.under_way.second } } in t) begun
 
   helper_parts : (fault : Option LinkFault) → first_told.fault ≡ fault →
       Agree moment (helper_tells (unless_faulty fault first_told (telling b)) state) (and_then (acted first_answers.actions mid) (lose_if fault))
@@ -135,33 +139,55 @@ module _ (moment : Moment) (state : State) (number : ℕ) (a b : List ℕ) (port
       (lost-closed mid number (leads-rising 0 state.last_port state.ports (leads-answers state.ports first_told.settled (fresh state) same) rising) linked)
 
 -- two parts of the helper's piece are the piece
-pub helper_parts_agree : (state : State) (moment : Moment) (number : ℕ) (a b : List ℕ) (port : Port) → IsSound state → find_port number state.ports ≡ Some port → port.door ≡ Children → state.under_way.link.state ≡ states.Linked number →
+pub helper_parts_agree : (state : State) (moment : Moment) (number : ℕ) (a b : List ℕ) (port : Port) → GiveTime state.under_way.limits → IsSound (at_moment moment state) → find_port number (at_moment moment state).ports ≡ Some port → port.door ≡ Children → (at_moment moment state).under_way.link.state ≡ states.Linked number →
     Agree moment (step state moment (Heard number (a ++ b))) (step state moment (Heard number a))
     (step (step state moment (Heard number a)).state moment (Heard number b))
-helper_parts_agree state moment number a b port sound found door linked =
+helper_parts_agree state moment number a b port time sound found door linked =
     let start : State = at_moment moment state in
-    let link = state.under_way.link in
+    let link = start.under_way.link in
     let first : handle (Heard number a) start ≡ helper_tells (telling a link) start = handle-helper number a port start found door linked in
     let whole : handle (Heard number (a ++ b)) start ≡ helper_tells (unless_faulty (telling a link).fault (telling a link) (telling b)) start =
     handle-helper number (a ++ b) port start found door linked ∙ ap (λ t. helper_tells t start) (sym (told_in_turn-joined a (b ∷ []) link)) in
     let second : (o : Outcome) → Outcome = λ o. heard_next moment number b o.state in
-    let parts = helper_parts moment start number a b port (at_moment-twice state moment) sound.rising found door linked (telling a link).fault refl in
-    record {
+    let parts = helper_parts moment start number a b port (taken_in-at_moment moment state) sound.rising found door linked (telling a link).fault refl in
+    agree-stepped state moment number a b time record {
       state = ap (λ (o : Outcome). at_moment moment o.state) whole ∙ parts.state ∙ ap (λ (o : Outcome). at_moment moment (second o).state) (sym first);
       actions = ap (λ (o : Outcome). o.actions) whole ∙ parts.actions ∙ ap (λ (o : Outcome). o.actions ++ (second o).actions) (sym first);
       put = ap (λ (o : Outcome). o.put) whole ∙ parts.put ∙ ap (λ (o : Outcome). o.put ++ (second o).put) (sym first);
     }
 
+-- ---- a helper that isn't late
+
+-- where the link is still to that port, it is as it was, and no ask has ended
+record IsYet (ask number : ℕ) (old : State) (outcome : Outcome) : Type 0 where
+  pub link : outcome.state.under_way.link.state ≡ states.Linked number → outcome.state.under_way.link ≡ old.under_way.link
+  pub silent : outcome.state.under_way.link.state ≡ states.Linked number → fate_of ask outcome.actions ≡ Unanswered
+
+still-linked : (ask number : ℕ) (moment : Moment) (state : State) → IsYet ask number (taken_in moment state) (time_passes moment state)
+still-linked ask number moment state =
+    time_passes-brings (IsYet ask number) moment state (λ s. record { link = λ is. refl; silent = λ is. refl })
+    (λ s. record { link = λ is. absurd (cc); silent = λ is. absurd (cc) }) (λ one s there. record { link = λ is. refl; silent = λ is. refl })
+    (λ s before later one two. record {
+      link = λ is. two.link is ∙ one.link (ap (λ (l : HelperLink). l.state) (sym (two.link is)) ∙ is);
+      silent = λ is. fate-append ask before.actions later.actions
+          ∙ ap (λ fate. or_later fate (fate_of ask later.actions)) (one.silent (ap (λ (l : HelperLink). l.state) (sym (two.link is)) ∙ is)) ∙ two.silent is;
+    })
+
 -- what the helper's stream says is what becomes of an ask
-pub stream-fate : (ask number : ℕ) (piece : List ℕ) (port : Port) (state : State) (moment : Moment) → find_port number state.ports ≡ Some port → port.door ≡ Children → state.under_way.link.state ≡ states.Linked number → fate_of ask (step state moment (Heard number piece)).actions ≡ or_later (settled_fate ask (telling piece state.under_way.link).settled) (fault_fate (telling piece state.under_way.link).fault)
+pub stream-fate : (ask number : ℕ) (piece : List ℕ) (port : Port) (state : State) (moment : Moment) → find_port number (at_moment moment state).ports ≡ Some port → port.door ≡ Children → (at_moment moment state).under_way.link.state ≡ states.Linked number → fate_of ask (step state moment (Heard number piece)).actions ≡ or_later (settled_fate ask (telling piece state.under_way.link).settled) (fault_fate (telling piece state.under_way.link).fault)
 stream-fate ask number piece port state moment found door linked =
     let opened : State = at_moment moment state in
-    let told : Telling = telling piece state.under_way.link in
+    let yet = still-linked ask number moment state in
+    let told : Telling = telling piece opened.under_way.link in
     let answering : Answering = answers_in told.settled opened in
-    ap (λ (o : Outcome). fate_of ask o.actions) (handle-helper number piece port opened found door linked)
+    let passed : List Action = (time_passes moment state).actions in
+    fate-append ask passed (handle (Heard number piece) opened).actions
+    ∙ ap (λ fate. or_later fate (fate_of ask (handle (Heard number piece) opened).actions)) (yet.silent linked)
+    ∙ ap (λ (o : Outcome). fate_of ask o.actions) (handle-helper number piece port opened found door linked)
     ∙ fate-append ask answering.actions (lose_if told.fault (with_answers told.link answering opened)).actions
     ∙ ap (λ fate. or_later fate (fate_of ask (lose_if told.fault (with_answers told.link answering opened)).actions)) (settled-fates ask told.settled (fresh opened))
     ∙ ap (or_later (settled_fate ask told.settled)) (by_fault told.fault (with_answers told.link answering opened))
+    ∙ ap (λ (l : HelperLink). or_later (settled_fate ask (telling piece l).settled) (fault_fate (telling piece l).fault)) (yet.link linked)
   where
     by_fault : (fault : Option LinkFault) (left : State) → fate_of ask (lose_if fault left).actions ≡ fault_fate fault
     by_fault None left = refl

@@ -3,7 +3,7 @@ use Rattle.std.proofs.Common.{◌≡◌, ◌≢◌, ℕ, List, [], ◌∷◌, �
 use Rattle.std.specs.Option.{option_map}
 use Rattle.std.proofs.lemmas.Bool.{cases_eq}
 use Rattle.std.proofs.lemmas.Bool.Decides.{nat_tests}
-use Rattle.helper_link.specs.Answered.{LeadTo, kind_answered}
+use Rattle.helper_link.specs.Answered.{IsUnanswered, LeadTo, kind_answered}
 use Rattle.helper_link.specs.HelperLink.{ask_of, askers}
 use Rattle.helper_link.specs.Settling.{find_ask, remove_ask}
 use Rattle.helper_link.specs.Sound.{RiseTo}
@@ -146,7 +146,7 @@ settled-fates ask (one ∷ later) before =
 
 module _ (low last : ℕ) where
   -- what an answer leaves
-  pub one_answer : (one : Settled) (before : Answering) (asks : List Ask) → find_ask one.ask asks ≡ Some (ask_of one.ask one.asker (kind_answered one.answer)) → RiseTo low asks last → AreTied before.ports asks → AreTied (answer_by one.answer one before).ports (remove_ask one.ask asks)
+  pub one_answer : (one : Settled) (before : Answering) (asks : List Ask) → IsUnanswered one.ask one.asker (kind_answered one.answer) asks → RiseTo low asks last → AreTied before.ports asks → AreTied (answer_by one.answer one before).ports (remove_ask one.ask asks)
   one_answer one before asks found rise tied =
       let told_as = answers_as one.answer one before in
       subst (λ ports. AreTied ports (remove_ask one.ask asks)) (sym told_as.ports)
@@ -163,7 +163,7 @@ module _ (low last : ℕ) where
   told-answers number ask verdict fate nothing stays [] before asks left leads rise tied is told = (is, told)
   told-answers number ask verdict fate nothing stays (one ∷ later) before asks left leads rise tied is told =
       let told_as = answers_as one.answer one before in
-      let other : number ≢ one.asker = not_asker before.ports asks tied number one.ask _ verdict leads.0 told (λ waits. let no : Nothing ≡ OnAsk one.ask = sym nothing ∙ waits in absurd (cc)) in
+      let other : number ≢ one.asker = not_asker before.ports asks tied number one.ask _ verdict leads.0.found told (λ waits. let no : Nothing ≡ OnAsk one.ask = sym nothing ∙ waits in absurd (cc)) in
       told-answers number ask verdict fate nothing stays later (answer_by one.answer one before) (remove_ask one.ask asks) left leads.1 (remove_rises one.ask low asks last rise) (one_answer one before asks leads.0 rise tied)
       (answer-fate ask one before ∙ ap (λ f. or_later f (if one.ask == ask then Gets one.answer else Unanswered)) is ∙ stays _)
       (subst (IsTold number verdict) (sym told_as.ports) (told-apart number one.asker verdict told_as.change before.ports told_as.number other told))
@@ -174,8 +174,8 @@ module _ (low last : ℕ) where
   fate-answers number ask (one ∷ later) before asks left leads rise tied is told = elim (cases_eq one.ask ask) [
     | inl same ↦
         (let waiting = tied.waits number ask told.port told.found told.waits in
-        let asker : Some (ask_of one.ask one.asker (kind_answered one.answer)) ≡ Some (ask_of ask number waiting.kind) = sym leads.0 ∙ ap (λ n. find_ask n asks) same ∙ waiting.unanswered in
-        let equal : ask_of one.ask one.asker (kind_answered one.answer) ≡ ask_of ask number waiting.kind = cc in
+        let asker : Some (ask_of one.ask one.asker (kind_answered one.answer) leads.0.put_at) ≡ Some (ask_of ask number waiting.kind waiting.put_at) = sym leads.0.found ∙ ap (λ n. find_ask n asks) same ∙ waiting.unanswered in
+        let equal : ask_of one.ask one.asker (kind_answered one.answer) leads.0.put_at ≡ ask_of ask number waiting.kind waiting.put_at = cc in
         let who : one.asker ≡ number = ap (λ (a : Ask). a.asker) equal in
         let test : (one.ask == ask) ≡ true = grind (arith, nat_tests) in
         let gets : fate_of ask (answer_by one.answer one before).actions ≡ Gets one.answer = answer-fate ask one before ∙ ap (λ f. or_later f (if one.ask == ask then Gets one.answer else Unanswered)) is ∙ ap (λ b. if b then Gets one.answer else Unanswered) test in
@@ -184,7 +184,7 @@ module _ (low last : ℕ) where
         let end = told-answers number ask (answer_verdict one.answer) (Gets one.answer) (answer-waits one.answer) (λ f. refl) later (answer_by one.answer one before) (remove_ask one.ask asks) left leads.1 rises tied_on gets now in
         subst (λ f. IsTold number (fate_verdict f ask) (answer_all (one ∷ later) before).ports) (sym end.0) end.1)
     | inr differs ↦
-        (let other : number ≢ one.asker = not_asker before.ports asks tied number one.ask _ (Awaits (OnAsk ask)) leads.0 told (λ waits. let same : ask ≡ one.ask = cc in differs (sym same)) in
+        (let other : number ≢ one.asker = not_asker before.ports asks tied number one.ask _ (Awaits (OnAsk ask)) leads.0.found told (λ waits. let same : ask ≡ one.ask = cc in differs (sym same)) in
         let test : (one.ask == ask) ≡ false = grind (arith, nat_tests) in
         fate-answers number ask later (answer_by one.answer one before) (remove_ask one.ask asks) left leads.1 rises tied_on
         (answer-fate ask one before ∙ ap (λ f. or_later f (if one.ask == ask then Gets one.answer else Unanswered)) is ∙ ap (λ b. if b then Gets one.answer else Unanswered) test)
@@ -209,7 +209,7 @@ first_ask one asks = (grind (arith, nat_tests), grind (arith, nat_tests))
 pub one_lost : (low last : ℕ) (one : Ask) (asks : List Ask) (ports : List Port) → RiseTo low (one ∷ asks) last → AreTied ports (one ∷ asks) → AreTied (change_port one.asker (tell (Refuses HelperLost)) ports) asks
 one_lost low last one asks ports rise tied =
     subst (AreTied (change_port one.asker (tell (Refuses HelperLost)) ports)) (first_ask one asks).1
-    (tied-told ports (one ∷ asks) tied one.number one.asker one.kind (tell (Refuses HelperLost)) low last rise (first_ask one asks).0 (λ p. refl) (λ p ask is. absurd (cc)))
+    (tied-told ports (one ∷ asks) tied one.number one.asker one.kind (tell (Refuses HelperLost)) low last rise record { put_at = one.put_at; found = (first_ask one asks).0 } (λ p. refl) (λ p ask is. absurd (cc)))
 
 -- nobody waits any more
 pub tied-lost : (low last : ℕ) (asks : List Ask) (ports : List Port) → RiseTo low asks last → AreTied ports asks → AreTied (tell_each (Refuses HelperLost) (askers asks) ports) []
@@ -229,7 +229,7 @@ told-lost number low last verdict (one ∷ asks) ports nothing rise tied told =
 pub waits-lost : (number ask low last : ℕ) (asks : List Ask) (ports : List Port) → RiseTo low asks last → AreTied ports asks → IsTold number (Awaits (OnAsk ask)) ports → IsTold number (Refuses HelperLost) (tell_each (Refuses HelperLost) (askers asks) ports)
 waits-lost number ask low last [] ports rise tied told =
     let waiting = tied.waits number ask told.port told.found told.waits in
-    let no : None ≡ Some (ask_of ask number waiting.kind) = waiting.unanswered in
+    let no : None ≡ Some (ask_of ask number waiting.kind waiting.put_at) = waiting.unanswered in
     absurd (cc)
 waits-lost number ask low last (one ∷ asks) ports rise tied told = elim (cases_eq number one.asker) [
   | inl same ↦

@@ -1,13 +1,15 @@
 -- What a request may begin: at most one more ask, for the helper that is there or coming.
-use Rattle.std.proofs.Common.{◌≡◌, ℕ, ◌+◌, ◌≤◌, arith, List, [], ◌∷◌, ◌++◌, refl, ap, Option, Some, None}
+use Rattle.std.proofs.Common.{◌≡◌, ℕ, ◌+◌, ◌≤◌, arith, List, [], ◌∷◌, ◌++◌, length, refl, ap, Option, Some, None}
+use Rattle.std.proofs.lemmas.List.{length-append}
 use Rattle.lists.proofs.FirstLemmas.{find-push_other}
 use Rattle.confirm_desk.specs.Confirmations.{Confirmation, confirmation_of, find_linked, is_at, came_to}
 use Rattle.confirm_desk.specs.Prompt.{prompt_for}
+use Rattle.helper_link.specs.HelperLink.{ask_of}
 use Rattle.helper_link.specs.declared.state.LinkState.{LinkState}
 use Rattle.helper_link.specs.declared.state.LinkState.TheVariants as states
 use Rattle.agent_model.specs.Asking.{JobsRise}
 use Rattle.agent_model.specs.Dispatch.{Asker, Served}
-use Rattle.agent_model.specs.Errands.{Errand, begun_by, held_for, last_job_for, put_unless}
+use Rattle.agent_model.specs.Errands.{Errand, begun_by, held_for, kind_of, last_job_for, put_unless}
 use Rattle.agent_model.specs.KeyStates.{KeyState}
 use Rattle.agent_model.specs.State.{UnderWay, is_linked_to}
 use Rattle.agent_model.specs.Verdicts.{Cause}
@@ -22,10 +24,11 @@ pub record AsksMore (old new : UnderWay) : Type 0 where
   pub order : JobsRise 0 old.confirmations old.last_job → JobsRise 0 new.confirmations new.last_job
   pub jobs : old.last_job ≤ new.last_job
   pub asks : old.link.last ≤ new.link.last
+  pub few : length new.link.asks + length new.confirmations ≤ length old.link.asks + length old.confirmations + 1
 
 -- nothing is begun
 nothing_more : (under_way : UnderWay) → AsksMore under_way under_way
-nothing_more under_way = record { helper = λ number. refl; confirmers = λ number. refl; order = λ rise. rise; jobs = omega arith; asks = omega arith }
+nothing_more under_way = record { helper = λ number. refl; confirmers = λ number. refl; order = λ rise. rise; jobs = omega arith; asks = omega arith; few = omega arith }
 
 linked-begun : (state : LinkState) (job number : ℕ) → is_linked_to number (begun_by state job) ≡ is_linked_to number state
 linked-begun states.None job number = refl
@@ -47,6 +50,7 @@ more-put None errand asker under_way = record {
   order = jobs-higher 0 under_way.confirmations under_way.last_job _ (jobs-for under_way.link.state under_way.last_job);
   jobs = jobs-for under_way.link.state under_way.last_job;
   asks = omega arith;
+  few = omega (arith, length-append under_way.link.asks (ask_of (under_way.link.last + 1) asker (kind_of errand) under_way.second ∷ []));
 }
 
 -- a confirmation whose child process hasn't come is nobody's
@@ -60,8 +64,9 @@ asks_more {under_way = under_way} (refused cause) = nothing_more under_way
 asks_more {asker = asker} {under_way = under_way} (asked errand free right) = more-put None errand asker.port under_way
 asks_more {asker = asker} {under_way = under_way} (raised key signing free) = record {
   helper = λ number. refl;
-  confirmers = λ number. linked-behind number (confirmation_of (under_way.last_job + 1) (held_for asker.port key signing) (prompt_for key.comment key.blob)) under_way.confirmations refl;
-  order = jobs-push 0 (confirmation_of (under_way.last_job + 1) (held_for asker.port key signing) (prompt_for key.comment key.blob)) under_way.confirmations under_way.last_job refl;
+  confirmers = λ number. linked-behind number (confirmation_of (under_way.last_job + 1) (held_for asker.port key signing) (prompt_for key.comment key.blob) under_way.second) under_way.confirmations refl;
+  order = jobs-push 0 (confirmation_of (under_way.last_job + 1) (held_for asker.port key signing) (prompt_for key.comment key.blob) under_way.second) under_way.confirmations under_way.last_job refl;
   jobs = omega arith;
   asks = omega arith;
+  few = omega (arith, length-append under_way.confirmations (confirmation_of (under_way.last_job + 1) (held_for asker.port key signing) (prompt_for key.comment key.blob) under_way.second ∷ []));
 }

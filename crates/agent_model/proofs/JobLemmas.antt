@@ -71,7 +71,7 @@ pub data IsIn (one : Confirmation) : List Confirmation → Type 0 where
   behind : (other : Confirmation) (others : List Confirmation) → IsIn one others → IsIn one (other ∷ others)
 
 -- what any test finds is there
-in-found_by : (test : Confirmation → Bool) (confirmations : List Confirmation) (one : Confirmation) → find test confirmations ≡ Some one → IsIn one confirmations
+pub in-found_by : (test : Confirmation → Bool) (confirmations : List Confirmation) (one : Confirmation) → find test confirmations ≡ Some one → IsIn one confirmations
 in-found_by test [] one found = absurd (cc)
 in-found_by test (first ∷ others) one found = by_test (test first) found (in-found_by test others one)
   where

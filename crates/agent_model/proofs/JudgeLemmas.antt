@@ -14,6 +14,7 @@ use Rattle.dest_rule.specs.declared.binding.Binding.{Binding}
 use Rattle.dest_rule.specs.declared.fault.Next.TheVariants.{New, Refuse, Same}
 use Rattle.dest_rule.specs.declared.fault.ChainFault.TheVariants.{ChainFull, SessionLength}
 use Rattle.dest_rule.proofs.ChainLemmas.{IsChain-bound, known_judged}
+use Rattle.helper_link.specs.Answered.{IsUnanswered}
 use Rattle.helper_link.specs.HelperLink.{ask_of}
 use Rattle.helper_link.specs.Settling.{find_ask, remove_ask}
 use Rattle.helper_link.specs.Sound.{RiseTo}
@@ -198,18 +199,18 @@ module _ (low last : ℕ) (asks : List Ask) (rise : RiseTo low asks last) (ask :
   ]
 
   -- what was judged of the others stands, as their askers aren't told
-  pub judged-told : (ports : List Port) (verifications : List Verification) (asker : ℕ) (kind : AskKind) (f : Port → Port) → AreTied ports asks → find_ask ask asks ≡ Some (ask_of ask asker kind) → ((p : Port) → (f p).number ≡ p.number) → AreJudged ports verifications asks → AreJudged (change_port asker f ports) (remove_verification ask verifications) (remove_ask ask asks)
+  pub judged-told : (ports : List Port) (verifications : List Verification) (asker : ℕ) (kind : AskKind) (f : Port → Port) → AreTied ports asks → IsUnanswered ask asker kind asks → ((p : Port) → (f p).number ≡ p.number) → AreJudged ports verifications asks → AreJudged (change_port asker f ports) (remove_verification ask verifications) (remove_ask ask asks)
   judged-told ports verifications asker kind f tied found keeps all other what one port noted there opened =
       by_port (left_asks other what there) (found_after what.asker asker f ports port keeps opened)
     where
       by_port : (ask ≢ other) × (find_ask other asks ≡ Some what) → IsOf what.asker asker f ports port → IsRight one port.chain
       by_port left (here old same was is) =
-          absurd (left.0 (sym (one_ask ports asks tied other ask what (ask_of ask asker kind) old left.1 found same was)))
+          absurd (left.0 (sym (one_ask ports asks tied other ask what (ask_of ask asker kind found.put_at) old left.1 found.found same was)))
       by_port left (apart differs was) =
           all other what one port (sym (find_verification-apart other ask verifications left.0) ∙ noted) left.1 was
 
   -- and they are noted
   pub noted-told : (verifications : List Verification) → AreNoted verifications asks → AreNoted (remove_verification ask verifications) (remove_ask ask asks)
-  noted-told verifications noted other asker there =
+  noted-told verifications noted other asker put_at there =
       let left = left_asks other _ there in
-      subst IsSome (sym (find_verification-apart other ask verifications left.0)) (noted other asker left.1)
+      subst IsSome (sym (find_verification-apart other ask verifications left.0)) (noted other asker put_at left.1)

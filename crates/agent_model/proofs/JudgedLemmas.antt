@@ -26,7 +26,7 @@ use Rattle.agent_model.specs.Step.{asker_at, attempts, concluded, take_frame}
 use Rattle.agent_model.specs.Verdicts.{Awaits, Cause, HelperLost, NoLongerAllowed, NotConfirmed, Refuses, Replies, Verdict, tell}
 use Rattle.agent_model.proofs.AskedLemmas.{given-asked, judged-asked, noted-asked}
 use Rattle.agent_model.proofs.BindLemmas.{HoldsAt, bound_after-append, bound_answers, chain_in, holds_answers}
-use Rattle.agent_model.proofs.FatedLemmas.{tied_mid}
+use Rattle.agent_model.proofs.FatedMakeLemmas.{tied_mid}
 use Rattle.agent_model.proofs.TiedLemmas.{tied-quiet}
 use Rattle.agent_model.proofs.GrantLemmas.{IsGranted, allowed, disallowed, grant-ends, unasked}
 use Rattle.agent_model.proofs.JudgeLemmas.{KeepsChains, chains-keep, judged-keeps, keeps-absent, keeps-changed, keeps-in_turn, keeps-removed, keeps-same}
@@ -98,9 +98,9 @@ module _ (body : List ℕ) (take : Port → Port) (number_kept : (p : Port) → 
       let asker = asker_at state.moment port in
       let verdict : Verdict = Awaits (OnAsk (link.last + 1)) in
       record {
-        verified = judged-asked asker errand link.last link.asks state.under_way.verifications tied.order state.ports (ports_after verdict) port (kept verdict) judged.verified judged.given right found refl;
-        noted = noted-asked asker errand link.last link.asks state.under_way.verifications tied.order judged.noted;
-        given = given-asked asker errand link.last link.asks state.under_way.verifications tied.order right judged.given;
+        verified = judged-asked asker errand link.last state.under_way.second link.asks state.under_way.verifications tied.order state.ports (ports_after verdict) port (kept verdict) judged.verified judged.given right found refl;
+        noted = noted-asked asker errand link.last state.under_way.second link.asks state.under_way.verifications tied.order judged.noted;
+        given = given-asked asker errand link.last state.under_way.second link.asks state.under_way.verifications tied.order right judged.given;
         chains = chains-keep state.ports (ports_after verdict) (kept verdict) judged.chains;
       }
   judged-served (raised key signing free) =
@@ -134,7 +134,7 @@ keeps-lose state rising =
 judged-lost : (state : State) → IsRising 0 state.last_port state.ports → AreChains state.ports → IsJudged (lose state).state
 judged-lost state rising chains = record {
   verified = λ ask what one port noted there found. absurd (cc);
-  noted = λ ask asker there. absurd (cc);
+  noted = λ ask asker put_at there. absurd (cc);
   given = λ ask one noted. absurd (cc);
   chains = chains-keep state.ports (lose state).state.ports (keeps-lose state rising) chains;
 }
@@ -235,9 +235,9 @@ module _ (confirmation : Confirmation) (state : State) (tied : IsTied state) whe
         let verdict : Verdict = Awaits (OnAsk (link.last + 1)) in
         let kept_over = keeps-over (tell verdict) (λ p. refl) (λ p. refl) in
         by_keeping state _ kept_over (λ number chain. refl) record {
-          verified = judged-asked asking errand link.last link.asks state.under_way.verifications tied.order state.ports _ port kept_over judged.verified judged.given tt found refl;
-          noted = noted-asked asking errand link.last link.asks state.under_way.verifications tied.order judged.noted;
-          given = given-asked asking errand link.last link.asks state.under_way.verifications tied.order tt judged.given;
+          verified = judged-asked asking errand link.last state.under_way.second link.asks state.under_way.verifications tied.order state.ports _ port kept_over judged.verified judged.given tt found refl;
+          noted = noted-asked asking errand link.last state.under_way.second link.asks state.under_way.verifications tied.order judged.noted;
+          given = given-asked asking errand link.last state.under_way.second link.asks state.under_way.verifications tied.order tt judged.given;
           chains = chains-keep state.ports _ kept_over judged.chains;
         }
 

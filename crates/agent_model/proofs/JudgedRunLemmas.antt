@@ -8,26 +8,29 @@ use Rattle.world_ports.specs.declared.Moment.{Moment}
 use Rattle.wire_text.specs.Frames.{Front, Whole, Bad, More, front_body}
 use Rattle.dest_rule.specs.Chains.{IsChain}
 use Rattle.dest_rule.specs.declared.binding.Binding.{Binding}
-use Rattle.agent_model.specs.Actions.{Outcome, stay}
+use Rattle.agent_model.specs.Actions.{Action, Outcome, stay}
 use Rattle.agent_model.specs.Bindings.{bound_after, chain_at, chain_of}
 use Rattle.agent_model.specs.Children.{changed, heard_more}
-use Rattle.agent_model.specs.Events.{Happening, Heard, Timed}
+use Rattle.agent_model.specs.Events.{Happening, Heard, Tick, Timed}
 use Rattle.agent_model.specs.Fates.{actions_of}
 use Rattle.agent_model.specs.Looks.{due}
 use Rattle.agent_model.specs.Runs.{run}
 use Rattle.agent_model.specs.Sound.{AreApart, IsJudged, IsRising, IsTied}
-use Rattle.agent_model.specs.State.{Port, State, find_port, first_state, new_port, number_of}
-use Rattle.agent_model.specs.Step.{admitted, asker_at, at_moment, has_room, look_front, look_port, looked, step, turned_away}
+use Rattle.agent_model.specs.State.{Port, Settings, State, find_port, first_state, new_port, number_of}
+use Rattle.agent_model.specs.Step.{admitted, asker_at, handle, has_room, heard_at, look_front, look_port, looked, step, turned_away}
+use Rattle.agent_model.specs.Time.{at_moment, time_passes}
 use Rattle.agent_model.proofs.BindLemmas.{bound_after-append}
 use Rattle.agent_model.proofs.ClientLemmas.{handle-heard, looked-found}
-use Rattle.agent_model.proofs.FatedLemmas.{step-fated, tied-opened}
-use Rattle.agent_model.proofs.JudgeLemmas.{no_bindings}
+use Rattle.agent_model.proofs.FatedLemmas.{step-fated}
+use Rattle.agent_model.proofs.FatedMakeLemmas.{fated-makes, tied-taken}
+use Rattle.agent_model.proofs.JudgeLemmas.{KeepsChains, keeps-absent, keeps-in_turn, keeps-same, no_bindings}
 use Rattle.agent_model.proofs.JudgedLemmas.{Judges, judges-makes, silent_served}
-use Rattle.agent_model.proofs.MakeLemmas.{by_event}
+use Rattle.agent_model.proofs.MakeLemmas.{Makes, by_event, loses, overs}
 use Rattle.agent_model.proofs.PortsLemmas.{found_number}
-use Rattle.agent_model.proofs.RunLemmas.{run-unused, step-rises}
+use Rattle.agent_model.proofs.RunLemmas.{at_moment-follows, handle-unused, leads-found, run-unused, step-rises}
 use Rattle.agent_model.proofs.ServeLemmas.{serve-ends}
 use Rattle.agent_model.proofs.TieLemmas.{found_joined}
+use Rattle.agent_model.proofs.TimeLemmas.{AreEnds, at_moment-keeps, end, loss, no_more, one_more, time_passes-ends}
 
 -- ---- an event
 
@@ -98,25 +101,96 @@ module _ (door : Door) (state : State) (tied : IsTied state) (judged : IsJudged 
     };
   }
 
+-- ---- a moment
+
+-- what was judged stands, and everyone is bound to what it was bound to
+record Keeps (start state : State) : Type 0 where
+  tied : IsTied state
+  judged : IsJudged state
+  chains : KeepsChains start.ports state.ports
+
+keeps-time : (moment : Moment) (state : State) → IsTied state → IsJudged state → Keeps state (at_moment moment state)
+keeps-time moment state tied judged =
+    at_moment-keeps (Keeps state) moment state
+    (λ s kept. keep (loses s) (λ number chain. refl) kept) (λ one s there kept. keep (overs one s there) (λ number chain. refl) kept)
+    record {
+      tied = tied-taken moment state tied;
+      judged = record { verified = judged.verified; noted = judged.noted; given = judged.given; chains = judged.chains };
+      chains = keeps-same state.ports;
+    }
+  where
+    keep : {old : State} {outcome : Outcome} → Makes Tick old outcome → ((number : ℕ) (chain : List Binding) → bound_after number outcome.actions chain ≡ chain) → Keeps state old → Keeps state outcome.state
+    keep {old} {outcome} makes silent kept =
+        let judges = judges-makes makes kept.tied kept.judged in
+        record {
+          tied = (fated-makes makes kept.tied).tied;
+          judged = judges.judged;
+          chains = keeps-in_turn state.ports old.ports outcome.state.ports kept.chains
+              (λ number port found. let was = (judges.binds number).bound port found in (was.0, was.1, was.2 ∙ silent number was.0.chain));
+        }
+
+-- it binds nobody
+ends-bind_none : (number : ℕ) (actions : List Action) (chain : List Binding) → AreEnds actions → bound_after number actions chain ≡ chain
+ends-bind_none number actions chain no_more = refl
+ends-bind_none number actions chain (one_more action later loss ends) = ends-bind_none number later chain ends
+ends-bind_none number actions chain (one_more action later (end job) ends) = ends-bind_none number later chain ends
+
+bound-time : (number : ℕ) (moment : Moment) (state : State) (more : List Action) (chain : List Binding) → bound_after number ((time_passes moment state).actions ++ more) chain ≡ bound_after number more chain
+bound-time number moment state more chain =
+    bound_after-append number (time_passes moment state).actions more chain
+    ∙ ap (bound_after number more) (ends-bind_none number (time_passes moment state).actions chain (time_passes-ends moment state))
+
 -- each event
 pub step-judged : (state : State) (moment : Moment) (event : Happening) → IsTied state → IsJudged state → Goes state (step state moment event)
-step-judged state moment event tied judged =
-    let opened : State = at_moment moment state in
-    let at = tied-opened moment state tied in
-    let judged_at : IsJudged opened = record { verified = judged.verified; noted = judged.noted; given = judged.given; chains = judged.chains } in
-    let goes = by_event (Goes opened) event opened (λ door. goes-admitted door opened at judged_at (has_room door state.ports state.under_way)) (λ outcome makes. goes-made opened outcome (judges-makes makes at judged_at)) in
-    let left = goes.judged in
-    record {
-      judged = record { verified = left.verified; noted = left.noted; given = left.given; chains = left.chains };
-      adds = λ number. record { bound = (goes.adds number).bound; silent = (goes.adds number).silent };
-    }
+step-judged state moment event tied judged = record {
+  judged = goes.judged;
+  adds = λ number. record {
+    bound = λ port found. by_open number port found (find_port number opened.ports) refl ∙ sym (bound-time number moment state handled.actions (chain_at number state.ports));
+    silent = λ chain none. bound-time number moment state handled.actions chain
+        ∙ (goes.adds number).silent chain (keeps-absent state.ports opened.ports number kept.chains none);
+  };
+}
+  where
+    opened : State
+    opened = at_moment moment state
+
+    kept : Keeps state opened
+    kept = keeps-time moment state tied judged
+
+    handled : Outcome
+    handled = handle event opened
+
+    goes : Goes opened handled
+    goes = by_event (Goes opened) event opened (λ door. goes-admitted door opened kept.tied kept.judged (has_room door opened.ports opened.under_way)) (λ outcome makes. goes-made opened outcome (judges-makes makes kept.tied kept.judged))
+
+    -- one that wasn't open joined
+    by_test : (number : ℕ) (port : Port) → find_port number handled.state.ports ≡ Some port → (above : Bool) → nat_lt opened.last_port number ≡ above → find_port number opened.ports ≡ None → chain_of None ≡ chain_at number state.ports
+    by_test number port found true is none =
+        let follows = at_moment-follows moment state in
+        let over : opened.last_port < number = grind (arith, nat_tests) in
+        ap chain_of (sym (absent_above number 0 state.last_port state.ports tied.rising (omega (arith, over, follows.last))))
+    by_test number port found false is none =
+        let under : number ≤ opened.last_port = grind (arith, nat_tests) in
+        let gone : None ≡ Some port = sym (handle-unused opened event number under none) ∙ found in
+        absurd (cc)
+
+    by_open : (number : ℕ) (port : Port) → find_port number handled.state.ports ≡ Some port → (was : Option Port) → find_port number opened.ports ≡ was → port.chain ≡ bound_after number handled.actions (chain_at number state.ports)
+    by_open number port found None is =
+        (goes.adds number).bound port found
+        ∙ ap (λ o. bound_after number handled.actions (chain_of o)) is
+        ∙ ap (bound_after number handled.actions) (by_test number port found (nat_lt opened.last_port number) refl is)
+    by_open number port found (Some was) is =
+        let before = kept.chains number was is in
+        (goes.adds number).bound port found
+        ∙ ap (λ o. bound_after number handled.actions (chain_of o)) is
+        ∙ ap (bound_after number handled.actions) (before.2 ∙ ap chain_of (sym before.1))
 
 -- ---- runs
 
-pub first-judged : (life : Option ℕ) → IsJudged (first_state life)
-first-judged life = record {
+pub first-judged : (settings : Settings) → IsJudged (first_state settings)
+first-judged settings = record {
   verified = λ ask what one port noted there found. absurd (cc);
-  noted = λ ask asker there. absurd (cc);
+  noted = λ ask asker put_at there. absurd (cc);
   given = λ ask one noted. absurd (cc);
   chains = λ number port found. absurd (cc);
 }
@@ -176,8 +250,19 @@ silent_looked number at chain (Some port) state is =
 -- so it binds nobody
 pub client-binds_none : (state : State) (moment : Moment) (at : ℕ) (piece : List ℕ) (client : Port) (number : ℕ) (port : Port) → IsTied state → IsJudged state → find_port at state.ports ≡ Some client → client.door ≡ Clients → find_port number (step state moment (Heard at piece)).state.ports ≡ Some port → port.chain ≡ chain_at number state.ports
 client-binds_none state moment at piece client number port tied judged there door found =
-    let opened : State = at_moment moment state in
-    let goes = step-judged state moment (Heard at piece) tied judged in
-    (goes.adds number).bound port found
-    ∙ ap (λ (o : Outcome). bound_after number o.actions (chain_at number state.ports)) (handle-heard at piece client opened there door)
-    ∙ silent_looked number at (chain_at number state.ports) _ (changed at (heard_more piece) opened) refl
+    ((step-judged state moment (Heard at piece) tied judged).adds number).bound port found
+    ∙ bound-time number moment state (handle (Heard at piece) opened).actions (chain_at number state.ports)
+    ∙ by_open (find_port at opened.ports) refl
+  where
+    opened : State
+    opened = at_moment moment state
+
+    by_open : (still : Option Port) → find_port at opened.ports ≡ still → bound_after number (handle (Heard at piece) opened).actions (chain_at number state.ports) ≡ chain_at number state.ports
+    by_open None is = ap (λ o. bound_after number (heard_at o piece opened).actions (chain_at number state.ports)) is
+    by_open (Some now) is =
+        let follows = at_moment-follows moment state in
+        let was = leads-found at 0 state.last_port state.ports now follows.ports tied.rising is in
+        let same : Some was.0 ≡ Some client = sym was.1 ∙ there in
+        let equal : was.0 ≡ client = cc in
+        ap (λ (o : Outcome). bound_after number o.actions (chain_at number state.ports)) (handle-heard at piece now opened is (was.2 ∙ ap (λ (p : Port). p.door) equal ∙ door))
+        ∙ silent_looked number at (chain_at number state.ports) _ (changed at (heard_more piece) opened) refl

@@ -3,6 +3,10 @@ pub mod HeldLemmas
 pub mod JobLemmas
 pub mod ServeLemmas
 pub mod MakeLemmas
+pub mod TimeLemmas
+pub mod OnTimeLemmas
+pub mod LateLemmas
+pub mod PromptLemmas
 pub mod SecondLemmas
 pub mod BoundLemmas
 pub mod ClientLemmas
@@ -12,6 +16,8 @@ pub mod RunLemmas
 pub mod GrowLemmas
 pub mod GrantLemmas
 pub mod NumberLemmas
+pub mod PartBudgetLemmas
+pub mod TimeBudgetLemmas
 pub mod BudgetLemmas
 pub mod VerdictLemmas
 pub mod ToldLemmas
@@ -24,6 +30,8 @@ pub mod RaisedLemmas
 pub mod WaitLemmas
 pub mod TiedLemmas
 pub mod FatedServeLemmas
+pub mod FatedMakeLemmas
+pub mod StillLemmas
 pub mod FatedLemmas
 pub mod OpenLemmas
 pub mod AttendedLemmas
@@ -45,3 +53,4 @@ pub mod UnseenLemmas
 pub mod UnseenEventLemmas
 pub mod RoleCutLemmas
 pub mod UseLemmas
+pub mod RowLemmas

@@ -1,5 +1,5 @@
 -- What events are made of: a few small changes of the state, one after another.
-use Rattle.std.proofs.Common.{◌≡◌, ◌≢◌, ◌==◌, ℕ, List, [], ◌∷◌, ◌++◌, arith, drop, refl, ap, sym, ◌∙◌, Bool, true, false, Option, Some, None, Result, Ok, Err}
+use Rattle.std.proofs.Common.{◌≡◌, ◌≢◌, ◌==◌, ℕ, List, [], ◌∷◌, ◌++◌, arith, drop, refl, ap, sym, ◌∙◌, Bool, true, false, Option, Some, None, Result, Ok, Err, ◌⊎◌, inl, inr}
 use Rattle.std.proofs.lemmas.List.{drop_all}
 use Rattle.std.proofs.lemmas.Bool.Decides.{nat_tests}
 use Rattle.helper_link.specs.declared.state.LinkState.{LinkState}
@@ -19,8 +19,8 @@ use Rattle.confirm_desk.specs.Confirmations.{Confirmation, Consent, No, NotYet, 
 use Rattle.confirm_desk.specs.Confirmations as desk
 use Rattle.helper_link.specs.Telling.{telling}
 use Rattle.agent_model.specs.Actions.{Outcome, closing, stay}
-use Rattle.agent_model.specs.Answers.{helper_tells, lose}
-use Rattle.agent_model.specs.Children.{changed, closed, confirmer_goes_on, confirmer_named, failed_by, failed_if, first_frame, first_message, heard_more, hello_by, helper_named, job_left, job_started, named_by, shut, ticket_by, unheard}
+use Rattle.agent_model.specs.Answers.{helper_tells, lose, lose_where}
+use Rattle.agent_model.specs.Children.{changed, closed, confirmer_goes_on, confirmer_named, failed_by, failed_if, first_frame, first_message, heard_more, hello_by, helper_named, is_started_by, job_left, job_started, named_by, shut, ticket_by, unheard}
 use Rattle.agent_model.specs.Consents.{consent_by, find_started, grant_concluded, grant_to, grant_work, over, over_if, with_heard}
 use Rattle.agent_model.specs.Events.{Happening, Joined, Heard, Ended, Took, Started, StartFailed, Tick}
 use Rattle.wire_text.specs.Bounds.{longest_body}
@@ -39,6 +39,18 @@ pub record IsMild (f : Port → Port) : Type 0 where
   pub owed : (p : Port) → p.owed ≡ [] → (f p).owed ≡ []
   pub chain : (p : Port) → (f p).chain ≡ p.chain
 
+-- such a change of the port of this number, in which what is owed to it stays, unless it took some of it
+pub record IsMildAt (event : Happening) (at : ℕ) (f : Port → Port) : Type 0 where
+  pub number : (p : Port) → (f p).number ≡ p.number
+  pub door : (p : Port) → (f p).door ≡ p.door
+  pub waits : (p : Port) → (f p).waits ≡ p.waits
+  pub owed : (p : Port) → p.owed ≡ [] → (f p).owed ≡ []
+  pub chain : (p : Port) → (f p).chain ≡ p.chain
+  pub owes : ((p : Port) → (f p).owed ≡ p.owed) ⊎ ((count : ℕ) × (event ≡ Took at count))
+
+pub mild_of : {event : Happening} {at : ℕ} {f : Port → Port} → IsMildAt event at f → IsMild f
+mild_of mild = record { number = mild.number; door = mild.door; waits = mild.waits; owed = mild.owed; chain = mild.chain }
+
 -- a change of a confirmation that leaves what is to be signed for whom, and where its child process is
 pub record IsFaint (f : Confirmation → Confirmation) : Type 0 where
   pub job : (c : Confirmation) → (f c).job ≡ c.job
@@ -46,6 +58,7 @@ pub record IsFaint (f : Confirmation → Confirmation) : Type 0 where
   pub addition : (c : Confirmation) → (f c).addition ≡ c.addition
   pub message : (c : Confirmation) → (f c).message ≡ c.message
   pub flags : (c : Confirmation) → (f c).flags ≡ c.flags
+  pub raised_at : (c : Confirmation) → (f c).raised_at ≡ c.raised_at
   pub port : (c : Confirmation) → (f c).port ≡ c.port
 
 -- the same is to be confirmed: at most one confirmation is changed so
@@ -53,26 +66,28 @@ pub data Kept (old : List Confirmation) : List Confirmation → Type 0 where
   unchanged : Kept old old
   altered : (job : ℕ) (f : Confirmation → Confirmation) → IsFaint f → Kept old (change_job job f old)
 
--- the same is unanswered and to be confirmed, and no number was given
+-- the same is unanswered and to be confirmed, for as long, and no number was given
 pub record SameAsks (old new : UnderWay) : Type 0 where
   pub state : new.link.state ≡ old.link.state
   pub asks : new.link.asks ≡ old.link.asks
   pub last : new.link.last ≡ old.link.last
   pub jobs : new.last_job ≡ old.last_job
   pub verifications : new.verifications ≡ old.verifications
+  pub second : new.second ≡ old.second
   pub kept : Kept old.confirmations new.confirmations
+  pub limits : new.limits ≡ old.limits
 
--- why an event closes a port: it's a client that waits for nothing, or a child process that doesn't ask the user, or
+-- why an event closes a port: it's a client that waits for nothing and is owed nothing, or a child process that doesn't ask the user, or
 -- it ended
 pub data MayClose (event : Happening) (number : ℕ) (ports : List Port) (confirmations : List Confirmation) : Type 0 where
-  idle : (port : Port) → find_port number ports ≡ Some port → port.waits ≡ Nothing → port.door ≡ Clients → MayClose event number ports confirmations
+  idle : (port : Port) → find_port number ports ≡ Some port → port.waits ≡ Nothing → port.owed ≡ [] → port.door ≡ Clients → MayClose event number ports confirmations
   child : (port : Port) → find_port number ports ≡ Some port → port.door ≡ Children → find_linked number confirmations ≡ None → MayClose event number ports confirmations
   ended : event ≡ Ended number → MayClose event number ports confirmations
 
 -- a change that tells nobody anything: a port is changed or closed, jobs come and go, or the helper or a child process
 -- that asks the user names itself
 pub data Quiet (event : Happening) (old : State) : State → Type 0 where
-  alters : (number : ℕ) (f : Port → Port) → IsMild f → Quiet event old (changed number f old)
+  alters : (number : ℕ) (f : Port → Port) → IsMildAt event number f → Quiet event old (changed number f old)
   closes : (number : ℕ) → MayClose event number old.ports old.under_way.confirmations → Quiet event old (closed number old)
   goes_on : (new : UnderWay) → SameAsks old.under_way new → Quiet event old (record old { under_way = new })
   names : (job number : ℕ) (port : Port) → find_port number old.ports ≡ Some port → port.door ≡ Children → find_linked number old.under_way.confirmations ≡ None → Quiet event old (helper_named job number old)
@@ -100,20 +115,20 @@ pub data Makes (event : Happening) : State → Outcome → Type 0 where
   overs : (confirmation : Confirmation) (state : State) → IsIn confirmation state.under_way.confirmations → Makes event state (over confirmation state)
   grants : (confirmation : Confirmation) (port : Port) (state : State) → IsIn confirmation state.under_way.confirmations → find_port confirmation.asker state.ports ≡ Some port → Makes event state (grant_concluded (grant_work port.chain confirmation state) confirmation state)
 
-mild-heard : (piece : List ℕ) → IsMild (heard_more piece)
-mild-heard piece = record { number = λ p. refl; door = λ p. refl; waits = λ p. refl; owed = λ p none. none; chain = λ p. refl }
+pub mild-heard : (event : Happening) (at : ℕ) (piece : List ℕ) → IsMildAt event at (heard_more piece)
+mild-heard event at piece = record { number = λ p. refl; door = λ p. refl; waits = λ p. refl; owed = λ p none. none; chain = λ p. refl; owes = inl (λ p. refl) }
 
 pub mild-unheard : IsMild unheard
 mild-unheard = record { number = λ p. refl; door = λ p. refl; waits = λ p. refl; owed = λ p none. none; chain = λ p. refl }
 
-mild-took : (count : ℕ) → IsMild (took_some count)
-mild-took count = record { number = λ p. refl; door = λ p. refl; waits = λ p. refl; owed = λ p none. ap (drop count) none ∙ drop_all count [] (omega arith); chain = λ p. refl }
+pub mild-took : {event : Happening} (at count : ℕ) → event ≡ Took at count → IsMildAt event at (took_some count)
+mild-took at count is = record { number = λ p. refl; door = λ p. refl; waits = λ p. refl; owed = λ p none. ap (drop count) none ∙ drop_all count [] (omega arith); chain = λ p. refl; owes = inr (count, is) }
 
 pub faint-heard : (piece : List ℕ) → IsFaint (desk.heard_more piece)
-faint-heard piece = record { job = λ c. refl; asker = λ c. refl; addition = λ c. refl; message = λ c. refl; flags = λ c. refl; port = λ c. refl }
+faint-heard piece = record { job = λ c. refl; asker = λ c. refl; addition = λ c. refl; message = λ c. refl; flags = λ c. refl; raised_at = λ c. refl; port = λ c. refl }
 
 pub faint-took : (count : ℕ) → IsFaint (desk.took_some count)
-faint-took count = record { job = λ c. refl; asker = λ c. refl; addition = λ c. refl; message = λ c. refl; flags = λ c. refl; port = λ c. refl }
+faint-took count = record { job = λ c. refl; asker = λ c. refl; addition = λ c. refl; message = λ c. refl; flags = λ c. refl; raised_at = λ c. refl; port = λ c. refl }
 
 -- ---- who is at a port
 
@@ -203,7 +218,7 @@ own_number number port ports found = ap (λ n. find_port n ports) (found_number 
 module _ (event : Happening) where
   makes-front : (answer : Front) (port : Port) (state : State) → find_port port.number state.ports ≡ Some port → port.door ≡ Clients → port.waits ≡ Nothing → port.owed ≡ [] → Makes event state (look_front answer port state)
   makes-front (Whole body_len) port state found door waits owed = serves body_len port state found door waits owed
-  makes-front (Bad announced) port state found door waits owed = first (closes port.number (idle port found waits door)) (stays (closed port.number state))
+  makes-front (Bad announced) port state found door waits owed = first (closes port.number (idle port found waits owed door)) (stays (closed port.number state))
   makes-front More port state found door waits owed = stays state
 
   makes-owed : (owed : List ℕ) (port : Port) (state : State) → find_port port.number state.ports ≡ Some port → port.door ≡ Clients → port.waits ≡ Nothing → port.owed ≡ owed → Makes event state (look_owed owed port state)
@@ -229,7 +244,7 @@ module _ (event : Happening) where
 
   makes-consent : (said : Consent) (confirmation : Confirmation) (piece : List ℕ) (state : State) → IsIn confirmation state.under_way.confirmations → Makes event state (consent_by said confirmation piece state)
   makes-consent NotYet confirmation piece state there =
-      first (goes_on (with_heard confirmation.job piece state).under_way record { state = refl; asks = refl; last = refl; jobs = refl; verifications = refl; kept = altered confirmation.job (desk.heard_more piece) (faint-heard piece) })
+      first (goes_on (with_heard confirmation.job piece state).under_way record { state = refl; asks = refl; last = refl; jobs = refl; verifications = refl; second = refl; kept = altered confirmation.job (desk.heard_more piece) (faint-heard piece); limits = refl })
       (stays (with_heard confirmation.job piece state))
   makes-consent Yes confirmation piece state there = makes-grant (find_port confirmation.asker state.ports) confirmation state there refl
   makes-consent No confirmation piece state there = overs confirmation state there
@@ -274,10 +289,10 @@ module _ (event : Happening) where
 
   makes-heard_role : (role : Role) (port : Port) (piece : List ℕ) (state : State) → find_port port.number state.ports ≡ Some port → role_of port.door port.number state.under_way ≡ role → Makes event state (heard_by_role role port piece state)
   makes-heard_role Client port piece state found is =
-      first (alters port.number (heard_more piece) (mild-heard piece))
-      (makes-look port.number _ (changed port.number (heard_more piece) state) refl (client_after port.number (heard_more piece) port state.ports (mild-heard piece) found (role-client port.door port.number state.under_way is)))
+      first (alters port.number (heard_more piece) (mild-heard event port.number piece))
+      (makes-look port.number _ (changed port.number (heard_more piece) state) refl (client_after port.number (heard_more piece) port state.ports (mild_of (mild-heard event port.number piece)) found (role-client port.door port.number state.under_way is)))
   makes-heard_role Unnamed port piece state found is =
-      first (alters port.number (heard_more piece) (mild-heard piece))
+      first (alters port.number (heard_more piece) (mild-heard event port.number piece))
       (makes-frame port.number (heard_more piece port) (changed port.number (heard_more piece) state)
       (find_port-change_port port.number (heard_more piece) state.ports (λ p. refl) ∙ ap (option_map (heard_more piece)) found)
       (role-door port.door port.number state.under_way Unnamed is (λ no. absurd (cc)))
@@ -291,20 +306,21 @@ module _ (event : Happening) where
   makes-heard number None piece state is = stays state
   makes-heard number (Some port) piece state is = makes-heard_role _ port piece state (own_number number port state.ports is) refl
 
-  makes-took_role : (role : Role) (port : Port) (count : ℕ) (state : State) → find_port port.number state.ports ≡ Some port → role_of port.door port.number state.under_way ≡ role → Makes event state (took_by_role role port.number count state)
-  makes-took_role Client port count state found is =
-      first (alters port.number (took_some count) (mild-took count))
-      (makes-look port.number _ (changed port.number (took_some count) state) refl (client_after port.number (took_some count) port state.ports (mild-took count) found (role-client port.door port.number state.under_way is)))
-  makes-took_role Unnamed port count state found is = stays state
-  makes-took_role Helper port count state found is =
-      first (goes_on (helper_took count state).under_way record { state = refl; asks = refl; last = refl; jobs = refl; verifications = refl; kept = unchanged }) (stays (helper_took count state))
-  makes-took_role (Confirmer confirmation) port count state found is =
-      first (goes_on (confirmer_took confirmation.job count state).under_way record { state = refl; asks = refl; last = refl; jobs = refl; verifications = refl; kept = altered confirmation.job (desk.took_some count) (faint-took count) })
+  makes-took_role : (role : Role) (port : Port) (count : ℕ) (state : State) → event ≡ Took port.number count → find_port port.number state.ports ≡ Some port → role_of port.door port.number state.under_way ≡ role → Makes event state (took_by_role role port.number count state)
+  makes-took_role Client port count state took found is =
+      first (alters port.number (took_some count) (mild-took port.number count took))
+      (makes-look port.number _ (changed port.number (took_some count) state) refl (client_after port.number (took_some count) port state.ports (mild_of (mild-took port.number count took)) found (role-client port.door port.number state.under_way is)))
+  makes-took_role Unnamed port count state took found is = stays state
+  makes-took_role Helper port count state took found is =
+      first (goes_on (helper_took count state).under_way record { state = refl; asks = refl; last = refl; jobs = refl; verifications = refl; second = refl; kept = unchanged; limits = refl }) (stays (helper_took count state))
+  makes-took_role (Confirmer confirmation) port count state took found is =
+      first (goes_on (confirmer_took confirmation.job count state).under_way record { state = refl; asks = refl; last = refl; jobs = refl; verifications = refl; second = refl; kept = altered confirmation.job (desk.took_some count) (faint-took count); limits = refl })
       (stays (confirmer_took confirmation.job count state))
 
-  makes-took : (number : ℕ) (found : Option Port) (count : ℕ) (state : State) → find_port number state.ports ≡ found → Makes event state (took_at found count state)
-  makes-took number None count state is = stays state
-  makes-took number (Some port) count state is = makes-took_role _ port count state (own_number number port state.ports is) refl
+  makes-took : (number : ℕ) (found : Option Port) (count : ℕ) (state : State) → event ≡ Took number count → find_port number state.ports ≡ found → Makes event state (took_at found count state)
+  makes-took number None count state took is = stays state
+  makes-took number (Some port) count state took is =
+      makes-took_role _ port count state (took ∙ ap (λ n. Took n count) (sym (found_number number state.ports port is))) (own_number number port state.ports is) refl
 
   makes-ended_role : (role : Role) (port : Port) (state : State) → event ≡ Ended port.number → role_of port.door port.number state.under_way ≡ role → Makes event state (ended_by_role role port.number state)
   makes-ended_role Client port state end is =
@@ -319,22 +335,26 @@ module _ (event : Happening) where
   makes-ended number (Some port) state end is = makes-ended_role _ port state (end ∙ ap Ended (sym (found_number number state.ports port is))) refl
 
   makes-failed_by : (kind : JobKind) (number : ℕ) (state : State) → Makes event state (failed_by kind number state)
-  makes-failed_by kinds.Helper number state = loses state
+  makes-failed_by kinds.Helper number state = makes-lose_where (is_started_by number state.under_way.link.state)
+    where
+      makes-lose_where : (is : Bool) → Makes event state (lose_where is state)
+      makes-lose_where true = loses state
+      makes-lose_where false = stays state
   makes-failed_by kinds.Confirm number state = makes-over_if (find_job number state.under_way.confirmations) state (in-by_job number state.under_way.confirmations)
 
   makes-failed : (found : Option Job) (state : State) → Makes event state (failed_if found state)
   makes-failed None state = stays state
   makes-failed (Some job) state =
-      first (goes_on (job_left job.number state).under_way record { state = refl; asks = refl; last = refl; jobs = refl; verifications = refl; kept = unchanged }) (makes-failed_by job.kind job.number (job_left job.number state))
+      first (goes_on (job_left job.number state).under_way record { state = refl; asks = refl; last = refl; jobs = refl; verifications = refl; second = refl; kept = unchanged; limits = refl }) (makes-failed_by job.kind job.number (job_left job.number state))
 
 -- every event but a joining
 pub makes-handle : (event : Happening) (state : State) → ((door : Door) → event ≡ Joined door → ⊥) → Makes event state (handle event state)
 makes-handle (Joined door) state other = absurd (other door refl)
 makes-handle (Heard port piece) state other = makes-heard (Heard port piece) port _ piece state refl
-makes-handle (Took port count) state other = makes-took (Took port count) port _ count state refl
+makes-handle (Took port count) state other = makes-took (Took port count) port _ count state refl refl
 makes-handle (Ended port) state other = makes-ended (Ended port) port _ state refl refl
 makes-handle (Started job ticket) state other =
-    first (goes_on (job_started job ticket state).under_way record { state = refl; asks = refl; last = refl; jobs = refl; verifications = refl; kept = unchanged }) (stays (job_started job ticket state))
+    first (goes_on (job_started job ticket state).under_way record { state = refl; asks = refl; last = refl; jobs = refl; verifications = refl; second = refl; kept = unchanged; limits = refl }) (stays (job_started job ticket state))
 makes-handle (StartFailed job) state other = makes-failed (StartFailed job) (find_to_start job state.under_way.to_start) state
 makes-handle Tick state other = stays state
 

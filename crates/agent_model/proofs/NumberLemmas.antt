@@ -15,12 +15,14 @@ use Rattle.agent_model.specs.Events.{Happening, Timed}
 use Rattle.agent_model.specs.KeyStates.{KeyState}
 use Rattle.agent_model.specs.Runs.{run}
 use Rattle.agent_model.specs.State.{State, UnderWay}
-use Rattle.agent_model.specs.Step.{asker_at, at_moment, step}
+use Rattle.agent_model.specs.Step.{asker_at, handle, step}
+use Rattle.agent_model.specs.Time.{at_moment}
 use Rattle.agent_model.proofs.GrantLemmas.{IsGranted, allowed, disallowed, grant-ends, unasked}
 use Rattle.agent_model.proofs.GrowLemmas.{AsksMore, asks_more, more-put}
 use Rattle.agent_model.proofs.JobLemmas.{jobs-change, jobs-remove}
 use Rattle.agent_model.proofs.MakeLemmas.{Kept, Makes, Quiet, altered, alters, by_event, closes, first, goes_on, grants, links, loses, names, overs, serves, stays, tells, unchanged}
 use Rattle.agent_model.proofs.ServeLemmas.{serve-ends}
+use Rattle.agent_model.proofs.TimeLemmas.{at_moment-keeps}
 
 -- no number falls, and the jobs of confirmations go on rising
 pub record Grows (old new : UnderWay) : Type 0 where
@@ -89,10 +91,21 @@ grows-makes (overs confirmation state there) = without confirmation.job state.un
 grows-makes (grants confirmation port state there opened) =
     behind (without confirmation.job state.under_way) (grows-granted (grant-ends port.chain confirmation state))
 
+-- no moment makes a number fall
+pub moment-grows : (state : State) (moment : Moment) → Grows state.under_way (at_moment moment state).under_way
+moment-grows state moment =
+    at_moment-keeps (λ s. Grows state.under_way s.under_way) moment state (λ s grows. record { jobs = grows.jobs; asks = grows.asks; order = grows.order })
+    (λ one s there grows. behind grows (without one.job s.under_way)) record { jobs = omega arith; asks = omega arith; order = λ rise. rise }
+
+-- nor does what an event brings
+pub handle-grows : (event : Happening) (state : State) → Grows state.under_way (handle event state).state.under_way
+handle-grows event state =
+    by_event (λ outcome. Grows state.under_way outcome.state.under_way) event state (λ door. same state.under_way) (λ outcome. grows-makes)
+
 -- no event makes a number fall
 pub step-grows : (state : State) (moment : Moment) (event : Happening) → Grows state.under_way (step state moment event).state.under_way
 step-grows state moment event =
-    by_event (λ outcome. Grows state.under_way outcome.state.under_way) event (at_moment moment state) (λ door. same state.under_way) (λ outcome. grows-makes)
+    behind (moment-grows state moment) (handle-grows event (at_moment moment state))
 
 -- nor do events one after another
 pub run-grows : (state : State) (events : List Timed) → Grows state.under_way (run state events).under_way

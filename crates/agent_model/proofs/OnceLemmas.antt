@@ -5,7 +5,7 @@ use Rattle.std.proofs.lemmas.List.{append-nil}
 use Rattle.std.proofs.lemmas.List.Sums.{sum_by-append, sum_by-cons}
 use Rattle.wire_text.specs.Frames.{front_body}
 use Rattle.world_ports.specs.declared.Moment.{Moment}
-use Rattle.helper_link.specs.Answered.{LeadTo, kind_answered}
+use Rattle.helper_link.specs.Answered.{IsUnanswered, LeadTo, kind_answered}
 use Rattle.helper_link.specs.HelperLink.{HelperLink, ask_of}
 use Rattle.helper_link.specs.Settling.{find_ask, remove_ask}
 use Rattle.helper_link.specs.Sound.{RiseTo}
@@ -19,7 +19,7 @@ use Rattle.confirm_desk.specs.Confirmations.{Confirmation}
 use Rattle.dest_rule.specs.declared.binding.Binding.{Binding}
 use Rattle.agent_model.specs.Consents.{signing_of}
 use Rattle.agent_model.proofs.GrantLemmas.{IsGranted, allowed, disallowed, grant-ends, unasked}
-use Rattle.agent_model.specs.Actions.{Action, Answered, Granted, Lost, Outcome, Requested, Work, acted, and_then}
+use Rattle.agent_model.specs.Actions.{Action, Answered, Granted, Lost, Outcome, Requested, Work, acted, and_then, behind}
 use Rattle.agent_model.specs.Answers.{Answering, answer_all, answer_by, lose_if, with_answers}
 use Rattle.agent_model.specs.Dispatch.{Asker, Served}
 use Rattle.agent_model.specs.Errands.{Errand, Signs, kind_of, with_ask}
@@ -29,13 +29,16 @@ use Rattle.agent_model.specs.KeyStates.{KeyState}
 use Rattle.agent_model.specs.Runs.{run}
 use Rattle.agent_model.specs.Sound.{IsTied}
 use Rattle.agent_model.specs.State.{State, UnderWay}
-use Rattle.agent_model.specs.Step.{asker_at, at_moment, step}
-use Rattle.agent_model.proofs.FateLemmas.{answer-fate, answers_as}
+use Rattle.agent_model.specs.Step.{asker_at, handle, step}
+use Rattle.agent_model.specs.Time.{at_moment, taken_in, time_passes}
+use Rattle.agent_model.proofs.FateLemmas.{answer-fate, answers_as, fate-append}
 use Rattle.agent_model.proofs.FatedLemmas.{step-fated, tied-opened}
 use Rattle.agent_model.proofs.TiedLemmas.{tied-quiet}
 use Rattle.agent_model.proofs.MakeLemmas.{Makes, Quiet, alters, by_event, closes, first, goes_on, grants, links, loses, names, overs, serves, stays, tells}
 use Rattle.agent_model.proofs.ServeLemmas.{IsServed, answered, asked, raised, refused, serve-ends}
 use Rattle.agent_model.proofs.TieLemmas.{ask_within}
+use Rattle.agent_model.proofs.TimeLemmas.{time_passes-brings}
+use Rattle.agent_model.proofs.NumberLemmas.{handle-grows, moment-grows}
 
 -- ---- what may still come of a number
 
@@ -88,7 +91,7 @@ spent_in_turn {ask} {some = some} {more = more} one two = record {
 
 module _ (ask : ℕ) where
   -- one answer
-  one_answered : (one : Settled) (before : Answering) (asks : List Ask) (low last : ℕ) → find_ask one.ask asks ≡ Some (ask_of one.ask one.asker (kind_answered one.answer)) → RiseTo low asks last → times_answered ask (answer_by one.answer one before).actions + open_by (find_ask ask (remove_ask one.ask asks)) ≤ times_answered ask before.actions + open_by (find_ask ask asks)
+  one_answered : (one : Settled) (before : Answering) (asks : List Ask) (low last : ℕ) → IsUnanswered one.ask one.asker (kind_answered one.answer) asks → RiseTo low asks last → times_answered ask (answer_by one.answer one before).actions + open_by (find_ask ask (remove_ask one.ask asks)) ≤ times_answered ask before.actions + open_by (find_ask ask asks)
   one_answered one before asks low last found rise =
       let told = answers_as one.answer one before in
       let times : times_answered ask (answer_by one.answer one before).actions ≡ times_answered ask before.actions + ((if one.ask == ask then 1 else 0) + times_answered ask told.rest) =
@@ -99,7 +102,7 @@ module _ (ask : ℕ) where
       by_test : (is : Bool) → (one.ask == ask) ≡ is → (if is then 1 else 0) + open_by (cond is None (find_ask ask asks)) ≤ open_by (find_ask ask asks)
       by_test true is =
           let equal : one.ask ≡ ask = grind (arith, nat_tests) in
-          omega (arith, ap open_by (ap (λ n. find_ask n asks) (sym equal) ∙ found))
+          omega (arith, ap open_by (ap (λ n. find_ask n asks) (sym equal) ∙ found.found))
       by_test false is = omega arith
 
   -- one after another
@@ -172,7 +175,7 @@ module _ (ask : ℕ) where
   spent_served first_action answers asks rise (answered reply kept same) = record { answered = omega (arith, answers); asked = omega (arith, asks) }
   spent_served first_action answers asks rise (refused cause) = record { answered = omega (arith, answers); asked = omega (arith, asks) }
   spent_served {asker = asker} {under_way = under_way} first_action answers asks rise (asked errand free right) =
-      let put = spent_put under_way.link (with_ask errand asker.port under_way).link (ask_of (under_way.link.last + 1) asker.port (kind_of errand)) rise refl refl refl in
+      let put = spent_put under_way.link (with_ask errand asker.port under_way).link (ask_of (under_way.link.last + 1) asker.port (kind_of errand) under_way.second) rise refl refl refl in
       record { answered = omega (arith, answers, put.0); asked = omega (arith, asks, put.1) }
   spent_served first_action answers asks rise (raised key signing free) = record { answered = omega (arith, answers); asked = omega (arith, asks) }
 
@@ -181,7 +184,7 @@ module _ (ask : ℕ) where
   spent_granted first_action answers asks rise (unasked cause key may fault) = record { answered = omega (arith, answers); asked = omega (arith, asks) }
   spent_granted {confirmation = confirmation} {under_way = under_way} first_action answers asks rise (allowed key may free) =
       let errand : Errand = Signs key (signing_of key confirmation) in
-      let put = spent_put under_way.link (with_ask errand confirmation.asker under_way).link (ask_of (under_way.link.last + 1) confirmation.asker (kind_of errand)) rise refl refl refl in
+      let put = spent_put under_way.link (with_ask errand confirmation.asker under_way).link (ask_of (under_way.link.last + 1) confirmation.asker (kind_of errand) under_way.second) rise refl refl refl in
       record { answered = omega (arith, answers, put.0); asked = omega (arith, asks, put.1) }
 
   spent_makes : {event : Happening} {old : State} {outcome : Outcome} → Makes event old outcome → IsTied old → Spends ask old.under_way.link outcome.actions outcome.state.under_way.link
@@ -197,11 +200,23 @@ module _ (ask : ℕ) where
   spent_makes (grants confirmation port state there opened) tied =
       spent_granted (Granted confirmation.job) refl refl tied.order (grant-ends port.chain confirmation state)
 
+  -- the moment
+  moment-spends : (state : State) (moment : Moment) → Spends ask state.under_way.link (time_passes moment state).actions (at_moment moment state).under_way.link
+  moment-spends state moment =
+      time_passes-brings (λ s outcome. Spends ask s.under_way.link outcome.actions outcome.state.under_way.link) moment state
+      (λ s. nothing_spent ask s.under_way.link s.under_way.link refl refl) (λ s. spent_loss s.under_way.link _ refl refl)
+      (λ one s there. record { answered = omega arith; asked = omega arith }) (λ s before later some more. spent_in_turn some more)
+
+  -- what an event brings
+  handle-spends : (event : Happening) (state : State) → IsTied state → Spends ask state.under_way.link (handle event state).actions (handle event state).state.under_way.link
+  handle-spends event state tied =
+      by_event (λ outcome. Spends ask state.under_way.link outcome.actions outcome.state.under_way.link) event state
+      (λ door. nothing_spent ask state.under_way.link state.under_way.link refl refl) (λ outcome makes. spent_makes makes tied)
+
   step-spends : (state : State) (moment : Moment) (event : Happening) → IsTied state → Spends ask state.under_way.link (step state moment event).actions (step state moment event).state.under_way.link
   step-spends state moment event tied =
       let opened : State = at_moment moment state in
-      by_event (λ outcome. Spends ask state.under_way.link outcome.actions outcome.state.under_way.link) event opened
-      (λ door. nothing_spent ask state.under_way.link state.under_way.link refl refl) (λ outcome makes. spent_makes makes (tied-opened moment state tied))
+      spent_in_turn (moment-spends state moment) (handle-spends event opened (tied-opened moment state tied))
 
   -- events one after another
   pub run-spends : (state : State) (events : List Timed) → IsTied state → Spends ask state.under_way.link (actions_of state events) (run state events).under_way.link
@@ -256,10 +271,69 @@ module _ (ask : ℕ) where
       let no_loss : Unanswered ≡ Fails = sym silent ∙ is in
       absurd (cc)
 
-  pub step-lost : (state : State) (moment : Moment) (event : Happening) → IsTied state → fate_of ask (step state moment event).actions ≡ Fails → (step state moment event).state.under_way.link.asks ≡ []
-  step-lost state moment event tied =
-      by_event (λ outcome. fate_of ask outcome.actions ≡ Fails → outcome.state.under_way.link.asks ≡ []) event (at_moment moment state)
-      (λ door is. absurd (cc)) (λ outcome makes. lost_makes makes (tied-opened moment state tied))
+  -- neither is anything behind a moment that lost it
+  record Loses (old : State) (outcome : Outcome) : Type 0 where
+    pub lost : fate_of ask outcome.actions ≡ Fails → outcome.state.under_way.link.asks ≡ []
+    pub stays_lost : old.under_way.link.asks ≡ [] → outcome.state.under_way.link.asks ≡ []
+
+  lost_in_turn : (old : State) (before later : Outcome) → Loses old before → Loses before.state later → Loses old (behind before later)
+  lost_in_turn old before later one two = record {
+    lost = λ is. by_fate (fate_of ask before.actions) refl (sym (fate-append ask before.actions later.actions) ∙ is);
+    stays_lost = λ none. two.stays_lost (one.stays_lost none);
+  }
+    where
+      by_fate : (fate : Fate) → fate_of ask before.actions ≡ fate → or_later fate (fate_of ask later.actions) ≡ Fails → later.state.under_way.link.asks ≡ []
+      by_fate Unanswered at is = two.lost is
+      by_fate (Gets answer) at is = absurd (cc)
+      by_fate Fails at is = two.stays_lost (one.lost at)
+
+  moment-loses : (moment : Moment) (state : State) → Loses (taken_in moment state) (time_passes moment state)
+  moment-loses moment state =
+      time_passes-brings Loses moment state
+      (λ s. record { lost = λ is. absurd (cc); stays_lost = λ none. none }) (λ s. record { lost = λ is. refl; stays_lost = λ none. refl })
+      (λ one s there. record { lost = λ is. absurd (cc); stays_lost = λ none. none }) lost_in_turn
+
+-- what is answerable no more isn't unanswered
+none_open : (number last : ℕ) (asks : List Ask) → number ≤ last → (if nat_lt last number then 1 else open_by (find_ask number asks)) ≤ 0 → find_ask number asks ≡ None
+none_open number last asks given few = by_found (find_ask number asks) refl (omega (arith, few, ap (λ b. if b then 1 else open_by (find_ask number asks)) low))
+  where
+    low : nat_lt last number ≡ false
+    low = grind (arith, nat_tests)
+
+    by_found : (found : Option Ask) → find_ask number asks ≡ found → open_by found ≤ 0 → find_ask number asks ≡ None
+    by_found None is none = is
+    by_found (Some one) is none = absurd (omega (arith, none))
+
+-- no ask that was put before the helper is lost is unanswered after
+pub step-lost : (state : State) (moment : Moment) (event : Happening) (ask number : ℕ) → IsTied state → fate_of ask (step state moment event).actions ≡ Fails → number ≤ state.under_way.link.last → find_ask number (step state moment event).state.under_way.link.asks ≡ None
+step-lost state moment event ask number tied fails given =
+    by_fate (fate_of ask passed.actions) refl (sym (fate-append ask passed.actions happened.actions) ∙ fails)
+  where
+    passed : Outcome
+    passed = time_passes moment state
+
+    happened : Outcome
+    happened = handle event passed.state
+
+    handled : fate_of ask happened.actions ≡ Fails → happened.state.under_way.link.asks ≡ []
+    handled =
+        by_event (λ outcome. fate_of ask outcome.actions ≡ Fails → outcome.state.under_way.link.asks ≡ []) event passed.state
+        (λ door is. absurd (cc)) (λ outcome makes. lost_makes ask makes (tied-opened moment state tied))
+
+    behind_it : passed.state.under_way.link.asks ≡ [] → find_ask number happened.state.under_way.link.asks ≡ None
+    behind_it none =
+        let old = passed.state.under_way.link in
+        let spends = handle-spends number event passed.state (tied-opened moment state tied) in
+        let within : number ≤ old.last = omega (arith, given, (moment-grows state moment).asks) in
+        let low : nat_lt old.last number ≡ false = grind (arith, nat_tests) in
+        let spent : answerable number old ≡ 0 = ap (λ b. if b then 1 else open_by (find_ask number old.asks)) low ∙ ap (λ asks. open_by (find_ask number asks)) none in
+        none_open number happened.state.under_way.link.last happened.state.under_way.link.asks
+        (omega (arith, within, (handle-grows event passed.state).asks)) (omega (arith, spends.answered, spent))
+
+    by_fate : (fate : Fate) → fate_of ask passed.actions ≡ fate → or_later fate (fate_of ask happened.actions) ≡ Fails → find_ask number happened.state.under_way.link.asks ≡ None
+    by_fate Unanswered at is = ap (find_ask number) (handled is)
+    by_fate (Gets answer) at is = absurd (cc)
+    by_fate Fails at is = behind_it ((moment-loses ask moment state).lost at)
 
 -- a number that was given and isn't unanswered is never answered
 pub never_answered : (ask : ℕ) (state : State) (events : List Timed) → IsTied state → ask ≤ state.under_way.link.last → find_ask ask state.under_way.link.asks ≡ None → times_answered ask (actions_of state events) ≡ 0

@@ -15,15 +15,16 @@ use Rattle.wire_text.specs.Bounds.{longest_body}
 use Rattle.agent_model.specs.Looks.{due, due_at}
 use Rattle.agent_model.specs.Sound.{IsRising, IsSound}
 use Rattle.agent_model.specs.State.{Nothing, OnAsk, OnConfirmation, Port, State, Waits, change_port, find_port, remove_port}
-use Rattle.agent_model.specs.Step.{step, asker_at, at_moment, attempts, handle, heard_at, take_frame, taken}
+use Rattle.agent_model.specs.Step.{step, asker_at, attempts, handle, heard_at, take_frame, taken}
+use Rattle.agent_model.specs.Time.{GiveTime, at_moment, taken_in}
 use Rattle.agent_model.specs.Verdicts.{tell, verdict_text}
 use Rattle.agent_model.proofs.ClientLemmas.{handle-heard, looked-found}
 use Rattle.agent_model.proofs.PortsLemmas.{change_port-by, change_port-twice, find_port-change_port, find_port-remove_port, found_number, remove_port-change_port}
-use Rattle.agent_model.proofs.RunLemmas.{at_moment-twice}
+use Rattle.agent_model.proofs.OnTimeLemmas.{taken_in-at_moment}
 use Rattle.agent_model.proofs.ServeLemmas.{serve-ends}
 use Rattle.agent_model.proofs.ToldLemmas.{told_more}
 use Rattle.agent_model.specs.Pieces.{Agree}
-use Rattle.agent_model.proofs.PiecesLemmas.{after_nothing, agree-over, found_more, heard_next}
+use Rattle.agent_model.proofs.PiecesLemmas.{after_nothing, agree-over, agree-stepped, at_moment-taken_in, found_more, heard_next}
 
 -- ---- the first part holds a whole request
 
@@ -77,8 +78,8 @@ after_request moment state number a b port body_len found door waits owed whole 
     ∙ change_port-twice number (λ p. take_first (heard_more a p)) told state.ports (λ p. refl) in
     let left : State = one (change_port number gave state.ports) in
     let first_state_is : (handle (Heard number a) state).state ≡ left = ap (λ (o : Outcome). o.state) first ∙ ap one first_ports in
-    let next : State = at_moment moment left in
-    let begun : at_moment moment (handle (Heard number a) state).state ≡ next = ap (at_moment moment) first_state_is in
+    let next : State = taken_in moment left in
+    let begun : taken_in moment (handle (Heard number a) state).state ≡ next = ap (taken_in moment) first_state_is in
     let there : find_port number next.ports ≡ Some (gave port) =
     find_port-change_port number gave state.ports (λ p. refl) ∙ ap (option_map gave) found in
     let still : due (heard_more b (gave port)) ≡ More =
@@ -108,7 +109,7 @@ after_request moment state number a b port body_len found door waits owed whole 
     record {
       state = ap (λ (o : Outcome). at_moment moment o.state) all
           ∙ ap (λ (ps : List Port). at_moment moment (one ps)) all_ports
-          ∙ sym (at_moment-twice parts moment)
+          ∙ sym (at_moment-taken_in moment parts)
           ∙ ap (λ (o : Outcome). at_moment moment o.state) (sym later);
       actions = ap (λ (o : Outcome). o.actions) all
           ∙ sym (append-nil (taken body_len body (heard_more a port) (changed number (heard_more a) state)).actions)
@@ -143,7 +144,7 @@ after_bad moment state number last a b port announced rising found door waits ow
 -- ---- all of them
 
 -- by what stands at the front of a client's bytes that waits for nothing and is owed nothing
-by_front : (answer : Front) (moment : Moment) (state : State) (number last : ℕ) (a b : List ℕ) (port : Port) → at_moment moment state ≡ state → IsRising 0 last state.ports → find_port number state.ports ≡ Some port → port.door ≡ Clients → port.waits ≡ Nothing → port.owed ≡ [] → front longest_body (port.heard ++ a) ≡ answer →
+by_front : (answer : Front) (moment : Moment) (state : State) (number last : ℕ) (a b : List ℕ) (port : Port) → taken_in moment state ≡ state → IsRising 0 last state.ports → find_port number state.ports ≡ Some port → port.door ≡ Clients → port.waits ≡ Nothing → port.owed ≡ [] → front longest_body (port.heard ++ a) ≡ answer →
     Agree moment (handle (Heard number (a ++ b)) state) (handle (Heard number a) state)
     (heard_next moment number b (handle (Heard number a) state).state)
 by_front (Whole body_len) moment state number last a b port same rising found door waits owed is =
@@ -154,7 +155,7 @@ by_front More moment state number last a b port same rising found door waits owe
     after_nothing moment state number a b port same found door (due-idle (heard_more a port) waits owed ∙ is)
 
 -- by what it waits for and is owed
-by_port : (waits : Waits) (owed : List ℕ) (moment : Moment) (state : State) (number last : ℕ) (a b : List ℕ) (port : Port) → at_moment moment state ≡ state → IsRising 0 last state.ports → find_port number state.ports ≡ Some port → port.door ≡ Clients → port.waits ≡ waits → port.owed ≡ owed →
+by_port : (waits : Waits) (owed : List ℕ) (moment : Moment) (state : State) (number last : ℕ) (a b : List ℕ) (port : Port) → taken_in moment state ≡ state → IsRising 0 last state.ports → find_port number state.ports ≡ Some port → port.door ≡ Clients → port.waits ≡ waits → port.owed ≡ owed →
     Agree moment (handle (Heard number (a ++ b)) state) (handle (Heard number a) state)
     (heard_next moment number b (handle (Heard number a) state).state)
 by_port Nothing [] moment state number last a b port same rising found door waits owed =
@@ -168,7 +169,7 @@ by_port (OnConfirmation job) owed moment state number last a b port same rising 
     after_nothing moment state number a b port same found door (ap (λ (w : Waits). due_at w port.owed (port.heard ++ a)) waits)
 
 -- a port that isn't open hears nothing
-by_found : (is : Option Port) (moment : Moment) (state : State) (number last : ℕ) (a b : List ℕ) → at_moment moment state ≡ state → IsRising 0 last state.ports → find_port number state.ports ≡ is → IfSome is (λ port. port.door ≡ Clients) →
+by_found : (is : Option Port) (moment : Moment) (state : State) (number last : ℕ) (a b : List ℕ) → taken_in moment state ≡ state → IsRising 0 last state.ports → find_port number state.ports ≡ is → IfSome is (λ port. port.door ≡ Clients) →
     Agree moment (handle (Heard number (a ++ b)) state) (handle (Heard number a) state)
     (heard_next moment number b (handle (Heard number a) state).state)
 by_found None moment state number last a b same rising found door =
@@ -180,10 +181,10 @@ by_found (Some port) moment state number last a b same rising found door =
     by_port port.waits port.owed moment state number last a b port same rising found door refl refl
 
 -- two parts of a client's piece are the piece
-pub parts_agree : (state : State) (moment : Moment) (number : ℕ) (a b : List ℕ) → IsSound state → IfSome (find_port number state.ports) (λ port. port.door ≡ Clients) →
+pub parts_agree : (state : State) (moment : Moment) (number : ℕ) (a b : List ℕ) → GiveTime state.under_way.limits → IsSound (at_moment moment state) → IfSome (find_port number (at_moment moment state).ports) (λ port. port.door ≡ Clients) →
     Agree moment (step state moment (Heard number (a ++ b))) (step state moment (Heard number a))
     (step (step state moment (Heard number a)).state moment (Heard number b))
-parts_agree state moment number a b sound door =
+parts_agree state moment number a b time sound door =
     let start : State = at_moment moment state in
-    let parts = by_found (find_port number state.ports) moment start number state.last_port a b (at_moment-twice state moment) sound.rising refl door in
-    record { state = parts.state; actions = parts.actions; put = parts.put }
+    agree-stepped state moment number a b time
+    (by_found (find_port number start.ports) moment start number start.last_port a b (taken_in-at_moment moment state) sound.rising refl door)

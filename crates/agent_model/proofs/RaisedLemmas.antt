@@ -308,7 +308,7 @@ module _ {confirmations : List Confirmation} {last_job last_port : ℕ} (low las
       raised-answers later (answer_by one.answer one before) (remove_ask one.ask asks) left leads.1 (remove_rises one.ask low asks last rise) (one_answer low last one before asks leads.0 rise tied)
       (subst (λ ports. AreRaised confirmations last_job ports last_port) (sym told.ports)
       (raised-silent before.ports raised one.asker told.change
-      (λ port opened job is. let no : OnAsk one.ask ≡ OnConfirmation job = sym (tied.asks one.ask _ port leads.0 opened) ∙ is in absurd (cc))
+      (λ port opened job is. let no : OnAsk one.ask ≡ OnConfirmation job = sym (tied.asks one.ask _ port leads.0.found opened) ∙ is in absurd (cc))
       told.number told.door (λ p job is. let no : Nothing ≡ OnConfirmation job = sym (told.waits p) ∙ is in absurd (cc))))
 
 pub raised-lost : {confirmations : List Confirmation} {last_job last_port : ℕ} (low last : ℕ) (asks : List Ask) (ports : List Port) → RiseTo low asks last → AreTied ports asks → AreRaised confirmations last_job ports last_port → AreRaised confirmations last_job (tell_each (Refuses HelperLost) (askers asks) ports) last_port

@@ -1,6 +1,5 @@
 -- Lemmas on events one after another.
-use Rattle.std.proofs.Common.{◌≡◌, ℕ, suc, ◌^◌, ◌<◌, ◌≤◌, List, [], ◌∷◌, ◌++◌, refl, ap, arith, ◌∙◌, max, Option, Some, None, Bool, true, false}
-use Rattle.std.proofs.Math.Nat.{max-eq_left, le-max_right}
+use Rattle.std.proofs.Common.{◌≡◌, ℕ, suc, ◌^◌, ◌<◌, ◌≤◌, List, [], ◌∷◌, ◌++◌, refl, ap, arith, ◌∙◌, Some, None, Bool, true, false}
 use Rattle.std.proofs.lemmas.Bool.Decides.{nat_tests}
 use Rattle.lists.specs.Keyed.{has_key}
 use Rattle.lists.proofs.FirstLemmas.{find-change_none, find-push_other, find-remove_none}
@@ -9,28 +8,26 @@ use Rattle.world_ports.specs.declared.Moment.{Moment}
 use Rattle.world_ports.specs.declared.Door.{Door}
 use Rattle.world_ports.specs.declared.Door.TheVariants.{Clients, Children}
 use Rattle.agent_model.specs.Events.{Happening, Timed, Joined, Heard, Ended, Took, Started, StartFailed, Tick}
-use Rattle.agent_model.specs.KeyStates.{expired}
 use Rattle.agent_model.specs.Runs.{AllFit, run}
 use Rattle.agent_model.specs.Sound.{IsRising, IsSound}
-use Rattle.agent_model.specs.State.{Fits, Port, State, UnderWay, change_port, client_count, find_port, first_state, is_client, new_port, remove_port, number_of}
-use Rattle.agent_model.specs.Step.{admitted, at_moment, handle, has_room, joined, step}
+use Rattle.agent_model.specs.State.{Fits, Port, Settings, State, UnderWay, change_port, client_count, find_port, first_state, is_client, new_port, remove_port, number_of}
+use Rattle.agent_model.specs.Step.{admitted, handle, has_room, joined, step}
+use Rattle.agent_model.specs.Time.{at_moment}
 use Rattle.agent_model.specs.Answers.{close_helper, lose}
 use Rattle.agent_model.specs.Verdicts.{HelperLost, Refuses}
 use Rattle.helper_link.specs.HelperLink.{askers}
 use Rattle.helper_link.specs.declared.state.LinkState.TheVariants as states
-use Rattle.agent_model.proofs.HeldLemmas.{expired-twice}
 use Rattle.agent_model.proofs.LeadLemmas.{Follows, Leads, changes, follows-makes, leads-tell_each, removes, same}
 use Rattle.agent_model.proofs.TieLemmas.{IsOf, apart, found_after, here}
-use Rattle.agent_model.proofs.MakeLemmas.{by_event, makes-handle}
+use Rattle.agent_model.proofs.MakeLemmas.{by_event, loses, makes-handle, overs}
+use Rattle.agent_model.proofs.OnTimeLemmas.{at_moment-on_time, taken_in-at_moment}
 use Rattle.agent_model.proofs.PortsLemmas.{find_port-left, find_port-remove_port, rising-append, rising-change_port, rising-remove_port, rising_higher}
+use Rattle.agent_model.proofs.TimeLemmas.{at_moment-keeps, on_time-at_moment}
 
 -- a moment that was taken in is not taken in again
 pub at_moment-twice : (state : State) (moment : Moment) → at_moment moment (at_moment moment state) ≡ at_moment moment state
 at_moment-twice state moment =
-    let t = max state.moment.mono moment.mono in
-    let once : max t moment.mono ≡ t = max-eq_left (le-max_right state.moment.mono moment.mono) in
-    ap (λ n. let a : State = record state { moment = record { mono = n; wall = moment.wall }; held = expired n (expired t state.held) } in a) once
-    ∙ ap (λ k. let a : State = record state { moment = record { mono = t; wall = moment.wall }; held = k } in a) (expired-twice t state.held)
+    on_time-at_moment moment (at_moment moment state) (at_moment-on_time moment state) ∙ taken_in-at_moment moment state
 
 -- ---- what stays where ports are changed and closed
 
@@ -93,18 +90,30 @@ leads-found number low high old port (removes other ports leads) rising found =
 
 -- ---- a step
 
+-- what a moment leaves of the ports
+pub at_moment-follows : (moment : Moment) (state : State) → Follows state (at_moment moment state)
+at_moment-follows moment state =
+    at_moment-keeps (Follows state) moment state (λ s follows. follows-makes Tick state (loses s) follows)
+    (λ one s there follows. follows-makes Tick state (overs one s there) follows) record { last = refl; ports = same }
+
 -- what every event but a joining leaves of the ports
-step-follows : (state : State) (moment : Moment) (event : Happening) → ((door : Door) → event ≡ Joined door → ⊥) → Follows (at_moment moment state) (step state moment event).state
+step-follows : (state : State) (moment : Moment) (event : Happening) → ((door : Door) → event ≡ Joined door → ⊥) → Follows state (step state moment event).state
 step-follows state moment event other =
     let opened : State = at_moment moment state in
-    let follows = follows-makes event opened (makes-handle event opened other) record { last = refl; ports = same } in
+    let follows = follows-makes event state (makes-handle event opened other) (at_moment-follows moment state) in
     record { last = follows.last; ports = follows.ports }
 
 -- the same with a joining, for what holds of the ports
-by_ports : (P : State → Type 0) (event : Happening) (state : State) → ((door : Door) → P state → P (joined door state)) → ((new : State) → Follows state new → P state → P new) → P state → P (handle event state).state
-by_ports P event state joins keeps =
-    by_event (λ outcome. P state → P outcome.state) event state joins
-    (λ outcome makes. keeps outcome.state (follows-makes event state makes record { last = refl; ports = same }))
+handle_ports : (P : State → Type 0) (event : Happening) (state : State) → ((door : Door) → P state → P (joined door state)) → ((new : State) → Follows state new → P state → P new) → P state → P (handle event state).state
+handle_ports P event state joins keeps holds =
+    by_event (λ outcome. P outcome.state) event state (λ door. joins door holds)
+    (λ outcome makes. keeps outcome.state (follows-makes event state makes record { last = refl; ports = same }) holds)
+
+-- and behind a moment
+by_ports : (P : State → Type 0) (event : Happening) (moment : Moment) (state : State) → ((s : State) (door : Door) → P s → P (joined door s)) → ((old new : State) → Follows old new → P old → P new) → P state → P (handle event (at_moment moment state)).state
+by_ports P event moment state joins keeps holds =
+    let opened : State = at_moment moment state in
+    handle_ports P event opened (joins opened) (keeps opened) (keeps state opened (at_moment-follows moment state) holds)
 
 -- the number of the last port after an event: one more where a port joined
 abbrev pub last_after : Happening → ℕ → ℕ
@@ -118,7 +127,7 @@ last_after Tick last = last
 
 -- only a port that joins gets a number
 pub step-last_port : (state : State) (moment : Moment) (event : Happening) → (step state moment event).state.last_port ≡ last_after event state.last_port
-step-last_port state moment (Joined door) = refl
+step-last_port state moment (Joined door) = ap suc (at_moment-follows moment state).last
 step-last_port state moment (Heard port piece) = (step-follows state moment (Heard port piece) (λ door is. cc)).last
 step-last_port state moment (Ended port) = (step-follows state moment (Ended port) (λ door is. cc)).last
 step-last_port state moment (Took port count) = (step-follows state moment (Took port count) (λ door is. cc)).last
@@ -157,8 +166,8 @@ admitted-rising false last door ports rising = rising_higher 0 last (suc last) p
 -- every event keeps the numbers rising
 pub step_keeps-rising : (state : State) (moment : Moment) (event : Happening) → IsNumbered state → IsNumbered (step state moment event).state
 step_keeps-rising state moment event =
-    by_ports IsNumbered event (at_moment moment state) (λ door. admitted-rising (has_room door state.ports state.under_way) state.last_port door state.ports)
-    (λ new follows rising. rw follows.last (leads-rising 0 state.last_port state.ports follows.ports rising))
+    by_ports IsNumbered event moment state (λ s door. admitted-rising (has_room door s.ports s.under_way) s.last_port door s.ports)
+    (λ old new follows rising. rw follows.last (leads-rising 0 old.last_port old.ports follows.ports rising))
 
 count-append : (number : ℕ) (door : Door) (ports : List Port) → client_count (ports ++ new_port number door ∷ []) ≤ suc (client_count ports)
 count-append number door [] = grind (arith, nat_tests)
@@ -182,9 +191,9 @@ admitted-few Children true last ports under_way is few = rw (count-append_child 
 -- every event keeps the clients few
 pub step_keeps-few : (state : State) (moment : Moment) (event : Happening) → client_count state.ports ≤ 128 → client_count (step state moment event).state.ports ≤ 128
 step_keeps-few state moment event =
-    by_ports (λ s. client_count s.ports ≤ 128) event (at_moment moment state)
-    (λ door. admitted-few door (has_room door state.ports state.under_way) state.last_port state.ports state.under_way refl)
-    (λ new follows few. omega (arith, leads-few state.ports follows.ports, few))
+    by_ports (λ s. client_count s.ports ≤ 128) event moment state
+    (λ s door. admitted-few door (has_room door s.ports s.under_way) s.last_port s.ports s.under_way refl)
+    (λ old new follows few. omega (arith, leads-few old.ports follows.ports, few))
 
 -- every event leaves a sound state
 pub step_keeps-sound : (state : State) (moment : Moment) (event : Happening) → IsSound state → IsSound (step state moment event).state
@@ -202,11 +211,17 @@ find_port-admitted true number other door ports below absent = find_port-joined 
 find_port-admitted false number other door ports below absent = absent
 
 -- a number that was given out and isn't open stays unused
-pub step-unused : (state : State) (moment : Moment) (event : Happening) (number : ℕ) → number ≤ state.last_port → find_port number state.ports ≡ None → find_port number (step state moment event).state.ports ≡ None
-step-unused state moment event number below =
-    by_ports (λ s. find_port number s.ports ≡ None) event (at_moment moment state)
+pub handle-unused : (state : State) (event : Happening) (number : ℕ) → number ≤ state.last_port → find_port number state.ports ≡ None → find_port number (handle event state).state.ports ≡ None
+handle-unused state event number below =
+    handle_ports (λ s. find_port number s.ports ≡ None) event state
     (λ door. find_port-admitted (has_room door state.ports state.under_way) number (suc state.last_port) door state.ports (omega arith))
     (λ new follows. leads-absent number state.ports follows.ports)
+
+-- and behind a moment
+pub step-unused : (state : State) (moment : Moment) (event : Happening) (number : ℕ) → number ≤ state.last_port → find_port number state.ports ≡ None → find_port number (step state moment event).state.ports ≡ None
+step-unused state moment event number below absent =
+    let follows = at_moment-follows moment state in
+    handle-unused (at_moment moment state) event number (omega (arith, below, follows.last)) (leads-absent number state.ports follows.ports absent)
 
 -- ---- runs
 
@@ -216,8 +231,8 @@ run_keeps-sound state [] sound = sound
 run_keeps-sound state (timed ∷ later) sound =
     run_keeps-sound (step state timed.moment timed.event).state later (step_keeps-sound state timed.moment timed.event sound)
 
-pub first_is_sound : (life : Option ℕ) → IsSound (first_state life)
-first_is_sound life = record { rising = omega arith; few = omega arith }
+pub first_is_sound : (settings : Settings) → IsSound (first_state settings)
+first_is_sound settings = record { rising = omega arith; few = omega arith }
 
 -- the last number fits 64 bits
 pub run-fits : (state : State) (events : List Timed) → AllFit state events → state.last_port < 2 ^ 64 → (run state events).last_port < 2 ^ 64

@@ -6,6 +6,7 @@ use Rattle.std.proofs.lemmas.Bool.Decides.{nat_tests}
 use Rattle.helper_link.specs.Settling as helper
 use Rattle.world_ports.specs.declared.Door.{Door}
 use Rattle.world_ports.specs.declared.Door.TheVariants.{Clients}
+use Rattle.helper_link.specs.Answered.{IsUnanswered}
 use Rattle.helper_link.specs.HelperLink.{ask_of}
 use Rattle.helper_link.specs.Settling.{find_ask, remove_ask}
 use Rattle.helper_link.specs.Sound.{RiseTo}
@@ -80,7 +81,7 @@ module _ (ports : List Port) (asks : List Ask) (tied : AreTied ports asks) where
       ap (λ (o : Ask). o.asker) equal
 
   -- the asker is told what came of its ask
-  pub tied-told : (ask asker : ℕ) (kind : AskKind) (f : Port → Port) (low last : ℕ) → RiseTo low asks last → find_ask ask asks ≡ Some (ask_of ask asker kind) → ((p : Port) → (f p).number ≡ p.number) → ((p : Port) (a : ℕ) → (f p).waits ≢ OnAsk a) → AreTied (change_port asker f ports) (remove_ask ask asks)
+  pub tied-told : (ask asker : ℕ) (kind : AskKind) (f : Port → Port) (low last : ℕ) → RiseTo low asks last → IsUnanswered ask asker kind asks → ((p : Port) → (f p).number ≡ p.number) → ((p : Port) (a : ℕ) → (f p).waits ≢ OnAsk a) → AreTied (change_port asker f ports) (remove_ask ask asks)
   tied-told ask asker kind f low last rise there keeps silent = record {
     waits = λ number a port found is. by_port number a port (found_after number asker f ports port keeps found) is;
     asks = λ a one port left found. by_ask a one port left (found_after one.asker asker f ports port keeps found);
@@ -90,9 +91,10 @@ module _ (ports : List Port) (asks : List Ask) (tied : AreTied ports asks) where
       by_port number a port (here old same was is) waits = absurd (silent old a (ap (λ (p : Port). p.waits) (sym is) ∙ waits))
       by_port number a port (apart other was) waits =
           let waiting = tied.waits number a port was waits in
-          let differs : ask ≢ a = λ same. other (sym (one_asker ask a (ask_of ask asker kind) (ask_of a number waiting.kind) same there waiting.unanswered)) in
+          let differs : ask ≢ a = λ same. other (sym (one_asker ask a (ask_of ask asker kind there.put_at) (ask_of a number waiting.kind waiting.put_at) same there.found waiting.unanswered)) in
           record {
             kind = waiting.kind;
+            put_at = waiting.put_at;
             unanswered = find-remove a ask low asks last rise ∙ ap (λ b. cond b None (find_ask a asks)) (differ ask a differs) ∙ waiting.unanswered;
             owed = waiting.owed;
             door = waiting.door;
@@ -108,7 +110,7 @@ module _ (ports : List Port) (asks : List Ask) (tied : AreTied ports asks) where
       ]
         where
           by_other : ask ≢ a → find_ask a asks ≡ Some one → IsOf one.asker asker f ports port → port.waits ≡ OnAsk a
-          by_other differs was (here old same found is) = absurd (differs (sym (one_ask a ask one (ask_of ask asker kind) old was there same found)))
+          by_other differs was (here old same found is) = absurd (differs (sym (one_ask a ask one (ask_of ask asker kind there.put_at) old was there.found same found)))
           by_other differs was (apart other found) = tied.asks a one port was found
 
   -- a client that doesn't wait for an ask is told something, and waits for none
@@ -128,14 +130,14 @@ module _ (ports : List Port) (asks : List Ask) (tied : AreTied ports asks) where
       by_ask a one p was (apart other found) = tied.asks a one p was found
 
   -- a client that doesn't wait for an ask and is owed nothing puts one
-  pub tied-asked : (number low last : ℕ) (kind : AskKind) (port : Port) (f : Port → Port) → RiseTo low asks last → find_port number ports ≡ Some port → ((a : ℕ) → port.waits ≢ OnAsk a) → port.owed ≡ [] → port.door ≡ Clients → ((p : Port) → (f p).number ≡ p.number) → ((p : Port) → (f p).door ≡ p.door) → ((p : Port) → (f p).waits ≡ OnAsk (last + 1)) → ((p : Port) → p.owed ≡ [] → (f p).owed ≡ []) → AreTied (change_port number f ports) (asks ++ ask_of (last + 1) number kind ∷ [])
-  tied-asked number low last kind port f rise there nothing owed door keeps doors waits owes = record {
+  pub tied-asked : (number low last : ℕ) (kind : AskKind) (now : ℕ) (port : Port) (f : Port → Port) → RiseTo low asks last → find_port number ports ≡ Some port → ((a : ℕ) → port.waits ≢ OnAsk a) → port.owed ≡ [] → port.door ≡ Clients → ((p : Port) → (f p).number ≡ p.number) → ((p : Port) → (f p).door ≡ p.door) → ((p : Port) → (f p).waits ≡ OnAsk (last + 1)) → ((p : Port) → p.owed ≡ [] → (f p).owed ≡ []) → AreTied (change_port number f ports) (asks ++ ask_of (last + 1) number kind now ∷ [])
+  tied-asked number low last kind now port f rise there nothing owed door keeps doors waits owes = record {
     waits = λ n a p found is. by_port n a p (found_after n number f ports p keeps found) is;
     asks = λ a one p found at. by_ask a one p (sym (pushed a) ∙ found) (found_after one.asker number f ports p keeps at);
   }
     where
       new : Ask
-      new = ask_of (last + 1) number kind
+      new = ask_of (last + 1) number kind now
 
       pushed : (a : ℕ) → find_ask a (asks ++ new ∷ []) ≡ cond (last + 1 == a) (Some new) (find_ask a asks)
       pushed a = find-push a low new asks last rise (omega arith)
@@ -151,7 +153,8 @@ module _ (ports : List Port) (asks : List Ask) (tied : AreTied ports asks) where
           let old_is : old ≡ port = is_port n old same was in
           record {
             kind = kind;
-            unanswered = pushed a ∙ ap (λ b. cond b (Some new) (find_ask a asks)) test ∙ ap (λ m. Some (ask_of m number kind)) equal ∙ ap (λ m. Some (ask_of a m kind)) (sym same);
+            put_at = now;
+            unanswered = pushed a ∙ ap (λ b. cond b (Some new) (find_ask a asks)) test ∙ ap (λ m. Some (ask_of m number kind now)) equal ∙ ap (λ m. Some (ask_of a m kind now)) (sym same);
             owed = ap (λ (q : Port). q.owed) is ∙ owes old (ap (λ (q : Port). q.owed) old_is ∙ owed);
             door = ap (λ (q : Port). q.door) is ∙ doors old ∙ ap (λ (q : Port). q.door) old_is ∙ door;
           }
@@ -160,6 +163,7 @@ module _ (ports : List Port) (asks : List Ask) (tied : AreTied ports asks) where
           let within = ask_within a low last asks _ rise w.unanswered in
           record {
             kind = w.kind;
+            put_at = w.put_at;
             unanswered = pushed a ∙ ap (λ b. cond b (Some new) (find_ask a asks)) (differ (last + 1) a (λ same. omega (arith, same, within.1))) ∙ w.unanswered;
             owed = w.owed;
             door = w.door;

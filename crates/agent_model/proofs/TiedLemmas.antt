@@ -12,7 +12,7 @@ use Rattle.agent_model.specs.Events.{Happening}
 use Rattle.agent_model.specs.Sound.{AreTied, IsTied}
 use Rattle.agent_model.specs.State.{Port, State, change_port, find_port}
 use Rattle.agent_model.proofs.LeadLemmas.{Follows, follows-quiet, same}
-use Rattle.agent_model.proofs.MakeLemmas.{Quiet, alters, closes, goes_on, links, mild-unheard, names}
+use Rattle.agent_model.proofs.MakeLemmas.{Quiet, alters, closes, goes_on, links, mild-unheard, mild_of, names}
 use Rattle.agent_model.proofs.PortsLemmas.{found_within}
 use Rattle.agent_model.proofs.RaisedLemmas.{Fewer, fewer-changed, fewer-removed, raised-fewer, raised-kept, raised-linked}
 use Rattle.agent_model.proofs.RunLemmas.{leads-found, leads-rising}
@@ -38,7 +38,7 @@ tied-fewer old new asks fewer tied = record {
   waits = λ number ask port found is.
       let was = fewer number port found in
       let waiting = tied.waits number ask was.0 was.1 (sym was.2 ∙ is) in
-      record { kind = waiting.kind; unanswered = waiting.unanswered; owed = was.3 waiting.owed; door = was.4 ∙ waiting.door };
+      record { kind = waiting.kind; put_at = waiting.put_at; unanswered = waiting.unanswered; owed = was.3 waiting.owed; door = was.4 ∙ waiting.door };
   asks = λ ask one port there found.
       let was = fewer one.asker port found in
       was.2 ∙ tied.asks ask one was.0 there was.1;
@@ -49,7 +49,7 @@ linked_number a b is = cc
 
 pub tied-quiet : {event : Happening} {old new : State} → Quiet event old new → IsTied old → IsTied new
 tied-quiet {event = event} {old = old} (alters number f mild) tied =
-    assemble old _ (follows-quiet event old (alters number f mild) record { last = refl; ports = same }) tied tied.order (tied-fewer old.ports _ _ (fewer-changed number f old.ports mild) tied.tied) tied.askers (λ n is. is) (raised-fewer old.ports _ (fewer-changed number f old.ports mild) tied.raised)
+    assemble old _ (follows-quiet event old (alters number f mild) record { last = refl; ports = same }) tied tied.order (tied-fewer old.ports _ _ (fewer-changed number f old.ports (mild_of mild)) tied.tied) tied.askers (λ n is. is) (raised-fewer old.ports _ (fewer-changed number f old.ports (mild_of mild)) tied.raised)
 tied-quiet {event = event} {old = old} (closes number may) tied =
     assemble old _ (follows-quiet event old (closes number may) record { last = refl; ports = same }) tied tied.order (tied-fewer old.ports _ _ (fewer-removed number 0 old.last_port old.ports tied.rising) tied.tied) tied.askers (λ n is. is) (raised-fewer old.ports _ (fewer-removed number 0 old.last_port old.ports tied.rising) tied.raised)
 tied-quiet {event = event} {old = old} (goes_on new asks) tied =

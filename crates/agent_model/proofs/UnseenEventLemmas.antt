@@ -1,5 +1,5 @@
 -- A key that the asker doesn't see makes no difference to what comes of what it sends.
-use Rattle.std.proofs.Common.{◌≡◌, ◌≢◌, ℕ, List, [], ◌∷◌, ◌++◌, refl, ap, sym, subst, ◌∙◌, Option, Some, None, Bool, true, false, cond, Result, Ok, Err}
+use Rattle.std.proofs.Common.{◌≡◌, ◌≢◌, ℕ, List, [], ◌∷◌, ◌++◌, refl, ap, sym, subst, ◌∙◌, max, Option, Some, None, Bool, true, false, cond, Result, Ok, Err}
 use Rattle.std.specs.Str.{bytes_eq}
 use Rattle.std.proofs.lemmas.List.Elements.{filter-append}
 use Rattle.std.specs.Option.{option_map}
@@ -13,19 +13,25 @@ use Rattle.identity_table.specs.Deaths.{lives_at}
 use Rattle.agent_msg.specs.declared.fault.MsgFault.{MsgFault}
 use Rattle.agent_msg.specs.Requests.{Add, Addition, ClientRequest}
 use Rattle.dest_rule.specs.Rules.{visible}
-use Rattle.agent_model.specs.Actions.{Work}
+use Rattle.confirm_desk.specs.Confirmations.{Confirmation}
+use Rattle.agent_model.specs.Actions.{Work, and_then}
+use Rattle.agent_model.specs.Answers.{lose, lose_where}
 use Rattle.agent_model.specs.Binds.{agent_request_of}
 use Rattle.agent_model.specs.Children.{changed, heard_more}
+use Rattle.agent_model.specs.Consents.{over, over_if}
 use Rattle.agent_model.specs.Dispatch.{Asker, sees, serve, with_identities}
-use Rattle.agent_model.specs.Events.{Heard, Took}
-use Rattle.agent_model.specs.KeyStates.{KeyState}
+use Rattle.agent_model.specs.Events.{Happening, Heard, Took}
+use Rattle.agent_model.specs.KeyStates.{KeyState, expired}
 use Rattle.agent_model.specs.Looks.{due}
 use Rattle.agent_model.specs.State.{Port, State, UnderWay, change_port, find_port, number_of}
-use Rattle.agent_model.specs.Step.{asker_at, at_moment, attempts, handle, look_front, looked, step, take_frame, took_some}
+use Rattle.agent_model.specs.Step.{asker_at, attempts, handle, look_front, looked, step, take_frame, took_some}
+use Rattle.agent_model.specs.Time.{all_over, at_moment, end_late, first_late, is_helper_late, taken_in}
 use Rattle.agent_model.specs.Unseen.{IsSameFor, IsSameReply, holding}
 use Rattle.agent_model.specs.Verdicts.{Verdict, tell, verdict_text, verdict_waits}
 use Rattle.agent_model.proofs.ClientLemmas.{handle-heard, handle-took, looked-found}
 use Rattle.agent_model.proofs.PortsLemmas.{change_port-by, find_port-change_port}
+use Rattle.agent_model.proofs.OnTimeLemmas.{at_moment-moment}
+use Rattle.agent_model.proofs.TimeLemmas.{time_passes-put}
 use Rattle.agent_model.proofs.UnseenLemmas.{same_work, unseen-reply}
 
 -- ---- a client is looked at
@@ -118,43 +124,93 @@ module _ (asker : Asker) (key : HeldKey) (held : KeyState) (under_way : UnderWay
   served_alike body (stays before after alone) other = served_read (agent_request_of body) before after alone other
   served_alike body (left keys) other = same_work _
 
--- a client is looked at once its port is changed so, and no addition is taken of it
-module _ (f : Port → Port) (numbers : (p : Port) → (f p).number ≡ p.number) (state : State) (moment : Moment) (number : ℕ) (port : Port) (key : HeldKey) (before after : List HeldKey) (found : find_port number state.ports ≡ Some port) (alone : find_identity key.blob (before ++ after) ≡ None) where
+-- ---- what a moment brings
+
+-- the agent holds this
+abbrev keeping : KeyState → State → State
+keeping held state = record state { held = held }
+
+-- ends don't look at what is held
+all_over-keeping : (all : List Confirmation) (held : KeyState) (state : State) → (all_over all (keeping held state)).state ≡ keeping held (all_over all state).state
+all_over-keeping [] held state = refl
+all_over-keeping (one ∷ others) held state = by_found (first_late state.under_way) (all_over-keeping others held)
+  where
+    by_found : (found : Option Confirmation) → ((s : State) → (all_over others (keeping held s)).state ≡ keeping held (all_over others s).state) → (and_then (over_if found (keeping held state)) (all_over others)).state ≡ keeping held (and_then (over_if found state) (all_over others)).state
+    by_found None rest = rest state
+    by_found (Some late) rest = rest (over late state).state
+
+-- the monotonic second of a moment
+abbrev now_at : Moment → State → ℕ
+now_at moment state = max state.moment.mono moment.mono
+
+-- nor does a moment, but for what leaves of it
+at_moment-keeping : (moment : Moment) (held : KeyState) (state : State) → at_moment moment (keeping held state) ≡ keeping (expired (now_at moment state) held) (at_moment moment state)
+at_moment-keeping moment held state = by_late (is_helper_late (taken_in moment state).under_way)
+  where
+    left : KeyState
+    left = expired (now_at moment state) held
+
+    by_late : (is : Bool) → (and_then (lose_where is (keeping left (taken_in moment state))) end_late).state ≡ keeping left (and_then (lose_where is (taken_in moment state)) end_late).state
+    by_late true =
+        all_over-keeping (lose (taken_in moment state)).state.under_way.confirmations left (lose (taken_in moment state)).state
+    by_late false = all_over-keeping (taken_in moment state).under_way.confirmations left (taken_in moment state)
+
+-- ---- a client is looked at once its port is changed so, and no addition is taken of it
+
+module _ (state : State) (moment : Moment) (number : ℕ) (port : Port) (key : HeldKey) (before after : List HeldKey) (found : find_port number (at_moment moment state).ports ≡ Some port) (alone : find_identity key.blob (before ++ after) ≡ None) where
+  -- behind the moment, without what left
   abbrev opened : State
-  opened = at_moment moment state
+  opened = keeping (expired (now_at moment state) state.held) (at_moment moment state)
 
-  abbrev more : State
-  more = changed number f opened
-
-  looks_alike : sees (asker_at opened.moment (f port)) key ≡ false → ((body_len : ℕ) (addition : Addition) → due (f port) ≡ Whole body_len → agent_request_of (front_body body_len (f port).heard) ≢ Ok (Add addition)) → IsSameFor (looked number (holding (alive_at opened.moment.mono (before ++ key ∷ after)) more)) (looked number (holding (alive_at opened.moment.mono (before ++ after)) more))
-  looks_alike unseen other =
-      let there : find_port number more.ports ≡ Some (f port) = find_port-change_port number f state.ports numbers ∙ ap (option_map f) found in
-      same_looked number (f port) more _ _ refl there
-      (λ body_len is. served_alike (asker_at more.moment (f port)) key more.held more.under_way unseen (front_body body_len (f port).heard) (stays-by opened.moment.mono key before after alone) (λ addition. other body_len addition is))
-
-module _ (state : State) (moment : Moment) (number : ℕ) (port : Port) (key : HeldKey) (before after : List HeldKey) (found : find_port number state.ports ≡ Some port) (door : port.door ≡ Clients) (alone : find_identity key.blob (before ++ after) ≡ None) (unseen : visible key.rules port.chain port.attempted moment.wall ≡ false) where
+  -- with the key, and without it
   abbrev opened_more : State
-  opened_more = at_moment moment (holding (before ++ key ∷ after) state)
+  opened_more = holding (alive_at (now_at moment state) (before ++ key ∷ after)) opened
 
   abbrev opened_less : State
-  opened_less = at_moment moment (holding (before ++ after) state)
+  opened_less = holding (alive_at (now_at moment state) (before ++ after)) opened
 
-  -- it sent more
-  pub unseen-heard : (piece : List ℕ) → ((body_len : ℕ) (addition : Addition) → due (heard_more piece port) ≡ Whole body_len → agent_request_of (front_body body_len (port.heard ++ piece)) ≢ Ok (Add addition)) → IsSameFor (step (holding (before ++ key ∷ after) state) moment (Heard number piece)) (step (holding (before ++ after) state) moment (Heard number piece))
-  unseen-heard piece other = record { ports = same.ports; under_way = same.under_way; put = same.put }
-    where
-      same : IsSameFor (handle (Heard number piece) opened_more) (handle (Heard number piece) opened_less)
-      same =
-          subst (λ o. IsSameFor o (handle (Heard number piece) opened_less)) (sym (handle-heard number piece port opened_more found door))
-          (subst (IsSameFor (looked number (changed number (heard_more piece) opened_more))) (sym (handle-heard number piece port opened_less found door))
-          (looks_alike (heard_more piece) (λ p. refl) state moment number port key before after found alone unseen other))
+  more_is : at_moment moment (holding (before ++ key ∷ after) state) ≡ opened_more
+  more_is = at_moment-keeping moment (with_identities (before ++ key ∷ after) state.held) state
 
-  -- it took bytes
-  pub unseen-took : (count : ℕ) → ((body_len : ℕ) (addition : Addition) → due (took_some count port) ≡ Whole body_len → agent_request_of (front_body body_len port.heard) ≢ Ok (Add addition)) → IsSameFor (step (holding (before ++ key ∷ after) state) moment (Took number count)) (step (holding (before ++ after) state) moment (Took number count))
-  unseen-took count other = record { ports = same.ports; under_way = same.under_way; put = same.put }
-    where
-      same : IsSameFor (handle (Took number count) opened_more) (handle (Took number count) opened_less)
-      same =
-          subst (λ o. IsSameFor o (handle (Took number count) opened_less)) (sym (handle-took number count port opened_more found door))
-          (subst (IsSameFor (looked number (changed number (took_some count) opened_more))) (sym (handle-took number count port opened_less found door))
-          (looks_alike (took_some count) (λ p. refl) state moment number port key before after found alone unseen other))
+  less_is : at_moment moment (holding (before ++ after) state) ≡ opened_less
+  less_is = at_moment-keeping moment (with_identities (before ++ after) state.held) state
+
+  -- what comes of an event is what it brings behind the moment
+  stepped : (event : Happening) → IsSameFor (handle event opened_more) (handle event opened_less) → IsSameFor (step (holding (before ++ key ∷ after) state) moment event) (step (holding (before ++ after) state) moment event)
+  stepped event same =
+      let one : State = holding (before ++ key ∷ after) state in
+      let two : State = holding (before ++ after) state in
+      record {
+        ports = ap (λ (s : State). (handle event s).state.ports) more_is ∙ same.ports ∙ ap (λ (s : State). (handle event s).state.ports) (sym less_is);
+        under_way = ap (λ (s : State). (handle event s).state.under_way) more_is ∙ same.under_way ∙ ap (λ (s : State). (handle event s).state.under_way) (sym less_is);
+        put = ap (λ bodies. bodies ++ (handle event (at_moment moment one)).put) (time_passes-put moment one)
+            ∙ ap (λ (s : State). (handle event s).put) more_is ∙ same.put ∙ ap (λ (s : State). (handle event s).put) (sym less_is)
+            ∙ ap (λ bodies. bodies ++ (handle event (at_moment moment two)).put) (sym (time_passes-put moment two));
+      }
+
+  looks_alike : (f : Port → Port) → ((p : Port) → (f p).number ≡ p.number) → sees (asker_at opened.moment (f port)) key ≡ false → ((body_len : ℕ) (addition : Addition) → due (f port) ≡ Whole body_len → agent_request_of (front_body body_len (f port).heard) ≢ Ok (Add addition)) → IsSameFor (looked number (changed number f opened_more)) (looked number (changed number f opened_less))
+  looks_alike f numbers unseen other =
+      let more : State = changed number f opened in
+      let there : find_port number more.ports ≡ Some (f port) = find_port-change_port number f opened.ports numbers ∙ ap (option_map f) found in
+      same_looked number (f port) more _ _ refl there
+      (λ body_len is. served_alike (asker_at more.moment (f port)) key more.held more.under_way unseen (front_body body_len (f port).heard) (stays-by (now_at moment state) key before after alone) (λ addition. other body_len addition is))
+
+  module _ (door : port.door ≡ Clients) (unseen : visible key.rules port.chain port.attempted moment.wall ≡ false) where
+    unseen_now : visible key.rules port.chain port.attempted opened.moment.wall ≡ false
+    unseen_now = ap (λ (m : Moment). visible key.rules port.chain port.attempted m.wall) (at_moment-moment moment state) ∙ unseen
+
+    -- it sent more
+    pub unseen-heard : (piece : List ℕ) → ((body_len : ℕ) (addition : Addition) → due (heard_more piece port) ≡ Whole body_len → agent_request_of (front_body body_len (port.heard ++ piece)) ≢ Ok (Add addition)) → IsSameFor (step (holding (before ++ key ∷ after) state) moment (Heard number piece)) (step (holding (before ++ after) state) moment (Heard number piece))
+    unseen-heard piece other =
+        stepped (Heard number piece)
+        (subst (λ o. IsSameFor o (handle (Heard number piece) opened_less)) (sym (handle-heard number piece port opened_more found door))
+        (subst (IsSameFor (looked number (changed number (heard_more piece) opened_more))) (sym (handle-heard number piece port opened_less found door))
+        (looks_alike (heard_more piece) (λ p. refl) unseen_now other)))
+
+    -- it took bytes
+    pub unseen-took : (count : ℕ) → ((body_len : ℕ) (addition : Addition) → due (took_some count port) ≡ Whole body_len → agent_request_of (front_body body_len port.heard) ≢ Ok (Add addition)) → IsSameFor (step (holding (before ++ key ∷ after) state) moment (Took number count)) (step (holding (before ++ after) state) moment (Took number count))
+    unseen-took count other =
+        stepped (Took number count)
+        (subst (λ o. IsSameFor o (handle (Took number count) opened_less)) (sym (handle-took number count port opened_more found door))
+        (subst (IsSameFor (looked number (changed number (took_some count) opened_more))) (sym (handle-took number count port opened_less found door))
+        (looks_alike (took_some count) (λ p. refl) unseen_now other)))

@@ -12,7 +12,7 @@ use Rattle.agent_model.specs.Fates.{IsTold}
 use Rattle.agent_model.specs.State.{Nothing, Port, State, Waits, change_port, find_port, remove_port}
 use Rattle.agent_model.specs.Verdicts.{Awaits, Verdict, tell}
 use Rattle.agent_model.proofs.FateLemmas.{told-apart, told-here}
-use Rattle.agent_model.proofs.MakeLemmas.{IsMild, MayClose, Quiet, alters, child, closes, ended, goes_on, idle, links, mild-unheard, names}
+use Rattle.agent_model.proofs.MakeLemmas.{IsMild, MayClose, Quiet, alters, child, closes, ended, goes_on, idle, links, mild-unheard, mild_of, names}
 use Rattle.agent_model.proofs.PortsLemmas.{find_port-removed_apart}
 
 -- ---- another port is closed
@@ -90,12 +90,12 @@ module _ (number : ℕ) (on : Waits) (some : on ≢ Nothing) where
   -- its port stays unless it ended
   pub waits-quiet : {event : Happening} {old new : State} → Quiet event old new →
       event ≢ Ended number → IsPending old.ports → IsPending new.ports
-  waits-quiet {old = old} (alters at f mild) open_yet told = waits-mild at f old.ports mild told
+  waits-quiet {old = old} (alters at f mild) open_yet told = waits-mild at f old.ports (mild_of mild) told
   waits-quiet {event = event} {old = old} (closes at may) open_yet told =
       told-removed number (Awaits on) at old.ports (other may) told
     where
       other : MayClose event at old.ports old.under_way.confirmations → number ≢ at
-      other (idle port found nothing client) equal =
+      other (idle port found nothing none client) equal =
           apart_from at old.ports port told found nothing equal
       other (child port found door free) equal =
           let doors : Clients ≡ Children =

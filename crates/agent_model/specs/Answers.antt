@@ -11,7 +11,8 @@ use Rattle.helper_link.specs.declared.state.LinkState.{LinkState}
 use Rattle.helper_link.specs.declared.state.LinkState.TheVariants as states
 use Rattle.dest_rule.specs.Chains.{bound}
 use Rattle.dest_rule.specs.declared.binding.Binding.{Binding}
-use Rattle.agent_model.specs.State.{Port, State, Verification, change_port, find_port, remove_port}
+use Rattle.agent_model.specs.Consents.{remove_started}
+use Rattle.agent_model.specs.State.{Port, StartedJob, State, Verification, change_port, find_port, remove_port}
 use Rattle.agent_model.specs.Verdicts.{HelperLost, HelperRefused, Refuses, Replies, Signature, SignatureWrong, Success, Verdict, tell}
 use Rattle.agent_model.specs.Actions.{Action, Answered, Lost, Outcome, Proved, acted, and_then, closing, stay}
 
@@ -126,18 +127,34 @@ helper_closes states.None ports = []
 helper_closes (states.Starting job) ports = []
 helper_closes (states.Linked port) ports = closing port ports []
 
--- the helper is lost: its port is closed, and each client that waits for an answer of it is told
+-- the started jobs without the one by which the helper was being started
+abbrev pub forget_helper : LinkState → List StartedJob → List StartedJob
+forget_helper states.None started = started
+forget_helper (states.Starting job) started = remove_started job started
+forget_helper (states.Linked port) started = started
+
+-- the helper is lost: its port is closed, each client that waits for an answer of it is told, and no
+-- child process can name the job by which it was being started
 abbrev pub lose : State → Outcome
 lose state = record {
   state = record state {
     ports = tell_each (Refuses HelperLost) (askers state.under_way.link.asks)
         (close_helper state.under_way.link.state state.ports);
-    under_way = record state.under_way { link = lost state.under_way.link; verifications = [] };
+    under_way = record state.under_way {
+      link = lost state.under_way.link;
+      started = forget_helper state.under_way.link.state state.under_way.started;
+      verifications = [];
+    };
   };
   actions = Lost ∷ [];
   put = [];
   closes = helper_closes state.under_way.link.state state.ports;
 }
+
+-- the helper is lost, if so
+abbrev pub lose_where : Bool → State → Outcome
+lose_where false state = stay state
+lose_where true state = lose state
 
 -- the helper is lost where its stream has a fault
 abbrev pub lose_if : Option LinkFault → State → Outcome

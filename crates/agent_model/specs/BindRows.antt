@@ -1,7 +1,7 @@
 -- Literal rows of bindings and destination constraints: what clients and the helper send and get,
 -- byte by byte (OpenSSH's PROTOCOL.agent, "session-bind@openssh.com extension" and
 -- "restrict-destination-v00@openssh.com key constraint extension"; RFC 4252, section 7).
-use Rattle.std.specs.Prelude.{ℕ, zero, suc, List, [], ◌∷◌, ◌++◌, replicate, codes, None, Bool}
+use Rattle.std.specs.Prelude.{ℕ, zero, suc, List, [], ◌∷◌, ◌++◌, replicate, codes, Bool}
 use Rattle.world_ports.specs.declared.Door.TheVariants.{Clients, Children}
 use Rattle.wire_text.specs.Wire.{string}
 use Rattle.dest_rule.specs.declared.binding.Binding.{Binding}
@@ -9,7 +9,7 @@ use Rattle.dest_rule.specs.Samples.{certificate_for}
 use Rattle.agent_model.specs.ChildRows.{hello, number, then, ticket}
 use Rattle.agent_model.specs.Events.{Happening, Heard, Joined, Started, Took}
 use Rattle.agent_model.specs.Rows.{blob, key}
-use Rattle.agent_model.specs.State.{State, first_state}
+use Rattle.agent_model.specs.State.{State, first_state, no_settings}
 use Rattle.agent_model.specs.Step.{step}
 
 -- ---- bindings
@@ -71,7 +71,7 @@ binding tag of forwarding =
 -- the client of port 1 asks to bind its connection to the host 161, where the helper is at port 2;
 -- it goes on so
 abbrev pub binding_to : ℕ → List Happening → State
-binding_to forwarding events = then (first_state None) (Joined Clients
+binding_to forwarding events = then (first_state no_settings) (Joined Clients
     ∷ Heard 1 (bind 161 193 forwarding) ∷ Started 1 (ticket 9)
     ∷ Joined Children ∷ Heard 2 (hello 1 9) ∷ Took 2 111 ∷ events)
 
@@ -105,7 +105,7 @@ add_only_to tag = 0 ∷ 0 ∷ 0 ∷ 254 ∷ 25 ∷ (key tag (codes "one") ++ 255
 -- the client of port 1 adds that key, and goes on so
 abbrev pub restricted : List Happening → State
 restricted events =
-    then (first_state None) (Joined Clients ∷ Heard 1 (add_only_to 17) ∷ Took 1 5 ∷ events)
+    then (first_state no_settings) (Joined Clients ∷ Heard 1 (add_only_to 17) ∷ Took 1 5 ∷ events)
 
 -- the key 17 is held so, the client of port 1 is bound to the host 161, and the helper is at port 2
 abbrev pub restricted_at : ℕ → List Happening → State
@@ -160,7 +160,7 @@ sign_certified =
     ++ 0 ∷ 0 ∷ 0 ∷ 0 ∷ [])
 
 abbrev pub certified : State
-certified = then (first_state None) (Joined Clients ∷ Heard 1 add_certified ∷ Took 1 5
+certified = then (first_state no_settings) (Joined Clients ∷ Heard 1 add_certified ∷ Took 1 5
     ∷ Heard 1 bind_certified
     ∷ Started 1 (ticket 9) ∷ Joined Children ∷ Heard 2 (hello 1 9) ∷ Heard 2 (right 1) ∷ Took 1 5
     ∷ [])

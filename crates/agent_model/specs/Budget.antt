@@ -20,6 +20,8 @@ abbrev pub ports_budget : UnderWay → List Port → ℕ
 ports_budget under_way [] = 0
 ports_budget under_way (port ∷ ports) = port_budget under_way port + ports_budget under_way ports
 
--- the sum of the budgets of a state's open ports
+-- the sum of the budgets of a state's open ports, and one for each ask and each confirmation, whose
+-- client is told as it ends
 abbrev pub budget : State → ℕ
 budget state = ports_budget state.under_way state.ports
+    + (length state.under_way.link.asks + length state.under_way.confirmations)

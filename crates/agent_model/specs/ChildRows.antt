@@ -1,11 +1,11 @@
 -- Literal rows of child processes: what the helper is sent and answers, byte by byte (ours).
-use Rattle.std.specs.Prelude.{ℕ, zero, suc, List, [], ◌∷◌, ◌++◌, replicate, None}
+use Rattle.std.specs.Prelude.{ℕ, zero, suc, List, [], ◌∷◌, ◌++◌, replicate}
 use Rattle.world_ports.specs.declared.Door.TheVariants.{Clients, Children}
 use Rattle.world_ports.specs.declared.Job.{Job}
 use Rattle.world_ports.specs.declared.JobKind.TheVariants as kinds
 use Rattle.agent_model.specs.Events.{Happening, Heard, Joined, Started, Took}
 use Rattle.agent_model.specs.Rows.{add, add_for_two, add_once, blob, sign, with_event}
-use Rattle.agent_model.specs.State.{State, first_state}
+use Rattle.agent_model.specs.State.{State, first_state, no_settings}
 
 -- ---- events
 
@@ -16,20 +16,21 @@ then state (event ∷ later) = then (with_event event state) later
 
 -- from the first state on, in which the client of port 1 then adds the key of tag 17
 abbrev pub holding : List Happening → State
-holding events = then (first_state None) (Joined Clients ∷ Heard 1 (add 17) ∷ Took 1 5 ∷ events)
+holding events =
+    then (first_state no_settings) (Joined Clients ∷ Heard 1 (add 17) ∷ Took 1 5 ∷ events)
 
 -- the same where the key has one use, and where it has two
 abbrev pub holding_once : List Happening → State
 holding_once events =
-    then (first_state None) (Joined Clients ∷ Heard 1 (add_once 17) ∷ Took 1 5 ∷ events)
+    then (first_state no_settings) (Joined Clients ∷ Heard 1 (add_once 17) ∷ Took 1 5 ∷ events)
 
 abbrev pub holding_for_two : List Happening → State
 holding_for_two events =
-    then (first_state None) (Joined Clients ∷ Heard 1 (add_for_two 17) ∷ Took 1 5 ∷ events)
+    then (first_state no_settings) (Joined Clients ∷ Heard 1 (add_for_two 17) ∷ Took 1 5 ∷ events)
 
 -- so many child processes come, and none names itself
 abbrev pub children : ℕ → State
-children zero = first_state None
+children zero = first_state no_settings
 children (suc count) = with_event (Joined Children) (children count)
 
 -- the job that starts a helper

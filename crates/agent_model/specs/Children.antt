@@ -1,5 +1,5 @@
 -- Child processes, from the start of their job until they named themselves by its ticket (ours).
-use Rattle.std.specs.Prelude.{ℕ, List, [], ◌∷◌, ◌++◌, Option, Some, None, Bool, true, false, Result, Ok, Err}
+use Rattle.std.specs.Prelude.{ℕ, List, [], ◌∷◌, ◌++◌, Option, Some, None, Bool, true, false, ◌==◌, is_some, Result, Ok, Err}
 use Rattle.std.specs.Str.{bytes_eq}
 use Rattle.lists.specs.Keyed.{remove_by}
 use Rattle.world_ports.specs.declared.Job.{Job}
@@ -10,11 +10,13 @@ use Rattle.child_msg.specs.Messages.{Denied, False, FromChildMessage, Granted, H
 use Rattle.child_msg.specs.Reading.{from_child_of}
 use Rattle.child_msg.specs.declared.fault.ChildFault.{ChildFault}
 use Rattle.helper_link.specs.HelperLink.{linked_to}
+use Rattle.helper_link.specs.declared.state.LinkState.{LinkState}
+use Rattle.helper_link.specs.declared.state.LinkState.TheVariants as states
 use Rattle.agent_model.specs.Actions.{Outcome, closing, stay}
-use Rattle.agent_model.specs.Answers.{helper_heard, lose}
+use Rattle.agent_model.specs.Answers.{helper_heard, lose_where}
 use Rattle.confirm_desk.specs.Confirmations.{Confirmation, find_job, linked}
 use Rattle.agent_model.specs.Consents.{confirmer_heard, find_started, over_if, remove_started}
-use Rattle.agent_model.specs.State.{Port, StartedJob, State, change_port, find_to_start, job_number, remove_port}
+use Rattle.agent_model.specs.State.{Port, StartedJob, State, UnderWay, change_port, find_to_start, job_number, remove_port}
 
 -- ---- the start of a job
 
@@ -28,22 +30,27 @@ job_left number state = record state {
   under_way = record state.under_way { to_start = remove_to_start number state.under_way.to_start };
 }
 
--- the job of a confirmation that is waited for; that of one that is over is named by no child
--- process
-abbrev pub started_for : Option Confirmation → Job → List ℕ → List StartedJob
-started_for None job ticket = []
-started_for (Some confirmation) job ticket = record { job = job; ticket = ticket } ∷ []
+-- a helper is being started by this job
+abbrev pub is_started_by : ℕ → LinkState → Bool
+is_started_by number states.None = false
+is_started_by number (states.Starting job) = job == number
+is_started_by number (states.Linked port) = false
 
--- the job, to be named by its child process
-abbrev pub started_by : JobKind → Job → List ℕ → List Confirmation → List StartedJob
-started_by kinds.Helper job ticket confirmations = record { job = job; ticket = ticket } ∷ []
-started_by kinds.Confirm job ticket confirmations =
-    started_for (find_job job.number confirmations) job ticket
+-- the job is still wanted: a helper is being started by it, or its confirmation is waited for
+abbrev pub is_wanted : JobKind → ℕ → UnderWay → Bool
+is_wanted kinds.Helper number under_way = is_started_by number under_way.link.state
+is_wanted kinds.Confirm number under_way = is_some (find_job number under_way.confirmations)
+
+-- a job to be named by its child process, if it is wanted
+abbrev pub started_where : Bool → Job → List ℕ → List StartedJob
+started_where false job ticket = []
+started_where true job ticket = record { job = job; ticket = ticket } ∷ []
 
 -- the job was started, if it was to be
-abbrev pub started_if : Option Job → List ℕ → List Confirmation → List StartedJob
-started_if None ticket confirmations = []
-started_if (Some job) ticket confirmations = started_by job.kind job ticket confirmations
+abbrev pub started_if : Option Job → List ℕ → UnderWay → List StartedJob
+started_if None ticket under_way = []
+started_if (Some job) ticket under_way =
+    started_where (is_wanted job.kind job.number under_way) job ticket
 
 -- the job of this number was started, and its child process has this ticket
 abbrev pub job_started : ℕ → List ℕ → State → State
@@ -51,14 +58,15 @@ job_started number ticket state = record state {
   under_way = record state.under_way {
     to_start = remove_to_start number state.under_way.to_start;
     started = state.under_way.started
-        ++ started_if (find_to_start number state.under_way.to_start) ticket
-        state.under_way.confirmations;
+        ++ started_if (find_to_start number state.under_way.to_start) ticket state.under_way;
   };
 }
 
--- the start of a helper failed, or of a child process that asks the user
+-- the start of a helper failed, which is lost where it was being started by this job, or of a child
+-- process that asks the user
 abbrev pub failed_by : JobKind → ℕ → State → Outcome
-failed_by kinds.Helper number state = lose state
+failed_by kinds.Helper number state =
+    lose_where (is_started_by number state.under_way.link.state) state
 failed_by kinds.Confirm number state = over_if (find_job number state.under_way.confirmations) state
 
 -- the start of a job failed, if it was to be started

@@ -1,12 +1,12 @@
 -- Literal rows of the user's consent: what a child process that asks sends, byte by byte (ours).
-use Rattle.std.specs.Prelude.{ℕ, zero, suc, List, [], ◌∷◌, ◌++◌, codes, replicate, None}
+use Rattle.std.specs.Prelude.{ℕ, zero, suc, List, [], ◌∷◌, ◌++◌, codes, replicate}
 use Rattle.world_ports.specs.declared.Door.TheVariants.{Clients, Children}
 use Rattle.world_ports.specs.declared.Job.{Job}
 use Rattle.world_ports.specs.declared.JobKind.TheVariants as kinds
 use Rattle.agent_model.specs.ChildRows.{hello, number, then, ticket}
 use Rattle.agent_model.specs.Events.{Happening, Ended, Heard, Joined, Started, Took}
 use Rattle.agent_model.specs.Rows.{add, add_asking, add_for_two_asking, add_once_asking, blob, key, sign}
-use Rattle.agent_model.specs.State.{State, first_state}
+use Rattle.agent_model.specs.State.{State, first_state, no_settings}
 use Rattle.agent_model.specs.Step.{step}
 
 -- ---- what is sent
@@ -40,7 +40,7 @@ confirm_job number = record { number = number; kind = kinds.Confirm }
 -- the client of port 1 added the key of tag 17, which asks the user, and asked for a signature with
 -- it
 abbrev pub asking : List Happening → State
-asking events = then (first_state None) (Joined Clients ∷ Heard 1 (add_asking 17) ∷ Took 1 5
+asking events = then (first_state no_settings) (Joined Clients ∷ Heard 1 (add_asking 17) ∷ Took 1 5
     ∷ Heard 1 (sign 17) ∷ events)
 
 -- the child process of port 2 asks the user for it
@@ -50,7 +50,7 @@ asked events = asking (Started 1 (ticket 9) ∷ Joined Children ∷ Heard 2 (hel
 -- the clients of ports 1 and 2 asked for a signature with the key of this addition, and the child
 -- processes of ports 3 and 4 ask the user for each of them
 abbrev pub both_ask : List ℕ → List Happening → State
-both_ask addition events = then (first_state None) (Joined Clients ∷ Joined Clients
+both_ask addition events = then (first_state no_settings) (Joined Clients ∷ Joined Clients
     ∷ Heard 1 addition ∷ Took 1 5 ∷ Heard 1 (sign 17) ∷ Heard 2 (sign 17)
     ∷ Started 1 (ticket 9) ∷ Started 2 (ticket 7) ∷ Joined Children ∷ Heard 3 (hello 1 9)
     ∷ Joined Children ∷ Heard 4 (hello 2 7) ∷ events)
@@ -78,9 +78,9 @@ asking_often (suc count) =
 -- of port 2 asks
 abbrev pub unanswered : ℕ → State
 unanswered zero =
-    then (first_state None) (Joined Clients ∷ Heard 1 (add 18) ∷ Took 1 5 ∷ Heard 1 (add_asking 17)
-    ∷ Took 1 5 ∷ Heard 1 (sign 17) ∷ Started 1 (ticket 9) ∷ Joined Children ∷ Heard 2 (hello 1 9)
-    ∷ [])
+    then (first_state no_settings) (Joined Clients ∷ Heard 1 (add 18) ∷ Took 1 5
+    ∷ Heard 1 (add_asking 17) ∷ Took 1 5 ∷ Heard 1 (sign 17) ∷ Started 1 (ticket 9)
+    ∷ Joined Children ∷ Heard 2 (hello 1 9) ∷ [])
 unanswered (suc count) = then (unanswered count)
     (Joined Clients ∷ Heard (suc (suc (suc count))) (sign 18) ∷ Ended (suc (suc (suc count))) ∷ [])
 
@@ -90,8 +90,8 @@ at_second mono wall event state = (step state (record { mono = mono; wall = wall
 
 -- a key that lives for ten seconds was asked for at once
 abbrev pub short_lived : State
-short_lived = then (first_state None) (Joined Clients ∷ Heard 1 (add_asking_for_ten 17) ∷ Took 1 5
-    ∷ Heard 1 (sign 17)
+short_lived = then (first_state no_settings) (Joined Clients ∷ Heard 1 (add_asking_for_ten 17)
+    ∷ Took 1 5 ∷ Heard 1 (sign 17)
     ∷ Started 1 (ticket 9) ∷ Joined Children ∷ Heard 2 (hello 1 9) ∷ [])
 
 -- ---- a key for one host
@@ -137,8 +137,8 @@ sign_login = 0 ∷ 0 ∷ 0 ∷ 247 ∷ 13 ∷ text 64 (blob 17) ++ text 170 (tex
 -- the client of port 1 is bound to that host, and asks for that signature at second 150 of the wall
 -- clock; the child process of port 3 asks the user, for job 2
 abbrev pub bound_to_host : State
-bound_to_host = then (at_second 0 150 (Heard 1 sign_login) (then (first_state None) (Joined Clients
-    ∷ Heard 1 add_for_host
+bound_to_host = then (at_second 0 150 (Heard 1 sign_login) (then (first_state no_settings)
+    (Joined Clients ∷ Heard 1 add_for_host
     ∷ Took 1 5 ∷ Heard 1 bind ∷ Started 1 (ticket 9) ∷ Joined Children ∷ Heard 2 (hello 1 9)
     ∷ Heard 2 (true_for 1)
     ∷ Took 1 5 ∷ [])))

@@ -111,8 +111,8 @@ ask_fault under_way =
 -- what is under way once an ask is put
 abbrev pub with_ask : Errand → ℕ → UnderWay → UnderWay
 with_ask errand asker under_way = record under_way {
-  link = submitted (kind_of errand) asker (message_of errand) (link_begun (under_way.last_job + 1)
-      under_way.link);
+  link = submitted (kind_of errand) asker (message_of errand) under_way.second
+      (link_begun (under_way.last_job + 1) under_way.link);
   to_start = under_way.to_start ++ helper_jobs under_way.link.state (under_way.last_job + 1);
   verifications = under_way.verifications ++ noted_verification errand (under_way.link.last + 1);
   last_job = last_job_for under_way.link.state under_way.last_job;
@@ -168,7 +168,7 @@ with_confirmation key signing asker under_way = record under_way {
   to_start = under_way.to_start ++ job_of (under_way.last_job + 1) kinds.Confirm ∷ [];
   confirmations =
       raise (under_way.last_job + 1) (held_for asker key signing) (prompt_for key.comment key.blob)
-      under_way.confirmations;
+      under_way.second under_way.confirmations;
   last_job = under_way.last_job + 1;
 }
 

@@ -11,6 +11,7 @@ pub mod Dispatch
 pub mod Answers
 pub mod Consents
 pub mod Children
+pub mod Time
 pub mod Step
 pub mod Closings
 pub mod Runs
@@ -29,3 +30,4 @@ pub mod Bindable
 pub mod Unseen
 pub mod BindRows
 pub mod Pieces
+pub mod TimeRows

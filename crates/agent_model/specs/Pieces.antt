@@ -5,7 +5,7 @@ use Rattle.agent_model.specs.Actions.{Outcome}
 use Rattle.agent_model.specs.Asking.{IsAttended}
 use Rattle.agent_model.specs.Sound.{IsSound, IsTied}
 use Rattle.agent_model.specs.State.{Client, Confirmer, Helper, Port, Role, State, Unnamed, role_of}
-use Rattle.agent_model.specs.Step.{at_moment}
+use Rattle.agent_model.specs.Time.{at_moment}
 
 -- what a piece brings as a whole is what its parts bring, as the next event at the same moment begins
 pub record Agree (moment : Moment) (whole first second : Outcome) : Type 0 where

@@ -1,10 +1,10 @@
 -- Literal rows: what one client is replied, message by message (draft-miller-ssh-agent, "Protocol
 -- Messages"). The numbers are written out, so that a wrong definition can't agree with itself.
-use Rattle.std.specs.Prelude.{ℕ, zero, suc, List, [], ◌∷◌, ◌++◌, length, replicate, codes, None}
+use Rattle.std.specs.Prelude.{ℕ, zero, suc, List, [], ◌∷◌, ◌++◌, length, replicate, codes}
 use Rattle.world_ports.specs.declared.Moment.{Moment}
 use Rattle.world_ports.specs.declared.Door.TheVariants.{Clients}
 use Rattle.agent_model.specs.Events.{Happening, Heard, Joined, Took, Tick}
-use Rattle.agent_model.specs.State.{State, first_state, owed_of}
+use Rattle.agent_model.specs.State.{State, first_state, no_settings, owed_of}
 use Rattle.agent_model.specs.Step.{step}
 
 -- a message that the client of port 1 sends at a second of both clocks
@@ -25,7 +25,7 @@ moment_at second = record { mono = second; wall = second }
 
 -- one client is there
 abbrev pub one_client : State
-one_client = (step (first_state None) (moment_at 0) (Joined Clients)).state
+one_client = (step (first_state no_settings) (moment_at 0) (Joined Clients)).state
 
 -- the state after a message, and after its reply was taken
 abbrev pub asked : Sent → State → State
@@ -158,7 +158,7 @@ with_event event state = (step state (moment_at 0) event).state
 
 -- so many clients joined
 abbrev pub joined_often : ℕ → State
-joined_often zero = first_state None
+joined_often zero = first_state no_settings
 joined_often (suc count) = with_event (Joined Clients) (joined_often count)
 
 -- the client of port 1 sent these bytes, and its reply wasn't taken
@@ -171,5 +171,5 @@ heard_and_took bytes count = with_event (Took 1 count) (heard bytes)
 
 -- nothing but the time, at these seconds of the two clocks, one after another
 abbrev pub ticked : List Moment → State
-ticked [] = first_state None
+ticked [] = first_state no_settings
 ticked (moment ∷ earlier) = (step (ticked earlier) moment Tick).state

@@ -1,5 +1,6 @@
 -- The state of the abstract agent (ours), in plain lists: no buffers, slots or indexes.
-use Rattle.std.specs.Prelude.{map, ℕ, suc, ◌-◌, ◌^◌, ◌<◌, ◌≤◌, List, [], ◌∷◌, length, Option, Some, None, is_some, Bool, true, false, nat_lt, ◌==◌, ◌&&◌, if◌then◌else◌, IsSome}
+use Rattle.std.specs.Prelude.{map, ℕ, suc, ◌+◌, ◌-◌, ◌^◌, ◌<◌, ◌≤◌, List, [], ◌∷◌, length, Option, Some, None, is_some, Bool, true, false, nat_lt, ◌==◌, ◌&&◌, if◌then◌else◌, IsSome}
+use Rattle.std.specs.Option.{option_map}
 use Rattle.lists.specs.Keyed.{change_by, find_by, remove_by}
 use Rattle.world_ports.specs.declared.Moment.{Moment}
 use Rattle.world_ports.specs.declared.Door.{Door}
@@ -7,14 +8,15 @@ use Rattle.world_ports.specs.declared.Door.TheVariants.{Clients, Children}
 use Rattle.world_ports.specs.declared.Job.{Job}
 use Rattle.wire_text.specs.Frames.{Front, front, Whole, Bad, More}
 use Rattle.identity_table.specs.Identities.{next_death}
+use Rattle.identity_table.specs.Deaths.{earlier, on_clock}
 use Rattle.agent_model.specs.KeyStates.{KeyState, no_keys}
 use Rattle.agent_model.specs.Events.{Happening, Joined, Heard, Ended, Took, Started, StartFailed, Tick}
 use Rattle.wire_text.specs.Bounds.{longest_body}
-use Rattle.helper_link.specs.HelperLink.{HelperLink, no_link, sendable}
+use Rattle.helper_link.specs.HelperLink.{HelperLink, no_link, oldest, sendable}
 use Rattle.helper_link.specs.declared.state.LinkState.{LinkState}
 use Rattle.helper_link.specs.declared.state.LinkState.TheVariants as states
 use Rattle.dest_rule.specs.declared.binding.Binding.{Binding}
-use Rattle.confirm_desk.specs.Confirmations.{Confirmation, find_linked}
+use Rattle.confirm_desk.specs.Confirmations.{Confirmation, find_linked, oldest as oldest_confirmation}
 
 -- ---- what it holds
 
@@ -48,8 +50,14 @@ pub record Verification : Type 0 where
   pub binding : Binding
   pub is_new : Bool
 
+-- how many seconds an ask may be unanswered, and a confirmation be open, where there is a limit
+pub record TimeLimits : Type 0 where
+  pub ask : Option ℕ
+  pub confirmation : Option ℕ
+
 -- what is under way: the link to the helper, the jobs to start, the started ones, the verifications
--- and confirmations that are waited for, and the number of the last job
+-- and confirmations that are waited for, the number of the last job, how long all that may be waited
+-- for, and the greatest monotonic second so far
 pub record UnderWay : Type 0 where
   pub link : HelperLink
   pub to_start : List Job
@@ -57,6 +65,8 @@ pub record UnderWay : Type 0 where
   pub verifications : List Verification
   pub confirmations : List Confirmation
   pub last_job : ℕ
+  pub limits : TimeLimits
+  pub second : ℕ
 
 -- the identities and the lock, what is under way, the open ports by rising numbers, the number of
 -- the last port that joined, the greatest monotonic second so far, and the last wall clock
@@ -67,23 +77,42 @@ pub record State : Type 0 where
   pub last_port : ℕ
   pub moment : Moment
 
+-- the settings of an agent: the lifetime, in seconds, of identities that come without one, and how
+-- long may be waited
+pub record Settings : Type 0 where
+  pub life : Option ℕ
+  pub limits : TimeLimits
+
+-- no limits of time
+abbrev pub no_limits : TimeLimits
+no_limits = record { ask = None; confirmation = None }
+
+-- the limits of an agent that is served, and of schedules of format 2
+abbrev pub usual_limits : TimeLimits
+usual_limits = record { ask = Some 60; confirmation = Some 300 }
+
+-- identities live for ever, and all may be waited for as long
+abbrev pub no_settings : Settings
+no_settings = record { life = None; limits = no_limits }
+
 -- nothing is under way, and nothing was
-abbrev pub nothing_under_way : UnderWay
-nothing_under_way = record {
+abbrev pub nothing_under_way : TimeLimits → UnderWay
+nothing_under_way limits = record {
   link = no_link;
   to_start = [];
   started = [];
   verifications = [];
   confirmations = [];
   last_job = 0;
+  limits = limits;
+  second = 0;
 }
 
--- the agent before its first event; identities that come without a lifetime live for so many
--- seconds
-abbrev pub first_state : Option ℕ → State
-first_state life = record {
-  held = no_keys life;
-  under_way = nothing_under_way;
+-- the agent before its first event, with these settings
+abbrev pub first_state : Settings → State
+first_state settings = record {
+  held = no_keys settings.life;
+  under_way = nothing_under_way settings.limits;
   ports = [];
   last_port = 0;
   moment = record { mono = 0; wall = 0 };
@@ -263,9 +292,26 @@ wants number state = wants_by (find_port number state.ports)
 abbrev pub starts : State → List Job
 starts state = state.under_way.to_start
 
--- when the next identity dies
+-- the second at which a wait that began then has lasted its limit: one that the clock doesn't come
+-- to counts as never
+abbrev pub limit_from : Option ℕ → Option ℕ → Option ℕ
+limit_from None since = None
+limit_from (Some limit) None = None
+limit_from (Some limit) (Some since) = on_clock (Some (since + limit))
+
+-- the second of a job's confirmation
+abbrev pub second_of : ℕ × ℕ → ℕ
+second_of one = one.1
+
+-- when something under way has been waited for as long as it may be
+abbrev pub next_limit : UnderWay → Option ℕ
+next_limit under_way = earlier (limit_from under_way.limits.ask (oldest under_way.link.asks))
+    (limit_from under_way.limits.confirmation
+    (option_map second_of (oldest_confirmation under_way.confirmations)))
+
+-- when the next identity dies, or a limit is reached
 abbrev pub next_due : State → Option ℕ
-next_due state = next_death state.held.table.identities
+next_due state = earlier (next_death state.held.table.identities) (next_limit state.under_way)
 
 -- ---- which events may come
 

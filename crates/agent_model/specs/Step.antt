@@ -1,17 +1,16 @@
 -- One step of the abstract agent: a function of state, moment and event to a state, a list of
 -- actions and the messages that were put to the helper (ours). The file is read from its end.
-use Rattle.std.specs.Prelude.{ℕ, suc, max, List, [], ◌∷◌, ◌++◌, drop, Option, Some, None, Bool, true, false, nat_lt, ◌||◌}
+use Rattle.std.specs.Prelude.{ℕ, suc, List, [], ◌∷◌, ◌++◌, drop, Option, Some, None, Bool, true, false, nat_lt, ◌||◌}
 use Rattle.world_ports.specs.declared.Moment.{Moment}
 use Rattle.world_ports.specs.declared.Door.{Door}
 use Rattle.world_ports.specs.declared.Door.TheVariants.{Clients, Children}
 use Rattle.wire_text.specs.Frames.{Front, front, front_body, after_front, Whole, Bad, More}
 use Rattle.helper_link.specs.HelperLink.{sent}
-use Rattle.agent_model.specs.KeyStates.{expired}
 use Rattle.agent_model.specs.Events.{Happening, Joined, Heard, Ended, Took, Started, StartFailed, Tick}
 use Rattle.wire_text.specs.Bounds.{longest_body}
 use Rattle.agent_model.specs.Limits.{most_clients, most_unnamed}
 use Rattle.agent_model.specs.NumberLists.{put_all}
-use Rattle.agent_model.specs.Actions.{Outcome, Requested, stay}
+use Rattle.agent_model.specs.Actions.{Outcome, Requested, and_then, stay}
 use Rattle.agent_model.specs.Answers.{helper_heard, lose}
 use Rattle.agent_msg.specs.Requests.{names_bind}
 use Rattle.agent_model.specs.Binds.{agent_request_of}
@@ -20,6 +19,7 @@ use Rattle.confirm_desk.specs.Confirmations.{find_asker, took}
 use Rattle.agent_model.specs.Consents.{confirmer_heard, over, over_if}
 use Rattle.agent_model.specs.Dispatch.{Asker, Served, serve}
 use Rattle.agent_model.specs.State.{Client, Confirmer, Helper, Nothing, OnAsk, OnConfirmation, Port, Role, State, UnderWay, Unnamed, Waits, change_port, client_count, find_port, new_port, role_of, unnamed_count}
+use Rattle.agent_model.specs.Time.{time_passes}
 use Rattle.agent_model.specs.Verdicts.{tell}
 
 -- ---- a client is looked at
@@ -192,8 +192,8 @@ ended_at (Some port) state =
 
 -- ---- a step
 
--- what an event brings, after the moment was taken in; it brings nothing where the port that it
--- names isn't open
+-- what an event brings, behind what its moment brings; it brings nothing where the port that it
+-- names isn't open, be it that the moment closed it
 abbrev pub handle : Happening → State → Outcome
 handle (Joined door) state = join door state
 handle (Heard port piece) state = heard_at (find_port port state.ports) piece state
@@ -203,18 +203,10 @@ handle (Started job ticket) state = stay (job_started job ticket state)
 handle (StartFailed job) state = job_failed job state
 handle Tick state = stay state
 
--- the moment is taken in: the monotonic clock never falls, the wall clock is the one given, and
--- identities whose lifetime has run out leave
-abbrev pub at_moment : Moment → State → State
-at_moment moment state = record state {
-  moment = record { mono = max state.moment.mono moment.mono; wall = moment.wall };
-  held = expired (max state.moment.mono moment.mono) state.held;
-}
-
 -- an outcome with the ports that it closed in rising order
 abbrev pub in_order : Outcome → Outcome
 in_order outcome = record outcome { closes = put_all [] outcome.closes }
 
 -- one event at a moment
 abbrev pub step : State → Moment → Happening → Outcome
-step state moment event = in_order (handle event (at_moment moment state))
+step state moment event = in_order (and_then (time_passes moment state) (handle event))

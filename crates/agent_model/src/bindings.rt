@@ -31,27 +31,29 @@ ghost use Rattle.agent_model.specs.Fates.{actions_of};
 ghost use Rattle.agent_model.specs.KeyStates.{KeyState};
 ghost use Rattle.agent_model.specs.Runs.{run};
 ghost use Rattle.agent_model.specs.Sound.{AreApart, IsJudged, IsTied};
-ghost use Rattle.agent_model.specs.State.{Nothing, OnAsk, Port, State, UnderWay, Verification, find_port, first_state};
+ghost use Rattle.agent_model.specs.State.{Nothing, OnAsk, Port, Settings, State, UnderWay, Verification, find_port, first_state};
 ghost use Rattle.agent_model.specs.Step.{step, took_some};
+ghost use Rattle.agent_model.specs.Time.{at_moment};
 ghost use Rattle.agent_model.specs.Verdicts.{Awaits, Cause, Malformed, Refuses};
 
 /// Whatever happened before, a connection is bound to exactly those hosts whose signatures the
 /// helper found right for it, in that order, each session once, and to no more than 16 of them.
 /// Nothing that a client sends binds a connection, its own or another one.
 pub fn bindings_are_those_that_were_proved()
-    ensures proved { (life : Option ℕ) (events : List Timed) (number : ℕ) (port : Port)
-        → find_port number (run (first_state life) events).ports ≡ Some port
-        → port.chain ≡ bound_after number (actions_of (first_state life) events) [] }
+    ensures proved { (settings : Settings) (events : List Timed) (number : ℕ) (port : Port)
+        → find_port number (run (first_state settings) events).ports ≡ Some port
+        → port.chain ≡ bound_after number (actions_of (first_state settings) events) [] }
     ensures since { (state : State) (events : List Timed) (number : ℕ) (port : Port) → IsTied state
         → IsJudged state → find_port number (run state events).ports ≡ Some port
         → port.chain ≡ bound_after number (actions_of state events) (chain_at number state.ports) }
-    ensures apart { (life : Option ℕ) (events : List Timed) (number : ℕ) (port : Port)
-        → find_port number (run (first_state life) events).ports ≡ Some port → AreApart port.chain }
-    ensures few { (life : Option ℕ) (events : List Timed) (number : ℕ) (port : Port)
-        → find_port number (run (first_state life) events).ports ≡ Some port
+    ensures apart { (settings : Settings) (events : List Timed) (number : ℕ) (port : Port)
+        → find_port number (run (first_state settings) events).ports ≡ Some port
+        → AreApart port.chain }
+    ensures few { (settings : Settings) (events : List Timed) (number : ℕ) (port : Port)
+        → find_port number (run (first_state settings) events).ports ≡ Some port
         → length port.chain ≤ 16 }
-    ensures read { (life : Option ℕ) (events : List Timed) (number : ℕ) (port : Port)
-        → find_port number (run (first_state life) events).ports ≡ Some port
+    ensures read { (settings : Settings) (events : List Timed) (number : ℕ) (port : Port)
+        → find_port number (run (first_state settings) events).ports ≡ Some port
         → All (λ binding. IsOk (public_key_of binding.host_key)) port.chain }
     ensures sent { (state : State) (moment : Moment) (at : ℕ) (piece : List ℕ) (client : Port)
         (number : ℕ) (port : Port) → IsTied state → IsJudged state → find_port at state.ports
@@ -82,8 +84,8 @@ pub fn a_binding_is_added_where_it_is_right()
     ensures others { (what : Answer) (one : Settled) (before : Answering) (number : ℕ)
         → number ≢ one.asker
         → find_port number (answer_by what one before).ports ≡ find_port number before.ports }
-    ensures judged { (life : Option ℕ) (events : List Timed)
-        → IsJudged (run (first_state life) events) }
+    ensures judged { (settings : Settings) (events : List Timed)
+        → IsJudged (run (first_state settings) events) }
     ensures step { (state : State) (moment : Moment) (event : Happening) → IsTied state
         → IsJudged state → IsJudged (step state moment event).state }
 {}
@@ -116,7 +118,8 @@ pub fn a_binding_is_verified_exactly_where_it_may_be()
 
 /// A key that a client doesn't see changes no reply to it: from two states that differ in such a
 /// key alone, what the client sends and takes leaves every port owing and waiting for the same, the
-/// same under way, and the same put to the helper, unless an addition is taken of it.
+/// same under way, and the same put to the helper, unless an addition is taken of it. The client is
+/// as the moment of that leaves it.
 pub fn what_is_not_seen_changes_no_reply()
     ensures request { (asker : Asker) (key : HeldKey) (before after : List HeldKey)
         (held : KeyState) (under_way : UnderWay) → sees asker key ≡ false
@@ -126,16 +129,18 @@ pub fn what_is_not_seen_changes_no_reply()
         under_way).work (serve (Ok request) asker (with_identities (before ++ after) held)
         under_way).work }
     ensures heard { (state : State) (moment : Moment) (number : ℕ) (port : Port) (key : HeldKey)
-        (before after : List HeldKey) → find_port number state.ports ≡ Some port
-        → port.door ≡ Clients → find_identity key.blob (before ++ after) ≡ None
+        (before after : List HeldKey)
+        → find_port number (at_moment moment state).ports ≡ Some port → port.door ≡ Clients
+        → find_identity key.blob (before ++ after) ≡ None
         → visible key.rules port.chain port.attempted moment.wall ≡ false → (piece : List ℕ)
         → ((body_len : ℕ) (addition : Addition) → due (heard_more piece port) ≡ Whole body_len
         → agent_request_of (front_body body_len (port.heard ++ piece)) ≢ Ok (Add addition))
         → IsSameFor (step (holding (before ++ key ∷ after) state) moment (Heard number piece)) (step
         (holding (before ++ after) state) moment (Heard number piece)) }
     ensures took { (state : State) (moment : Moment) (number : ℕ) (port : Port) (key : HeldKey)
-        (before after : List HeldKey) → find_port number state.ports ≡ Some port
-        → port.door ≡ Clients → find_identity key.blob (before ++ after) ≡ None
+        (before after : List HeldKey)
+        → find_port number (at_moment moment state).ports ≡ Some port → port.door ≡ Clients
+        → find_identity key.blob (before ++ after) ≡ None
         → visible key.rules port.chain port.attempted moment.wall ≡ false → (count : ℕ)
         → ((body_len : ℕ) (addition : Addition) → due (took_some count port) ≡ Whole body_len
         → agent_request_of (front_body body_len port.heard) ≢ Ok (Add addition))

@@ -9,22 +9,23 @@ ghost use Rattle.agent_model.specs.Askable.{HasRoom, IsGrantable, IsRefusedAtGra
 ghost use Rattle.agent_model.specs.Asking.{IsAsking, IsAttended};
 ghost use Rattle.agent_model.specs.Consents.{grant_by, signing_of};
 ghost use Rattle.agent_model.specs.Errands.{Signs, put_unless};
-ghost use Rattle.agent_model.specs.Events.{Ended, Happening, Heard, Timed};
+ghost use Rattle.agent_model.specs.Events.{Ended, Happening, Heard, Timed, Took};
 ghost use Rattle.agent_model.specs.Fates.{IsTold};
 ghost use Rattle.agent_model.specs.Grants.{IsAgreed};
 ghost use Rattle.agent_model.specs.KeyStates.{KeyState};
 ghost use Rattle.agent_model.specs.Runs.{run};
 ghost use Rattle.agent_model.specs.Sound.{IsTied};
-ghost use Rattle.agent_model.specs.State.{Confirmer, OnAsk, OnConfirmation, Port, State, UnderWay, find_port, first_state, role_of};
-ghost use Rattle.agent_model.specs.Step.{at_moment, step};
+ghost use Rattle.agent_model.specs.State.{Confirmer, OnAsk, OnConfirmation, Port, Settings, State, UnderWay, find_port, first_state, role_of};
+ghost use Rattle.agent_model.specs.Step.{step};
+ghost use Rattle.agent_model.specs.Time.{at_moment};
 ghost use Rattle.agent_model.specs.Verdicts.{Awaits, Cause, Refuses};
 
 /// Whatever happened before: at most 16 confirmations are waited for, whoever waits for one is open
 /// and owed nothing, each child process that came to ask is open, and no two of these, nor the
 /// helper, share a port. A client that waits for consent has a confirmation of its own.
 pub fn who_waits_for_the_user_is_open()
-    ensures attended { (life : Option ℕ) (events : List Timed)
-        → IsAttended (run (first_state life) events) }
+    ensures attended { (settings : Settings) (events : List Timed)
+        → IsAttended (run (first_state settings) events) }
     ensures step { (state : State) (moment : Moment) (event : Happening) → IsTied state
         → IsAttended state → IsAttended (step state moment event).state }
     ensures waits { (state : State) (number job : ℕ) (port : Port) → IsTied state
@@ -41,7 +42,7 @@ pub fn a_client_waits_for_its_own_consent()
         → find_port number state.ports ≡ Some port → port.waits ≡ OnConfirmation job
         → IsTold number (Awaits (OnConfirmation job)) state.ports }
     ensures agreed { (state : State) (moment : Moment) (event : Happening) (number job : ℕ)
-        → IsTied state → event ≢ Ended number
+        → IsTied state → event ≢ Ended number → ((count : ℕ) → event ≢ Took number count)
         → IsTold number (Awaits (OnConfirmation job)) state.ports
         → IsAgreed number job (step state moment event).actions (step state moment
         event).state.ports }

@@ -13,8 +13,9 @@ ghost use Rattle.agent_model.specs.Events.{Ended, Happening, Heard, Timed};
 ghost use Rattle.agent_model.specs.Runs.{AllFit, run};
 ghost use Rattle.agent_model.specs.Pieces.{Agree, MayBeCut};
 ghost use Rattle.agent_model.specs.Sound.{IsRising, IsSound};
-ghost use Rattle.agent_model.specs.State.{Nothing, OnAsk, Port, State, UnderWay, find_port, first_state};
-ghost use Rattle.agent_model.specs.Step.{at_moment, handle, step};
+ghost use Rattle.agent_model.specs.State.{Nothing, OnAsk, Port, Settings, State, UnderWay, find_port, first_state};
+ghost use Rattle.agent_model.specs.Step.{handle, step};
+ghost use Rattle.agent_model.specs.Time.{GiveTime, at_moment};
 ghost use Rattle.agent_model.specs.Verdicts.{Awaits, Cause, HelperLost, Refuses, Replies, Reply, verdict_text};
 ghost use Rattle.agent_msg.specs.Replies.{failure};
 ghost use Rattle.world_ports.specs.declared.Moment.{Moment};
@@ -26,12 +27,15 @@ pub fn a_moment_is_taken_in_once()
 {}
 
 /// Where bytes are cut does not matter, whoever sends them: a client, the helper or a child process
-/// that asks the user, faulty bytes included. A piece in two parts leads to the state of the whole
-/// piece, and the same is done and put to the helper. An identity that was added with no lifetime
-/// left leaves as the next event begins, so that the states are compared as one begins.
+/// that asks the user, faulty bytes included, where each limit that is set gives a second at least.
+/// A piece in two parts leads to the state of the whole piece, and the same is done and put to the
+/// helper. The sender is who is at the port as the moment leaves it; an identity that was added
+/// with no lifetime left leaves as the next event begins, so that the states are compared as one
+/// begins.
 pub fn a_piece_in_two_parts()
     ensures { (state : State) (moment : Moment) (port : ℕ) (a b : List ℕ)
-        → MayBeCut (find_port port state.ports) state
+        → GiveTime state.under_way.limits
+        → MayBeCut (find_port port (at_moment moment state).ports) (at_moment moment state)
         → Agree moment (step state moment (Heard port (a ++ b))) (step state moment (Heard port a))
         (step (step state moment (Heard port a)).state moment (Heard port b)) }
 {}
@@ -47,12 +51,13 @@ pub fn what_was_open_and_is_not_was_closed()
 /// Whatever happens, the numbers of the ports rise, so that they differ, none is above that of the
 /// last port that joined, and no more than 128 clients are open.
 pub fn ports_rise_and_are_few()
-    ensures sound { (life : Option ℕ) (events : List Timed)
-        → IsSound (run (first_state life) events) }
+    ensures sound { (settings : Settings) (events : List Timed)
+        → IsSound (run (first_state settings) events) }
     ensures step { (state : State) (moment : Moment) (event : Happening) → IsSound state
         → IsSound (step state moment event).state }
-    ensures fits { (life : Option ℕ) (events : List Timed) → AllFit (first_state life) events
-        → (run (first_state life) events).last_port < 2 ^ 64 }
+    ensures fits { (settings : Settings) (events : List Timed)
+        → AllFit (first_state settings) events
+        → (run (first_state settings) events).last_port < 2 ^ 64 }
 {}
 
 /// The number of a port that was closed, or never let in, is not used again.

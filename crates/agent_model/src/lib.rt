@@ -12,7 +12,9 @@ mod consent_rows;
 mod consents;
 mod laws;
 mod rows;
+mod time_rows;
 mod uses;
+mod waits;
 
 pub use asks::{
     a_client_gets_its_own_answer, a_signature_is_asked_for_exactly_where_it_may_be,
@@ -50,4 +52,10 @@ pub use rows::{
     a_locked_agent_does_nothing, a_request_waits_for_the_reply_before, a_signature_is_waited_for,
     additions_are_listed, limits_are_these_numbers, moments_are_taken_in, refusals_are_failures,
 };
+pub use time_rows::{
+    a_clock_that_jumps_ends_waits, a_confirmation_waits_for_five_minutes, a_late_helper_is_closed,
+    an_ask_waits_for_sixty_seconds, an_ask_without_a_limit_waits, the_next_limit_is_told,
+    waits_end_together,
+};
 pub use uses::a_key_is_used_as_its_signature_is_put;
+pub use waits::{a_wait_ends_at_its_limit, the_next_end_is_told};

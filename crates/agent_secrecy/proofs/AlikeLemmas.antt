@@ -1,5 +1,5 @@
 -- What is put to the helper in two alike runs is equal, or requests to sign with alike keys.
-use Rattle.std.proofs.Common.{◌≡◌, ◌⊎◌, inl, inr, ℕ, List, [], ◌∷◌, map, refl, sym, ap, subst, Option}
+use Rattle.std.proofs.Common.{◌≡◌, ◌⊎◌, inl, inr, ℕ, List, [], ◌∷◌, map, refl, sym, ap, subst}
 use Rattle.std.specs.List.{All}
 use Rattle.std.proofs.lemmas.List.Elements.{All-head, All-tail}
 use Rattle.key_blob.specs.AddedKeys.{IsAddedKey}
@@ -8,7 +8,7 @@ use Rattle.child_msg.specs.Messages.{Confirm, Sign, Signing, ToChildMessage, Ver
 use Rattle.agent_model.specs.Actions.{Outcome}
 use Rattle.agent_model.specs.Events.{Timed}
 use Rattle.agent_model.specs.Runs.{AllFit, AreInRange, outcomes}
-use Rattle.agent_model.specs.State.{first_state}
+use Rattle.agent_model.specs.State.{Settings, first_state}
 use Rattle.agent_secrecy.specs.Alike.{AreAlike}
 use Rattle.agent_secrecy.specs.Frames.{AreAlikeMessages, AreAlikePut, AreAlikeSignings, key_in}
 use Rattle.agent_secrecy.specs.Hiding.{hide_message}
@@ -69,7 +69,7 @@ all_messages (one ∷ ones) [] seen is other_is = absurd seen
 all_messages (one ∷ ones) (other ∷ others) seen is other_is =
     (messages one.put other.put seen.0.put is.0 other_is.0, all_messages ones others seen.1 is.1 other_is.1)
 
-pub every_put : (life : Option ℕ) (one other : List Timed) → AreAlike one other → AllFit (first_state life) one → AreInRange one → AreInRange other
-    → AreAlikePut (outcomes (first_state life) one) (outcomes (first_state life) other)
-every_put life one other alike fit range other_range =
-    all_messages (outcomes (first_state life) one) (outcomes (first_state life) other) (every_run life one other alike fit) (puts life one range) (puts life other other_range)
+pub every_put : (settings : Settings) (one other : List Timed) → AreAlike one other → AllFit (first_state settings) one → AreInRange one → AreInRange other
+    → AreAlikePut (outcomes (first_state settings) one) (outcomes (first_state settings) other)
+every_put settings one other alike fit range other_range =
+    all_messages (outcomes (first_state settings) one) (outcomes (first_state settings) other) (every_run settings one other alike fit) (puts settings one range) (puts settings other other_range)

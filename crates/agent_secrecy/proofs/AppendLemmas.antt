@@ -1,6 +1,6 @@
 -- The frames that an event appends to what the helper is owed are those of the messages that were put.
 use Rattle.std.proofs.Common.{◌≡◌, ℕ, ◌+◌, ◌==◌, List, [], ◌∷◌, ◌++◌, length, drop, refl, sym, ap, ◌∙◌, arith, Bool, true, false, nat_lt, Option, Some, None, Result, Ok, Err}
-use Rattle.std.proofs.lemmas.List.{append-nil, drop_all}
+use Rattle.std.proofs.lemmas.List.{append-nil, drop-drop, drop_all}
 use Rattle.std.specs.Str.{bytes_eq}
 use Rattle.world_ports.specs.declared.Moment.{Moment}
 use Rattle.world_ports.specs.declared.Job.{Job}
@@ -23,8 +23,8 @@ use Rattle.dest_rule.specs.declared.fault.Next.{Next as Judgement}
 use Rattle.dest_rule.specs.declared.fault.Next.TheVariants.{New, Refuse, Same}
 use Rattle.confirm_desk.specs.Confirmations.{Confirmation, Consent, No, NotYet, Yes, consent, find_asker, find_job}
 use Rattle.agent_model.specs.Actions.{Outcome, Work, settles, stay}
-use Rattle.agent_model.specs.Answers.{helper_heard, lose, lose_if}
-use Rattle.agent_model.specs.Children.{changed, closed, confirmer_goes_on, confirmer_named, failed_by, failed_if, first_frame, first_message, heard_more, hello_by, helper_named, job_left, named_by, shut, shut_then, ticket_by, unnamed_heard}
+use Rattle.agent_model.specs.Answers.{helper_heard, lose, lose_if, lose_where}
+use Rattle.agent_model.specs.Children.{changed, closed, confirmer_goes_on, confirmer_named, failed_by, failed_if, first_frame, first_message, heard_more, hello_by, helper_named, is_started_by, job_left, named_by, shut, shut_then, ticket_by, unnamed_heard}
 use Rattle.agent_model.specs.Consents.{confirmer_heard, consent_by, find_started, grant_by, grant_to, grant_unless, grant_with, grant_work, over, over_if, signing_of, without_confirmation}
 use Rattle.agent_model.specs.Dispatch.{Asker, add_by, add_fault, add_seen, add_unless, bind_by, length_with, lock_by, remove_by, remove_seen, sees, serve, serve_by, serve_locked, serve_unlocked, sign_by, sign_unless, sign_with, unlock_by}
 use Rattle.agent_model.specs.Errands.{Errand, Signs, Verifies, ask_fault, message_of, put_unless, raise_fault, raise_unless}
@@ -33,10 +33,12 @@ use Rattle.agent_model.specs.KeyStates.{KeyState}
 use Rattle.wire_text.specs.Bounds.{longest_body}
 use Rattle.agent_model.specs.Limits.{last_number}
 use Rattle.agent_model.specs.State.{Client, Confirmer, Helper, Nothing, OnAsk, OnConfirmation, Port, Role, StartedJob, State, UnderWay, Unnamed, Waits, find_port, find_to_start, role_of}
-use Rattle.agent_model.specs.Step.{at_moment, ended_at, ended_by_role, handle, heard_at, heard_by_role, look_front, look_owed, look_port, look_waits, step, took_at, took_by_role, took_some}
+use Rattle.agent_model.specs.Step.{ended_at, ended_by_role, handle, heard_at, heard_by_role, look_front, look_owed, look_port, look_waits, step, took_at, took_by_role, took_some}
+use Rattle.agent_model.specs.Time.{at_moment}
 use Rattle.agent_model.specs.Verdicts.{Cause, Verdict}
 use Rattle.agent_model.specs.Binds.{agent_request_of}
 use Rattle.agent_model.specs.Step.{asker_at}
+use Rattle.agent_model.proofs.TimeLemmas.{at_moment-keeps, time_passes-put}
 use Rattle.agent_secrecy.specs.Frames.{Appends, frame_of, frames_of}
 
 -- ---- requests and grants
@@ -159,6 +161,10 @@ lost-appends before state = record {
   owed = sym (ap (λ bytes. bytes ++ []) (drop_all (length before.under_way.link.owed) before.under_way.link.owed (omega arith)));
 }
 
+lost_where : (is : Bool) (before state : State) → state.under_way.link.owed ≡ before.under_way.link.owed → Appends before (lose_where is state)
+lost_where false before state same = kept before (stay state) refl same
+lost_where true before state same = lost-appends before state
+
 lost_if : (fault : Option LinkFault) (before state : State) → state.under_way.link.owed ≡ before.under_way.link.owed → Appends before (lose_if fault state)
 lost_if None before state same = kept before (stay state) refl same
 lost_if (Some fault) before state same = lost-appends before state
@@ -277,7 +283,7 @@ ended_found None state = kept state (stay state) refl refl
 ended_found (Some port) state = ended-appends (role_of port.door port.number state.under_way) port.number state
 
 failed-appends : (kind : JobKind) (number : ℕ) (before state : State) → state.under_way.link.owed ≡ before.under_way.link.owed → Appends before (failed_by kind number state)
-failed-appends kinds.Helper number before state same = lost-appends before state
+failed-appends kinds.Helper number before state same = lost_where (is_started_by number state.under_way.link.state) before state same
 failed-appends kinds.Confirm number before state same = over-appends (find_job number state.under_way.confirmations) before state same
 
 failed_found : (found : Option Job) (state : State) → Appends state (failed_if found state)
@@ -293,7 +299,29 @@ handle-appends (Started job ticket) state = record { gone = 0; owed = none-put s
 handle-appends (StartFailed job) state = failed_found (find_to_start job state.under_way.to_start) state
 handle-appends Tick state = kept state (stay state) refl refl
 
+-- ---- moments
+
+-- what is owed goes from the front, or all at once
+record Goes (before after : State) : Type 0 where
+  gone : ℕ
+  owed : after.under_way.link.owed ≡ drop gone before.under_way.link.owed
+
+moment-goes : (moment : Moment) (state : State) → Goes state (at_moment moment state)
+moment-goes moment state =
+    at_moment-keeps (Goes state) moment state
+    (λ s goes. record { gone = length state.under_way.link.owed; owed = sym (drop_all (length state.under_way.link.owed) state.under_way.link.owed (omega arith)) })
+    (λ one s there goes. record { gone = goes.gone; owed = goes.owed })
+    (record { gone = 0; owed = refl })
+
 pub step-appends : (state : State) (moment : Moment) (event : Happening) → Appends state (step state moment event)
 step-appends state moment event =
+    let before = moment-goes moment state in
     let one = handle-appends event (at_moment moment state) in
-    record { gone = one.gone; owed = one.owed }
+    let later : Outcome = handle event (at_moment moment state) in
+    record {
+      gone = before.gone + one.gone;
+      owed = one.owed
+          ∙ ap (λ bytes. drop one.gone bytes ++ frames_of later.put) before.owed
+          ∙ ap (λ bytes. bytes ++ frames_of later.put) (drop-drop one.gone before.gone state.under_way.link.owed)
+          ∙ ap (λ put. drop (before.gone + one.gone) state.under_way.link.owed ++ frames_of (put ++ later.put)) (sym (time_passes-put moment state));
+    }

@@ -1,8 +1,7 @@
 -- Events but for what a client sends and takes, with secrets hidden.
-use Rattle.std.proofs.Common.{◌≡◌, ℕ, suc, List, [], ◌++◌, length, max, refl, sym, ap, ◌∙◌, Bool, true, false, Option, Some, None, Result, Ok, Err}
+use Rattle.std.proofs.Common.{◌≡◌, ℕ, suc, List, [], ◌++◌, length, refl, sym, ap, ◌∙◌, Bool, true, false, Option, Some, None, Result, Ok, Err}
 use Rattle.std.specs.Option.{option_map}
 use Rattle.std.specs.Str.{bytes_eq}
-use Rattle.world_ports.specs.declared.Moment.{Moment}
 use Rattle.world_ports.specs.declared.Door.{Door}
 use Rattle.world_ports.specs.declared.Door.TheVariants.{Clients, Children}
 use Rattle.world_ports.specs.declared.Job.{Job}
@@ -15,18 +14,17 @@ use Rattle.child_msg.specs.Reading.{from_child_of}
 use Rattle.child_msg.specs.declared.fault.ChildFault.{ChildFault}
 use Rattle.confirm_desk.specs.Confirmations.{Confirmation, find_asker, find_job, find_linked}
 use Rattle.agent_model.specs.Actions.{Outcome, stay}
-use Rattle.agent_model.specs.Children.{changed, closed, confirmer_goes_on, confirmer_hears, confirmer_named, failed_by, failed_if, first_frame, first_message, heard_more, hello_by, helper_named, job_failed, job_left, job_started, named_by, ticket_by, shut, unheard, unnamed_heard}
+use Rattle.agent_model.specs.Children.{changed, closed, confirmer_goes_on, confirmer_hears, confirmer_named, failed_by, failed_if, first_frame, first_message, heard_more, hello_by, helper_named, job_failed, job_left, job_started, is_started_by, is_wanted, named_by, ticket_by, shut, started_if, started_where, unheard, unnamed_heard}
 use Rattle.agent_model.specs.Answers.{helper_heard, lose}
 use Rattle.agent_model.specs.Consents.{find_started, over, over_if}
-use Rattle.agent_model.specs.State.{Client, Confirmer, Helper, Port, Role, StartedJob, State, Unnamed, find_port, find_to_start, is_linked_to, role_by_helper, role_by_link, role_of}
-use Rattle.agent_model.specs.Step.{admitted, at_moment, confirmer_took, ended_at, ended_by_role, has_room, heard_at, heard_by_role, helper_took, join, joined, took_at, took_by_role, turned_away}
+use Rattle.agent_model.specs.State.{Client, Confirmer, Helper, Port, Role, StartedJob, State, UnderWay, Unnamed, find_port, find_to_start, is_linked_to, role_by_helper, role_by_link, role_of}
+use Rattle.agent_model.specs.Step.{admitted, confirmer_took, ended_at, ended_by_role, has_room, heard_at, heard_by_role, helper_took, join, joined, took_at, took_by_role, turned_away}
 use Rattle.agent_model.proofs.PortsLemmas.{find_port-change_port}
 use Rattle.agent_secrecy.specs.Hiding.{bare, hide_port, hide_ports, hide_state, hide_under_way, seen}
 use Rattle.agent_secrecy.proofs.BlankLemmas.{blank-drop}
-use Rattle.agent_secrecy.proofs.TableLemmas.{expired-hidden}
 use Rattle.agent_secrecy.proofs.WorkLemmas.{with_owed}
 use Rattle.agent_secrecy.proofs.PortLemmas.{admitted-hidden, change_port-hidden, find_port-hidden, has_room-hidden, heard_more-hidden, unheard-hidden, unhidden}
-use Rattle.agent_secrecy.proofs.StateLemmas.{changed-hidden, closed-hidden, confirmer_heard-hidden, exactly, helper_heard-hidden, hide_outcome, lose-hidden, over-hidden, over_if-hidden, shut-hidden, shut_then-hidden, with_ports}
+use Rattle.agent_secrecy.proofs.StateLemmas.{changed-hidden, closed-hidden, confirmer_heard-hidden, exactly, helper_heard-hidden, hide_outcome, lose-hidden, lose_where-hidden, over-hidden, over_if-hidden, shut-hidden, shut_then-hidden, with_ports}
 
 -- the port of this number is a child process's
 abbrev pub IsChild : ℕ → State → Type 0
@@ -49,7 +47,7 @@ module _ (key : List ℕ → List ℕ) (keeps : (bytes : List ℕ) → length (k
   -- ---- jobs
 
   failed_by-hidden : (kind : JobKind) (number : ℕ) (state : State) → failed_by kind number (hide state) ≡ hidden_outcome (failed_by kind number state)
-  failed_by-hidden kinds.Helper number state = lose-hidden key keeps heard state
+  failed_by-hidden kinds.Helper number state = lose_where-hidden key keeps heard (is_started_by number state.under_way.link.state) state
   failed_by-hidden kinds.Confirm number state = over_if-hidden key keeps heard (find_job number state.under_way.confirmations) state
 
   failed_if-hidden : (found : Option Job) (state : State) → failed_if found (hide state) ≡ hidden_outcome (failed_if found state)
@@ -59,8 +57,18 @@ module _ (key : List ℕ → List ℕ) (keeps : (bytes : List ℕ) → length (k
   pub job_failed-hidden : (number : ℕ) (state : State) → job_failed number (hide state) ≡ hidden_outcome (job_failed number state)
   job_failed-hidden number state = failed_if-hidden (find_to_start number state.under_way.to_start) state
 
+  is_wanted-hidden : (kind : JobKind) (number : ℕ) (under_way : UnderWay) → is_wanted kind number (hide_under_way under_way) ≡ is_wanted kind number under_way
+  is_wanted-hidden kinds.Helper number under_way = refl
+  is_wanted-hidden kinds.Confirm number under_way = refl
+
+  started_if-hidden : (found : Option Job) (ticket : List ℕ) (under_way : UnderWay) → started_if found ticket (hide_under_way under_way) ≡ started_if found ticket under_way
+  started_if-hidden None ticket under_way = refl
+  started_if-hidden (Some job) ticket under_way = ap (λ wanted. started_where wanted job ticket) (is_wanted-hidden job.kind job.number under_way)
+
   pub job_started-hidden : (number : ℕ) (ticket : List ℕ) (state : State) → job_started number ticket (hide state) ≡ hide (job_started number ticket state)
-  job_started-hidden number ticket state = refl
+  job_started-hidden number ticket state =
+      ap (λ more. let new : State = record (hide (job_started number ticket state)) { under_way = record (hide_under_way (job_started number ticket state).under_way) { started = state.under_way.started ++ more } } in new)
+      (started_if-hidden (find_to_start number state.under_way.to_start) ticket state.under_way)
 
   -- ---- a child process names itself
 
@@ -193,9 +201,3 @@ module _ (key : List ℕ → List ℕ) (keeps : (bytes : List ℕ) → length (k
   join-hidden door state none =
       ap (λ new. let left : Outcome = record (stay new) { closes = turned_away (has_room door (hide_ports heard state.ports) (hide_under_way state.under_way)) (suc state.last_port) } in left) (joined-hidden door state none)
       ∙ ap (λ room. let left : Outcome = record (stay (hide (joined door state))) { closes = turned_away room (suc state.last_port) } in left) (has_room-hidden heard door state.ports state.under_way)
-
-  -- ---- the moment
-
-  pub at_moment-hidden : (moment : Moment) (state : State) → at_moment moment (hide state) ≡ hide (at_moment moment state)
-  at_moment-hidden moment state =
-      ap (λ held. let new : State = record (hide (at_moment moment state)) { held = held } in new) (expired-hidden key (max state.moment.mono moment.mono) state.held)

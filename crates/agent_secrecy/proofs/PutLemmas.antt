@@ -1,5 +1,5 @@
 -- Over all events each private string that is put to the helper was read as an addition: what ports sent are bytes.
-use Rattle.std.proofs.Common.{◌≡◌, ℕ, ◌+◌, ◌<◌, List, [], ◌∷◌, ◌++◌, drop, refl, Bool, true, false, Option, Some, None, Result, Ok, Err}
+use Rattle.std.proofs.Common.{◌≡◌, ℕ, ◌+◌, ◌<◌, List, [], ◌∷◌, ◌++◌, drop, refl, sym, subst, Bool, true, false, Option, Some, None, Result, Ok, Err}
 use Rattle.std.specs.List.{All}
 use Rattle.std.specs.Str.{bytes_eq}
 use Rattle.std.proofs.lemmas.List.Elements.{All-append, All-drop, All-nil, All-push, All-take}
@@ -25,16 +25,18 @@ use Rattle.helper_link.specs.declared.state.LinkState.TheVariants as states
 use Rattle.lists.specs.Keyed.{has_key}
 use Rattle.confirm_desk.specs.Confirmations.{Confirmation, Consent, No, NotYet, Yes, consent, find_asker, find_job}
 use Rattle.agent_model.specs.Actions.{Outcome, stay}
-use Rattle.agent_model.specs.Answers.{Answering, answer_all, answer_by, answer_true, answers_in, close_helper, find_verification, helper_heard, lose, lose_if, prove, tell_each, with_answers}
+use Rattle.agent_model.specs.Answers.{Answering, answer_all, answer_by, answer_true, answers_in, close_helper, find_verification, helper_heard, lose, lose_if, lose_where, prove, tell_each, with_answers}
 use Rattle.agent_model.specs.Binds.{agent_request_of}
-use Rattle.agent_model.specs.Children.{changed, closed, confirmer_goes_on, confirmer_named, failed_by, failed_if, first_frame, first_message, heard_more, hello_by, helper_named, job_left, named_by, shut, ticket_by, unheard}
+use Rattle.agent_model.specs.Children.{changed, closed, confirmer_goes_on, confirmer_named, failed_by, failed_if, first_frame, first_message, heard_more, hello_by, helper_named, is_started_by, job_left, named_by, shut, ticket_by, unheard}
 use Rattle.agent_model.specs.Consents.{close_confirmer, confirmer_heard, consent_by, find_started, grant_to, grant_work, over, over_if, without_confirmation}
 use Rattle.agent_model.specs.Dispatch.{serve}
 use Rattle.agent_model.specs.Events.{Happening, Timed, Joined, Heard, Ended, Took, Started, StartFailed, Tick}
 use Rattle.agent_model.specs.Runs.{AreInRange, IsInRange, outcomes}
-use Rattle.agent_model.specs.State.{Client, Confirmer, Helper, Nothing, OnAsk, OnConfirmation, Port, Role, StartedJob, State, Unnamed, Verification, Waits, change_port, find_port, find_to_start, first_state, new_port, number_of as port_number, remove_port, role_of}
-use Rattle.agent_model.specs.Step.{admitted, asker_at, at_moment, attempts, ended_at, ended_by_role, handle, has_room, heard_at, heard_by_role, look_front, look_owed, look_port, look_waits, step, take_frame, took_at, took_by_role, took_some}
+use Rattle.agent_model.specs.State.{Client, Confirmer, Helper, Nothing, OnAsk, OnConfirmation, Port, Role, Settings, StartedJob, State, Unnamed, Verification, Waits, change_port, find_port, find_to_start, first_state, new_port, number_of as port_number, remove_port, role_of}
+use Rattle.agent_model.specs.Step.{admitted, asker_at, attempts, ended_at, ended_by_role, handle, has_room, heard_at, heard_by_role, look_front, look_owed, look_port, look_waits, step, take_frame, took_at, took_by_role, took_some}
+use Rattle.agent_model.specs.Time.{at_moment}
 use Rattle.agent_model.specs.Verdicts.{HelperLost, HelperRefused, NotConfirmed, Refuses, Replies, Signature, SignatureWrong, Success, Verdict, tell}
+use Rattle.agent_model.proofs.TimeLemmas.{at_moment-keeps, time_passes-put}
 use Rattle.agent_secrecy.proofs.EachLemmas.{each_changed, each_found, each_left}
 use Rattle.agent_secrecy.proofs.AdditionLemmas.{AreHeld, AreKept, ArePut, IsAddition, adds_read, alive, grants_by, none, serves, used}
 
@@ -114,6 +116,10 @@ loses state keeps = record {
   };
   put = none;
 }
+
+loses_where : (is : Bool) (state : State) → Keeps state → KeepsAfter (lose_where is state)
+loses_where false state keeps = stays state keeps
+loses_where true state keeps = loses state keeps
 
 loses_if : (fault : Option LinkFault) (state : State) → Keeps state → KeepsAfter (lose_if fault state)
 loses_if None state keeps = stays state keeps
@@ -272,7 +278,7 @@ ended_found None state keeps = stays state keeps
 ended_found (Some port) state keeps = ended-keeps (role_of port.door port.number state.under_way) port.number state keeps
 
 failed : (kind : JobKind) (number : ℕ) (state : State) → Keeps state → KeepsAfter (failed_by kind number state)
-failed kinds.Helper number state keeps = loses state keeps
+failed kinds.Helper number state keeps = loses_where (is_started_by number state.under_way.link.state) state keeps
 failed kinds.Confirm number state keeps = ends_if (find_job number state.under_way.confirmations) state keeps
 
 failed_found : (found : Option Job) (state : State) → Keeps state → KeepsAfter (failed_if found state)
@@ -296,12 +302,17 @@ happens (StartFailed job) state range keeps = failed_found (find_to_start job st
 happens Tick state range keeps = stays state keeps
 
 at_this_moment : (moment : Moment) (state : State) → Keeps state → Keeps (at_moment moment state)
-at_this_moment moment state keeps = record { keys = alive _ state.held.table.identities keeps.keys; sent = keeps.sent }
+at_this_moment moment state keeps =
+    at_moment-keeps Keeps moment state (λ s kept. (loses s kept).state) (λ one s there kept. (ends one s kept).state)
+    (record { keys = alive _ state.held.table.identities keeps.keys; sent = keeps.sent })
 
 steps : (state : State) (moment : Moment) (event : Happening) → IsInRange event → Keeps state → KeepsAfter (step state moment event)
 steps state moment event range keeps =
     let one = happens event (at_moment moment state) range (at_this_moment moment state keeps) in
-    record { state = record { keys = one.state.keys; sent = one.state.sent }; put = one.put }
+    record {
+      state = record { keys = one.state.keys; sent = one.state.sent };
+      put = subst (λ put. ArePut (put ++ (handle event (at_moment moment state)).put)) (sym (time_passes-put moment state)) one.put;
+    }
 
 -- ---- runs
 
@@ -316,5 +327,5 @@ puts_from state (timed ∷ later) range keeps =
     let one = steps state timed.moment timed.event range.0.event keeps in
     (one.put, puts_from (step state timed.moment timed.event).state later range.1 one.state)
 
-pub puts : (life : Option ℕ) (events : List Timed) → AreInRange events → EachPut (outcomes (first_state life) events)
-puts life events range = puts_from (first_state life) events range (record { keys = All-nil IsAddition; sent = All-nil SentBytes })
+pub puts : (settings : Settings) (events : List Timed) → AreInRange events → EachPut (outcomes (first_state settings) events)
+puts settings events range = puts_from (first_state settings) events range (record { keys = All-nil IsAddition; sent = All-nil SentBytes })

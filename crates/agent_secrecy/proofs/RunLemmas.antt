@@ -1,18 +1,18 @@
 -- Two runs of alike lists of events, event by event.
 use Rattle.std.proofs.Common.{◌≡◌, ◌≢◌, ℕ, suc, ◌<◌, List, [], ◌++◌, length, length-append, refl, sym, ap, subst, ◌∙◌, arith, append_assoc, inl, inr, Option, Some, None}
-use Rattle.std.specs.Prelude.{◌⊎◌, IsSome}
+use Rattle.std.specs.Prelude.{◌⊎◌}
 use Rattle.std.specs.Option.{option_map}
 use Rattle.std.proofs.lemmas.Bool.{cases_eq}
 use Rattle.std.proofs.lemmas.Bool.Decides.{nat_tests}
 use Rattle.world_ports.specs.declared.Door.{Door}
 use Rattle.world_ports.specs.declared.Door.TheVariants.{Clients, Children}
-use Rattle.agent_model.specs.Actions.{Outcome}
+use Rattle.agent_model.specs.Actions.{Outcome, stay}
 use Rattle.agent_model.specs.Children.{changed, heard_more}
 use Rattle.agent_model.specs.Events.{Happening, Joined, Heard, Ended, Took, Started, StartFailed, Tick}
 use Rattle.agent_model.specs.Looks.{due}
 use Rattle.agent_model.specs.Sound.{IsSound}
-use Rattle.agent_model.specs.State.{Fits, Port, State, change_port, find_port, new_port}
-use Rattle.agent_model.specs.Step.{handle, has_room, join, look_front, looked, took_some}
+use Rattle.agent_model.specs.State.{Port, State, change_port, find_port, new_port}
+use Rattle.agent_model.specs.Step.{handle, has_room, heard_at, join, look_front, looked, took_some}
 use Rattle.agent_model.proofs.ClientLemmas.{handle-heard, handle-took, looked-found}
 use Rattle.agent_model.proofs.PortsLemmas.{find_port-change_port, found_number, found_within, rising-change_port}
 use Rattle.agent_secrecy.specs.Secrets.{blank, hidden}
@@ -264,8 +264,15 @@ found_child state number port found is other other_found =
 absent_child : (state : State) (number : ℕ) → find_port number state.ports ≡ None → IsChild number state
 absent_child state number absent port found = absurd (let e : None ≡ Some port = sym absent ∙ found in cc)
 
-no_port : IsSome (let none : Option Port = None in none) → ⊥
-no_port is = cc
+absent_too : (s t : State) (number : ℕ) → without_secrets s ≡ without_secrets t → find_port number s.ports ≡ None → find_port number t.ports ≡ None
+absent_too s t number same absent = by_found (find_port number t.ports) refl
+  where
+    by_found : (found : Option Port) → find_port number t.ports ≡ found → find_port number t.ports ≡ None
+    by_found None is = is
+    by_found (Some q) is = absurd (let p = pair_of t s number q (sym same) is in let e : None ≡ Some p.0 = sym absent ∙ p.1 in cc)
+
+not_there : (state : State) (number other : ℕ) (port : Port) → find_port number state.ports ≡ None → find_port other state.ports ≡ Some port → other ≢ number
+not_there state number other port absent found same = let e : None ≡ Some port = sym absent ∙ ap (λ n. find_port n state.ports) (sym same) ∙ found in cc
 
 module _ (door : ℕ → Door) (f g : ℕ → List ℕ) (s t : State) where
   pieces-by : (through : Door) (port : ℕ) (one other : List ℕ) (p : Port) → door port ≡ through → find_port port s.ports ≡ Some p → hide_piece through one ≡ hide_piece through other → Tracks door (before (Heard port one) f) (before (Heard port other) g) s t → After door f g (handle (Heard port one) s) (handle (Heard port other) t)
@@ -277,9 +284,22 @@ module _ (door : ℕ → Door) (f g : ℕ → List ℕ) (s t : State) where
       subst (λ bytes. Tracks door (before (Heard port one) f) (before (Heard port bytes) g) s t → After door f g (handle (Heard port one) s) (handle (Heard port bytes) t)) alike
       (λ same_tracks. quiet-after door f g (Heard port one) s t (λ d e. absurd (cc)) child (child_too s t port same_tracks.same child) same_tracks) tracks
 
-  pieces-after : (port : ℕ) (one other : List ℕ) (found : Option Port) → find_port port s.ports ≡ found → IsSome found → hide_piece (door port) one ≡ hide_piece (door port) other → Tracks door (before (Heard port one) f) (before (Heard port other) g) s t → After door f g (handle (Heard port one) s) (handle (Heard port other) t)
-  pieces-after port one other None is there alike tracks = absurd (no_port there)
-  pieces-after port one other (Some p) is there alike tracks = pieces-by (door port) port one other p refl is alike tracks
+  -- where the port isn't open, nothing comes of it
+  absent-after : (port : ℕ) (one other : List ℕ) → find_port port s.ports ≡ None → find_port port t.ports ≡ None → Tracks door (before (Heard port one) f) (before (Heard port other) g) s t → After door f g (handle (Heard port one) s) (handle (Heard port other) t)
+  absent-after port one other absent other_absent tracks =
+      subst (λ o. After door f g o (handle (Heard port other) t)) (sym (ap (λ found. heard_at found one s) absent))
+      (subst (After door f g (stay s)) (sym (ap (λ found. heard_at found other t) other_absent)) (record {
+        seen = ap (λ (x : State). let y : Seen = record { state = x; put = []; closes = [] } in y) tracks.same;
+        streams = λ number p q at_p at_q client.
+            let apart = not_there s port number p absent at_p in
+            subst (λ bytes. AreAlikeStreams (p.heard ++ (bytes ++ f number)) (q.heard ++ g number)) (no_piece number port one apart)
+            (subst (λ bytes. AreAlikeStreams (p.heard ++ before (Heard port one) f number) (q.heard ++ (bytes ++ g number))) (no_piece number port other apart)
+            (tracks.streams number p q at_p at_q client));
+      }))
+
+  pieces-after : (port : ℕ) (one other : List ℕ) (found : Option Port) → find_port port s.ports ≡ found → hide_piece (door port) one ≡ hide_piece (door port) other → Tracks door (before (Heard port one) f) (before (Heard port other) g) s t → After door f g (handle (Heard port one) s) (handle (Heard port other) t)
+  pieces-after port one other None is alike tracks = absent-after port one other is (absent_too s t port tracks.same is) tracks
+  pieces-after port one other (Some p) is alike tracks = pieces-by (door port) port one other p refl is alike tracks
 
   took-by : (through : Door) (port count : ℕ) (p : Port) → door port ≡ through → find_port port s.ports ≡ Some p → Tracks door f g s t → After door f g (handle (Took port count) s) (handle (Took port count) t)
   took-by Clients port count p is found tracks =
@@ -295,15 +315,15 @@ module _ (door : ℕ → Door) (f g : ℕ → List ℕ) (s t : State) where
       quiet-after door f g (Took port count) s t (λ d e. absurd (cc)) child (child_too s t port tracks.same child) tracks
   took_found port count (Some p) is tracks = took-by (door port) port count p refl is tracks
 
-  same-after : (event : Happening) → Fits event s → Tracks door (before event f) (before event g) s t → After door f g (handle event s) (handle event t)
-  same-after (Joined through) fits tracks = joined-after door f g through s t tracks
-  same-after (Heard port piece) fits tracks = pieces-after port piece piece (find_port port s.ports) refl fits.0 refl tracks
-  same-after (Ended port) fits tracks = quiet-after door f g (Ended port) s t (λ d e. absurd (cc)) tt tt tracks
-  same-after (Took port count) fits tracks = took_found port count (find_port port s.ports) refl tracks
-  same-after (Started job ticket) fits tracks = quiet-after door f g (Started job ticket) s t (λ d e. absurd (cc)) tt tt tracks
-  same-after (StartFailed job) fits tracks = quiet-after door f g (StartFailed job) s t (λ d e. absurd (cc)) tt tt tracks
-  same-after Tick fits tracks = quiet-after door f g Tick s t (λ d e. absurd (cc)) tt tt tracks
+  same-after : (event : Happening) → Tracks door (before event f) (before event g) s t → After door f g (handle event s) (handle event t)
+  same-after (Joined through) tracks = joined-after door f g through s t tracks
+  same-after (Heard port piece) tracks = pieces-after port piece piece (find_port port s.ports) refl refl tracks
+  same-after (Ended port) tracks = quiet-after door f g (Ended port) s t (λ d e. absurd (cc)) tt tt tracks
+  same-after (Took port count) tracks = took_found port count (find_port port s.ports) refl tracks
+  same-after (Started job ticket) tracks = quiet-after door f g (Started job ticket) s t (λ d e. absurd (cc)) tt tt tracks
+  same-after (StartFailed job) tracks = quiet-after door f g (StartFailed job) s t (λ d e. absurd (cc)) tt tt tracks
+  same-after Tick tracks = quiet-after door f g Tick s t (λ d e. absurd (cc)) tt tt tracks
 
-  pub handle-after : (one other : Happening) → ArePair door one other → Fits one s → Tracks door (before one f) (before other g) s t → After door f g (handle one s) (handle other t)
-  handle-after one other (same_event event) fits tracks = same-after event fits tracks
-  handle-after one other (pieces port first second alike) fits tracks = pieces-after port first second (find_port port s.ports) refl fits.0 alike tracks
+  pub handle-after : (one other : Happening) → ArePair door one other → Tracks door (before one f) (before other g) s t → After door f g (handle one s) (handle other t)
+  handle-after one other (same_event event) tracks = same-after event tracks
+  handle-after one other (pieces port first second alike) tracks = pieces-after port first second (find_port port s.ports) refl alike tracks

@@ -1,32 +1,36 @@
 -- Alike lists of events, from the first state on.
 use Rattle.std.proofs.Common.{◌≡◌, ℕ, ◌<◌, ◌≤◌, List, [], ◌∷◌, ◌++◌, length, refl, sym, ap, subst, ◌∙◌, arith, cond, Option, Some, None}
 use Rattle.std.specs.Prelude.{IsSome, nat_lt}
+use Rattle.std.proofs.lemmas.List.{map-append}
+use Rattle.identity_table.specs.Deaths.{earlier}
 use Rattle.agent_model.specs.NumberLists.{put_all}
 use Rattle.world_ports.specs.declared.Door.{Door}
 use Rattle.world_ports.specs.declared.Door.TheVariants.{Clients, Children}
 use Rattle.world_ports.specs.declared.Moment.{Moment}
-use Rattle.agent_model.specs.Actions.{Outcome}
+use Rattle.agent_model.specs.Actions.{Outcome, behind}
 use Rattle.agent_model.specs.Events.{Happening, Timed, Joined, Heard, Ended, Took, Started, StartFailed, Tick}
 use Rattle.agent_model.specs.Runs.{AllFit, outcomes}
 use Rattle.agent_model.specs.Sound.{IsSound}
-use Rattle.agent_model.specs.State.{Fits, Port, State, UnderWay, client_count, find_port, first_state, is_more, next_due, numbers, owed_as, owed_by, role_of, wants, wants_at, wants_by}
-use Rattle.agent_model.specs.Step.{at_moment, handle, step}
+use Rattle.agent_model.specs.State.{Fits, Port, Settings, State, UnderWay, client_count, find_port, first_state, is_more, next_due, next_limit, numbers, owed_as, owed_by, role_of, wants, wants_at, wants_by}
+use Rattle.agent_model.specs.Step.{handle, in_order, step}
+use Rattle.agent_model.specs.Time.{at_moment, time_passes}
 use Rattle.agent_model.proofs.PortsLemmas.{found_within}
 use Rattle.agent_model.proofs.RunLemmas.{first_is_sound}
 use Rattle.agent_secrecy.specs.Secrets.{hidden}
-use Rattle.agent_secrecy.specs.Hiding.{Seen, hide_port, hide_ports}
+use Rattle.agent_secrecy.specs.Hiding.{Seen, hide_message, hide_port, hide_ports}
 use Rattle.agent_secrecy.specs.Alike.{AreAlike, AreAlikeStreams, AreOfOneShape, JoinThrough, JoinsThrough, heard_in, last_after, stream_of}
 use Rattle.agent_secrecy.specs.Secrecy.{AreAlikeSeen, IsAlikeSeen}
 use Rattle.agent_secrecy.proofs.BlankLemmas.{length-blank}
 use Rattle.agent_secrecy.proofs.TableLemmas.{length-hidden, next_death-hidden}
 use Rattle.agent_secrecy.proofs.PortLemmas.{client_count-hidden, numbers-hidden}
-use Rattle.agent_secrecy.proofs.EventLemmas.{at_moment-hidden}
+use Rattle.agent_secrecy.proofs.MomentLemmas.{at_moment-hidden, time_passes-hidden}
+use Rattle.agent_secrecy.proofs.QuietLemmas.{moment_keeps}
 use Rattle.agent_secrecy.proofs.LengthLemmas.{length-hidden_bytes}
 use Rattle.agent_secrecy.proofs.LookLemmas.{blanked}
 use Rattle.agent_secrecy.proofs.StreamLemmas.{AreAlikeFronts, alike_fronts, both_bad, both_more, both_whole}
 use Rattle.wire_text.specs.Frames.{Front, front}
 use Rattle.wire_text.specs.Bounds.{longest_body}
-use Rattle.agent_secrecy.proofs.TrackLemmas.{follows, tracked-moment, tracked-step}
+use Rattle.agent_secrecy.proofs.TrackLemmas.{follows, follows-moment, tracked-moment, tracked-step, was_at_moment}
 use Rattle.agent_secrecy.proofs.RunLemmas.{ArePair, Tracks, handle-after, heard_lengths, no_piece, pair, pair_of, pieces, same_event, seen_of, without_secrets}
 
 -- ---- the number of the last port
@@ -42,6 +46,9 @@ last-handle (Took port count) state = quiet-last (Took port count) state (λ d i
 last-handle (Started job ticket) state = quiet-last (Started job ticket) state (λ d is. absurd (cc))
 last-handle (StartFailed job) state = quiet-last (StartFailed job) state (λ d is. absurd (cc))
 last-handle Tick state = quiet-last Tick state (λ d is. absurd (cc))
+
+last-step : (state : State) (moment : Moment) (event : Happening) → (step state moment event).state.last_port ≡ last_after state.last_port event
+last-step state moment event = last-handle event (at_moment moment state) ∙ ap (λ last. last_after last event) (follows-moment moment state).last
 
 last-grows : (last : ℕ) (event : Happening) → last ≤ last_after last event
 last-grows last (Joined through) = omega arith
@@ -88,9 +95,34 @@ module _ (door : ℕ → Door) (f g : ℕ → List ℕ) where
     same = sym (at_moment-hidden hidden length-hidden_bytes blanked moment s) ∙ ap (at_moment moment) tracks.same ∙ at_moment-hidden hidden length-hidden_bytes blanked moment t;
     one = tracked-moment door moment s tracks.one;
     other = tracked-moment door moment t tracks.other;
-    streams = tracks.streams;
-    later = tracks.later;
+    streams = λ number p q at_p at_q client.
+        let was = was_at_moment moment s tracks.one.sound number p at_p in
+        let other_was = was_at_moment moment t tracks.other.sound number q at_q in
+        let was_client : was.0.door ≡ Clients = tracks.one.doors number was.0 was.1 ∙ client in
+        let other_client : other_was.0.door ≡ Clients = tracks.other.doors number other_was.0 other_was.1 ∙ client in
+        subst (λ bytes. AreAlikeStreams (bytes ++ f number) (q.heard ++ g number)) (sym (moment_keeps length-hidden_bytes moment s number p was.0 tracks.one.sound.rising at_p (was.2 ∙ was_client) was.1))
+        (subst (λ bytes. AreAlikeStreams (was.0.heard ++ f number) (bytes ++ g number)) (sym (moment_keeps length-hidden_bytes moment t number q other_was.0 tracks.other.sound.rising at_q (other_was.2 ∙ other_client) other_was.1))
+        (tracks.streams number was.0 other_was.0 was.1 other_was.1 client));
+    later = λ number above client. tracks.later number (subst (λ last. last < number) (follows-moment moment s).last above) client;
   }
+
+-- what is seen of what a moment brings
+seen-moment : (moment : Moment) (s t : State) → without_secrets s ≡ without_secrets t → seen_of (time_passes moment s) ≡ seen_of (time_passes moment t)
+seen-moment moment s t same =
+    ap (λ (o : Outcome). let x : Seen = record { state = o.state; put = o.put; closes = o.closes } in x)
+    (sym (time_passes-hidden hidden length-hidden_bytes blanked moment s) ∙ ap (time_passes moment) same ∙ time_passes-hidden hidden length-hidden_bytes blanked moment t)
+
+-- and of an event behind it
+abbrev seen_behind : (first then : Seen) → Seen
+seen_behind first then = record then { put = first.put ++ then.put; closes = put_all [] (first.closes ++ then.closes) }
+
+seen-behind : (first then : Outcome) → seen_of (in_order (behind first then)) ≡ seen_behind (seen_of first) (seen_of then)
+seen-behind first then =
+    ap (λ put. let x : Seen = record (seen_of (in_order (behind first then))) { put = put } in x) (map-append (hide_message hidden) first.put then.put)
+
+seen-step : (first then other next : Outcome) → seen_of first ≡ seen_of other → seen_of then ≡ seen_of next → seen_of (in_order (behind first then)) ≡ seen_of (in_order (behind other next))
+seen-step first then other next same later =
+    seen-behind first then ∙ ap (λ x. seen_behind x (seen_of then)) same ∙ ap (seen_behind (seen_of other)) later ∙ sym (seen-behind other next)
 
 abbrev to_come : Happening → (ℕ → List ℕ) → ℕ → List ℕ
 to_come event f number = heard_in number event ++ f number
@@ -102,8 +134,9 @@ record Stepped (door : ℕ → Door) (f g : ℕ → List ℕ) (o u : Outcome) : 
 stepped : (door : ℕ → Door) (f g : ℕ → List ℕ) (s t : State) (moment : Moment) (one other : Happening) → ArePair door one other → Fits one s → JoinsThrough door s.last_port one → Tracks door (to_come one f) (to_come other g) s t → Stepped door f g (step s moment one) (step t moment other)
 stepped door f g s t moment one other both fits joins tracks =
     let opened = moment-tracks door (to_come one f) (to_come other g) moment s t tracks in
-    let after = handle-after door f g (at_moment moment s) (at_moment moment t) one other both fits opened in
-    let seen : seen_of (step s moment one) ≡ seen_of (step t moment other) = ap (λ (x : Seen). let y : Seen = record x { closes = put_all [] x.closes } in y) after.seen in
+    let after = handle-after door f g (at_moment moment s) (at_moment moment t) one other both opened in
+    let seen : seen_of (step s moment one) ≡ seen_of (step t moment other) =
+    seen-step (time_passes moment s) (handle one (at_moment moment s)) (time_passes moment t) (handle other (at_moment moment t)) (seen-moment moment s t tracks.same) after.seen in
     let same_last : s.last_port ≡ t.last_port = ap (λ (x : State). x.last_port) tracks.same in
     record {
       seen = seen;
@@ -113,7 +146,7 @@ stepped door f g s t moment one other both fits joins tracks =
         other = tracked-step door t moment other (subst (λ last. JoinsThrough door last other) same_last (joins_other door one other s.last_port both joins)) tracks.other;
         streams = after.streams;
         later = λ number above client.
-            let grows : s.last_port < number = omega (arith, above, last-handle one (at_moment moment s), last-grows s.last_port one) in
+            let grows : s.last_port < number = omega (arith, above, last-step s moment one, last-grows s.last_port one) in
             subst (λ bytes. AreAlikeStreams (bytes ++ f number) (g number)) (unheard one s number tracks.one.sound fits grows)
             (subst (λ bytes. AreAlikeStreams (to_come one f number) (bytes ++ g number)) (unheard_other door one other s number both tracks.one.sound fits grows)
             (tracks.later number grows client));
@@ -152,6 +185,9 @@ wants-by door f g s t number (Some p) (Some q) tracks is other_is =
     wants_at_by door f g s t number p q p.door tracks is other_is same refl
     ∙ ap (λ (x : Port). wants_at x.door q.heard) same
 
+next_due-hidden : (state : State) → next_due (without_secrets state) ≡ next_due state
+next_due-hidden state = ap (λ death. earlier death (next_limit state.under_way)) (next_death-hidden hidden state.held.table.identities)
+
 seen-alike : (o u : Outcome) → seen_of o ≡ seen_of u → ((number : ℕ) → wants number o.state ≡ wants number u.state) → IsAlikeSeen o u
 seen-alike o u same wanted =
     let state : without_secrets o.state ≡ without_secrets u.state = ap (λ (x : Seen). x.state) same in
@@ -169,7 +205,7 @@ seen-alike o u same wanted =
       faults = ap (λ (x : State). x.under_way.link.faults) state;
       last = ap (λ (x : State). x.last_port) state;
       clients = sym (client_count-hidden blanked o.state.ports) ∙ ap (λ (x : State). client_count x.ports) state ∙ client_count-hidden blanked u.state.ports;
-      due = sym (next_death-hidden hidden o.state.held.table.identities) ∙ ap next_due state ∙ next_death-hidden hidden u.state.held.table.identities;
+      due = sym (next_due-hidden o.state) ∙ ap next_due state ∙ next_due-hidden u.state;
       wants = wanted;
       helper = sym (length-blank o.state.under_way.link.owed) ∙ ap (λ (x : State). length x.under_way.link.owed) state ∙ length-blank u.state.under_way.link.owed;
       put = ap (λ (x : Seen). x.put) same;
@@ -187,22 +223,22 @@ runs door (one ∷ ones) (other ∷ others) s t shapes joins fit tracks =
     (let both = pair door one.event other.event shapes.1 in
     let next = stepped door (λ number. stream_of number ones) (λ number. stream_of number others) s t one.moment one.event other.event both fit.0 joins.0 tracks in
     let later_joins : JoinThrough door (step s one.moment one.event).state.last_port ones =
-    subst (λ last. JoinThrough door last ones) (sym (last-handle one.event (at_moment one.moment s))) joins.1 in (
+    subst (λ last. JoinThrough door last ones) (sym (last-step s one.moment one.event)) joins.1 in (
       seen-alike (step s one.moment one.event) (step t one.moment other.event) next.seen
           (λ number. wants-by door (λ number. stream_of number ones) (λ number. stream_of number others) (step s one.moment one.event).state (step t one.moment other.event).state number _ _ next.tracks refl refl),
       runs door ones others (step s one.moment one.event).state (step t one.moment other.event).state shapes.2 later_joins fit.1 next.tracks,
     ))
 
-first-tracks : (life : Option ℕ) (door : ℕ → Door) (f g : ℕ → List ℕ) → ((number : ℕ) → door number ≡ Clients → AreAlikeStreams (f number) (g number)) → Tracks door f g (first_state life) (first_state life)
-first-tracks life door f g streams = record {
+first-tracks : (settings : Settings) (door : ℕ → Door) (f g : ℕ → List ℕ) → ((number : ℕ) → door number ≡ Clients → AreAlikeStreams (f number) (g number)) → Tracks door f g (first_state settings) (first_state settings)
+first-tracks settings door f g streams = record {
   same = refl;
-  one = record { sound = first_is_sound life; doors = λ number port found. absurd (cc) };
-  other = record { sound = first_is_sound life; doors = λ number port found. absurd (cc) };
+  one = record { sound = first_is_sound settings; doors = λ number port found. absurd (cc) };
+  other = record { sound = first_is_sound settings; doors = λ number port found. absurd (cc) };
   streams = λ number p q at_p at_q client. absurd (cc);
   later = λ number above client. streams number client;
 }
 
-pub every_run : (life : Option ℕ) (one other : List Timed) → AreAlike one other → AllFit (first_state life) one → AreAlikeSeen (outcomes (first_state life) one) (outcomes (first_state life) other)
-every_run life one other alike fit =
-    runs alike.door one other (first_state life) (first_state life) alike.shapes alike.joins fit
-    (first-tracks life alike.door (λ number. stream_of number one) (λ number. stream_of number other) alike.streams)
+pub every_run : (settings : Settings) (one other : List Timed) → AreAlike one other → AllFit (first_state settings) one → AreAlikeSeen (outcomes (first_state settings) one) (outcomes (first_state settings) other)
+every_run settings one other alike fit =
+    runs alike.door one other (first_state settings) (first_state settings) alike.shapes alike.joins fit
+    (first-tracks settings alike.door (λ number. stream_of number one) (λ number. stream_of number other) alike.streams)

@@ -1,5 +1,6 @@
 -- What the helper, the user and child processes bring, with secrets hidden.
-use Rattle.std.proofs.Common.{◌≡◌, ℕ, List, [], ◌∷◌, ◌++◌, length, map, refl, ap, ◌∙◌, Option, Some, None}
+use Rattle.std.proofs.Common.{◌≡◌, ℕ, List, [], ◌∷◌, ◌++◌, length, map, refl, sym, ap, ◌∙◌, Bool, true, false, Option, Some, None}
+use Rattle.std.proofs.lemmas.List.{map-append}
 use Rattle.std.specs.Option.{option_map}
 use Rattle.helper_link.specs.HelperLink.{HelperLink, askers}
 use Rattle.helper_link.specs.Telling.{Telling, telling}
@@ -13,7 +14,7 @@ use Rattle.dest_rule.specs.declared.binding.Binding.{Binding}
 use Rattle.dest_rule.specs.declared.denial.Denial.{Denial}
 use Rattle.confirm_desk.specs.Confirmations.{Confirmation, Consent, No, NotYet, Yes, consent}
 use Rattle.agent_model.specs.Actions.{Action, Answered, Lost, Outcome, Over, Work, acted, and_then, behind, closing, stay}
-use Rattle.agent_model.specs.Answers.{Answering, answer_all, answer_asker, answer_by, answer_true, answers_in, close_helper, find_verification, helper_closes, helper_heard, helper_tells, lose, lose_if, proved_at, prove, remove_verification, tell_each, with_answers}
+use Rattle.agent_model.specs.Answers.{Answering, answer_all, answer_asker, answer_by, answer_true, answers_in, close_helper, find_verification, helper_closes, helper_heard, helper_tells, lose, lose_if, lose_where, proved_at, prove, remove_verification, tell_each, with_answers}
 use Rattle.agent_model.specs.Children.{changed, closed, shut, shut_then}
 use Rattle.agent_model.specs.Consents.{close_confirmer, confirmer_closes, confirmer_heard, consent_by, grant, grant_by, grant_concluded, grant_to, grant_unless, grant_with, grant_work, over, over_if, signing_of, with_heard, without_confirmation}
 use Rattle.agent_model.specs.Errands.{Signs}
@@ -62,6 +63,12 @@ module _ (key : List ℕ → List ℕ) (keeps : (bytes : List ℕ) → length (k
   abbrev done : List Action → State → List ℕ → Outcome
   done actions state closes = record { state = state; actions = actions; put = []; closes = closes }
 
+  -- one thing, and then another
+  pub and_then-hidden : (one hidden_one : Outcome) (next : State → Outcome) → hidden_one ≡ hide_outcome one → next (hide one.state) ≡ hide_outcome (next one.state) → and_then hidden_one next ≡ hide_outcome (and_then one next)
+  and_then-hidden one hidden_one next same later =
+      ap (λ first. and_then first next) same ∙ ap (behind (hide_outcome one)) later
+      ∙ ap (λ put. let left : Outcome = record (hide_outcome (and_then one next)) { put = put } in left) (sym (map-append (hide_message key) one.put (next one.state).put))
+
   -- a port is closed, and then this happens
   pub shut_then-hidden : (number : ℕ) (next : State → Outcome) (state : State) → next (hide (closed number state)) ≡ hide_outcome (next (closed number state)) → shut_then number next (hide state) ≡ hide_outcome (shut_then number next state)
   shut_then-hidden number next state same =
@@ -82,6 +89,10 @@ module _ (key : List ℕ → List ℕ) (keeps : (bytes : List ℕ) → length (k
       (ap (tell_each (Refuses HelperLost) (askers state.under_way.link.asks)) (close_helper-hidden heard state.under_way.link.state state.ports)
       ∙ tell_each-hidden heard (Refuses HelperLost) (askers state.under_way.link.asks) (close_helper state.under_way.link.state state.ports))
       ∙ ap (done (Lost ∷ []) (hide (lose state).state)) (helper_closes-hidden heard state.under_way.link.state state.ports)
+
+  pub lose_where-hidden : (is : Bool) (state : State) → lose_where is (hide state) ≡ hide_outcome (lose_where is state)
+  lose_where-hidden false state = refl
+  lose_where-hidden true state = lose-hidden state
 
   pub lose_if-hidden : (fault : Option LinkFault) (state : State) → lose_if fault (hide state) ≡ hide_outcome (lose_if fault state)
   lose_if-hidden None state = refl

@@ -1,6 +1,6 @@
 -- Runs of one client whose key has one secret or another, and what is told in them (ours). A definition of the agent that
 -- tells a bit of a secret differs in one of them.
-use Rattle.std.specs.Prelude.{ℕ, List, [], ◌∷◌, ◌++◌, take, map, codes, None}
+use Rattle.std.specs.Prelude.{ℕ, List, [], ◌∷◌, ◌++◌, take, map, codes}
 use Rattle.world_ports.specs.declared.Door.TheVariants.{Clients, Children}
 use Rattle.world_ports.specs.declared.Job.{Job}
 use Rattle.agent_model.specs.Actions.{Outcome}
@@ -8,7 +8,7 @@ use Rattle.agent_model.specs.ChildRows.{hello, ticket}
 use Rattle.agent_model.specs.Events.{Happening, Heard, Joined, Started, Took}
 use Rattle.agent_model.specs.Rows.{list, sign}
 use Rattle.agent_model.specs.Runs.{outcomes}
-use Rattle.agent_model.specs.State.{first_state, owed_of, starts}
+use Rattle.agent_model.specs.State.{first_state, no_settings, owed_of, starts}
 use Rattle.agent_secrecy.specs.Rows.{add_with, now, private_string}
 
 -- what an event tells: what is owed to the client of port 1 and at port 2, the ports that were closed, and the jobs that
@@ -19,7 +19,7 @@ told_by outcome = owed_of 1 outcome.state ∷ owed_of 2 outcome.state ∷ outcom
 
 -- the same after each event, from the first state on
 abbrev pub told_in : List Happening → List (List (List ℕ))
-told_in events = map told_by (outcomes (first_state None) (map now events))
+told_in events = map told_by (outcomes (first_state no_settings) (map now events))
 
 -- the message that adds the key of this tag and secret, so that each use is asked of the user
 abbrev pub add_asking_with : (tag secret : ℕ) → List ℕ

@@ -6,7 +6,7 @@ use Rattle.replay_run.specs.declared.run_end.RunEnd.{RunEnd}
 use Rattle.replay_run.specs.declared.run_end.RunEnd.TheVariants.{Done, Refused, Memory, ReadFault, WriteFault}
 use Rattle.agent_laws.proofs.AnsweredLemmas.{first-answered}
 use Rattle.replay_run.specs.Brought.{events_of}
-use Rattle.replay_run.specs.Replay.{run_of}
+use Rattle.replay_run.specs.Replay.{run_of, settings_of}
 use Rattle.replay_run.specs.Claims.{Seen, IsRefused, Ends}
 use Rattle.replay_run.proofs.BroughtLemmas.{run-schedule, schedule-lawful}
 use Rattle.agent_top.specs.Program.{status_of, ReplaysExactly, IsComplete, IsFinished, IsLawfulRun, HasNoFault, Completes, RunsLawfully}
@@ -63,7 +63,7 @@ lawful_run : (life : Option ℕ) (text : List ℕ) → IsLawfulRun life text
 lawful_run life text = record {
   agent = run-schedule life text;
   lawful = schedule-lawful life text;
-  answered = first-answered life (events_of life text);
+  answered = first-answered (settings_of life text) (events_of life text);
 }
 
 pub lawful_by : (life : Option ℕ) (old new : Seen) → RunsLawfully life old new

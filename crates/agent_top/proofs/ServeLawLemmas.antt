@@ -16,6 +16,7 @@ use Rattle.agent_model.specs.Step.{step}
 use Rattle.loop_model.specs.LegalJournal.{Turning, comes_next, events_at, taken_if}
 use Rattle.loop_model.specs.Things.{same_door}
 use Rattle.ready_loop.specs.Serving.{Setting, Stage, Unbound, HalfBound, Running, Refused, after_bind, begun, bound, children_path, gone_on, may_come, ran, running_if, stage_if}
+use Rattle.agent_top.specs.Words.{served_with}
 use Rattle.agent_top.specs.ServeLaw.{IsLawfulServing, ServesLawfully, agent_at, call_events, calls_events, later_events}
 
 -- ---- which stage leads where
@@ -82,12 +83,12 @@ calls-run setting stage to (next ∷ later) legal =
     runs-on setting stage to (gone_on setting stage next) (call_events stage next) later (stage-leads setting stage next) legal
     (λ after rest. calls-run setting after to later rest)
 
-pub serves_lawfully : (life : Option ℕ) (setting : Setting) (old new : Option (List Entry)) → setting.state ≡ first_state life → ServesLawfully life setting old new
+pub serves_lawfully : (life : Option ℕ) (setting : Setting) (old new : Option (List Entry)) → setting.state ≡ first_state (served_with life) → ServesLawfully life setting old new
 serves_lawfully life setting old new first = λ calls to told legal.
-    let same : agent_at setting to ≡ run (first_state life) (calls_events setting Unbound calls) =
+    let same : agent_at setting to ≡ run (first_state (served_with life)) (calls_events setting Unbound calls) =
     calls-run setting Unbound to calls legal ∙ ap (λ (state : State). run state (calls_events setting Unbound calls)) first in
     record {
       agent = same;
-      lawful = λ numbers. first-lawful life (calls_events setting Unbound calls) (subst HasNumbers same numbers);
-      answered = first-answered life (calls_events setting Unbound calls);
+      lawful = λ numbers. first-lawful (served_with life) (calls_events setting Unbound calls) (subst HasNumbers same numbers);
+      answered = first-answered (served_with life) (calls_events setting Unbound calls);
     }

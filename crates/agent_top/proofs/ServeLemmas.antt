@@ -12,7 +12,7 @@ use Rattle.ready_loop.specs.Serving.{RunsOut, Serves, Setting, Unbound}
 use Rattle.ready_loop.specs.declared.outcome.ServeEnd.{ServeEnd}
 use Rattle.ready_loop.specs.declared.outcome.ServeEnd.TheVariants as ends
 use Rattle.agent_top.specs.ServeProgram.{ServesExactly, status_of_serving}
-use Rattle.agent_top.specs.Words.{IsServe, replay_life, texts_of}
+use Rattle.agent_top.specs.Words.{IsServe, replay_life, served_with, texts_of}
 
 -- a word isn't both
 not_both : (word : List ℕ) → bytes_eq word (codes "serve") ≡ true → bytes_eq word (codes "replay") ≡ false
@@ -38,13 +38,13 @@ some_same : {one other : List ℕ} → Some one ≡ Some other → one ≡ other
 some_same same = cc
 
 -- the words say this setting
-said : (words : List (String Global)) (setting : Setting) (path : List ℕ) (until_idle : Bool) (life : Option ℕ) → IsServe words setting → Some path ≡ value_of (codes "path") (texts_of words) → until_idle ≡ is_set (value_of (codes "until-idle") (texts_of words)) → life ≡ life_in (texts_of words) → record { path = path; until_idle = until_idle; state = first_state life } ≡ setting
+said : (words : List (String Global)) (setting : Setting) (path : List ℕ) (until_idle : Bool) (life : Option ℕ) → IsServe words setting → Some path ≡ value_of (codes "path") (texts_of words) → until_idle ≡ is_set (value_of (codes "until-idle") (texts_of words)) → life ≡ life_in (texts_of words) → record { path = path; until_idle = until_idle; state = first_state (served_with life) } ≡ setting
 said words setting path until_idle life is at idle lives =
     let paths : path ≡ setting.path = some_same (at ∙ is.path) in
     rw (paths, idle, lives, ← is.until_idle, ← is.state) refl
 
 -- what the loop's end says is said of the words' setting
-pub serves_words : (words : List (String Global)) (setting : Setting) (path : List ℕ) (until_idle : Bool) (life : Option ℕ) (state : State) (end : ServeEnd) (old new : Option (List Entry)) → IsServe words setting → Some path ≡ value_of (codes "path") (texts_of words) → until_idle ≡ is_set (value_of (codes "until-idle") (texts_of words)) → life ≡ life_in (texts_of words) → state ≡ first_state life → Serves end (record { path = path; until_idle = until_idle; state = state }) Unbound old new → ServesExactly setting (status_of_serving end) old new
+pub serves_words : (words : List (String Global)) (setting : Setting) (path : List ℕ) (until_idle : Bool) (life : Option ℕ) (state : State) (end : ServeEnd) (old new : Option (List Entry)) → IsServe words setting → Some path ≡ value_of (codes "path") (texts_of words) → until_idle ≡ is_set (value_of (codes "until-idle") (texts_of words)) → life ≡ life_in (texts_of words) → state ≡ first_state (served_with life) → Serves end (record { path = path; until_idle = until_idle; state = state }) Unbound old new → ServesExactly setting (status_of_serving end) old new
 serves_words words setting path until_idle life state end old new is at idle lives begun serves =
     subst (λ (s : Setting). ServesExactly s (status_of_serving end) old new) (said words setting path until_idle life is at idle lives)
     (serves_by end _ old new (subst (λ (s : State). Serves end (record { path = path; until_idle = until_idle; state = s }) Unbound old new) begun serves))

@@ -19,7 +19,7 @@ use Rattle.agent_top.specs.declared.status.Status.TheVariants as status
 use Rattle.replay_run.specs.declared.run_end.RunEnd.{RunEnd}
 use Rattle.replay_run.specs.declared.run_end.RunEnd.TheVariants.{Done, Refused, Memory, ReadFault, WriteFault}
 use Rattle.replay_run.specs.Brought.{events_of}
-use Rattle.replay_run.specs.Replay.{run_of}
+use Rattle.replay_run.specs.Replay.{run_of, settings_of}
 use Rattle.replay_run.specs.Claims.{Seen, HasRead, HoldsOfInput, EndsDone, EndsRefused, EndsEarly, EndsAtReadFault, EndsAtWriteFault}
 
 -- the status of a run that ended so
@@ -88,9 +88,10 @@ pub record Completes (life : Option ℕ) (result : Status) (old new : Seen) : Ty
 -- asks nor those of jobs are spent, a signature is put to the helper in it exactly where what was done before says so; and
 -- whoever waits for the helper gets its first answer to the own request, or is told that the helper was lost
 pub record IsLawfulRun (life : Option ℕ) (text : List ℕ) : Type 0 where
-  pub agent : (run_of life text).agent ≡ run (first_state life) (events_of life text)
-  pub lawful : HasNumbers (run_of life text).agent → IsLawful life [] (history (first_state life) (events_of life text))
-  pub answered : IsAnswered (first_state life) (events_of life text)
+  pub agent : (run_of life text).agent ≡ run (first_state (settings_of life text)) (events_of life text)
+  pub lawful : HasNumbers (run_of life text).agent
+      → IsLawful life [] (history (first_state (settings_of life text)) (events_of life text))
+  pub answered : IsAnswered (first_state (settings_of life text)) (events_of life text)
 
 -- the run of what was read is such a run, and that of the whole input, where that is told
 abbrev pub RunsLawfully : Option ℕ → Seen → Seen → Type 0

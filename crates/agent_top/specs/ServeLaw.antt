@@ -11,6 +11,7 @@ use Rattle.agent_model.specs.Events.{Timed}
 use Rattle.agent_model.specs.Runs.{history, run}
 use Rattle.agent_model.specs.State.{State, first_state}
 use Rattle.loop_model.specs.LegalJournal.{events_at}
+use Rattle.agent_top.specs.Words.{served_with}
 use Rattle.ready_loop.specs.Serving.{Setting, Stage, Unbound, HalfBound, Running, Refused, gone_on, ran}
 
 -- what a call brings: events come once both listeners are bound
@@ -42,10 +43,10 @@ agent_at setting Refused = setting.state
 -- spent, a signature is put to the helper exactly where what was done before says so; and whoever waits for the helper
 -- gets its first answer to the own request, or is told that the helper was lost
 pub record IsLawfulServing (life : Option ℕ) (setting : Setting) (calls : List Entry) (to : Stage) : Type 0 where
-  pub agent : agent_at setting to ≡ run (first_state life) (calls_events setting Unbound calls)
+  pub agent : agent_at setting to ≡ run (first_state (served_with life)) (calls_events setting Unbound calls)
   pub lawful : HasNumbers (agent_at setting to) →
-      IsLawful life [] (history (first_state life) (calls_events setting Unbound calls))
-  pub answered : IsAnswered (first_state life) (calls_events setting Unbound calls)
+      IsLawful life [] (history (first_state (served_with life)) (calls_events setting Unbound calls))
+  pub answered : IsAnswered (first_state (served_with life)) (calls_events setting Unbound calls)
 
 -- so do the calls that were added
 abbrev pub ServesLawfully : Option ℕ → Setting → Option (List Entry) → Option (List Entry) → Type 0

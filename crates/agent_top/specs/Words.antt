@@ -5,7 +5,7 @@ use Rattle.std.specs.String.{string_bytes}
 use Rattle.std.specs.declared.string.String.{String}
 use Rattle.std.specs.declared.alloc.Global.{Global}
 use Rattle.world_ports.specs.Life.{life_of}
-use Rattle.agent_model.specs.State.{first_state}
+use Rattle.agent_model.specs.State.{Settings, first_state, usual_limits}
 use Rattle.ready_loop.specs.Serving.{Setting}
 use Rattle.schedule_text.specs.Numbers.{number_of}
 use Rattle.serve_words.specs.Serve.{begins, is_set, is_usage, life_in, some_life, value_of}
@@ -56,13 +56,17 @@ IsDrill words asked = drill_words (texts_of words) ≡ Some asked
 abbrev pub IsReplay : List (String Global) → Option ℕ → Type 0
 IsReplay words life = replay_life (texts_of words) ≡ Some life
 
+-- the settings of an agent that is served, with this lifetime of identities that come without one
+abbrev pub served_with : Option ℕ → Settings
+served_with life = record { life = life; limits = usual_limits }
+
 -- the words are `serve` with its options, and this is what they say: where clients connect, whether the loop ends once
 -- a client has come and none is left, and the lifetime of identities that come without one
 pub record IsServe (words : List (String Global)) (setting : Setting) : Type 0 where
   pub form : is_usage (texts_of words) ≡ false
   pub path : value_of (codes "path") (texts_of words) ≡ Some setting.path
   pub until_idle : setting.until_idle ≡ is_set (value_of (codes "until-idle") (texts_of words))
-  pub state : setting.state ≡ first_state (life_in (texts_of words))
+  pub state : setting.state ≡ first_state (served_with (life_in (texts_of words)))
 
 -- the first word is `serve`
 abbrev pub BeginsServe : List (String Global) → Type 0

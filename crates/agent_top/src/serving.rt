@@ -16,6 +16,12 @@ use std::alloc::Global;
 use std::sync::Wait;
 use world_ports::World;
 
+// How many seconds a helper may leave an ask unanswered.
+const ASK_LIMIT: u32 = 60;
+
+// How many seconds the user has to answer a confirmation.
+const CONFIRM_LIMIT: u32 = 300;
+
 // The status of a loop that ended so.
 fn status_of_serving(end: ServeEnd) -> Status
     ensures { result ≡ status_of_serving end }
@@ -52,6 +58,8 @@ pub fn serve_by<R: Wait, W: World>(rt: &R, alloc: Global, words: &[String], worl
     };
     let settings = Settings {
         default_life: served.life,
+        ask_limit: Some(ASK_LIMIT),
+        confirm_limit: Some(CONFIRM_LIMIT),
     };
     let mut agent = Agent::new(alloc, settings);
     let path = served.path.as_str();

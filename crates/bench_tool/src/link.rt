@@ -1,7 +1,7 @@
 //! Puts asks to a link and tells it the answers, for `bench/helper_link.sh`, which takes the time.
 
 ghost use Rattle.std.specs.Prelude.{OnOk};
-ghost use Rattle.helper_link.specs.HelperLink.{IsLinked};
+ghost use Rattle.helper_link.specs.HelperLink.{ArePutBy, IsLinked};
 
 use helper_link::{AskFault, Link};
 use std::alloc::{AllocError, Global};
@@ -23,9 +23,12 @@ pub fn answered(alloc: Global, batches: u64) -> Result<u64, AllocError> {
 }
 
 // Puts a batch of asks, sends their requests, and tells their answers.
+#[tactic(auto, using(helper_link::proofs::SecondLemmas::put_by_telling))]
 fn batch(alloc: Global, link: &mut Link) -> Result<u64, AllocError>
-    requires { IsLinked link.old.state }
-    ensures { OnOk result (IsLinked link.new.state) }
+    requires linked { IsLinked link.old.state }
+    requires later { ArePutBy 0 link.old.asks }
+    ensures linked { OnOk result (IsLinked link.new.state) }
+    ensures later { OnOk result (ArePutBy 0 link.new.asks) }
 {
     let mut stream = Vec::new(alloc);
     'asks: for _ in 0..BATCH {
@@ -39,9 +42,13 @@ fn batch(alloc: Global, link: &mut Link) -> Result<u64, AllocError>
     Ok(told.settled.len() as u64)
 }
 
+// Puts an ask, in second 0.
+#[tactic(auto, using(helper_link::proofs::SecondLemmas::put_by_submitted))]
 fn put(link: &mut Link) -> Result<u64, AskFault>
-    requires { IsLinked link.old.state }
-    ensures { IsLinked link.new.state }
+    requires linked { IsLinked link.old.state }
+    requires later { ArePutBy 0 link.old.asks }
+    ensures linked { IsLinked link.new.state }
+    ensures later { ArePutBy 0 link.new.asks }
 {
-    link.ask_verify(1, &[1], &[2], &[3])
+    link.ask_verify(1, &[1], &[2], &[3], 0)
 }

@@ -1,7 +1,9 @@
 pub mod CutLemmas
 pub mod EndLemmas
 pub mod GrantLemmas
+pub mod OldestLemmas
 pub mod OwedLemmas
 pub mod PromptLemmas
+pub mod SecondLemmas
 pub mod SoundLemmas
 pub mod TellLemmas

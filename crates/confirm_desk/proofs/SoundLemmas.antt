@@ -6,9 +6,10 @@ use Rattle.lists.specs.Firsts.{remove_first}
 use Rattle.lists.specs.Keyed.{has_key}
 use Rattle.lists.proofs.FirstLemmas.{find-change_none, find-push_other, find-remove_none, length-change, length-remove, some_or_later}
 use Rattle.lists.proofs.KeyedLemmas.{keeps_key}
+use Rattle.lists.proofs.NeverFallLemmas.{never_fall-change, never_fall-push, never_fall-remove}
 use Rattle.wire_text.specs.Bounds.{longest_body}
 use Rattle.wire_text.specs.Frames.{More, front}
-use Rattle.confirm_desk.specs.Confirmations.{Confirmation, asker_of, came_to, change_job, find_asker, find_job, find_linked, is_at, job_of, linked, linked_at, most_confirmations, remove_job}
+use Rattle.confirm_desk.specs.Confirmations.{AreRaisedBy, Confirmation, asker_of, came_to, change_job, find_asker, find_job, find_linked, is_at, job_of, linked, linked_at, most_confirmations, remove_job, second_of}
 use Rattle.confirm_desk.specs.Sound.{AreApart, IsApart, IsFree, IsSound}
 
 -- ---- numbers
@@ -63,6 +64,7 @@ IsSound-remove test all sound =
     record {
       few = omega (arith, short, sound.few);
       apart = AreApart-remove test all sound.apart;
+      seconds = never_fall-remove second_of test 0 all sound.seconds;
     }
 
 pub IsSound-lose : (job : ℕ) (all : List Confirmation) → IsSound all → IsSound (remove_job job all)
@@ -70,11 +72,12 @@ IsSound-lose job all sound = IsSound-remove (has_key job_of job) all sound
 
 -- ---- one is changed
 
--- what keeps a job, a client and a port
+-- what keeps a job, a client, a port and a second
 pub record Keeps (f : Confirmation → Confirmation) : Type 0 where
   pub job : (one : Confirmation) → (f one).job ≡ one.job
   pub asker : (one : Confirmation) → (f one).asker ≡ one.asker
   pub port : (one : Confirmation) → (f one).port ≡ one.port
+  pub second : (one : Confirmation) → (f one).raised_at ≡ one.raised_at
 
 apart-other : (job : ℕ) (f : Confirmation → Confirmation) (one : Confirmation) (others : List Confirmation) → Keeps f → IsApart one others →
     IsApart one (change_job job f others)
@@ -126,6 +129,7 @@ IsSound-change job f all keeps part sound =
     record {
       few = omega (arith, same, sound.few);
       apart = AreApart-change job f all keeps part sound.apart;
+      seconds = never_fall-change second_of (has_key job_of job) f 0 all keeps.second sound.seconds;
     }
 
 -- a confirmation of a sound desk has a part of a frame at most
@@ -189,6 +193,9 @@ IsSound-linked job port all free sound =
     record {
       few = omega (arith, same, sound.few);
       apart = AreApart-linked job port all free sound.apart;
+      seconds =
+          never_fall-change second_of (has_key job_of job) (linked_at port) 0 all (λ one. refl)
+          sound.seconds;
     }
 
 -- ---- one more
@@ -220,10 +227,11 @@ AreApart-append (one ∷ all) last job asker port part apart =
 
 pub IsSound-append : (all : List Confirmation) (last : Confirmation) →
     length all < most_confirmations → find_job last.job all ≡ None →
-    find_asker last.asker all ≡ None →
+    find_asker last.asker all ≡ None → AreRaisedBy last.raised_at all →
     last.port ≡ None → front longest_body last.heard ≡ More → IsSound all →
     IsSound (all ++ last ∷ [])
-IsSound-append all last room job asker port part sound = record {
+IsSound-append all last room job asker later port part sound = record {
   few = omega (arith, length-append all (last ∷ []));
   apart = AreApart-append all last job asker port part sound.apart;
+  seconds = never_fall-push second_of 0 all last (omega arith) later sound.seconds;
 }

@@ -93,10 +93,10 @@ tells port piece all one answer found is =
 -- ---- desks stay sound
 
 keeps_took : (count : ℕ) → Keeps (took_some count)
-keeps_took count = record { job = λ _. refl; asker = λ _. refl; port = λ _. refl }
+keeps_took count = record { job = λ _. refl; asker = λ _. refl; port = λ _. refl; second = λ _. refl }
 
 keeps_heard : (piece : List ℕ) → Keeps (heard_more piece)
-keeps_heard piece = record { job = λ _. refl; asker = λ _. refl; port = λ _. refl }
+keeps_heard piece = record { job = λ _. refl; asker = λ _. refl; port = λ _. refl; second = λ _. refl }
 
 sound_by : (answer : Consent) (one : Confirmation) (piece : List ℕ) (all : List Confirmation) →
     consent one.job (one.heard ++ piece) ≡ answer →

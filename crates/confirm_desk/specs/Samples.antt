@@ -10,16 +10,20 @@ first_held = record { asker = 70; addition = 2; message = codes "abc"; flags = 0
 abbrev pub second_held : Held
 second_held = record { asker = 80; addition = 3; message = codes "de"; flags = 2 }
 
--- what is handed back of them
+-- what the client of port 90 holds for the first addition
+abbrev pub third_held : Held
+third_held = record { asker = 90; addition = 1; message = []; flags = 0 }
+
+-- what is handed back of the first two
 abbrev pub first_back : CodeHeld
 first_back = record { asker = 70; addition = 2; message = codes "abc"; flags = 0 }
 
 abbrev pub second_back : CodeHeld
 second_back = record { asker = 80; addition = 3; message = codes "de"; flags = 2 }
 
--- jobs 1 and 4 ask the user for them
+-- jobs 1 and 4 ask the user for them, from seconds 7 and 9 on
 abbrev pub two : List Confirmation
-two = raise 4 second_held (codes "no?") (raise 1 first_held (codes "ok?") [])
+two = raise 4 second_held (codes "no?") 9 (raise 1 first_held (codes "ok?") 7 [])
 
 -- and their child processes came to ports 5 and 6
 abbrev pub two_linked : List Confirmation
@@ -34,6 +38,7 @@ first_with port heard owed = record {
   message = codes "abc";
   flags = 0;
   prompt = codes "ok?";
+  raised_at = 7;
   port = port;
   heard = heard;
   owed = owed;
@@ -47,6 +52,7 @@ second_with port heard owed = record {
   message = codes "de";
   flags = 2;
   prompt = codes "no?";
+  raised_at = 9;
   port = port;
   heard = heard;
   owed = owed;

@@ -1,9 +1,9 @@
 -- What holds of every desk (ours).
 use Rattle.std.specs.Prelude.{◌≡◌, ℕ, ◌≤◌, List, [], ◌∷◌, Option, Some, None, length}
-use Rattle.lists.specs.Keyed.{RiseBy}
+use Rattle.lists.specs.Keyed.{NeverFallBy, RiseBy}
 use Rattle.wire_text.specs.Bounds.{longest_body}
 use Rattle.wire_text.specs.Frames.{More, front}
-use Rattle.confirm_desk.specs.Confirmations.{Confirmation, find_asker, find_job, find_linked, job_of, most_confirmations}
+use Rattle.confirm_desk.specs.Confirmations.{Confirmation, find_asker, find_job, find_linked, job_of, most_confirmations, second_of}
 
 -- no child process of these came to the port, where there is one
 abbrev pub IsFree : Option ℕ → List Confirmation → Type 0
@@ -28,6 +28,8 @@ pub record IsSound (confirmations : List Confirmation) : Type 0 where
   pub few : length confirmations ≤ most_confirmations
   -- each has a job, a client and a port of its own, and no whole frame was heard of it
   pub apart : AreApart confirmations
+  -- none was raised before the one that stands before it
+  pub seconds : NeverFallBy second_of 0 confirmations
 
 -- each job is above the one before it, the first is above `below`, and none is above `last`
 abbrev pub RiseTo : ℕ → List Confirmation → ℕ → Type 0

@@ -1,7 +1,7 @@
 ghost use Rattle.std.specs.Prelude.{◌≡◌, ◌+◌, ◌≤◌, [], IsSome, IsSomeAnd, IfOk, MatchResult, None, OnErr, OnOk, length};
 ghost use Rattle.std.specs.Option.{option_copied, option_map};
 ghost use Rattle.confirm_desk.specs.Calls.{IsRefusedWith, given_back, held_of, next_owed, raise_fault, telling, took_at};
-ghost use Rattle.confirm_desk.specs.Confirmations.{find_asker, find_job, find_linked, linked, lose, owed_to, raise};
+ghost use Rattle.confirm_desk.specs.Confirmations.{AreRaisedBy, find_asker, find_job, find_linked, linked, lose, oldest, owed_to, raise};
 ghost use Rattle.confirm_desk.specs.Sound.{IsSound};
 
 use crate::fault::DeskFault;
@@ -80,14 +80,16 @@ impl Desk {
         Some(&self.confirmations[place])
     }
 
-    /// The user is to be asked `prompt` by the child process of this job.
+    /// The user is to be asked `prompt` by the child process of this job. `now` is the second of the caller's
+    /// monotonic clock.
     ///
     /// The question is owed to it once it comes.
-    pub fn raise(&mut self, job: u64, held: Held, prompt: &[u8]) -> Result<(), DeskFault>
+    pub fn raise(&mut self, job: u64, held: Held, prompt: &[u8], now: u64) -> Result<(), DeskFault>
         requires job { find_job job self.old ≡ None }
         requires asker { find_asker held.asker self.old ≡ None }
         requires short { 13 + length prompt.now ≤ 1048576 }
-        ensures ok { OnOk result (self.new ≡ raise job (held_of held) prompt.now self.old) }
+        requires later { AreRaisedBy now self.old }
+        ensures ok { OnOk result (self.new ≡ raise job (held_of held) prompt.now now self.old) }
         ensures fault { MatchResult result (λ _. raise_fault self.old ≡ None)
             (IsRefusedWith (raise_fault self.old)) }
         ensures unchanged { OnErr result (self.new ≡ self.old) }
@@ -95,9 +97,17 @@ impl Desk {
         if self.confirmations.len() >= MAX_CONFIRMATIONS {
             return Err(DeskFault::Full);
         }
-        let one = Pending::new(*self.confirmations.allocator(), job, held, prompt)?;
+        let one = Pending::new(*self.confirmations.allocator(), job, held, prompt, now)?;
         self.confirmations.push(one)?;
         Ok(())
+    }
+
+    /// The job of the oldest confirmation, and the second at which it was raised. Takes no memory.
+    pub fn oldest(&self) -> Option<(u64, u64)>
+        ensures { result ≡ oldest self.now }
+    {
+        let first = self.confirmations.first()?;
+        Some((first.job(), first.raised_at()))
     }
 
     /// The child process of this job came to this port. Takes no memory.

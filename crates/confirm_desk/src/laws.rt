@@ -1,9 +1,9 @@
 //! What stands of a desk over many calls.
 
-ghost use Rattle.std.specs.Prelude.{◌≡◌, ◌≢◌, ◌^◌, ◌<◌, ℕ, List, [], None, Some, length};
+ghost use Rattle.std.specs.Prelude.{◌≡◌, ◌≢◌, ◌^◌, ◌<◌, ◌≤◌, ℕ, All, IsSomeAnd, List, [], None, Some, length};
 ghost use Rattle.wire_text.specs.Wire.{IsBytes};
 ghost use Rattle.confirm_desk.specs.Calls.{telling, took_at};
-ghost use Rattle.confirm_desk.specs.Confirmations.{Confirmation, Held, Yes, consent, find_asker, find_job, find_linked, linked, lose, most_confirmations, raise, told, took};
+ghost use Rattle.confirm_desk.specs.Confirmations.{AreRaisedBy, Confirmation, Held, Yes, consent, find_asker, find_job, find_linked, linked, lose, most_confirmations, oldest, raise, told, took};
 ghost use Rattle.confirm_desk.specs.Cuts.{joined, told_in_turn};
 ghost use Rattle.confirm_desk.specs.Grants.{StartsWithGrant};
 ghost use Rattle.confirm_desk.specs.Sound.{IsSound, RiseTo};
@@ -17,12 +17,13 @@ pub fn cuts_of_the_bytes_do_not_matter()
 {}
 
 /// What holds of the first desk holds after each call that may be made: at most 16 confirmations are waited for, each
-/// has a job, a client and a port of its own, and no whole frame was heard of it.
+/// has a job, a client and a port of its own, no whole frame was heard of it, and none was raised before the one that
+/// stands before it.
 pub fn desks_stay_sound()
     ensures first { IsSound [] }
-    ensures raised { (job : ℕ) (held : Held) (prompt : List ℕ) (desk : List Confirmation)
+    ensures raised { (job : ℕ) (held : Held) (prompt : List ℕ) (now : ℕ) (desk : List Confirmation)
         → length desk < most_confirmations → find_job job desk ≡ None → find_asker held.asker desk ≡ None
-        → IsSound desk → IsSound (raise job held prompt desk) }
+        → AreRaisedBy now desk → IsSound desk → IsSound (raise job held prompt now desk) }
     ensures linked { (job port : ℕ) (desk : List Confirmation) → find_linked port desk ≡ None
         → IsSound desk → IsSound (linked job port desk) }
     ensures took { (port count : ℕ) (desk : List Confirmation) → IsSound desk → IsSound (took_at port count desk) }
@@ -34,8 +35,8 @@ pub fn desks_stay_sound()
 /// Where each job that is raised is above the last, the confirmations stand in the order of their jobs.
 pub fn confirmations_stay_in_order()
     ensures first { RiseTo 0 [] 0 }
-    ensures raised { (job last : ℕ) (held : Held) (prompt : List ℕ) (desk : List Confirmation) → last < job
-        → RiseTo 0 desk last → RiseTo 0 (raise job held prompt desk) job }
+    ensures raised { (job last : ℕ) (held : Held) (prompt : List ℕ) (now : ℕ) (desk : List Confirmation) → last < job
+        → RiseTo 0 desk last → RiseTo 0 (raise job held prompt now desk) job }
     ensures linked { (job port last : ℕ) (desk : List Confirmation)
         → RiseTo 0 desk last → RiseTo 0 (linked job port desk) last }
     ensures took { (job count last : ℕ) (desk : List Confirmation)
@@ -59,8 +60,34 @@ pub fn a_decision_is_taken_once()
         → find_job other (telling port piece desk).desk ≡ find_job other desk }
 {}
 
+/// The oldest confirmation is there, and none was raised before it.
+pub fn the_oldest_confirmation_is_the_longest_open()
+    ensures none { (desk : List Confirmation) → oldest desk ≡ None → desk ≡ [] }
+    ensures there { (job second : ℕ) (desk : List Confirmation) → IsSound desk → oldest desk ≡ Some (job, second)
+        → IsSomeAnd (find_job job desk) (λ one. one.raised_at ≡ second) }
+    ensures least { (job second : ℕ) (desk : List Confirmation) → oldest desk ≡ Some (job, second)
+        → All (λ one. second ≤ one.raised_at) desk }
+{}
+
 /// The user says yes exactly where the bytes begin with the frame of GRANTED for the job itself.
 pub fn a_yes_is_the_grant_of_the_job()
     ensures yes { (job : ℕ) (heard : List ℕ) → IsBytes heard → consent job heard ≡ Yes → StartsWithGrant job heard }
     ensures grant { (job : ℕ) (heard : List ℕ) → job < 2 ^ 64 → StartsWithGrant job heard → consent job heard ≡ Yes }
+{}
+
+/// What was raised by a second was raised by it whatever is called. So each second that is no earlier than those handed in
+/// before may be handed in.
+pub fn none_was_raised_after_the_last_second()
+    ensures first { (now : ℕ) → AreRaisedBy now [] }
+    ensures later { (now later : ℕ) (desk : List Confirmation) → now ≤ later
+        → AreRaisedBy now desk → AreRaisedBy later desk }
+    ensures raised { (job : ℕ) (held : Held) (prompt : List ℕ) (now : ℕ) (desk : List Confirmation)
+        → AreRaisedBy now desk → AreRaisedBy now (raise job held prompt now desk) }
+    ensures linked { (now job port : ℕ) (desk : List Confirmation)
+        → AreRaisedBy now desk → AreRaisedBy now (linked job port desk) }
+    ensures took { (now port count : ℕ) (desk : List Confirmation)
+        → AreRaisedBy now desk → AreRaisedBy now (took_at port count desk) }
+    ensures told { (now port : ℕ) (piece : List ℕ) (desk : List Confirmation)
+        → AreRaisedBy now desk → AreRaisedBy now (telling port piece desk).desk }
+    ensures lost { (now job : ℕ) (desk : List Confirmation) → AreRaisedBy now desk → AreRaisedBy now (lose job desk) }
 {}

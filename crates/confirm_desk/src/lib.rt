@@ -18,11 +18,13 @@ pub use fault::DeskFault;
 pub use held::{Held, Verdict};
 pub use laws::{
     a_decision_is_taken_once, confirmations_stay_in_order, cuts_of_the_bytes_do_not_matter,
-    desks_stay_sound,
+    desks_stay_sound, none_was_raised_after_the_last_second,
+    the_oldest_confirmation_is_the_longest_open,
 };
 pub use pending::Pending;
 pub use question::{prompt, prompt_for};
 pub use rows::{
     a_decision_ends_one_confirmation, confirmations_are_kept_in_order,
     only_a_grant_of_the_job_is_a_yes, prompts_are_printable, the_least_port_is_owed_first,
+    the_oldest_confirmation_counts,
 };

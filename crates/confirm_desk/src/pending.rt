@@ -19,6 +19,7 @@ pub struct Pending {
     job: u64,
     held: Held,
     prompt: Bytes,
+    raised_at: u64,
     port: Option<u64>,
     heard: ScrubBuf,
     owed: ScrubBuf,
@@ -36,6 +37,7 @@ impl Model for Pending {
       message = p.held.message;
       flags = p.held.flags;
       prompt = p.prompt;
+      raised_at = p.raised_at;
       port = p.port;
       heard = p.heard.live;
       owed = p.owed.live;
@@ -49,9 +51,10 @@ impl Pending {
         job: u64,
         held: Held,
         prompt: &[u8],
+        now: u64,
     ) -> Result<Pending, AllocError>
         requires { 13 + length prompt.now ≤ 1048576 }
-        ensures { IfOk result (λ one. one ≡ confirmation_of job (held_of held) prompt.now) }
+        ensures { IfOk result (λ one. one ≡ confirmation_of job (held_of held) prompt.now now) }
     {
         let mut owed = ScrubBuf::new(alloc);
         write_to_child(&mut owed, &ToChild::Confirm { job, prompt })?;
@@ -59,6 +62,7 @@ impl Pending {
             job,
             held,
             prompt: Bytes::from_vec(Vec::from_slice(alloc, prompt)?),
+            raised_at: now,
             port: None,
             heard: ScrubBuf::new(alloc),
             owed,
@@ -77,6 +81,13 @@ impl Pending {
         ensures { result ≡ self.now.asker }
     {
         self.held.asker
+    }
+
+    /// The second at which it was raised.
+    pub fn raised_at(&self) -> u64
+        ensures { result ≡ self.now.raised_at }
+    {
+        self.raised_at
     }
 
     /// The port where its child process came.
@@ -126,6 +137,7 @@ impl Pending {
             job: _,
             held,
             prompt: _,
+            raised_at: _,
             port: _,
             heard: _,
             owed: _,

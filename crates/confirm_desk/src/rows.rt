@@ -3,9 +3,9 @@
 
 ghost use Rattle.std.specs.Prelude.{◌≡◌, [], ◌∷◌, ◌++◌, codes, drop, length, replicate, Some, None};
 ghost use Rattle.confirm_desk.specs.Calls.{next_owed, raise_fault, telling, took_at};
-ghost use Rattle.confirm_desk.specs.Confirmations.{NotYet, Yes, No, consent, find_asker, find_job, find_linked, linked, lose, owed_to, told};
+ghost use Rattle.confirm_desk.specs.Confirmations.{NotYet, Yes, No, consent, find_asker, find_job, find_linked, linked, lose, oldest, owed_to, raise, told};
 ghost use Rattle.confirm_desk.specs.Prompt.{prompt_of, shown_comment};
-ghost use Rattle.confirm_desk.specs.Samples.{answer, first_back, first_frame, first_with, second_back, second_frame, second_with, two, two_linked};
+ghost use Rattle.confirm_desk.specs.Samples.{answer, first_back, first_frame, first_with, second_back, second_frame, second_with, third_held, two, two_linked};
 ghost use Rattle.confirm_desk.specs.declared.fault.DeskFault.TheVariants as faults;
 ghost use Rattle.confirm_desk.specs.declared.held.Verdict.TheVariants as verdicts;
 
@@ -27,6 +27,17 @@ pub fn confirmations_are_kept_in_order()
         ≡ first_with (Some 5) [] (drop 4 first_frame) ∷ second_with (Some 6) [] second_frame ∷ [] }
     ensures lost { lose 1 two_linked ≡ second_with (Some 6) [] second_frame ∷ [] }
     ensures neither { lose 2 two_linked ≡ two_linked }
+{}
+
+/// The oldest confirmation is the one that was raised first, and of one second the first of them.
+pub fn the_oldest_confirmation_counts()
+    ensures none { oldest [] ≡ None }
+    ensures first { oldest two ≡ Some (1, 7) }
+    ensures linked { oldest two_linked ≡ Some (1, 7) }
+    ensures over { oldest (lose 1 two) ≡ Some (4, 9) }
+    ensures younger_over { oldest (lose 4 two) ≡ Some (1, 7) }
+    ensures same_second { oldest (raise 5 third_held [] 7 two) ≡ Some (1, 7) }
+    ensures any_order { oldest (raise 5 third_held [] 3 two) ≡ Some (5, 3) }
 {}
 
 /// Bytes are owed at ports in order, and where any are left.

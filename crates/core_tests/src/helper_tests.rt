@@ -1,8 +1,8 @@
 //! Two clients' signatures through the helper: what is started, who is owed, and which faults are counted.
 
-use crate::play::{closes, finds, hear, holds, owes, starts, take_all, tell};
+use crate::play::{NO_SETTINGS, closes, finds, hear, holds, owes, starts, take_all, tell};
 use crate::tests::{ADD, ADD_FOR_ONE_USE, FAILURE, SUCCESS};
-use agent_core::{Agent, Event, Settings};
+use agent_core::{Agent, Event};
 use std::process::Abort;
 use std::test::*;
 use world_ports::{Door, Job, JobKind};
@@ -54,7 +54,7 @@ fn two_ask(rt: &impl Abort, agent: &mut Agent) {
 
 #[test]
 fn each_client_gets_its_own_answer(rt: HostRuntime) {
-    let mut agent = Agent::new(rt.alloc(), Settings { default_life: None });
+    let mut agent = Agent::new(rt.alloc(), NO_SETTINGS);
     two_ask(&rt, &mut agent);
     for end in 1..34 {
         owes(&rt, &agent, 3, &[], "before its hello is whole");
@@ -78,7 +78,7 @@ fn each_client_gets_its_own_answer(rt: HostRuntime) {
 
 #[test]
 fn a_faulty_helper_is_lost_behind_its_good_answers(rt: HostRuntime) {
-    let mut agent = Agent::new(rt.alloc(), Settings { default_life: None });
+    let mut agent = Agent::new(rt.alloc(), NO_SETTINGS);
     two_ask(&rt, &mut agent);
     hear(&rt, &mut agent, 3, HELLO);
     hear(&rt, &mut agent, 3, SIGNED_2_AND_BAD);
@@ -97,7 +97,7 @@ fn a_faulty_helper_is_lost_behind_its_good_answers(rt: HostRuntime) {
 
 #[test]
 fn a_key_is_gone_with_its_last_use(rt: HostRuntime) {
-    let mut agent = Agent::new(rt.alloc(), Settings { default_life: None });
+    let mut agent = Agent::new(rt.alloc(), NO_SETTINGS);
     tell(&rt, &mut agent, &Event::Joined(Door::Clients));
     hear(&rt, &mut agent, 1, ADD_FOR_ONE_USE);
     owes(&rt, &agent, 1, &SUCCESS, "an addition");

@@ -1,9 +1,9 @@
 //! A run that answers where memory is refused: `rt try --test --fail-alloc N` refuses the Nth allocation of each test.
 
 use crate::helper_tests::{HELLO, SIGN_REQUEST, SIGNED_1, TICKET};
-use crate::play::{NOW, finds, holds};
+use crate::play::{NO_SETTINGS, NOW, finds, holds};
 use crate::tests::{ADD, LIST};
-use agent_core::{Agent, CoreMemory, Event, Settings};
+use agent_core::{Agent, CoreMemory, Event};
 use std::process::Abort;
 use std::test::*;
 use world_ports::Door;
@@ -44,7 +44,7 @@ fn play(rt: &impl Abort, agent: &mut Agent) -> Result<(), CoreMemory> {
 
 #[test]
 fn a_refused_step_leaves_a_new_agent(rt: HostRuntime) {
-    let mut agent = Agent::new(rt.alloc(), Settings { default_life: None });
+    let mut agent = Agent::new(rt.alloc(), NO_SETTINGS);
     let played = play(&rt, &mut agent).is_ok();
     holds(&rt, (agent.clients() == 1) == played, "no client stays");
     holds(&rt, (agent.held() == 1) == played, "no identity stays");

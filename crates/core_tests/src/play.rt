@@ -1,10 +1,17 @@
 //! One step of the agent, or one look at it, a function, with a label that a failure prints. A test that owns an agent
 //! has nothing but calls then: at each exit of its own the agent's drop would be proved once more.
 
-use agent_core::{Agent, Event};
+use agent_core::{Agent, Event, Settings};
 use std::process::Abort;
 use std::test::*;
 use world_ports::{Job, Moment};
+
+/// Identities live for ever, and all is waited for as long.
+pub const NO_SETTINGS: Settings = Settings {
+    default_life: None,
+    ask_limit: None,
+    confirm_limit: None,
+};
 
 /// The moment of a step where none is told.
 pub const NOW: Moment = Moment { mono: 7, wall: 0 };

@@ -1,6 +1,6 @@
 //! A client's listing, and lifetimes.
 
-use crate::play::{ask_at, closes, finds, hear, holds, owes, starts, tell};
+use crate::play::{NO_SETTINGS, ask_at, closes, finds, hear, holds, owes, starts, tell};
 use agent_core::{Agent, Event, Settings};
 use std::test::*;
 use world_ports::Door;
@@ -54,7 +54,7 @@ const LISTED: &[u8] = b"\0\0\0\x50\x0c\0\0\0\x01\0\0\0\x40\
 
 #[test]
 fn a_listing_is_answered_with_ample_memory(rt: HostRuntime) {
-    let mut agent = Agent::new(rt.alloc(), Settings { default_life: None });
+    let mut agent = Agent::new(rt.alloc(), NO_SETTINGS);
     holds(&rt, !agent.is_port(1), "no port yet");
     let ended = Event::Ended { port: 1 };
     holds(&rt, !agent.fits(&ended), "no port yet ends");
@@ -84,7 +84,7 @@ fn a_listing_is_answered_with_ample_memory(rt: HostRuntime) {
 
 #[test]
 fn an_identity_lives_for_its_lifetime(rt: HostRuntime) {
-    let mut agent = Agent::new(rt.alloc(), Settings { default_life: None });
+    let mut agent = Agent::new(rt.alloc(), NO_SETTINGS);
     tell(&rt, &mut agent, &JOINED);
     ask_at(&rt, &mut agent, 10, ADD_FOR_TEN_SECONDS, &SUCCESS);
     holds(&rt, agent.held() == 1, "one is held");
@@ -105,6 +105,8 @@ fn an_identity_lives_for_its_lifetime(rt: HostRuntime) {
 fn the_default_lifetime_is_for_keys_without_one(rt: HostRuntime) {
     let settings = Settings {
         default_life: Some(5),
+        ask_limit: None,
+        confirm_limit: None,
     };
     let mut agent = Agent::new(rt.alloc(), settings);
     tell(&rt, &mut agent, &JOINED);

@@ -1,13 +1,15 @@
 -- Answers go to who asked, and leave the other asks.
 use Rattle.std.proofs.Common.{◌≡◌, ◌==◌, ◌||◌, ℕ, ◌≤◌, Bool, true, false, cond, List, [], ◌∷◌, length, Option, Some, None, Result, Ok, Err, refl, sym, ap, subst, ◌∙◌, arith}
 use Rattle.wire_text.specs.Bounds.{longest_body}
+use Rattle.lists.specs.Keyed.{NeverFallBy, has_key}
 use Rattle.lists.proofs.KeyedLemmas.{found_key}
+use Rattle.lists.proofs.NeverFallLemmas.{never_fall-remove}
 use Rattle.wire_text.specs.Frames.{Front, Whole, Bad, More, front, split}
 use Rattle.child_msg.specs.Messages.{FromChildMessage, Hello, Signed, Refused, True, False, Granted, Denied}
 use Rattle.child_msg.specs.Reading.{from_child_of}
 use Rattle.child_msg.specs.declared.fault.ChildFault.{ChildFault}
 use Rattle.helper_link.specs.Answered.{LeadTo, is_answered, kind_answered}
-use Rattle.helper_link.specs.HelperLink.{ask_of}
+use Rattle.helper_link.specs.HelperLink.{ask_of, second_of}
 use Rattle.helper_link.specs.Settling.{Verdict, Settles, Stops, Settling, find_ask, number_of, remove_ask, same_kind, settled_ask, answer_found, message_verdict, reading_verdict, verdict, settling, settle, after_verdict, at_rest}
 use Rattle.helper_link.specs.Sound.{RiseTo}
 use Rattle.helper_link.specs.declared.answer.Answer.{Answer}
@@ -44,9 +46,14 @@ found_leads kind number answer (Some ask) asks is at = by_test (same_kind kind a
         Leads (cond test (Settles (settled_ask number ask.asker answer) (remove_ask number asks))
         (Stops (WrongKind number))) asks
     by_test true same = (
-      at ∙ ap (λ (n : ℕ). Some (ask_of n ask.asker ask.kind)) (found_key number_of number asks ask at)
-          ∙ ap (λ (k : AskKind). Some (ask_of number ask.asker k))
-          (kinds_are kind ask.kind same ∙ is),
+      record {
+        put_at = ask.put_at;
+        found =
+            at ∙ ap (λ (n : ℕ). Some (ask_of n ask.asker ask.kind ask.put_at))
+            (found_key number_of number asks ask at)
+            ∙ ap (λ (k : AskKind). Some (ask_of number ask.asker k ask.put_at))
+            (kinds_are kind ask.kind same ∙ is);
+      },
       refl,
     )
     by_test false same = tt
@@ -138,6 +145,15 @@ lead_rise [] asks left below last leads rise =
 lead_rise (one ∷ later) asks left below last leads rise =
     lead_rise later (remove_ask one.ask asks) left below last leads.1
     (remove_rises one.ask below asks last rise)
+
+-- none of them was put before the one that stands before it
+pub lead_seconds : (settled : List Settled) (asks left : List Ask) (since : ℕ) →
+    LeadTo settled asks left → NeverFallBy second_of since asks → NeverFallBy second_of since left
+lead_seconds [] asks left since leads climb =
+    subst (λ (all : List Ask). NeverFallBy second_of since all) (sym leads) climb
+lead_seconds (one ∷ later) asks left since leads climb =
+    lead_seconds later (remove_ask one.ask asks) left since leads.1
+    (never_fall-remove second_of (has_key number_of one.ask) since asks climb)
 
 -- a number that was answered finds none of them, and others find what they found
 pub lead_others : (number : ℕ) (settled : List Settled) (asks left : List Ask) (below last : ℕ) →

@@ -1,7 +1,9 @@
 pub mod AnswerLemmas
 pub mod CallLemmas
 pub mod CutLemmas
+pub mod OldestLemmas
 pub mod OrderLemmas
+pub mod SecondLemmas
 pub mod SettlingLemmas
 pub mod SoundLemmas
 pub mod StreamLemmas

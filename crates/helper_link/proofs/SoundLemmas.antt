@@ -1,11 +1,12 @@
 -- Links stay sound.
 use Rattle.std.proofs.Common.{◌≡◌, ◌≢◌, ◌==◌, ℕ, ◌+◌, ◌-◌, ◌^◌, ◌<◌, nat_lt, Bool, true, false, List, [], ◌∷◌, ◌++◌, length, None, refl, ◌∙◌, arith, length-append}
+use Rattle.lists.proofs.NeverFallLemmas.{never_fall-push}
 use Rattle.wire_text.specs.Bounds.{longest_body}
 use Rattle.wire_text.specs.Frames.{Front, Whole, Bad, More, front, split, StartsWithFrame}
 use Rattle.wire_text.proofs.FrontLemmas.{front-short, front_says}
 use Rattle.wire_text.proofs.SplitLemmas.{rest_has_no_frame}
 use Rattle.child_msg.specs.Messages.{ToChildMessage}
-use Rattle.helper_link.specs.HelperLink.{HelperLink, IsLinked, ask_fault, ask_fault_by, ask_of, most_asks, submitted}
+use Rattle.helper_link.specs.HelperLink.{ArePutBy, HelperLink, IsLinked, ask_fault, ask_fault_by, ask_of, most_asks, second_of, submitted}
 use Rattle.helper_link.specs.Settling.{Verdict, Settles, Stops, Settling, verdict, settling, settle, after_verdict, at_rest}
 use Rattle.helper_link.specs.Sound.{IsQuiet, IsSound}
 use Rattle.helper_link.specs.Telling.{telling}
@@ -13,7 +14,7 @@ use Rattle.helper_link.specs.declared.ask.Ask.{Ask}
 use Rattle.helper_link.specs.declared.ask.AskKind.{AskKind}
 use Rattle.helper_link.specs.declared.state.LinkState.{LinkState}
 use Rattle.helper_link.specs.declared.state.LinkState.TheVariants as states
-use Rattle.helper_link.proofs.AnswerLemmas.{lead_fewer, lead_rise, settling_leads}
+use Rattle.helper_link.proofs.AnswerLemmas.{lead_fewer, lead_rise, lead_seconds, settling_leads}
 use Rattle.helper_link.proofs.OrderLemmas.{push_rises}
 
 -- nothing is the front of a frame
@@ -37,30 +38,33 @@ quiet_asked (states.Starting job) old new some same quiet = same ∙ quiet
 quiet_asked (states.Linked port) old new some same quiet = tt
 
 -- one ask more, where there is room, whatever is to be sent
-pub IsSound-push : (kind : AskKind) (asker : ℕ) (owed : List ℕ) (link : HelperLink) →
+pub IsSound-push : (kind : AskKind) (asker now : ℕ) (owed : List ℕ) (link : HelperLink) →
     link.state ≢ states.None →
-    length link.asks < most_asks → IsSound link →
+    length link.asks < most_asks → ArePutBy now link.asks → IsSound link →
     IsSound (record link {
-      asks = link.asks ++ (ask_of (link.last + 1) asker kind ∷ []);
+      asks = link.asks ++ (ask_of (link.last + 1) asker kind now ∷ []);
       last = link.last + 1;
       owed = owed;
     })
-IsSound-push kind asker owed link some room sound = record {
+IsSound-push kind asker now owed link some room later sound = record {
   quiet = quiet_asked link.state link _ some refl sound.quiet;
-  few = omega (arith, length-append link.asks (ask_of (link.last + 1) asker kind ∷ []), room);
-  order = push_rises 0 link.asks link.last asker kind sound.order;
+  few = omega (arith, length-append link.asks (ask_of (link.last + 1) asker kind now ∷ []), room);
+  order = push_rises 0 link.asks link.last asker kind now sound.order;
+  seconds =
+      never_fall-push second_of 0 link.asks (ask_of (link.last + 1) asker kind now) (omega arith) later
+      sound.seconds;
   part = sound.part;
 }
 
 -- the same, by the fault
-pub IsSound-submitted : (kind : AskKind) (asker : ℕ) (request : ℕ → ToChildMessage)
+pub IsSound-submitted : (kind : AskKind) (asker : ℕ) (request : ℕ → ToChildMessage) (now : ℕ)
     (link : HelperLink) → link.state ≢ states.None →
-    ask_fault link ≡ None → IsSound link →
-    IsSound (submitted kind asker request link)
-IsSound-submitted kind asker request link some fault sound =
-    IsSound-push kind asker (submitted kind asker request link).owed link some
+    ask_fault link ≡ None → ArePutBy now link.asks → IsSound link →
+    IsSound (submitted kind asker request now link)
+IsSound-submitted kind asker request now link some fault later sound =
+    IsSound-push kind asker now (submitted kind asker request now link).owed link some
     (few_if (nat_lt (most_asks - 1) (length link.asks)) (link.last == 2 ^ 64 - 1)
-    (length link.asks) refl fault) sound
+    (length link.asks) refl fault) later sound
 
 -- ---- the helper's stream
 
@@ -116,6 +120,7 @@ IsSound-settled bytes asks heard link is sound left rest =
       quiet = quiet_linked link.state _ is;
       few = omega (arith, fewer, sound.few);
       order = lead_rise all.settled link.asks all.asks 0 link.last leads sound.order;
+      seconds = lead_seconds all.settled link.asks all.asks 0 leads sound.seconds;
       part = settling_part bytes link.asks;
     }
 
@@ -126,6 +131,7 @@ IsSound-cleared link is = record {
   quiet = quiet_linked link.state _ is;
   few = omega arith;
   order = omega arith;
+  seconds = tt;
   part = nothing_is_part;
 }
 
@@ -136,6 +142,7 @@ IsSound-gone link = record {
   quiet = (refl, refl, refl);
   few = omega arith;
   order = omega arith;
+  seconds = tt;
   part = nothing_is_part;
 }
 

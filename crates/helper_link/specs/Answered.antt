@@ -16,12 +16,17 @@ kind_answered answer.Refused = Signing
 kind_answered answer.True = Verifying
 kind_answered answer.False = Verifying
 
+-- the ask of this number is unanswered: this asker put it, at some second, and it is of this kind
+pub record IsUnanswered (number asker : ℕ) (kind : AskKind) (asks : List Ask) : Type 0 where
+  pub put_at : ℕ
+  pub found : find_ask number asks ≡ Some (ask_of number asker kind put_at)
+
 -- each answer is one to the unanswered ask of its number, goes to the asker of that ask, and is of
 -- its kind; the ask is unanswered no more, and the others are left
 abbrev pub LeadTo : List Settled → List Ask → List Ask → Type 0
 LeadTo [] asks left = left ≡ asks
 LeadTo (one ∷ later) asks left =
-    (find_ask one.ask asks ≡ Some (ask_of one.ask one.asker (kind_answered one.answer)))
+    IsUnanswered one.ask one.asker (kind_answered one.answer) asks
     × LeadTo later (remove_ask one.ask asks) left
 
 -- the ask of this number was answered

@@ -1,5 +1,6 @@
 -- The link to the helper process, as plain values (ours).
 use Rattle.std.specs.Prelude.{◌≡◌, ℕ, ◌+◌, ◌-◌, ◌^◌, ◌==◌, nat_lt, Bool, true, false, List, [], ◌∷◌, ◌++◌, Option, Some, None, drop, length, map, min}
+use Rattle.lists.specs.Keyed.{AreUpToBy}
 use Rattle.wire_text.specs.Wire.{string}
 use Rattle.child_msg.specs.ChildFrames.{to_child_body}
 use Rattle.child_msg.specs.Messages.{ToChildMessage, Sign, Verify}
@@ -92,14 +93,33 @@ IsRefusedWith why Full = why ≡ Some Full
 IsRefusedWith why NumbersSpent = why ≡ Some NumbersSpent
 IsRefusedWith why Memory = why ≡ None
 
--- an ask of this number
-abbrev pub ask_of : ℕ → ℕ → AskKind → Ask
-ask_of number asker kind = record { number = number; asker = asker; kind = kind }
+-- an ask of this number, put at this second
+abbrev pub ask_of : ℕ → ℕ → AskKind → ℕ → Ask
+ask_of number asker kind now =
+    record { number = number; asker = asker; kind = kind; put_at = now }
 
--- an ask is put: it has the next number, and the frame of its request is to be sent
-abbrev pub submitted : AskKind → ℕ → (ℕ → ToChildMessage) → HelperLink → HelperLink
-submitted kind asker request link = record link {
-  asks = link.asks ++ (ask_of (link.last + 1) asker kind ∷ []);
+-- the earlier of two seconds, where there is a second one
+abbrev pub earlier : ℕ → Option ℕ → ℕ
+earlier second None = second
+earlier second (Some other) = min second other
+
+-- the second at which the oldest of these asks was put
+abbrev pub oldest : List Ask → Option ℕ
+oldest [] = None
+oldest (ask ∷ asks) = Some (earlier ask.put_at (oldest asks))
+
+-- the second at which an ask was put
+abbrev pub second_of : Ask → ℕ
+second_of ask = ask.put_at
+
+-- each of these asks was put at this second or before
+abbrev pub ArePutBy : ℕ → List Ask → Type 0
+ArePutBy now asks = AreUpToBy second_of now asks
+
+-- an ask is put at this second: it has the next number, and the frame of its request is to be sent
+abbrev pub submitted : AskKind → ℕ → (ℕ → ToChildMessage) → ℕ → HelperLink → HelperLink
+submitted kind asker request now link = record link {
+  asks = link.asks ++ (ask_of (link.last + 1) asker kind now ∷ []);
   last = link.last + 1;
   owed = link.owed ++ string (to_child_body (request (link.last + 1)));
 }

@@ -1,9 +1,9 @@
 -- What holds of every link (ours).
 use Rattle.std.specs.Prelude.{◌≡◌, ℕ, ◌≤◌, List, [], length}
-use Rattle.lists.specs.Keyed.{RiseBy}
+use Rattle.lists.specs.Keyed.{NeverFallBy, RiseBy}
 use Rattle.wire_text.specs.Bounds.{longest_body}
 use Rattle.wire_text.specs.Frames.{More, front}
-use Rattle.helper_link.specs.HelperLink.{HelperLink, most_asks}
+use Rattle.helper_link.specs.HelperLink.{HelperLink, most_asks, second_of}
 use Rattle.helper_link.specs.Settling.{number_of}
 use Rattle.helper_link.specs.declared.ask.Ask.{Ask}
 use Rattle.helper_link.specs.declared.state.LinkState.{LinkState}
@@ -28,6 +28,8 @@ pub record IsSound (link : HelperLink) : Type 0 where
   pub few : length link.asks ≤ most_asks
   -- their numbers rise from 1 at least to the last number at most
   pub order : RiseTo 0 link.asks link.last
+  -- none was put before the one that stands before it
+  pub seconds : NeverFallBy second_of 0 link.asks
   -- what was heard is less than a frame, and the front of one
   pub part : front longest_body link.heard ≡ More
 

@@ -14,4 +14,6 @@ pub struct Ask {
     /// Who asked: a number of the caller's own, which comes back with the answer.
     pub asker: u64,
     pub kind: AskKind,
+    /// The second at which it was put, of the caller's monotonic clock.
+    pub put_at: u64,
 }

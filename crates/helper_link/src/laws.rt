@@ -1,13 +1,15 @@
 //! What stands of a link over many calls.
 
-ghost use Rattle.std.specs.Prelude.{◌≡◌, ◌≢◌, ◌+◌, ◌^◌, ◌<◌, ◌≤◌, ◌==◌, ℕ, List, [], None, Some, length, if◌then◌else◌};
+ghost use Rattle.std.specs.Prelude.{◌≡◌, ◌≢◌, ◌+◌, ◌^◌, ◌<◌, ◌≤◌, ◌==◌, ℕ, All, IsSome, List, [], None, Some, length, if◌then◌else◌};
+ghost use Rattle.lists.specs.Keyed.{find_by};
 ghost use Rattle.child_msg.specs.Messages.{ToChildMessage};
 ghost use Rattle.helper_link.specs.Answered.{LeadTo, is_answered};
 ghost use Rattle.helper_link.specs.Calls.{Call, RiseFrom, numbers_of};
-ghost use Rattle.helper_link.specs.HelperLink.{HelperLink, IsLinked, IsStarting, ask_fault, ask_of, begun, linked_to, lost, no_link, sendable, sent, submitted};
+ghost use Rattle.helper_link.specs.HelperLink.{ArePutBy, HelperLink, IsLinked, IsStarting, ask_fault, ask_of, begun, linked_to, lost, no_link, oldest, second_of, sendable, sent, submitted};
 ghost use Rattle.helper_link.specs.Settling.{find_ask};
 ghost use Rattle.helper_link.specs.Sound.{IsSound};
 ghost use Rattle.helper_link.specs.Telling.{joined, told_in_turn, telling};
+ghost use Rattle.helper_link.specs.declared.ask.Ask.{Ask as AnAsk};
 ghost use Rattle.helper_link.specs.declared.ask.AskKind.{AskKind as AKind};
 ghost use Rattle.helper_link.specs.declared.state.LinkState.TheVariants as states;
 
@@ -20,15 +22,16 @@ pub fn cuts_of_the_stream_do_not_matter()
 
 /// What holds of the first link holds after each call that may be made: while no helper is there or
 /// being started, nothing is unanswered, to be sent or heard; at most 256 asks are unanswered, in
-/// the order of their numbers; and what was heard is less than a frame.
+/// the order of their numbers, in which the seconds at which they were put never fall; and what was
+/// heard is less than a frame.
 pub fn links_stay_sound()
     ensures first { IsSound no_link }
     ensures begun { (job : ℕ) (link : HelperLink) → IsSound link → IsSound (begun job link) }
     ensures linked { (port : ℕ) (link : HelperLink)
         → IsStarting link.state → IsSound link → IsSound (linked_to port link) }
-    ensures submitted { (kind : AKind) (asker : ℕ) (request : ℕ → ToChildMessage)
+    ensures submitted { (kind : AKind) (asker : ℕ) (request : ℕ → ToChildMessage) (now : ℕ)
         (link : HelperLink) → link.state ≢ states.None → ask_fault link ≡ None
-        → IsSound link → IsSound (submitted kind asker request link) }
+        → ArePutBy now link.asks → IsSound link → IsSound (submitted kind asker request now link) }
     ensures sent { (count : ℕ) (link : HelperLink) → IsSound link → IsSound (sent count link) }
     ensures told { (piece : List ℕ) (link : HelperLink)
         → IsLinked link.state → IsSound link → IsSound (telling piece link).link }
@@ -46,10 +49,19 @@ pub fn an_ask_has_a_number_of_its_own()
     ensures above { (number : ℕ) (link : HelperLink) → IsSound link → link.last < number
         → find_ask number link.asks ≡ None }
     ensures submitted { (number : ℕ) (kind : AKind) (asker : ℕ) (request : ℕ → ToChildMessage)
-        (link : HelperLink) → IsSound link
-        → find_ask number (submitted kind asker request link).asks
-        ≡ (if link.last + 1 == number then Some (ask_of (link.last + 1) asker kind)
+        (now : ℕ) (link : HelperLink) → IsSound link
+        → find_ask number (submitted kind asker request now link).asks
+        ≡ (if link.last + 1 == number then Some (ask_of (link.last + 1) asker kind now)
         else find_ask number link.asks) }
+{}
+
+/// The oldest of the asks is one of them, and none was put before it.
+pub fn the_oldest_ask_is_the_longest_unanswered()
+    ensures none { (asks : List AnAsk) → oldest asks ≡ None → asks ≡ [] }
+    ensures there { (second : ℕ) (asks : List AnAsk) → oldest asks ≡ Some second
+        → IsSome (find_by second_of second asks) }
+    ensures least { (second : ℕ) (asks : List AnAsk) → oldest asks ≡ Some second
+        → All (λ ask. second ≤ ask.put_at) asks }
 {}
 
 /// Each answer goes to the asker of the unanswered ask of its number and is of its kind. That ask
@@ -61,4 +73,18 @@ pub fn answers_go_to_who_asked()
         → find_ask number (telling piece link).link.asks
         ≡ (if is_answered number (telling piece link).settled then None
         else find_ask number link.asks) }
+{}
+
+/// What was put by a second was put by it whatever is called. So each second that is no earlier than
+/// those handed in before may be handed in.
+pub fn no_ask_was_put_after_the_last_second()
+    ensures first { (now : ℕ) → ArePutBy now no_link.asks }
+    ensures later { (now later : ℕ) (asks : List AnAsk) → now ≤ later
+        → ArePutBy now asks → ArePutBy later asks }
+    ensures submitted { (kind : AKind) (asker : ℕ) (request : ℕ → ToChildMessage) (now : ℕ)
+        (link : HelperLink) → ArePutBy now link.asks
+        → ArePutBy now (submitted kind asker request now link).asks }
+    ensures told { (now : ℕ) (piece : List ℕ) (link : HelperLink)
+        → ArePutBy now link.asks → ArePutBy now (telling piece link).link.asks }
+    ensures lost { (now : ℕ) (link : HelperLink) → ArePutBy now (lost link).asks }
 {}

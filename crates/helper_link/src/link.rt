@@ -1,7 +1,7 @@
 ghost use Rattle.std.specs.Prelude.{◌≡◌, ◌≢◌, ◌↔◌, ◌+◌, ◌-◌, ◌^◌, ◌<◌, ◌≤◌, IsTrue, IfOk, MatchResult, None, Some, OnOk, OnErr, length};
 ghost use Rattle.child_msg.specs.ChildFrames.{to_child_length};
 ghost use Rattle.child_msg.specs.Messages.{to_child_message};
-ghost use Rattle.helper_link.specs.HelperLink.{ask_fault, begun, linked_to, lost, no_link, sendable, sent, sign_request, submitted, verify_request, IsLinked, IsRefusedWith, IsStarting};
+ghost use Rattle.helper_link.specs.HelperLink.{ArePutBy, ask_fault, begun, linked_to, lost, no_link, oldest, sendable, sent, sign_request, submitted, verify_request, IsLinked, IsRefusedWith, IsStarting};
 ghost use Rattle.helper_link.specs.Sound.{IsSound};
 ghost use Rattle.helper_link.specs.Telling.{telling};
 
@@ -88,7 +88,7 @@ impl Link {
     }
 
     /// Puts an ask for a signature of `message` by the private key, whose public key blob is
-    /// `blob`, and gives its number.
+    /// `blob`, and gives its number. `now` is the second of the caller's monotonic clock.
     ///
     /// The private key is in no memory but that of buffers that are wiped.
     pub fn ask_sign(
@@ -98,12 +98,14 @@ impl Link {
         blob: &[u8],
         message: &[u8],
         flags: u32,
+        now: u64,
     ) -> Result<u64, AskFault>
         requires state { self.old.state ≢ LinkState.None }
+        requires later { ArePutBy now self.old.asks }
         requires body { to_child_length (sign_request private.now blob.now message.now flags 0)
             ≤ 1048576 }
         ensures ok { OnOk result (self.new ≡ submitted AskKind.Signing asker
-            (sign_request private.now blob.now message.now flags) self.old) }
+            (sign_request private.now blob.now message.now flags) now self.old) }
         ensures value { IfOk result (λ number. number ≡ self.old.last + 1) }
         ensures fault { MatchResult result (λ _. ask_fault self.old ≡ None)
             (IsRefusedWith (ask_fault self.old)) }
@@ -119,24 +121,26 @@ impl Link {
             message,
             flags,
         };
-        self.submit(asker, AskKind::Signing, &request)?;
+        self.submit(asker, AskKind::Signing, now, &request)?;
         Ok(number)
     }
 
     /// Puts an ask for the verification of a host key's signature over a session identifier, and
-    /// gives its number.
+    /// gives its number. `now` is the second of the caller's monotonic clock.
     pub fn ask_verify(
         &mut self,
         asker: u64,
         host_key: &[u8],
         signature: &[u8],
         session: &[u8],
+        now: u64,
     ) -> Result<u64, AskFault>
         requires state { self.old.state ≢ LinkState.None }
+        requires later { ArePutBy now self.old.asks }
         requires body { to_child_length (verify_request host_key.now signature.now session.now 0)
             ≤ 1048576 }
         ensures ok { OnOk result (self.new ≡ submitted AskKind.Verifying asker
-            (verify_request host_key.now signature.now session.now) self.old) }
+            (verify_request host_key.now signature.now session.now) now self.old) }
         ensures value { IfOk result (λ number. number ≡ self.old.last + 1) }
         ensures fault { MatchResult result (λ _. ask_fault self.old ≡ None)
             (IsRefusedWith (ask_fault self.old)) }
@@ -149,8 +153,17 @@ impl Link {
             signature,
             session,
         };
-        self.submit(asker, AskKind::Verifying, &request)?;
+        self.submit(asker, AskKind::Verifying, now, &request)?;
         Ok(number)
+    }
+
+    /// The second at which the oldest unanswered ask was put. Takes no memory.
+    pub fn oldest(&self) -> Option<u64>
+        ensures value { result ≡ oldest self.now.asks }
+        ensures sound { IsSound self.now }
+    {
+        let first = self.asks.first()?;
+        Some(first.put_at)
     }
 
     /// The bytes to be sent to the helper: none while it isn't there.
@@ -241,13 +254,20 @@ impl Link {
     }
 
     // Writes the request and then keeps the ask, for which room was made before.
-    fn submit(&mut self, asker: u64, kind: AskKind, request: &ToChild<'_>) -> Result<(), AllocError>
+    fn submit(
+        &mut self,
+        asker: u64,
+        kind: AskKind,
+        now: u64,
+        request: &ToChild<'_>,
+    ) -> Result<(), AllocError>
         requires state { self.old.state ≢ LinkState.None }
+        requires later { ArePutBy now self.old.asks }
         requires few { length self.old.asks < 256 }
         requires last { self.old.last < 2 ^ 64 - 1 }
         requires body { to_child_length (to_child_message request.now) ≤ 1048576 }
         ensures ok { OnOk result (self.new
-            ≡ submitted kind asker (λ _. to_child_message request.now) self.old) }
+            ≡ submitted kind asker (λ _. to_child_message request.now) now self.old) }
         ensures unchanged { OnErr result (self.new ≡ self.old) }
     {
         self.asks.reserve(1)?;
@@ -257,6 +277,7 @@ impl Link {
             number: self.last,
             asker,
             kind,
+            put_at: now,
         })?;
         Ok(())
     }

@@ -1,8 +1,9 @@
 // An agent that counts what it is asked.
-ghost use Rattle.std.specs.Prelude.{◌≡◌, None};
-ghost use Rattle.agent_model.specs.State.{first_state};
+ghost use Rattle.std.specs.Prelude.{◌≡◌};
+ghost use Rattle.agent_model.specs.State.{first_state, no_settings};
 
-use agent_core::{Agent, CoreMemory, Event, Settings};
+use crate::scripts::NO_SETTINGS;
+use agent_core::{Agent, CoreMemory, Event};
 use ready_loop::Core;
 use std::alloc::Global;
 use std::cell::Cell;
@@ -17,10 +18,10 @@ pub struct Counted {
 
 impl Counted {
     pub fn new(alloc: Global) -> Counted
-        ensures { result.agent.state ≡ first_state None }
+        ensures { result.agent.state ≡ first_state no_settings }
     {
         Counted {
-            agent: Agent::new(alloc, Settings { default_life: None }),
+            agent: Agent::new(alloc, NO_SETTINGS),
             looks: Cell::new(0),
         }
     }

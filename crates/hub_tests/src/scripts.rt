@@ -1,6 +1,6 @@
 // Scripts of worlds, and what was done there.
-ghost use Rattle.std.specs.Prelude.{◌≡◌, None};
-ghost use Rattle.agent_model.specs.State.{first_state};
+ghost use Rattle.std.specs.Prelude.{◌≡◌};
+ghost use Rattle.agent_model.specs.State.{first_state, no_settings};
 
 use agent_core::{Agent, Settings};
 use plain_lists::Bytes;
@@ -29,6 +29,13 @@ pub fn addition(alloc: Global) -> Result<Vec<u8>, AllocError> {
     Ok(frame)
 }
 
+// Identities live for ever, and all is waited for as long.
+pub const NO_SETTINGS: Settings = Settings {
+    default_life: None,
+    ask_limit: None,
+    confirm_limit: None,
+};
+
 // Somebody connects as a client.
 pub fn connect() -> Cue {
     Cue::Connect(Door::Clients)
@@ -50,7 +57,7 @@ pub fn play_with<R: Wait, A: Core>(
     script: (Vec<Vec<Cue>>, Vec<u64>),
     until_idle: bool,
 ) -> (ServeEnd, ScriptWorld)
-    requires { A.state agent.old ≡ first_state None }
+    requires { A.state agent.old ≡ first_state no_settings }
 {
     let mut world = ScriptWorld::new(alloc, script.0, script.1);
     let end = serve(rt, alloc, agent, &mut world, "agent", until_idle);
@@ -65,9 +72,21 @@ pub fn play<R: Wait>(
     failing: Vec<u64>,
     until_idle: bool,
 ) -> (ServeEnd, ScriptWorld) {
-    let settings = Settings { default_life: None };
-    let mut agent = Agent::new(alloc, settings);
+    let mut agent = Agent::new(alloc, NO_SETTINGS);
     play_with(rt, alloc, &mut agent, (turns, failing), until_idle)
+}
+
+// The same without failures, with an agent that waits a minute for its helper, and five for its user.
+pub fn play_timed<R: Wait>(rt: &R, alloc: Global, turns: Vec<Vec<Cue>>) -> (ServeEnd, ScriptWorld) {
+    let settings = Settings {
+        default_life: None,
+        ask_limit: Some(60),
+        confirm_limit: Some(300),
+    };
+    let mut agent = Agent::new(alloc, settings);
+    let mut world = ScriptWorld::new(alloc, turns, Vec::new(alloc));
+    let end = serve(rt, alloc, &mut agent, &mut world, "agent", false);
+    (end, world)
 }
 
 // What a port took, in order.

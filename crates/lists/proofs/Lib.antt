@@ -2,4 +2,5 @@ pub mod RisingLemmas
 pub mod Places
 pub mod FirstLemmas
 pub mod KeyedLemmas
+pub mod NeverFallLemmas
 pub mod SearchLemmas

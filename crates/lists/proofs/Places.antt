@@ -1,13 +1,12 @@
 -- Lemmas on the place of a number in a rising list.
-use Rattle.std.proofs.Common.{◌≡◌, ◌≢◌, ℕ, zero, suc, ◌<◌, ◌≤◌, List, [], ◌∷◌, length, get_or, refl, arith, Result, Ok, Err, MatchResult, slice_get, true, false, inl, inr, add-one}
-use Rattle.std.proofs.lemmas.Grind.{common_steps}
+use Rattle.std.proofs.Common.{◌≡◌, ◌≢◌, ℕ, zero, suc, ◌<◌, ◌≤◌, List, [], ◌∷◌, length, get_or, refl, arith, Result, Ok, Err, MatchResult, true, false, inl, inr}
 use Rattle.std.proofs.lemmas.Bool.Decides.{nat_tests}
 use Rattle.std.proofs.lemmas.Bool.{cases_lt}
 use Rattle.std.proofs.lemmas.List.Sorted.{searched}
 use Rattle.std.specs.List.{insert, remove}
 use Rattle.std.specs.List.Sorted.{IsBinarySearchResult}
 use Rattle.std.specs.Ordering.{nat_cmp}
-use Rattle.lists.specs.Rising.{IsAbsent, IsFound, IsRisingList, IsRisingNumbers, first_above, inserted, is_among, removed}
+use Rattle.lists.specs.Rising.{IsAbsent, IsFound, IsRisingList, IsRisingNumbers, inserted, is_among, removed}
 use Rattle.lists.proofs.RisingLemmas.{inserted-among, removed-not_among, rising_list}
 
 -- each number is above the bound
@@ -69,32 +68,6 @@ removed-at number (x ∷ xs) (suc i) rising within is =
     let rest : removed number xs ≡ remove xs i = removed-at number xs i (rising_list x xs rising) (omega arith) is in
     grind (arith, nat_tests)
 
--- the first number above one that stands at a place is the next
-first_above-at : (number : ℕ) (xs : List ℕ) (i : ℕ) → IsRisingList xs → i < length xs → get_or xs i 0 ≡ number
-    → first_above number xs ≡ slice_get xs (suc i)
-first_above-at number [] i rising within is = absurd (omega arith)
-first_above-at number (x ∷ []) zero rising within is = grind (arith, nat_tests)
-first_above-at number (x ∷ (y ∷ xs)) zero rising within is =
-    let next : x < y = rising.0 in
-    grind (arith, nat_tests)
-first_above-at number (x ∷ xs) (suc i) rising within is =
-    let later : x < get_or xs i 0 = rising-above x xs i rising (omega arith) in
-    let rest : first_above number xs ≡ slice_get xs (suc i) = first_above-at number xs i (rising_list x xs rising) (omega arith) is in
-    grind (arith, nat_tests)
-
--- the first number above one that isn't there stands where that one would go
-first_above-absent : (number : ℕ) (xs : List ℕ) (i : ℕ) → i ≤ length xs → ((k : ℕ) → k < i → get_or xs k 0 < number)
-    → ((k : ℕ) → i ≤ k → k < length xs → number < get_or xs k 0) → first_above number xs ≡ slice_get xs i
-first_above-absent number [] i within less greater = grind (arith, common_steps)
-first_above-absent number (x ∷ xs) zero within less greater =
-    let above : number < x = greater 0 (omega arith) (omega arith) in
-    grind (arith, nat_tests)
-first_above-absent number (x ∷ xs) (suc i) within less greater =
-    let below : x < number = less 0 (omega arith) in
-    let rest : first_above number xs ≡ slice_get xs i =
-    first_above-absent number xs i (omega arith) (λ k h. less (suc k) (omega arith)) (λ k h l. greater (suc k) (omega arith) (omega arith)) in
-    grind (arith, nat_tests)
-
 -- a number between those that are less and those that are greater isn't there
 apart : (number : ℕ) (xs : List ℕ) (place k : ℕ) → ((k : ℕ) → k < place → get_or xs k 0 < number) → ((k : ℕ) → place ≤ k → k < length xs → number < get_or xs k 0)
     → k < length xs → get_or xs k 0 ≢ number
@@ -114,7 +87,6 @@ searched_numbers number xs (Ok place) answer rising =
       there = there;
       put_in = inserted-among number xs rising there;
       taken_out = removed-at number xs place rising at.0 at.1;
-      above = rw add-one (first_above-at number xs place rising at.0 at.1);
     }
 searched_numbers number xs (Err place) answer rising =
     let at = searched xs number (Err place) answer (λ i j h l. rising-ordered xs i j rising h l) in
@@ -124,5 +96,4 @@ searched_numbers number xs (Err place) answer rising =
       absent = absent;
       put_in = inserted-at number xs place at.0 at.1 at.2;
       taken_out = removed-not_among number xs absent;
-      above = first_above-absent number xs place at.0 at.1 at.2;
     }

@@ -23,3 +23,13 @@ remove_by key number all = remove_first (has_key key number) all
 abbrev pub RiseBy : {A : Type 0} → (A → ℕ) → ℕ → List A → ℕ → Type 0
 RiseBy key low [] high = low ≤ high
 RiseBy key low (one ∷ others) high = (low < key one) × RiseBy key (key one) others high
+
+-- the numbers never fall: the first is `low` at least, and each as great as the one before it or greater
+abbrev pub NeverFallBy : {A : Type 0} → (A → ℕ) → ℕ → List A → Type 0
+NeverFallBy key low [] = Unit {0}
+NeverFallBy key low (one ∷ others) = (low ≤ key one) × NeverFallBy key (key one) others
+
+-- each of the numbers is `high` at most
+abbrev pub AreUpToBy : {A : Type 0} → (A → ℕ) → ℕ → List A → Type 0
+AreUpToBy key high [] = Unit {0}
+AreUpToBy key high (one ∷ others) = (key one ≤ high) × AreUpToBy key high others

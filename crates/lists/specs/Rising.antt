@@ -1,6 +1,6 @@
 -- Rising lists of numbers (ours).
 use Rattle.std.specs.List.{insert, remove}
-use Rattle.std.specs.Prelude.{◌≡◌, ℕ, ◌+◌, ◌<◌, ◌≤◌, length, slice_get, List, [], ◌∷◌, Bool, true, false, Option, Some, None, nat_lt, ◌==◌, ◌||◌, if◌then◌else◌}
+use Rattle.std.specs.Prelude.{◌≡◌, ℕ, ◌<◌, ◌≤◌, length, List, [], ◌∷◌, Bool, true, false, nat_lt, ◌==◌, ◌||◌, if◌then◌else◌}
 
 -- the numbers rise, each above low
 abbrev pub IsRisingNumbers : ℕ → List ℕ → Type 0
@@ -28,18 +28,12 @@ abbrev pub removed : ℕ → List ℕ → List ℕ
 removed number [] = []
 removed number (other ∷ others) = if number == other then others else other ∷ removed number others
 
--- the first number above this one
-abbrev pub first_above : ℕ → List ℕ → Option ℕ
-first_above after [] = None
-first_above after (number ∷ others) = if nat_lt after number then Some number else first_above after others
-
 -- the number stands at this place
 pub record IsFound (number : ℕ) (numbers : List ℕ) (place : ℕ) : Type 0 where
   pub within : place < length numbers
   pub there : is_among number numbers ≡ true
   pub put_in : inserted number numbers ≡ numbers
   pub taken_out : removed number numbers ≡ remove numbers place
-  pub above : first_above number numbers ≡ slice_get numbers (place + 1)
 
 -- the number isn't there, and would go to this place
 pub record IsAbsent (number : ℕ) (numbers : List ℕ) (place : ℕ) : Type 0 where
@@ -47,4 +41,3 @@ pub record IsAbsent (number : ℕ) (numbers : List ℕ) (place : ℕ) : Type 0 w
   pub absent : is_among number numbers ≡ false
   pub put_in : inserted number numbers ≡ insert numbers place number
   pub taken_out : removed number numbers ≡ numbers
-  pub above : first_above number numbers ≡ slice_get numbers place

@@ -7,4 +7,4 @@ mod rising;
 #[cfg(test)]
 mod tests;
 
-pub use crate::rising::{has, next_above, put_in, take_out};
+pub use crate::rising::{has, put_in, take_out};

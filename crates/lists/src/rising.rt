@@ -1,7 +1,7 @@
 //! A rising list of numbers.
 
 ghost use Rattle.std.specs.Prelude.{◌≡◌, ◌≤◌, MatchResult, length, vec_capacity};
-ghost use Rattle.lists.specs.Rising.{IsAbsent, IsFound, IsRisingList, first_above, inserted, is_among, removed};
+ghost use Rattle.lists.specs.Rising.{IsAbsent, IsFound, IsRisingList, inserted, is_among, removed};
 
 // Where the number stands, or else where it goes.
 fn search(numbers: &[u64], number: u64) -> Result<usize, usize>
@@ -48,16 +48,4 @@ pub fn take_out(numbers: &mut Vec<u64>, number: u64) -> bool
         }
         Err(_) => false,
     }
-}
-
-/// The first number above `after`.
-pub fn next_above(numbers: &[u64], after: u64) -> Option<u64>
-    requires { IsRisingList numbers.now }
-    ensures { result ≡ first_above after numbers.now }
-{
-    let place = match search(numbers, after) {
-        Ok(place) => place + 1,
-        Err(place) => place,
-    };
-    numbers.get(place).copied()
 }

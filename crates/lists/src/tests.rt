@@ -1,5 +1,5 @@
 //! Each call once, with ample memory.
-use crate::{has, next_above, put_in, take_out};
+use crate::{has, put_in, take_out};
 use std::test::Fail;
 
 #[test]
@@ -10,8 +10,6 @@ fn a_number_is_put_in_once_and_taken_out(rt: HostRuntime) -> Result<(), Fail> {
     put_in(&mut numbers, 5);
     assert_eq!(rt; numbers.as_slice(), [0, 3, 5, 7].as_slice());
     assert!(rt; has(&numbers, 5));
-    assert_eq!(rt; next_above(&numbers, 5), Some(7));
-    assert_eq!(rt; next_above(&numbers, 7), None);
     assert!(rt; take_out(&mut numbers, 0));
     assert!(rt; !take_out(&mut numbers, 0));
     assert_eq!(rt; numbers.as_slice(), [3, 5, 7].as_slice());

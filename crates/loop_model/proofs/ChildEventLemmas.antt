@@ -1,5 +1,6 @@
 -- What each event leaves of the child processes that were owed bytes.
-use Rattle.std.proofs.Common.{◌≡◌, ◌≢◌, ℕ, Bool, true, false, List, ◌++◌, Option, Some, None, Result, Ok, Err, is_some, refl, sym, ap, ◌∙◌}
+use Rattle.std.proofs.Common.{◌≡◌, ◌≢◌, ℕ, Bool, true, false, List, [], ◌∷◌, ◌++◌, Option, Some, None, Result, Ok, Err, is_some, refl, sym, ap, ◌∙◌}
+use Rattle.std.specs.List.{find}
 use Rattle.std.specs.Option.{option_map}
 use Rattle.std.specs.Str.{bytes_eq}
 use Rattle.lists.proofs.KeyedLemmas.{find_by-change, found_key}
@@ -7,6 +8,7 @@ use Rattle.world_ports.specs.declared.events.Door.{Door}
 use Rattle.world_ports.specs.declared.events.Job.{Job}
 use Rattle.world_ports.specs.declared.events.JobKind.TheVariants as kinds
 use Rattle.world_ports.specs.declared.events.JobKind.{JobKind}
+use Rattle.world_ports.specs.declared.events.Moment.{Moment}
 use Rattle.wire_text.specs.Frames.{Bad, Front, More, Whole, after_front, front, front_body}
 use Rattle.child_msg.specs.Messages.{Denied, False, FromChildMessage, Granted, Hello, Refused, Signed, True}
 use Rattle.child_msg.specs.Reading.{from_child_of}
@@ -14,19 +16,20 @@ use Rattle.child_msg.specs.declared.fault.ChildFault.{ChildFault}
 use Rattle.confirm_desk.specs.Confirmations as desk
 use Rattle.confirm_desk.specs.Confirmations.{Confirmation, change_job, consent, find_asker, find_job, find_linked, linked, linked_at}
 use Rattle.helper_link.specs.declared.state.LinkState.TheVariants as states
-use Rattle.agent_model.specs.Children.{changed, closed, confirmer_named, failed_by, failed_if, first_frame, first_message, heard_more, hello_by, helper_named, job_left, job_started, named_by, ticket_by, unheard}
-use Rattle.agent_model.specs.Consents.{find_started, started_number}
+use Rattle.agent_model.specs.Children.{changed, closed, confirmer_named, failed_by, failed_if, first_frame, first_message, heard_more, hello_by, helper_named, is_started_by, job_left, job_started, named_by, ticket_by, unheard}
+use Rattle.agent_model.specs.Consents.{find_started, over_if, started_number}
 use Rattle.agent_model.specs.Events.{Ended, Happening, Heard, Joined, StartFailed, Started, Tick, Took}
 use Rattle.agent_model.specs.State.{Client, Confirmer, Helper, Port, Role, StartedJob, State, UnderWay, Unnamed, find_port, find_to_start, job_number, role_of}
 use Rattle.agent_model.specs.Step.{ended_at, ended_by_role, handle, heard_at, heard_by_role, helper_took, took_at, took_by_role, took_some}
-use Rattle.agent_model.proofs.JobLemmas.{in-by_asker, in-by_port, in-found, linked_port}
+use Rattle.agent_model.specs.Time.{all_over, at_moment, is_helper_late, is_late, lose_late, taken_in}
+use Rattle.agent_model.proofs.JobLemmas.{in-by_asker, in-by_port, in-found, in-found_by, linked_port}
 use Rattle.agent_model.proofs.LeadLemmas.{changes, same}
 use Rattle.agent_model.proofs.MakeLemmas.{role-confirmer, role-free, role-helper, role-other}
 use Rattle.agent_model.proofs.PortsLemmas.{found_number}
 use Rattle.loop_model.specs.Orderly.{IsStaffed}
-use Rattle.loop_model.proofs.ChildLemmas.{Keeps, Owes, answered_owes, by_desk, by_link, keeps-changed, keeps-closed, keeps-consent, keeps-goes_on, keeps-helper_heard, keeps-look, keeps-lose, keeps-over, keeps-over_if, linked_owes, named_owes}
+use Rattle.loop_model.proofs.ChildLemmas.{Keeps, Owes, answered_owes, by_desk, by_link, keeps-changed, keeps-closed, keeps-consent, keeps-goes_on, keeps-helper_heard, keeps-look, keeps-lose, keeps-lose_where, keeps-over, keeps-over_if, linked_owes, named_owes}
 use Rattle.loop_model.proofs.OpenLemmas.{leads-open, leads-rising, linked-elsewhere}
-use Rattle.loop_model.proofs.StaffLemmas.{awaited, none-left, none-linked, none-named, not_linked, staffed-changed, staffed-helper, staffed-left, staffed-linked, staffed-started}
+use Rattle.loop_model.proofs.StaffLemmas.{awaited, not_linked, staffed-changed, staffed-helper, staffed-left, staffed-linked, staffed-started}
 
 module _ (number high : ℕ) where
   -- whose child process came to this port
@@ -72,8 +75,7 @@ module _ (number high : ℕ) where
         → find_started job state.under_way.started ≡ Some one → one.job.kind ≡ kind
         → Keeps number high (named_by kind job own rest state).state
     keeps-named kinds.Helper job one rest found is =
-        keeps-helper_heard number high rest (helper_named job own state) (none-named state.under_way job one keeps.staffed found is)
-        (keeps-helper_named job one found is)
+        keeps-helper_heard number high rest (helper_named job own state) (keeps-helper_named job one found is)
     keeps-named kinds.Confirm job one rest found is =
         let next = confirmer_named job own state in
         keeps-goes_on number high (find_job job next.under_way.confirmations) job own rest next refl
@@ -157,9 +159,7 @@ module _ (number high : ℕ) where
       keeps-frame at.number (unnamed_apart at state keeps found is) (changed at.number (heard_more piece) state)
       (keeps-changed number high at.number (heard_more piece) state (λ p. refl) (λ p. refl) keeps)
       (front 262144 (at.heard ++ piece)) (at.heard ++ piece)
-  keeps-heard_role Helper at piece state keeps found is =
-      keeps-helper_heard number high piece state
-      (none-linked state.under_way at.number keeps.staffed (role-helper at.door at.number state.under_way is)) keeps
+  keeps-heard_role Helper at piece state keeps found is = keeps-helper_heard number high piece state keeps
   keeps-heard_role (Confirmer one) at piece state keeps found is =
       let own = its_job at state one keeps.staffed is in
       keeps-consent number high (consent one.job (one.heard ++ piece)) one at.number piece state own.0 own.1 keeps
@@ -244,9 +244,7 @@ module _ (number high : ℕ) where
       (in-by_asker at.number state.under_way.confirmations one found)) (keeps-closed number high at.number state keeps)
   keeps-ended_role Unnamed at state keeps is = keeps-closed number high at.number state keeps
   keeps-ended_role Helper at state keeps is =
-      keeps-lose number high (closed at.number state)
-      (none-linked state.under_way at.number keeps.staffed (role-helper at.door at.number state.under_way is))
-      (keeps-closed number high at.number state keeps)
+      keeps-lose number high (closed at.number state) (keeps-closed number high at.number state keeps)
   keeps-ended_role (Confirmer one) at state keeps is =
       keeps-over number high one (closed at.number state) (its_job at state one keeps.staffed is).0
       (keeps-closed number high at.number state keeps)
@@ -278,7 +276,7 @@ module _ (number high : ℕ) where
       → find_to_start job.number state.under_way.to_start ≡ Some job → job.kind ≡ kind
       → Keeps number high (failed_by kind job.number (job_left job.number state)).state
   keeps-failed_by kinds.Helper job state keeps found is =
-      keeps-lose number high (job_left job.number state) (none-left state.under_way job.number job keeps.staffed found is)
+      keeps-lose_where number high (is_started_by job.number state.under_way.link.state) (job_left job.number state)
       (keeps-left job.number state keeps)
   keeps-failed_by kinds.Confirm job state keeps found is =
       keeps-over_if number high (find_job job.number state.under_way.confirmations) (job_left job.number state)
@@ -312,3 +310,32 @@ module _ (number high : ℕ) where
   keeps-event (StartFailed job) state never elsewhere keeps =
       keeps-failed (find_to_start job state.under_way.to_start) job state refl keeps
   keeps-event Tick state never elsewhere keeps = keeps
+
+  -- ---- a moment, before its event
+
+  keeps-taken_in : (moment : Moment) (state : State) → Keeps number high state → Keeps number high (taken_in moment state)
+  keeps-taken_in moment state keeps = record {
+    rising = keeps.rising;
+    staffed = record { jobs = keeps.staffed.jobs; coming = keeps.staffed.coming };
+    owes = λ opened.
+        answered_owes number high state.under_way (taken_in moment state).under_way (keeps.owes opened) refl refl refl;
+  }
+
+  keeps-all_over : (ones : List Confirmation) (state : State) → Keeps number high state
+      → Keeps number high (all_over ones state).state
+  keeps-all_over [] state keeps = keeps
+  keeps-all_over (one ∷ ones) state keeps =
+      let found = find (is_late state.under_way) state.under_way.confirmations in
+      keeps-all_over ones (over_if found state).state
+      (keeps-over_if number high found state
+      (λ late is.
+      in-found late 0 state.under_way.last_job keeps.staffed.jobs.order
+      (in-found_by (is_late state.under_way) state.under_way.confirmations late is)) keeps)
+
+  pub keeps-moment : (moment : Moment) (state : State) → Keeps number high state
+      → Keeps number high (at_moment moment state)
+  keeps-moment moment state keeps =
+      let begun = taken_in moment state in
+      let left = (lose_late begun).state in
+      keeps-all_over left.under_way.confirmations left
+      (keeps-lose_where number high (is_helper_late begun.under_way) begun (keeps-taken_in moment state keeps))

@@ -1,5 +1,5 @@
 -- What an event leaves of the child processes that were owed bytes.
-use Rattle.std.proofs.Common.{◌≡◌, ◌≢◌, ℕ, ◌+◌, true, false, List, [], ◌∷◌, ◌++◌, Option, Some, None, is_some, refl, sym, ap, ◌∙◌, ◌==◌, inl, inr}
+use Rattle.std.proofs.Common.{◌≡◌, ◌≢◌, ℕ, ◌+◌, Bool, true, false, List, [], ◌∷◌, ◌++◌, Option, Some, None, is_some, refl, sym, ap, ◌∙◌, ◌==◌, inl, inr}
 use Rattle.std.specs.Option.{option_map}
 use Rattle.lists.proofs.KeyedLemmas.{differ}
 use Rattle.std.proofs.lemmas.Bool.{cases_eq}
@@ -15,7 +15,7 @@ use Rattle.helper_link.specs.declared.fault.LinkFault.{LinkFault}
 use Rattle.helper_link.specs.declared.state.LinkState.TheVariants as states
 use Rattle.helper_link.specs.declared.state.LinkState.{LinkState}
 use Rattle.agent_model.specs.Actions.{Work}
-use Rattle.agent_model.specs.Answers.{answers_in, close_helper, helper_heard, lose, lose_if, with_answers}
+use Rattle.agent_model.specs.Answers.{answers_in, close_helper, helper_heard, lose, lose_if, lose_where, with_answers}
 use Rattle.agent_model.specs.Binds.{agent_request_of}
 use Rattle.agent_model.specs.Children.{changed, closed, confirmer_goes_on}
 use Rattle.agent_model.specs.Consents.{close_confirmer, consent_by, grant_concluded, grant_to, over, over_if, signing_of, without_confirmation}
@@ -34,9 +34,9 @@ use Rattle.agent_model.proofs.PortsLemmas.{rising-change_port, rising-remove_por
 use Rattle.agent_model.proofs.ServeLemmas.{IsServed, answered, asked, raised, refused, serve-ends}
 use Rattle.under_way.specs.Parts.{IsAwaited}
 use Rattle.loop_model.specs.Orderly.{IsStaffed}
-use Rattle.loop_model.proofs.LeftLemmas.{some-more}
+use Rattle.loop_model.proofs.ClientOwedLemmas.{some-more}
 use Rattle.loop_model.proofs.OpenLemmas.{leads-open, leads-rising, linked-elsewhere, linked-left, never_open, open-changed, open-removed}
-use Rattle.loop_model.proofs.StaffLemmas.{HasNone, staffed-changed, staffed-over, staffed-put, staffed-raised}
+use Rattle.loop_model.proofs.StaffLemmas.{staffed-changed, staffed-lost, staffed-over, staffed-put, staffed-raised}
 
 -- ---- what a child process is owed
 
@@ -104,24 +104,29 @@ module _ (number high : ℕ) where
       by_desk one (ap (find_linked number) same_desk ∙ found) some
       (λ linked. let no : states.None ≡ states.Linked number = sym none ∙ linked in absurd (cc))
 
-  pub keeps-lose : (state : State) → HasNone state.under_way → Keeps number high state → Keeps number high (lose state).state
-  keeps-lose state none keeps =
+  pub keeps-lose : (state : State) → Keeps number high state → Keeps number high (lose state).state
+  keeps-lose state keeps =
       let left = close_helper state.under_way.link.state state.ports in
       let left_rising = rising-link state.under_way.link.state state.ports keeps.rising in
       let leads = leads-tell_each left (Refuses HelperLost) (askers state.under_way.link.asks) left same in
       record {
         rising = leads-rising high left leads left_rising;
-        staffed = record { jobs = keeps.staffed.jobs; coming = none };
+        staffed = staffed-lost state keeps.staffed;
         owes = λ opened.
             let was = open-link state.under_way.link.state state.ports keeps.rising
             (leads-open number high left leads left_rising opened) in
             lost_owes state.under_way (lose state).state.under_way (keeps.owes was.0) was.1 refl refl;
       }
 
-  pub keeps-lose_if : (fault : Option LinkFault) (state : State) → HasNone state.under_way → Keeps number high state
+  pub keeps-lose_if : (fault : Option LinkFault) (state : State) → Keeps number high state
       → Keeps number high (lose_if fault state).state
-  keeps-lose_if None state none keeps = keeps
-  keeps-lose_if (Some fault) state none keeps = keeps-lose state none keeps
+  keeps-lose_if None state keeps = keeps
+  keeps-lose_if (Some fault) state keeps = keeps-lose state keeps
+
+  pub keeps-lose_where : (test : Bool) (state : State) → Keeps number high state
+      → Keeps number high (lose_where test state).state
+  keeps-lose_where false state keeps = keeps
+  keeps-lose_where true state keeps = keeps-lose state keeps
 
   pub answered_owes : (u new : UnderWay) → Owes number u → new.link.state ≡ u.link.state → new.link.owed ≡ u.link.owed
       → new.confirmations ≡ u.confirmations → Owes number new
@@ -130,13 +135,13 @@ module _ (number high : ℕ) where
   answered_owes u new (by_desk one found some other) state_is owed_is desk_is =
       by_desk one (ap (find_linked number) desk_is ∙ found) some (λ linked. other (sym state_is ∙ linked))
 
-  pub keeps-helper_heard : (piece : List ℕ) (state : State) → HasNone state.under_way → Keeps number high state
+  pub keeps-helper_heard : (piece : List ℕ) (state : State) → Keeps number high state
       → Keeps number high (helper_heard piece state).state
-  keeps-helper_heard piece state none keeps =
+  keeps-helper_heard piece state keeps =
       let told = telling piece state.under_way.link in
       let next = with_answers told.link (answers_in told.settled state) state in
       let leads : Leads state.ports next.ports = leads-answers state.ports told.settled _ same in
-      keeps-lose_if told.fault next none record {
+      keeps-lose_if told.fault next record {
         rising = leads-rising high state.ports leads keeps.rising;
         staffed = record { jobs = keeps.staffed.jobs; coming = keeps.staffed.coming };
         owes = λ opened.

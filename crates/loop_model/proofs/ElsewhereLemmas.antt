@@ -14,12 +14,14 @@ use Rattle.agent_model.specs.Consents.{over_if}
 use Rattle.agent_model.specs.Events.{Happening, Joined, Heard, Ended, Took, Started, StartFailed, Tick}
 use Rattle.agent_model.specs.Sound.{IsRising}
 use Rattle.agent_model.specs.State.{Client, Port, State, UnderWay, Verification, change_port, find_port, find_to_start, is_client, is_some_bytes, new_port, owed_as, owed_by, owed_of, remove_port, role_of, wants, wants_at, wants_by}
-use Rattle.agent_model.specs.Step.{admitted, at_moment, ended_at, ended_by_role, handle, has_room, heard_at, heard_by_role, step}
+use Rattle.agent_model.specs.Step.{admitted, ended_at, ended_by_role, handle, has_room, heard_at, heard_by_role, step}
+use Rattle.agent_model.specs.Time.{at_moment, taken_in}
 use Rattle.agent_model.specs.Verdicts.{Verdict, tell}
 use Rattle.agent_model.proofs.JobLemmas.{asker_own}
 use Rattle.agent_model.proofs.PortsLemmas.{find_port-apart, find_port-change_port, find_port-left, find_port-remove_port, find_port-removed_apart}
-use Rattle.loop_model.specs.Elsewhere.{is_clients, is_of, tells_others}
-use Rattle.loop_model.proofs.SparedLemmas.{KeepsNumber, Spares, alters, apart_from, quiet, removes, same, spared-ended, spared-failed, spared-heard, spared-heard_client, spared-took, spares-close_confirmer, spares-rising}
+use Rattle.loop_model.specs.Elsewhere.{ends_waits, is_clients, is_of, tells_others}
+use Rattle.loop_model.proofs.MomentLemmas.{last-moment, quiet-moment, rising-moment}
+use Rattle.loop_model.proofs.SparedLemmas.{KeepsNumber, Spares, alters, apart_from, quiet, removes, same, spared-ended, spared-failed, spared-heard, spared-heard_client, spared-moment, spared-took, spares-close_confirmer, spares-rising}
 
 -- one more that joins leaves the others
 find-joined : (port last : ℕ) (door : Door) (ports : List Port) → port ≢ last
@@ -117,7 +119,10 @@ pub wanted_before : (state : State) (moment : Moment) (event : Happening) (port 
     → IsRising 0 state.last_port state.ports → is_of event state.last_port port ≡ false
     → wants port (step state moment event).state ≡ true → wants port state ≡ true
 wanted_before state moment event port rising other wanted =
-    wanted_by event (at_moment moment state) port rising other wanted
+    wants-spared port 0 state.last_port state.ports
+    (spared-moment IsSilent port state.ports silent-tell silent-prove moment state same) rising
+    (wanted_by event (at_moment moment state) port (rising-moment moment state rising)
+    (ap (λ n. is_of event n port) (last-moment moment state) ∙ other) wanted)
 
 -- ---- what clients are owed
 
@@ -216,25 +221,38 @@ was_open (Started job ticket) state port rising quiet_yet other at found = found
 was_open (StartFailed job) state port rising quiet_yet other at found = absurd (cc)
 was_open Tick state port rising quiet_yet other at found = found
 
--- the moment changes no ports
-tells-at_moment : (event : Happening) (moment : Moment) (state : State)
-    → tells_others event (at_moment moment state) ≡ tells_others event state
-tells-at_moment (Joined door) moment state = refl
-tells-at_moment (Heard number piece) moment state = refl
-tells-at_moment (Ended number) moment state = refl
-tells-at_moment (Took number count) moment state = refl
-tells-at_moment (Started job ticket) moment state = refl
-tells-at_moment (StartFailed job) moment state = refl
-tells-at_moment Tick moment state = refl
+-- a moment at which no wait ends changes no ports
+tells-taken_in : (event : Happening) (moment : Moment) (state : State)
+    → tells_others event (taken_in moment state) ≡ tells_others event state
+tells-taken_in (Joined door) moment state = refl
+tells-taken_in (Heard number piece) moment state = refl
+tells-taken_in (Ended number) moment state = refl
+tells-taken_in (Took number count) moment state = refl
+tells-taken_in (Started job ticket) moment state = refl
+tells-taken_in (StartFailed job) moment state = refl
+tells-taken_in Tick moment state = refl
 
--- a client that is owed bytes after an event that tells no others, and that isn't of its port, was owed some before
-pub owed_before : (state : State) (moment : Moment) (event : Happening) (port : ℕ)
+-- each event at such a moment
+owed_quietly : (state : State) (moment : Moment) (event : Happening) (port : ℕ)
     → IsRising 0 state.last_port state.ports → tells_others event state ≡ false
+    → is_of event state.last_port port ≡ false
+    → is_clients (find_port port (handle event (taken_in moment state)).state.ports) ≡ true
+    → is_some_bytes (owed_of port (handle event (taken_in moment state)).state) ≡ true
+    → is_some_bytes (owed_of port state) ≡ true
+owed_quietly state moment event port rising quiet_yet other client some =
+    let begun = taken_in moment state in
+    owed-found (find_port port (handle event begun).state.ports) (find_port port state.ports)
+    (handle event begun).state.under_way state.under_way
+    (was_open event begun port rising (tells-taken_in event moment state ∙ quiet_yet) other) client some
+
+-- a client that is owed bytes after an event that tells no others, and that isn't of its port, was owed some before,
+-- where no wait ends at the moment
+pub owed_before : (state : State) (moment : Moment) (event : Happening) (port : ℕ)
+    → IsRising 0 state.last_port state.ports → ends_waits moment state ≡ false → tells_others event state ≡ false
     → is_of event state.last_port port ≡ false
     → is_clients (find_port port (step state moment event).state.ports) ≡ true
     → is_some_bytes (owed_of port (step state moment event).state) ≡ true → is_some_bytes (owed_of port state) ≡ true
-owed_before state moment event port rising quiet_yet other client some =
-    owed-found (find_port port (step state moment event).state.ports) (find_port port state.ports)
-    (step state moment event).state.under_way state.under_way
-    (was_open event (at_moment moment state) port rising (tells-at_moment event moment state ∙ quiet_yet) other)
-    client some
+owed_before state moment event port rising unended quiet_yet other =
+    subst (λ (begun : State). is_clients (find_port port (handle event begun).state.ports) ≡ true
+    → is_some_bytes (owed_of port (handle event begun).state) ≡ true → is_some_bytes (owed_of port state) ≡ true)
+    (sym (quiet-moment moment state unended)) (owed_quietly state moment event port rising quiet_yet other)

@@ -1,26 +1,26 @@
--- What an event leaves of the ports that were to be read, and of the clients that were owed bytes.
-use Rattle.std.proofs.Common.{◌≡◌, ℕ, suc, ◌≤◌, List, [], ◌∷◌, ◌++◌, refl, ap, arith, sym, subst, ◌∙◌, ◌==◌, Option, Some, None, Bool, true, false, inl, inr, is_some}
+-- What an event leaves of the ports that were to be read.
+use Rattle.std.proofs.Common.{◌≡◌, ℕ, suc, ◌≤◌, List, [], ◌∷◌, refl, ap, arith, sym, subst, ◌∙◌, ◌==◌, Option, Some, None, Bool, true, false, inl, inr, is_some}
 use Rattle.std.specs.Option.{option_map}
-use Rattle.std.proofs.lemmas.Bool.Decides.{nat_tests}
 use Rattle.std.proofs.lemmas.Bool.{cases_eq, eq-eqb, eqb-true}
-use Rattle.std.proofs.lemmas.List.{length-append}
 use Rattle.world_ports.specs.declared.events.Door.TheVariants.{Clients}
 use Rattle.world_ports.specs.declared.events.Moment.{Moment}
 use Rattle.wire_text.specs.Bounds.{longest_body}
 use Rattle.wire_text.specs.Frames.{Bad, Front, More, Whole, front}
 use Rattle.confirm_desk.specs.Confirmations.{find_asker}
 use Rattle.agent_model.specs.Answers.{prove}
-use Rattle.agent_model.specs.Children.{changed, closed, heard_more}
+use Rattle.agent_model.specs.Children.{changed, closed}
 use Rattle.agent_model.specs.Events.{Ended, Happening, Heard, Joined, StartFailed, Started, Tick, Took}
 use Rattle.agent_model.specs.Sound.{IsRising}
-use Rattle.agent_model.specs.State.{Client, Confirmer, Helper, Nothing, OnAsk, OnConfirmation, Port, Role, State, UnderWay, Unnamed, Verification, Waits, change_port, find_port, find_to_start, is_client, is_more, is_open, is_some_bytes, owed_by, owed_of, remove_port, role_of, wants, wants_at, wants_by}
-use Rattle.agent_model.specs.Step.{at_moment, ended_at, ended_by_role, handle, has_room, heard_at, heard_by_role, look_front, look_owed, look_port, look_waits, step, took_at, took_by_role, took_some}
-use Rattle.agent_model.specs.Verdicts.{Replies, Success, Verdict, tell, verdict_text}
+use Rattle.agent_model.specs.State.{Client, Confirmer, Helper, Nothing, OnAsk, OnConfirmation, Port, Role, State, Unnamed, Verification, Waits, change_port, find_port, find_to_start, is_client, is_more, is_open, remove_port, role_of, wants, wants_at, wants_by}
+use Rattle.agent_model.specs.Step.{ended_at, ended_by_role, handle, has_room, look_front, look_owed, look_port, look_waits, step, took_at, took_by_role, took_some}
+use Rattle.agent_model.specs.Time.{at_moment}
+use Rattle.agent_model.specs.Verdicts.{Verdict, tell}
 use Rattle.agent_model.proofs.MakeLemmas.{role-client}
 use Rattle.agent_model.proofs.PortsLemmas.{find_port-apart, find_port-change_port, find_port-left, find_port-remove_port, found_number, found_within, rising-remove_port}
-use Rattle.loop_model.specs.Elsewhere.{brings_bytes, is_clients, is_of, takes_bytes}
-use Rattle.loop_model.proofs.ElsewhereLemmas.{IsSilent, find-admitted, owed-client, role-client as role-of_client, silent-prove, silent-tell}
-use Rattle.loop_model.proofs.SparedLemmas.{Spares, alters, quiet, removes, same, spared-ended, spared-failed, spared-heard, spared-lose, spared-over, spared-over_if, spared-took, spares-rising}
+use Rattle.loop_model.specs.Elsewhere.{brings_bytes, is_of}
+use Rattle.loop_model.proofs.ElsewhereLemmas.{IsSilent, find-admitted, silent-prove, silent-tell}
+use Rattle.loop_model.proofs.MomentLemmas.{rising-moment}
+use Rattle.loop_model.proofs.SparedLemmas.{Spares, alters, quiet, removes, same, spared-ended, spared-failed, spared-heard, spared-lose, spared-moment, spared-over, spared-over_if, spared-took, spares-rising}
 
 -- what a change leads to was there before it
 found_before : (f : Port → Port) (found : Option Port) (at : Port) → option_map f found ≡ Some at
@@ -29,7 +29,7 @@ found_before f None at is = absurd (cc)
 found_before f (Some was) at is = let made : f was ≡ at = cc in (was, refl, made)
 
 -- what quiet changes keep of a port holds of it while it is open
-holds-spared : (IsQuiet : (Port → Port) → Type 0) (Good : Port → Type 0)
+pub holds-spared : (IsQuiet : (Port → Port) → Type 0) (Good : Port → Type 0)
     → ((f : Port → Port) → IsQuiet f → (p : Port) → Good p → Good (f p)) → (port low high : ℕ) (old : List Port)
     {new : List Port} → Spares IsQuiet port old new → IsRising low high old
     → ((at : Port) → find_port port old ≡ Some at → Good at) → (at : Port) → find_port port new ≡ Some at → Good at
@@ -118,7 +118,7 @@ ended_spares port number (Confirmer confirmation) state =
     spared-over Any port (closed number state).ports (λ verdict. tt) (λ verification. tt) confirmation
     (closed number state) same
 
-ended_gone : (port number low high : ℕ) (found : Option Port) (state : State) → IsRising low high state.ports
+pub ended_gone : (port number low high : ℕ) (found : Option Port) (state : State) → IsRising low high state.ports
     → find_port number state.ports ≡ found → (number == port) ≡ true → (at : Port)
     → find_port port (ended_at found state).state.ports ≡ Some at → ⊥
 ended_gone port number low high None state rising is own at there =
@@ -141,8 +141,9 @@ ended_gone port number low high (Some one) state rising is own at there =
 pub ended_closed : (state : State) (moment : Moment) (port : ℕ) → IsRising 0 state.last_port state.ports
     → is_open port (step state moment (Ended port)).state ≡ false
 ended_closed state moment port rising =
+    let begun = at_moment moment state in
     none_open (find_port port (step state moment (Ended port)).state.ports)
-    (ended_gone port port 0 state.last_port (find_port port state.ports) (at_moment moment state) rising refl
+    (ended_gone port port 0 begun.last_port (find_port port begun.ports) begun (rising-moment moment state rising) refl
     (eq-eqb port port refl))
   where
     none_open : (found : Option Port) → ((at : Port) → found ≡ Some at → ⊥) → is_some found ≡ false
@@ -258,132 +259,37 @@ found_wanted None wanted = absurd (cc)
 found_wanted (Some one) wanted = (one, refl)
 
 -- a port that was to be read is to be read yet, while it is open
-pub wanted_after : (state : State) (moment : Moment) (event : Happening) (port : ℕ)
-    → IsRising 0 state.last_port state.ports → brings_bytes event port ≡ false → wants port state ≡ true
-    → is_open port (step state moment event).state ≡ true → wants port (step state moment event).state ≡ true
-wanted_after state moment event port rising silent wanted opened =
+pub wanted_after : (state : State) (event : Happening) (port : ℕ) → IsRising 0 state.last_port state.ports
+    → brings_bytes event port ≡ false → wants port state ≡ true → is_open port (handle event state).state ≡ true
+    → wants port (handle event state).state ≡ true
+wanted_after state event port rising silent wanted opened =
     let one = found_wanted (find_port port state.ports) wanted in
-    wanted_by_found (find_port port (step state moment event).state.ports) opened (λ at there.
-    wanted-all (is_of event state.last_port port) event (at_moment moment state) port rising refl silent
+    wanted_by_found (find_port port (handle event state).state.ports) opened (λ at there.
+    wanted-all (is_of event state.last_port port) event state port rising refl silent
     (λ p found. sym (ap wants_by found) ∙ wanted) one.0 one.1 at there)
 
--- ---- what clients were owed
+-- so it is at a moment, before its event
+pub wanted_at : (state : State) (moment : Moment) (port : ℕ) → IsRising 0 state.last_port state.ports
+    → wants port state ≡ true → is_open port (at_moment moment state) ≡ true
+    → wants port (at_moment moment state) ≡ true
+wanted_at state moment port rising wanted opened =
+    wanted_by_found (find_port port (at_moment moment state).ports) opened
+    (holds-spared IsSilent IsWanted wanted-silent port 0 state.last_port state.ports
+    (spared-moment IsSilent port state.ports silent-tell silent-prove moment state same) rising
+    (λ p found. sym (ap wants_by found) ∙ wanted))
 
--- a change of a port that leaves its door, and owes it no less than some bytes
-record IsGiving (f : Port → Port) : Type 0 where
-  door : (p : Port) → (f p).door ≡ p.door
-  owed : (p : Port) → is_some_bytes p.owed ≡ true → is_some_bytes (f p).owed ≡ true
+-- ---- a client stays one, and a child process does
 
-pub some-more : (bytes more : List ℕ) → is_some_bytes bytes ≡ true → is_some_bytes (bytes ++ more) ≡ true
-some-more bytes more some = let long = length-append bytes more in grind (arith, nat_tests)
+-- by its door
+abbrev HasDoor : Bool → Port → Type 0
+HasDoor client at = is_client at.door ≡ client
 
-giving-tell : (verdict : Verdict) → IsGiving (tell verdict)
-giving-tell verdict = record { door = λ p. refl; owed = λ p some. some-more p.owed (verdict_text verdict) some }
+door-silent : (client : Bool) (f : Port → Port) → IsSilent f → (p : Port) → HasDoor client p → HasDoor client (f p)
+door-silent client f is p door = ap is_client (is.door p) ∙ door
 
-giving-prove : (verification : Verification) → IsGiving (prove verification)
-giving-prove verification = record {
-  door = λ p. refl;
-  owed = λ p some. (giving-tell (Replies Success)).owed p some;
-}
-
-abbrev IsOwed : Port → Type 0
-IsOwed at = is_client at.door ≡ true → is_some_bytes at.owed ≡ true
-
-owed-giving : (f : Port → Port) → IsGiving f → (p : Port) → IsOwed p → IsOwed (f p)
-owed-giving f is p owed client = is.owed p (owed (sym (ap is_client (is.door p)) ∙ client))
-
--- a client that is owed bytes isn't looked at
-owed-look_owed : (owed : List ℕ) (at : Port) (state : State) → is_some_bytes owed ≡ true
-    → (look_owed owed at state).state ≡ state
-owed-look_owed [] at state some = absurd (cc)
-owed-look_owed (byte ∷ bytes) at state some = refl
-
-owed-waits : (waits : Waits) (at : Port) (state : State) → is_some_bytes at.owed ≡ true
-    → (look_waits waits at state).state ≡ state
-owed-waits Nothing at state some = owed-look_owed at.owed at state some
-owed-waits (OnAsk ask) at state some = refl
-owed-waits (OnConfirmation job) at state some = refl
-
-owed-look : (found : Option Port) (state : State)
-    → ((at : Port) → found ≡ Some at → is_some_bytes at.owed ≡ true) → (look_port found state).state ≡ state
-owed-look None state some = refl
-owed-look (Some at) state some = owed-waits at.waits at state (some at refl)
-
--- a client that sent something is owed what it was
-owed-heard_client : (one : Port) (piece : List ℕ) (state : State) → find_port one.number state.ports ≡ Some one
-    → is_some_bytes one.owed ≡ true → (at : Port)
-    → find_port one.number (heard_by_role Client one piece state).state.ports ≡ Some at → IsOwed at
-owed-heard_client one piece state found some at there =
-    let next = changed one.number (heard_more piece) state in
-    let made : find_port one.number next.ports ≡ Some (heard_more piece one) =
-    find_port-change_port one.number (heard_more piece) state.ports (λ p. refl)
-    ∙ ap (option_map (heard_more piece)) found in
-    let stays : (heard_by_role Client one piece state).state ≡ next =
-    owed-look (find_port one.number next.ports) next (λ p is_there.
-    let alike : heard_more piece one ≡ p = (let eq : Some (heard_more piece one) ≡ Some p = sym made ∙ is_there in cc) in
-    subst (λ (q : Port). is_some_bytes q.owed ≡ true) alike some) in
-    let alike : heard_more piece one ≡ at =
-    (let eq : Some (heard_more piece one) ≡ Some at =
-    sym made ∙ ap (λ (s : State). find_port one.number s.ports) (sym stays) ∙ there in cc) in
-    subst IsOwed alike (λ client. some)
-
-owed-heard : (port number : ℕ) (found : Option Port) (piece : List ℕ) (state : State)
-    → find_port number state.ports ≡ found → (number == port) ≡ true
-    → (one : Port) → find_port port state.ports ≡ Some one → is_client one.door ≡ true → IsOwed one → (at : Port)
-    → find_port port (heard_at found piece state).state.ports ≡ Some at → IsOwed at
-owed-heard port number found piece state is own one opened client owed at there =
-    let here : number ≡ port = eqb-true number port own in
-    let one_number : one.number ≡ port = found_number port state.ports one opened in
-    let found_one : found ≡ Some one = sym is ∙ ap (λ n. find_port n state.ports) here ∙ opened in
-    let role : role_of one.door one.number state.under_way ≡ Client =
-    role-of_client one.door one.number state.under_way client in
-    let as_client : heard_at found piece state ≡ heard_by_role Client one piece state =
-    ap (λ f. heard_at f piece state) found_one ∙ ap (λ r. heard_by_role r one piece state) role in
-    owed-heard_client one piece state (ap (λ n. find_port n state.ports) one_number ∙ opened) (owed client) at
-    (ap (λ n. find_port n (heard_by_role Client one piece state).state.ports) one_number
-    ∙ ap (λ o. find_port port o.state.ports) (sym as_client) ∙ there)
-
-owed-all : (own : Bool) (event : Happening) (state : State) (port : ℕ) → IsRising 0 state.last_port state.ports
-    → is_of event state.last_port port ≡ own → takes_bytes event port ≡ false
-    → (one : Port) → find_port port state.ports ≡ Some one → is_client one.door ≡ true → IsOwed one
-    → (at : Port) → find_port port (handle event state).state.ports ≡ Some at → IsOwed at
-owed-all false event state port rising other silent one opened client owed at there =
-    held-other IsGiving IsOwed owed-giving giving-tell giving-prove port event state rising other
-    (λ p found. let alike : one ≡ p = (let eq : Some one ≡ Some p = sym opened ∙ found in cc) in subst IsOwed alike owed)
-    at there
-owed-all true (Joined door) state port rising own silent one opened client owed at there =
-    absurd (never_joins port state.last_port state.ports one rising own opened)
-owed-all true (Heard number piece) state port rising own silent one opened client owed at there =
-    owed-heard port number _ piece state refl own one opened client owed at there
-owed-all true (Ended number) state port rising own silent one opened client owed at there =
-    absurd (ended_gone port number 0 state.last_port _ state rising refl own at there)
-owed-all true (Took number count) state port rising own silent one opened client owed at there = absurd (cc)
-owed-all true (Started job ticket) state port rising own silent one opened client owed at there = absurd (cc)
-owed-all true (StartFailed job) state port rising own silent one opened client owed at there = absurd (cc)
-owed-all true Tick state port rising own silent one opened client owed at there = absurd (cc)
-
-found_client : (found : Option Port) → is_clients found ≡ true
-    → (one : Port) × (found ≡ Some one) × (is_client one.door ≡ true)
-found_client None client = absurd (cc)
-found_client (Some one) client = (one, refl, client)
-
-owed_by_found : (found : Option Port) (under_way : UnderWay) → is_clients found ≡ true
-    → ((at : Port) → found ≡ Some at → IsOwed at) → is_some_bytes (owed_by found under_way) ≡ true
-owed_by_found None under_way client owed = absurd (cc)
-owed_by_found (Some at) under_way client owed =
-    ap is_some_bytes (owed-client at.door at.number at under_way client) ∙ owed at refl client
-
--- a client that was owed bytes is owed some yet, while it is open
-pub owed_after : (state : State) (moment : Moment) (event : Happening) (port : ℕ)
-    → IsRising 0 state.last_port state.ports → takes_bytes event port ≡ false
-    → is_clients (find_port port state.ports) ≡ true → is_some_bytes (owed_of port state) ≡ true
-    → is_clients (find_port port (step state moment event).state.ports) ≡ true
-    → is_some_bytes (owed_of port (step state moment event).state) ≡ true
-owed_after state moment event port rising silent client some still =
-    let one = found_client (find_port port state.ports) client in
-    let before : is_some_bytes one.0.owed ≡ true =
-    ap is_some_bytes (sym (owed-client one.0.door one.0.number one.0 state.under_way one.2))
-    ∙ ap (λ f. is_some_bytes (owed_by f state.under_way)) (sym one.1) ∙ some in
-    owed_by_found (find_port port (step state moment event).state.ports) (step state moment event).state.under_way still
-    (λ at there. owed-all (is_of event state.last_port port) event (at_moment moment state) port rising refl silent one.0
-    one.1 one.2 (λ c. before) at there)
+pub door_at : (client : Bool) (state : State) (moment : Moment) (port : ℕ) → IsRising 0 state.last_port state.ports
+    → ((p : Port) → find_port port state.ports ≡ Some p → is_client p.door ≡ client) → (p : Port)
+    → find_port port (at_moment moment state).ports ≡ Some p → is_client p.door ≡ client
+door_at client state moment port rising =
+    holds-spared IsSilent (HasDoor client) (door-silent client) port 0 state.last_port state.ports
+    (spared-moment IsSilent port state.ports silent-tell silent-prove moment state same) rising

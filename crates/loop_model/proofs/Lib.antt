@@ -5,8 +5,12 @@ pub mod JournalLemmas
 pub mod FrontLemmas
 pub mod ClosedLemmas
 pub mod SparedLemmas
+pub mod MomentLemmas
+pub mod DueLemmas
 pub mod ElsewhereLemmas
 pub mod LeftLemmas
+pub mod ClientOwedLemmas
+pub mod ClientsLemmas
 pub mod StaffLemmas
 pub mod OpenLemmas
 pub mod ChildLemmas

@@ -10,20 +10,28 @@ use Rattle.helper_link.specs.declared.state.LinkState.TheVariants as states
 use Rattle.helper_link.specs.declared.state.LinkState.{LinkState}
 use Rattle.agent_model.specs.Events.{Ended, Happening, Heard, Joined, StartFailed, Started, Tick, Took}
 use Rattle.agent_model.specs.Sound.{IsRising}
-use Rattle.agent_model.specs.State.{Port, State, UnderWay, find_port, first_state, is_client, is_linked_to, is_some_bytes, owed_as, owed_by, owed_of, role_by_helper, role_by_link, role_of}
-use Rattle.agent_model.specs.Step.{at_moment, handle, has_room, step}
+use Rattle.agent_model.specs.State.{Port, Settings, State, UnderWay, find_port, first_state, is_client, is_linked_to, is_some_bytes, owed_as, owed_by, owed_of, role_by_helper, role_by_link, role_of}
+use Rattle.agent_model.specs.Step.{handle, has_room, step}
+use Rattle.agent_model.specs.Time.{at_moment}
 use Rattle.agent_model.proofs.MakeLemmas.{role-helper}
 use Rattle.agent_model.proofs.PortsLemmas.{find_port-below, found_above, found_number}
 use Rattle.agent_model.proofs.RunLemmas.{first_is_sound, step_keeps-sound}
 use Rattle.loop_model.specs.Elsewhere.{is_child, takes_bytes}
 use Rattle.loop_model.specs.Orderly.{IsOrderly, IsStaffed}
-use Rattle.loop_model.proofs.ChildEventLemmas.{keeps-event}
+use Rattle.loop_model.proofs.ChildEventLemmas.{keeps-event, keeps-moment}
 use Rattle.loop_model.proofs.ChildLemmas.{Owes, by_desk, by_link}
 use Rattle.loop_model.proofs.ElsewhereLemmas.{find-admitted}
 use Rattle.loop_model.proofs.LeftLemmas.{never_joins}
 use Rattle.loop_model.proofs.ThingLemmas.{false_by}
 
 -- ---- the agent stays orderly
+
+-- a port of number 0 isn't open
+none-zero : (state : State) → IsRising 0 state.last_port state.ports → is_some (find_port 0 state.ports) ≡ true → ⊥
+none-zero state rising opened =
+    let none : find_port 0 state.ports ≡ None = find_port-below 0 0 state.last_port state.ports (omega arith) rising in
+    let no : false ≡ true = sym (ap is_some none) ∙ opened in
+    absurd (cc)
 
 staffed_event : (event : Happening) (state : State) → IsRising 0 state.last_port state.ports
     → IsStaffed state.under_way → ((door : Door) → event ≡ Joined door → ⊥)
@@ -35,10 +43,7 @@ staffed_event event state rising staffed never =
     record {
       rising = rising;
       staffed = staffed;
-      owes = λ opened.
-          let none : find_port 0 state.ports ≡ None = find_port-below 0 0 state.last_port state.ports (omega arith) rising in
-          let no : false ≡ true = sym (ap is_some none) ∙ opened in
-          absurd (cc);
+      owes = λ opened. absurd (none-zero state rising opened);
     }).staffed
 
 staffed_by : (event : Happening) (state : State) → IsRising 0 state.last_port state.ports → IsStaffed state.under_way
@@ -56,19 +61,31 @@ staffed_by (StartFailed job) state rising staffed =
     staffed_event (StartFailed job) state rising staffed (λ door is. absurd (cc))
 staffed_by Tick state rising staffed = staffed
 
-pub orderly_after : (state : State) (moment : Moment) (event : Happening) → IsOrderly state
-    → IsOrderly (step state moment event).state
-orderly_after state moment event orderly = record {
-  sound = step_keeps-sound state moment event orderly.sound;
-  staffed = staffed_by event (at_moment moment state) orderly.sound.rising orderly.staffed;
+pub orderly_at : (state : State) (moment : Moment) → IsOrderly state → IsOrderly (at_moment moment state)
+orderly_at state moment orderly = record {
+  sound = step_keeps-sound state moment Tick orderly.sound;
+  staffed = (keeps-moment 0 state.last_port moment state record {
+    rising = orderly.sound.rising;
+    staffed = orderly.staffed;
+    owes = λ opened. absurd (none-zero state orderly.sound.rising opened);
+  }).staffed;
 }
 
-pub orderly_first : (life : Option ℕ) → IsOrderly (first_state life)
-orderly_first life = record {
-  sound = first_is_sound life;
+pub orderly_after : (state : State) (moment : Moment) (event : Happening) → IsOrderly state
+    → IsOrderly (step state moment event).state
+orderly_after state moment event orderly =
+    let begun = orderly_at state moment orderly in
+    record {
+      sound = step_keeps-sound state moment event orderly.sound;
+      staffed = staffed_by event (at_moment moment state) begun.sound.rising begun.staffed;
+    }
+
+pub orderly_first : (settings : Settings) → IsOrderly (first_state settings)
+orderly_first settings = record {
+  sound = first_is_sound settings;
   staffed = record {
     jobs = record { order = omega arith; to_start = tt; started = tt; apart = λ number job found. absurd (cc) };
-    coming = let none : 0 ≤ 0 = omega arith in none;
+    coming = tt;
   };
 }
 
@@ -198,10 +215,23 @@ child_by (StartFailed job) state port rising staffed silent child some still =
     child_event (StartFailed job) state port rising staffed (λ door is. absurd (cc)) silent child some still
 child_by Tick state port rising staffed silent child some still = some
 
-pub child_owed_after : (state : State) (moment : Moment) (event : Happening) (port : ℕ) → IsOrderly state
+pub child_owed_after : (state : State) (event : Happening) (port : ℕ) → IsOrderly state
     → takes_bytes event port ≡ false → is_child (find_port port state.ports) ≡ true
-    → is_some_bytes (owed_of port state) ≡ true
-    → is_child (find_port port (step state moment event).state.ports) ≡ true
-    → is_some_bytes (owed_of port (step state moment event).state) ≡ true
-child_owed_after state moment event port orderly silent child some still =
-    child_by event (at_moment moment state) port orderly.sound.rising orderly.staffed silent child some still
+    → is_some_bytes (owed_of port state) ≡ true → is_child (find_port port (handle event state).state.ports) ≡ true
+    → is_some_bytes (owed_of port (handle event state).state) ≡ true
+child_owed_after state event port orderly silent child some still =
+    child_by event state port orderly.sound.rising orderly.staffed silent child some still
+
+-- so it is at a moment, before its event
+pub child_owed_at : (state : State) (moment : Moment) (port : ℕ) → IsOrderly state
+    → is_child (find_port port state.ports) ≡ true → is_some_bytes (owed_of port state) ≡ true
+    → is_child (find_port port (at_moment moment state).ports) ≡ true
+    → is_some_bytes (owed_of port (at_moment moment state)) ≡ true
+child_owed_at state moment port orderly child some still =
+    let begun = at_moment moment state in
+    let owes = child_before (find_port port state.ports) state.under_way port
+    (λ at found. found_number port state.ports at found) child some in
+    let keeps = keeps-moment port state.last_port moment state
+    record { rising = orderly.sound.rising; staffed = orderly.staffed; owes = λ opened. owes } in
+    child_after (find_port port begun.ports) begun.under_way port (λ at found. found_number port begun.ports at found)
+    still (keeps.owes (child_open (find_port port begun.ports) still))

@@ -1,10 +1,12 @@
 -- What events do to the ports other than their own.
 use Rattle.std.proofs.Common.{◌≡◌, ◌≢◌, ◌==◌, ℕ, List, [], ◌∷◌, ◌++◌, refl, arith, sym, Option, Some, None, Result, Ok, Err, Bool, true, false, ◌∙◌}
 use Rattle.std.proofs.lemmas.Bool.Decides.{nat_tests}
+use Rattle.std.specs.List.{find}
 use Rattle.std.specs.Str.{bytes_eq}
 use Rattle.world_ports.specs.declared.events.Job.{Job}
 use Rattle.world_ports.specs.declared.events.JobKind.{JobKind}
 use Rattle.world_ports.specs.declared.events.JobKind.TheVariants as kinds
+use Rattle.world_ports.specs.declared.events.Moment.{Moment}
 use Rattle.wire_text.specs.Frames.{Front, Whole, Bad, More, after_front, front, front_body}
 use Rattle.child_msg.specs.Messages.{Denied, False, FromChildMessage, Granted, Hello, Refused, Signed, True}
 use Rattle.child_msg.specs.Reading.{from_child_of}
@@ -18,13 +20,14 @@ use Rattle.helper_link.specs.declared.answer.Settled.{Settled}
 use Rattle.helper_link.specs.declared.fault.LinkFault.{LinkFault}
 use Rattle.helper_link.specs.declared.state.LinkState.{LinkState}
 use Rattle.helper_link.specs.declared.state.LinkState.TheVariants as states
-use Rattle.agent_model.specs.Answers.{Answering, answer_all, answer_by, answer_true, answers_in, close_helper, find_verification, helper_heard, lose, lose_if, prove, tell_each, with_answers}
-use Rattle.agent_model.specs.Children.{changed, closed, confirmer_goes_on, confirmer_named, failed_by, failed_if, first_frame, first_message, heard_more, hello_by, helper_named, job_left, named_by, ticket_by, unheard}
+use Rattle.agent_model.specs.Answers.{Answering, answer_all, answer_by, answer_true, answers_in, close_helper, find_verification, helper_heard, lose, lose_if, lose_where, prove, tell_each, with_answers}
+use Rattle.agent_model.specs.Children.{changed, closed, confirmer_goes_on, confirmer_named, failed_by, failed_if, first_frame, first_message, heard_more, hello_by, helper_named, is_started_by, job_left, named_by, ticket_by, unheard}
 use Rattle.agent_model.specs.Consents.{close_confirmer, consent_by, find_started, grant_to, grant_work, over, over_if}
 use Rattle.wire_text.specs.Bounds.{longest_body}
 use Rattle.agent_model.specs.Sound.{IsRising}
 use Rattle.agent_model.specs.State.{Client, Confirmer, Helper, Nothing, OnAsk, OnConfirmation, Port, Role, StartedJob, State, Unnamed, Verification, Waits, change_port, find_port, remove_port, role_of}
 use Rattle.agent_model.specs.Step.{ended_at, ended_by_role, heard_at, heard_by_role, look_front, look_owed, look_port, look_waits, took_at, took_by_role, took_some}
+use Rattle.agent_model.specs.Time.{all_over, at_moment, is_helper_late, is_late, lose_late, taken_in}
 use Rattle.agent_model.specs.Verdicts.{HelperLost, HelperRefused, NotConfirmed, Refuses, Replies, Signature, SignatureWrong, Success, Verdict, tell}
 use Rattle.agent_model.proofs.PortsLemmas.{found_number, rising-change_port, rising-remove_port}
 
@@ -158,6 +161,10 @@ module _ (IsQuiet : (Port → Port) → Type 0) (port : ℕ) (start : List Port)
       spared-lose_if None state spared = spared
       spared-lose_if (Some fault) state spared = spared-lose state spared
 
+      spared-lose_where : (test : Bool) (state : State) → Spared state → Spared (lose_where test state).state
+      spared-lose_where false state spared = spared
+      spared-lose_where true state spared = spared-lose state spared
+
       spares-true : (found : Option Verification) (one : Settled) (before : Answering) → Left before.ports
           → Left (answer_true found one before).ports
       spares-true None one before spares = spares-tell (Replies Success) one.asker before.ports spares
@@ -197,6 +204,21 @@ module _ (IsQuiet : (Port → Port) → Type 0) (port : ℕ) (start : List Port)
       spared-over_if None state spared = spared
       spared-over_if (Some confirmation) state spared = spared-over confirmation state spared
 
+      -- what a moment ends
+
+      spared-all_over : (ones : List Confirmation) (state : State) → Spared state → Spared (all_over ones state).state
+      spared-all_over [] state spared = spared
+      spared-all_over (one ∷ ones) state spared =
+          let found = find (is_late state.under_way) state.under_way.confirmations in
+          spared-all_over ones (over_if found state).state (spared-over_if found state spared)
+
+      pub spared-moment : (moment : Moment) (state : State) → Spared state → Spared (at_moment moment state)
+      spared-moment moment state spared =
+          let begun = taken_in moment state in
+          let left = (lose_late begun).state in
+          spared-all_over left.under_way.confirmations left
+          (spared-lose_where (is_helper_late begun.under_way) begun spared)
+
       spared-grant : (found : Option Port) (confirmation : Confirmation) (state : State) → Spared state
           → Spared (grant_to found confirmation state).state
       spared-grant None confirmation state spared = spared
@@ -221,7 +243,8 @@ module _ (IsQuiet : (Port → Port) → Type 0) (port : ℕ) (start : List Port)
 
       spared-failed_by : (kind : JobKind) (number : ℕ) (state : State) → Spared state
           → Spared (failed_by kind number state).state
-      spared-failed_by kinds.Helper number state spared = spared-lose state spared
+      spared-failed_by kinds.Helper number state spared =
+          spared-lose_where (is_started_by number state.under_way.link.state) state spared
       spared-failed_by kinds.Confirm number state spared =
           spared-over_if (find_job number state.under_way.confirmations) state spared
 

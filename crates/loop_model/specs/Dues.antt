@@ -177,10 +177,10 @@ due_after due closes idle (entry.Now answer) = due_now due closes idle answer
 
 -- ---- how long a poll waits
 
--- until the next death, by the agent's clock
+-- until something is due, by the agent's clock
 abbrev pub wait_until : Option ℕ → ℕ → Option ℕ
 wait_until None mono = None
-wait_until (Some death) mono = Some (death - mono)
+wait_until (Some due) mono = Some (due - mono)
 
 -- how long a poll may wait, in seconds
 abbrev pub wait_of : State → Option ℕ

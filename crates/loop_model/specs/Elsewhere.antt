@@ -1,8 +1,11 @@
 -- Which port an event is of, when clients at other ports are told something, and what it may end that can be served
 -- (ours).
-use Rattle.std.specs.Prelude.{ℕ, suc, Bool, true, false, Option, Some, None, not, ◌==◌}
+use Rattle.std.specs.Prelude.{ℕ, suc, max, nat_lt, Bool, true, false, Option, Some, None, not, ◌==◌, ◌||◌}
+use Rattle.std.specs.List.{list_any}
+use Rattle.world_ports.specs.declared.events.Moment.{Moment}
 use Rattle.agent_model.specs.Events.{Happening, Joined, Heard, Ended, Took, Started, StartFailed, Tick}
-use Rattle.agent_model.specs.State.{Port, State, find_port, is_client, is_open}
+use Rattle.agent_model.specs.State.{Port, State, UnderWay, find_port, is_client, is_open, next_due}
+use Rattle.agent_model.specs.Time.{is_helper_late, is_late, taken_in}
 use Rattle.loop_model.specs.declared.thing.Thing.{Thing}
 use Rattle.loop_model.specs.declared.thing.Thing.TheVariants.{Accept, Read, Write}
 
@@ -21,7 +24,24 @@ abbrev pub is_clients : Option Port → Bool
 is_clients None = false
 is_clients (Some port) = is_client port.door
 
--- what other clients are owed may change: a child process sent something or ended, or couldn't be started
+-- something under way has been waited for as long as it may be: an answer of the helper, or the user's consent
+abbrev pub ends_by : UnderWay → Bool
+ends_by under_way = is_helper_late under_way || list_any (is_late under_way) under_way.confirmations
+
+-- so it is once the moment was taken in, so that it tells clients, and closes ports of child processes
+abbrev pub ends_waits : Moment → State → Bool
+ends_waits moment state = ends_by (taken_in moment state).under_way
+
+-- the clock has come to this second, where there is one
+abbrev pub has_come : Option ℕ → ℕ → Bool
+has_come None second = false
+has_come (Some due) second = not (nat_lt second due)
+
+-- at the moment something is due: an identity dies, or a wait ends
+abbrev pub is_due : Moment → State → Bool
+is_due moment state = has_come (next_due state) (max state.moment.mono moment.mono)
+
+-- what other clients are owed may change by the event: a child process sent something or ended, or couldn't be started
 abbrev pub tells_others : Happening → State → Bool
 tells_others (Joined door) state = false
 tells_others (Heard port piece) state = not (is_clients (find_port port state.ports))
@@ -30,6 +50,10 @@ tells_others (Took port count) state = false
 tells_others (Started job ticket) state = false
 tells_others (StartFailed job) state = true
 tells_others Tick state = false
+
+-- all that was set aside is looked at: something is due at the moment, or the event tells others
+abbrev pub calls_all : Moment → Happening → State → Bool
+calls_all moment event state = is_due moment state || tells_others event state
 
 -- the event is that bytes came at this port
 abbrev pub brings_bytes : Happening → ℕ → Bool

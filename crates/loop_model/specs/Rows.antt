@@ -1,5 +1,5 @@
 -- States, lines and journals that are written out, for the laws of src/rows.rt (ours).
-use Rattle.std.specs.Prelude.{ℕ, Bool, true, false, List, [], ◌∷◌, None, is_some, Ok}
+use Rattle.std.specs.Prelude.{ℕ, Bool, true, false, List, [], ◌∷◌, None, Some, is_some, Ok}
 use Rattle.world_ports.specs.declared.events.Door.{Door}
 use Rattle.world_ports.specs.declared.events.Door.TheVariants.{Clients}
 use Rattle.world_ports.specs.declared.answers.Accepted.TheVariants as accepted
@@ -9,7 +9,10 @@ use Rattle.world_ports.specs.declared.answers.Spot.TheVariants as spot
 use Rattle.world_ports.specs.declared.answers.Wrote.TheVariants as wrote
 use Rattle.world_ports.specs.declared.entry.Entry.{Entry}
 use Rattle.world_ports.specs.declared.entry.Entry.TheVariants as entry
-use Rattle.agent_model.specs.State.{State, first_state, new_port}
+use Rattle.helper_link.specs.HelperLink.{ask_of, no_link}
+use Rattle.helper_link.specs.declared.ask.AskKind.TheVariants as kinds
+use Rattle.helper_link.specs.declared.state.LinkState.TheVariants as states
+use Rattle.agent_model.specs.State.{OnAsk, State, first_state, new_port, no_settings, nothing_under_way}
 use Rattle.loop_model.specs.Dues.{Free}
 use Rattle.loop_model.specs.LegalJournal.{in_state, turned}
 use Rattle.loop_model.specs.Lines.{Line}
@@ -19,14 +22,25 @@ use Rattle.loop_model.specs.declared.thing.Thing.{Thing}
 
 -- no port is open
 abbrev pub no_ports : State
-no_ports = first_state None
+no_ports = first_state no_settings
 
 -- one client is open, or two; each is to be read, and none is owed bytes
 abbrev pub one_client : State
-one_client = record (first_state None) { ports = new_port 1 Clients ∷ []; last_port = 1 }
+one_client = record (first_state no_settings) { ports = new_port 1 Clients ∷ []; last_port = 1 }
 
 abbrev pub two_clients : State
-two_clients = record (first_state None) { ports = new_port 1 Clients ∷ new_port 2 Clients ∷ []; last_port = 2 }
+two_clients = record (first_state no_settings) { ports = new_port 1 Clients ∷ new_port 2 Clients ∷ []; last_port = 2 }
+
+-- the client of port 1 waits for an answer of the helper to ask 1, which was put at second 0 and may last 60
+abbrev pub waiting_client : State
+waiting_client = record (first_state (record { life = None; limits = record { ask = Some 60; confirmation = None } })) {
+  ports = record (new_port 1 Clients) { waits = OnAsk 1 } ∷ [];
+  last_port = 1;
+  under_way = record (nothing_under_way (record { ask = Some 60; confirmation = None })) {
+    link = record no_link { state = states.Starting 1; asks = ask_of 1 1 kinds.Signing 0 ∷ []; last = 1 };
+    last_job = 1;
+  };
+}
 
 -- ---- lines
 
@@ -44,6 +58,10 @@ queue_of queue = line_of queue [] [] []
 -- the calls may come in this state, with this queue and nothing aside
 abbrev pub comes_in_turn : State → List Thing → List Entry → Bool
 comes_in_turn state queue entries = is_some (turned (in_state state (queue_of queue) Free) entries)
+
+-- the calls may come in the state in which the client waits and can be written to
+abbrev pub comes_as_it_waits : List Entry → Bool
+comes_as_it_waits entries = is_some (turned (in_state waiting_client (line_of [] [] [] (1 ∷ [])) Free) entries)
 
 -- from the start, both listeners bound and nothing ready
 abbrev pub is_legal : List Entry → Bool
@@ -63,6 +81,10 @@ poll_client =
 -- a wait without a bound tells of nothing
 abbrev pub poll_nothing : Entry
 poll_nothing = entry.Poll None [] (Ok polled.Some)
+
+-- a wait of so many seconds tells of nothing
+abbrev pub poll_for : ℕ → Entry
+poll_for seconds = entry.Poll (Some seconds) [] (Ok polled.Some)
 
 -- the client gets this number
 abbrev pub accept_as : ℕ → Entry

@@ -1,6 +1,6 @@
 //! Laws of legal journals.
 
-ghost use Rattle.std.specs.Prelude.{◌≡◌, ◌++◌, ◌∷◌, ℕ, List, Option, Result, Some, false, true};
+ghost use Rattle.std.specs.Prelude.{◌≡◌, ◌++◌, ◌∷◌, ◌^◌, ◌<◌, max, ℕ, List, Option, Result, Some, false, true};
 ghost use Rattle.world_ports.specs.declared.answers.Polled.{Polled};
 ghost use Rattle.world_ports.specs.declared.answers.Ready.{Ready};
 ghost use Rattle.world_ports.specs.declared.answers.WorldFault.{WorldFault};
@@ -9,10 +9,10 @@ ghost use Rattle.world_ports.specs.declared.entry.Entry.TheVariants as entry;
 ghost use Rattle.world_ports.specs.declared.events.Moment.{Moment};
 ghost use Rattle.agent_model.specs.Events.{Happening};
 ghost use Rattle.agent_model.specs.Sound.{IsRising};
-ghost use Rattle.agent_model.specs.State.{State, find_port, first_state, is_some_bytes, owed_of, wants};
+ghost use Rattle.agent_model.specs.State.{Settings, State, find_port, first_state, is_some_bytes, owed_of, wants};
 ghost use Rattle.agent_model.specs.Step.{step};
 ghost use Rattle.loop_model.specs.Dues.{Free};
-ghost use Rattle.loop_model.specs.Elsewhere.{is_clients, is_of, may_end, stands, tells_others};
+ghost use Rattle.loop_model.specs.Elsewhere.{ends_waits, is_clients, is_due, is_of, may_end, stands, tells_others};
 ghost use Rattle.loop_model.specs.Fronts.{HasFront, RestsAfter};
 ghost use Rattle.loop_model.specs.LegalJournal.{Turning, in_state, turned};
 ghost use Rattle.loop_model.specs.Lines.{Line};
@@ -42,15 +42,22 @@ pub fn an_event_wants_no_other_port()
         → wants port (step state moment event).state ≡ true → wants port state ≡ true }
 {}
 
-/// Unless a child process sent something, ended or couldn't be started, no other client than the event's own is owed
-/// bytes that was owed none before.
+/// Unless a wait ends at the moment, or a child process sent something, ended or couldn't be started, no other client
+/// than the event's own is owed bytes that was owed none before.
 pub fn an_event_of_a_client_owes_no_other_client()
     ensures { (state : State) (moment : Moment) (event : Happening) (port : ℕ)
-        → IsRising 0 state.last_port state.ports → tells_others event state ≡ false
-        → is_of event state.last_port port ≡ false
+        → IsRising 0 state.last_port state.ports → ends_waits moment state ≡ false
+        → tells_others event state ≡ false → is_of event state.last_port port ≡ false
         → is_clients (find_port port (step state moment event).state.ports) ≡ true
         → is_some_bytes (owed_of port (step state moment event).state) ≡ true
         → is_some_bytes (owed_of port state) ≡ true }
+{}
+
+/// At a moment before the second that the agent tells as the next one at which something is due no wait ends. The clock
+/// has 64 bits.
+pub fn no_wait_ends_before_it_is_due()
+    ensures { (state : State) (moment : Moment) → max state.moment.mono moment.mono < 2 ^ 64
+        → is_due moment state ≡ false → ends_waits moment state ≡ false }
 {}
 
 /// What can be served can be served after an event, unless it was closed, or its own service brought the event; a
@@ -64,7 +71,7 @@ pub fn an_event_leaves_what_can_be_served()
 
 /// The jobs of child processes fit what is under way, before the first event and after each.
 pub fn an_event_leaves_an_orderly_agent()
-    ensures first { (life : Option ℕ) → IsOrderly (first_state life) }
+    ensures first { (settings : Settings) → IsOrderly (first_state settings) }
     ensures later { (state : State) (moment : Moment) (event : Happening) → IsOrderly state
         → IsOrderly (step state moment event).state }
 {}

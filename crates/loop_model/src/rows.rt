@@ -6,7 +6,7 @@ ghost use Rattle.world_ports.specs.declared.events.Door.TheVariants.{Clients};
 ghost use Rattle.agent_model.specs.Events.{Ended, Heard, Joined, Tick, Took};
 ghost use Rattle.loop_model.specs.Elsewhere.{may_end};
 ghost use Rattle.loop_model.specs.Lines.{after_event, queued, recalled, returned, settled};
-ghost use Rattle.loop_model.specs.Rows.{accept_as, accept_none, close_of, comes_in_turn, is_legal, joins, line_of, no_ports, now_at, one_client, poll_client, poll_nothing, queue_of, read_none, read_of, two_clients, write_of};
+ghost use Rattle.loop_model.specs.Rows.{accept_as, accept_none, close_of, comes_as_it_waits, comes_in_turn, is_legal, joins, line_of, no_ports, now_at, one_client, poll_client, poll_for, poll_nothing, queue_of, read_none, read_of, two_clients, write_of};
 ghost use Rattle.loop_model.specs.declared.thing.Thing.TheVariants.{Accept, Read, Write};
 
 /// A wait comes behind a look alone, and a look where nothing can be served.
@@ -16,6 +16,15 @@ pub fn a_wait_follows_a_look()
     ensures twice { is_legal (now_at 1 ∷ poll_nothing ∷ poll_nothing ∷ []) ≡ false }
     ensures client_waits { is_legal (now_at 1 ∷ poll_client ∷ now_at 1 ∷ []) ≡ false }
     ensures served { is_legal (now_at 1 ∷ poll_client ∷ accept_none ∷ now_at 2 ∷ poll_nothing ∷ []) ≡ true }
+{}
+
+/// Where the helper hasn't answered in time its client is told before a poll, which waits until then and no longer.
+pub fn what_is_due_is_told_before_a_wait()
+    ensures before { comes_as_it_waits (now_at 59 ∷ poll_for 1 ∷ []) ≡ true }
+    ensures longer { comes_as_it_waits (now_at 59 ∷ poll_for 2 ∷ []) ≡ false }
+    ensures untold { comes_as_it_waits (now_at 60 ∷ poll_nothing ∷ []) ≡ false }
+    ensures told { comes_as_it_waits (now_at 60 ∷ write_of 1 (0 ∷ 0 ∷ 0 ∷ 1 ∷ 5 ∷ []) 5 ∷ now_at 60 ∷ now_at 60
+        ∷ poll_nothing ∷ []) ≡ true }
 {}
 
 /// What isn't ready isn't tried, and an event's moment is read before anything else.

@@ -1,6 +1,7 @@
 //! What no clause says: bytes written out, a fingerprint of OpenSSH's, and each call with ample memory.
 
 ghost use Rattle.std.specs.Prelude.{◌≡◌, IfOk};
+ghost use Rattle.confirm_desk.specs.Confirmations.{AreRaisedBy};
 ghost use Rattle.confirm_desk.specs.Samples.{two_linked};
 
 use confirm_desk::*;
@@ -37,17 +38,17 @@ fn held(
     })
 }
 
-// A desk with two confirmations, whose child processes came to ports 5 and 6.
+// A desk with two confirmations, raised in seconds 7 and 9, whose child processes came to ports 5 and 6.
 fn two(alloc: Global) -> Result<Desk, AllocError>
     ensures { IfOk result (λ desk. desk ≡ two_linked) }
 {
     let mut desk = Desk::new(alloc);
     let first = held(alloc, 70, 2, b"abc", 0)?;
-    let Ok(()) = desk.raise(1, first, b"ok?") else {
+    let Ok(()) = desk.raise(1, first, b"ok?", 7) else {
         return Err(AllocError);
     };
     let second = held(alloc, 80, 3, b"de", 2)?;
-    let Ok(()) = desk.raise(4, second, b"no?") else {
+    let Ok(()) = desk.raise(4, second, b"no?", 9) else {
         return Err(AllocError);
     };
     desk.linked(1, 5);
@@ -63,12 +64,16 @@ fn tell(desk: &mut Desk, port: u64, piece: &[u8]) -> Result<Verdict, AllocError>
     }
 }
 
-// One more is waited for, where its job and its client are new.
-fn raise(desk: &mut Desk, job: u64, held: Held) -> Option<DeskFault> {
+// One more is waited for, from second 0 on, where its job and its client are new.
+#[tactic(auto, using(confirm_desk::proofs::SecondLemmas::raised_by_raise))]
+fn raise(desk: &mut Desk, job: u64, held: Held) -> Option<DeskFault>
+    requires { AreRaisedBy 0 desk.old }
+    ensures { AreRaisedBy 0 desk.new }
+{
     if desk.find_job(job).is_some() || desk.find_asker(held.asker).is_some() {
         return None;
     }
-    desk.raise(job, held, b"ok?").err()
+    desk.raise(job, held, b"ok?", 0).err()
 }
 
 #[test]
@@ -116,7 +121,9 @@ fn a_grant_in_pieces_of_one_byte_is_a_grant(rt: HostRuntime) -> Result<(), Fail>
 fn there_are_three_ways_to_end_one(rt: HostRuntime) -> Result<(), Fail> {
     let first = held(rt.alloc(), 70, 2, b"abc", 0)?;
     let mut desk = two(rt.alloc())?;
+    assert_eq!(rt; desk.oldest(), Some((1, 7)));
     assert_eq!(rt; desk.lose(1), Some(first));
+    assert_eq!(rt; desk.oldest(), Some((4, 9)));
     assert_eq!(rt; desk.lose(1), None);
     assert_eq!(rt; desk.as_slice().len(), 1);
     // DENIED, and no frame at all.
@@ -131,7 +138,7 @@ fn there_are_three_ways_to_end_one(rt: HostRuntime) -> Result<(), Fail> {
 #[test]
 fn sixteen_may_be_waited_for(rt: HostRuntime) -> Result<(), Fail> {
     let mut desk = Desk::new(rt.alloc());
-    for job in 1..17 {
+    'jobs: for job in 1..17 {
         let one = held(rt.alloc(), job, 1, b"", 0)?;
         assert_eq!(rt; raise(&mut desk, job, one), None);
     }

@@ -10,6 +10,12 @@ use std::test::*;
 use under_way::*;
 use world_ports::{Job, JobKind};
 
+// No limits of time.
+const ENDLESS: TimeLimits = TimeLimits {
+    ask: None,
+    confirmation: None,
+};
+
 // SSH_AGENTC_ADD_IDENTITY of draft-miller-ssh-agent, 17, with a key of the type keyed-sha256@example.com, its
 // tag 11.., its secret 21.. and the comment "one"; and the blob of that key.
 const ADD: &[u8] = b"\x11\
@@ -62,7 +68,7 @@ fn the_first_ask_starts_a_helper(rt: HostRuntime) -> Result<(), Fail> {
     let Some(table) = table else {
         return Ok(());
     };
-    let mut under_way = UnderWay::new(rt.alloc());
+    let mut under_way = UnderWay::new(rt.alloc(), ENDLESS);
     assert_eq!(rt; ask(&mut under_way, &table), Some(1));
     let helper = Job {
         number: 1,
@@ -86,7 +92,7 @@ fn verify(under_way: &mut UnderWay) -> Option<u64> {
 
 #[test]
 fn a_binding_is_kept_until_it_is_taken_out(rt: HostRuntime) -> Result<(), Fail> {
-    let mut under_way = UnderWay::new(rt.alloc());
+    let mut under_way = UnderWay::new(rt.alloc(), ENDLESS);
     assert_eq!(rt; verify(&mut under_way), Some(1));
     assert!(rt; under_way.take_verification(2).is_none());
     let one = under_way.take_verification(1);
@@ -128,7 +134,7 @@ fn the_user_is_asked_by_a_job_of_its_own(rt: HostRuntime) -> Result<(), Fail> {
     let Some(table) = table else {
         return Ok(());
     };
-    let mut under_way = UnderWay::new(rt.alloc());
+    let mut under_way = UnderWay::new(rt.alloc(), ENDLESS);
     assert_eq!(rt; ask_for(&mut under_way, &table), Some(1));
     assert_eq!(rt; ask_for(&mut under_way, &table), None);
     let confirm = Job {

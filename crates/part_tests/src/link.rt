@@ -1,7 +1,7 @@
 //! What no clause says: bytes written out from the message tables, and each call with ample memory.
 
 ghost use Rattle.std.specs.Prelude.{◌≡◌, ◌<◌, ◌≤◌, [], length, OnOk};
-ghost use Rattle.helper_link.specs.HelperLink.{IsLinked};
+ghost use Rattle.helper_link.specs.HelperLink.{ArePutBy, IsLinked};
 
 use helper_link::*;
 use plain_lists::Bytes;
@@ -12,6 +12,7 @@ use std::test::Fail;
 // A link to a helper at port 3.
 fn linked(alloc: Global) -> Link
     ensures linked { IsLinked result.state }
+    ensures later { ArePutBy 0 result.asks }
 {
     let mut link = Link::new(alloc);
     link.begin(1);
@@ -19,19 +20,35 @@ fn linked(alloc: Global) -> Link
     link
 }
 
+// Asks in second 0.
+#[tactic(auto, using(helper_link::proofs::SecondLemmas::put_by_submitted))]
 fn sign(link: &mut Link, asker: u64, private: &SecretBytes) -> Result<u64, AskFault>
     requires linked { IsLinked link.old.state }
+    requires later { ArePutBy 0 link.old.asks }
     requires small { length private.now ≤ 1000 }
     ensures linked { IsLinked link.new.state }
+    ensures later { ArePutBy 0 link.new.asks }
 {
-    link.ask_sign(asker, private, &[3], &[4, 5, 6], 2)
+    link.ask_sign(asker, private, &[3], &[4, 5, 6], 2, 0)
 }
 
 fn verify(link: &mut Link, asker: u64) -> Result<u64, AskFault>
     requires linked { IsLinked link.old.state }
+    requires later { ArePutBy 0 link.old.asks }
     ensures linked { IsLinked link.new.state }
+    ensures later { ArePutBy 0 link.new.asks }
 {
-    link.ask_verify(asker, &[7], &[8, 9], &[10])
+    verify_at(link, asker, 0)
+}
+
+#[tactic(auto, using(helper_link::proofs::SecondLemmas::put_by_submitted))]
+fn verify_at(link: &mut Link, asker: u64, now: u64) -> Result<u64, AskFault>
+    requires linked { IsLinked link.old.state }
+    requires later { ArePutBy now link.old.asks }
+    ensures linked { IsLinked link.new.state }
+    ensures later { ArePutBy now link.new.asks }
+{
+    link.ask_verify(asker, &[7], &[8, 9], &[10], now)
 }
 
 // What the bytes tell a link at which asker 70 asked for a signature, and asker 80 for a
@@ -74,8 +91,10 @@ fn tell(link: &mut Link, piece: &[u8], all: &mut Vec<Settled>) -> Result<(), All
 // Asks for signatures until no more may be unanswered, for the asker 9.
 fn fill(link: &mut Link, private: &SecretBytes)
     requires linked { IsLinked link.old.state }
+    requires later { ArePutBy 0 link.old.asks }
     requires small { length private.now ≤ 1000 }
     ensures linked { IsLinked link.new.state }
+    ensures later { ArePutBy 0 link.new.asks }
 {
     'asks: for _ in 0..256 {
         let _ = sign(link, 9, private);
@@ -83,6 +102,7 @@ fn fill(link: &mut Link, private: &SecretBytes)
 }
 
 // Asks as often as it may, and tells the piece.
+#[tactic(auto, using(helper_link::proofs::SecondLemmas::put_by_telling))]
 fn fill_and_tell(
     link: &mut Link,
     private: &SecretBytes,
@@ -90,8 +110,10 @@ fn fill_and_tell(
     all: &mut Vec<Settled>,
 ) -> Result<(), AllocError>
     requires linked { IsLinked link.old.state }
+    requires later { ArePutBy 0 link.old.asks }
     requires small { length private.now ≤ 1000 }
     ensures linked { OnOk result (IsLinked link.new.state) }
+    ensures later { OnOk result (ArePutBy 0 link.new.asks) }
 {
     fill(link, private);
     let told = link.told(piece)?;
@@ -121,13 +143,14 @@ fn told_while_asked(
 }
 
 #[test]
+#[tactic(auto, using(helper_link::proofs::SecondLemmas::put_by_submitted))]
 fn requests_are_sent_once_the_helper_is_there(rt: HostRuntime) -> Result<(), Fail> {
     let mut link = Link::new(rt.alloc());
     assert_eq!(rt; link.state(), LinkState::None);
     link.begin(1);
     assert_eq!(rt; link.state(), LinkState::Starting { job: 1 });
     let private = SecretBytes::from_slice(rt.alloc(), &[1, 2])?;
-    let asked = link.ask_sign(70, &private, &[3], &[4, 5, 6], 2);
+    let asked = link.ask_sign(70, &private, &[3], &[4, 5, 6], 2, 0);
     assert_eq!(rt; asked, Ok(1));
     assert_eq!(rt; link.owed(), [].as_slice());
     link.linked(3);
@@ -167,6 +190,21 @@ fn a_lost_link_gives_its_unanswered_asks_in_order(rt: HostRuntime) -> Result<(),
     link.linked(4);
     assert_eq!(rt; link.owed(), [].as_slice());
     assert_eq!(rt; verify(&mut link, 70), Ok(4));
+    Ok(())
+}
+
+#[test]
+#[tactic(auto, using(helper_link::proofs::SecondLemmas::put_by_later))]
+fn the_oldest_unanswered_ask_is_told(rt: HostRuntime) -> Result<(), Fail> {
+    let mut link = linked(rt.alloc());
+    assert_eq!(rt; link.oldest(), None);
+    assert_eq!(rt; verify_at(&mut link, 70, 5), Ok(1));
+    assert_eq!(rt; verify_at(&mut link, 80, 9), Ok(2));
+    assert_eq!(rt; link.oldest(), Some(5));
+    link.told(&[0, 0, 0, 9, 103, 0, 0, 0, 0, 0, 0, 0, 1])?;
+    assert_eq!(rt; link.oldest(), Some(9));
+    link.told(&[0, 0, 0, 9, 104, 0, 0, 0, 0, 0, 0, 0, 2])?;
+    assert_eq!(rt; link.oldest(), None);
     Ok(())
 }
 
@@ -241,6 +279,7 @@ fn answers_before_a_faulty_frame_count(rt: HostRuntime) -> Result<(), Fail> {
 }
 
 #[test]
+#[tactic(auto, using(helper_link::proofs::SecondLemmas::put_by_telling))]
 fn a_257th_ask_is_refused_until_one_is_answered(rt: HostRuntime) -> Result<(), Fail> {
     let mut link = linked(rt.alloc());
     'asks: for asker in 0..256 {

@@ -1,5 +1,8 @@
 pub mod FilterLemmas
 pub mod StandingLemmas
+pub mod MarkLemmas
+pub mod MarkedLemmas
+pub mod StoodLemmas
 pub mod SettlingLemmas
 pub mod HandLemmas
 pub mod HandingLemmas

@@ -1,17 +1,16 @@
 -- What becomes of a line as things are served, become ready or are set aside.
-use Rattle.std.proofs.Common.{◌≡◌, ◌∙◌, Bool, true, false, List, [], ◌∷◌, ◌++◌, Some, drop, refl, sym, ap, ◌||◌, if◌then◌else◌}
+use Rattle.std.proofs.Common.{◌≡◌, ◌∙◌, Bool, true, false, List, [], ◌∷◌, Some, drop, refl, sym, ap, ◌||◌, if◌then◌else◌}
 use Rattle.agent_model.specs.State.{State}
 use Rattle.loop_model.specs.Things.{same_thing, set_of}
 use Rattle.loop_model.specs.declared.thing.Thing.{Thing}
-use Rattle.loop_model.specs.Aside.{Aside, taken_back, things_aside}
-use Rattle.loop_model.specs.Lines.{IsListed, Line, brought, hot_of, in_hand}
+use Rattle.loop_model.specs.Aside.{things_aside}
+use Rattle.loop_model.specs.Lines.{IsListed, Line, hot_of, in_hand}
 use Rattle.loop_model.specs.Queues.{AreApart, first_servable}
-use Rattle.ready_loop.specs.Standing.{IsFront, IsOnce, front_of, without}
+use Rattle.ready_loop.specs.Standing.{IsFront, front_of}
 use Rattle.loop_model.proofs.ThingLemmas.{same_thing-refl}
 use Rattle.loop_model.proofs.AsideLemmas.{set_of-append}
 use Rattle.loop_model.proofs.TestLemmas.{or_left}
-use Rattle.ready_loop.proofs.FilterLemmas.{absent-dropped, absent-taken}
-use Rattle.ready_loop.proofs.StandingLemmas.{aside-absent, front-dropped}
+use Rattle.ready_loop.proofs.StandingLemmas.{front-dropped}
 
 -- ---- a line changes
 
@@ -21,36 +20,6 @@ pub front-in_hand : (thing : Thing) (line : Line) (left : List Thing) → IsFron
 front-in_hand thing line left front apart is =
     ap (λ (things : List Thing). record line { queue = things })
     (is ∙ sym (front-dropped thing line.queue front apart))
-
--- a thing that is aside isn't ready any more
-pub aside-without : (thing : Thing) (line : Line) (left : Aside) → IsOnce line.queue line.aside
-    → left ≡ taken_back thing line.aside → set_of (things_aside line.aside) thing ≡ true
-    → record line { aside = left } ≡ without thing line
-aside-without thing line left once is there =
-    ap (λ (aside : Aside). record line { aside = aside }) is
-    ∙ ap (λ (things : List Thing). record line { queue = things; aside = taken_back thing line.aside })
-    (sym (absent-dropped thing line.queue (aside-absent line.queue line.aside once thing there)))
-
--- a thing doesn't come back where it wasn't aside
-pub absent-brought : (thing : Thing) (line : Line) (left : Aside) → left ≡ taken_back thing line.aside
-    → set_of (things_aside line.aside) thing ≡ false → record line { aside = left } ≡ brought thing line
-absent-brought thing line left less absent =
-    ap (λ (aside : Aside). record line { aside = aside }) (less ∙ absent-taken thing line.aside absent)
-    ∙ sym (ap (λ (b : Bool). if b then record line { queue = line.queue ++ thing ∷ []; aside = taken_back thing line.aside } else line) absent)
-
--- a thing is in the queue or aside
-pub hot-either : (thing : Thing) (line : Line) (here there : Bool) → here ≡ set_of (things_aside line.aside) thing
-    → there ≡ set_of line.queue thing → (here || there) ≡ hot_of line thing
-hot-either thing line here there first second =
-    ap (λ (b : Bool). b || there) first ∙ ap (λ (b : Bool). set_of (things_aside line.aside) thing || b) second
-    ∙ or_swapped (set_of (things_aside line.aside) thing) (set_of line.queue thing)
-    ∙ sym (set_of-append line.queue (things_aside line.aside) thing)
-  where
-    or_swapped : (a b : Bool) → (a || b) ≡ (b || a)
-    or_swapped true true = refl
-    or_swapped true false = refl
-    or_swapped false true = refl
-    or_swapped false false = refl
 
 -- what isn't ready is in neither
 pub cold-both : (thing : Thing) (line : Line) → hot_of line thing ≡ false

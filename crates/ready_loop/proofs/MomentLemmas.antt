@@ -7,8 +7,10 @@ use Rattle.agent_model.specs.Actions.{Outcome}
 use Rattle.agent_model.specs.Answers.{answers_in, lose_if, with_answers}
 use Rattle.agent_model.specs.Events.{Happening}
 use Rattle.agent_model.specs.State.{State}
-use Rattle.agent_model.specs.Step.{at_moment, handle, step}
+use Rattle.agent_model.specs.Step.{handle, step}
+use Rattle.agent_model.specs.Time.{at_moment}
 use Rattle.agent_model.proofs.MakeLemmas.{Makes, Quiet, alters, by_event, closes, first, goes_on, grants, links, loses, names, overs, serves, stays, tells}
+use Rattle.loop_model.proofs.MomentLemmas.{clocks-moment}
 
 moment-quiet : {event : Happening} {old new : State} → Quiet event old new → new.moment ≡ old.moment
 moment-quiet (alters number f mild) = refl
@@ -44,5 +46,6 @@ pub second-within : (state next : State) (moment : Moment) (event : Happening) (
     → next.moment.mono ≤ now
 second-within state next moment event before now is within later read =
     let mono : next.moment.mono ≡ max state.moment.mono moment.mono =
-    ap (λ (s : State). s.moment.mono) is ∙ ap (λ (m : Moment). m.mono) (moment-handle event (at_moment moment state)) in
+    ap (λ (s : State). s.moment.mono) is
+    ∙ ap (λ (m : Moment). m.mono) (moment-handle event (at_moment moment state) ∙ clocks-moment moment state) in
     omega (arith, mono, within, later, read)

@@ -1,6 +1,5 @@
 -- What comes back to the queue after an event.
-use Rattle.std.proofs.Common.{◌≡◌, ◌∙◌, ℕ, Bool, true, false, List, [], ◌∷◌, ◌++◌, Option, Some, None, length, refl, sym, ap, subst, cond, nat_lt, not, ◌&&◌, ◌||◌, if◌then◌else◌, arith}
-use Rattle.std.proofs.lemmas.Bool.Decides.{nat_tests}
+use Rattle.std.proofs.Common.{◌≡◌, ◌∙◌, ℕ, Bool, true, false, List, [], ◌∷◌, ◌++◌, Option, Some, None, refl, sym, ap, subst, cond, nat_lt, not, ◌&&◌, ◌||◌, if◌then◌else◌}
 use Rattle.std.proofs.lemmas.List.Elements.{filter-append}
 use Rattle.std.specs.List.{filter}
 use Rattle.world_ports.specs.declared.events.Door.{Door}
@@ -20,7 +19,7 @@ use Rattle.loop_model.proofs.TestLemmas.{both_if}
 use Rattle.loop_model.proofs.ThingLemmas.{false_by, same_thing-true}
 use Rattle.loop_model.proofs.AsideLemmas.{accepts-read, accepts-write, aside-accept, aside-read, aside-write, reads-accept, reads-read, reads-write, set_of-taken_back}
 use Rattle.ready_loop.proofs.FilterLemmas.{doors_all, filter_none, kept, numbers_all}
-use Rattle.ready_loop.proofs.CallingLemmas.{brought-next, called_by, called_by-alike, called_by-none}
+use Rattle.ready_loop.proofs.CallingLemmas.{brought-next, called_by, called_by-alike}
 use Rattle.ready_loop.proofs.NextLemmas.{IsNextBy, next-step, next_by, next_by-is, passes, upto, upto-all}
 
 -- ---- what is aside and can be served
@@ -92,18 +91,6 @@ called_by-all state all line stirred =
         (filter_none (is_servable state) (accepts_of line.aside.doors) of_door)
         ∙ filter_none (is_servable state) (reads_of line.aside.reads) of_read)
         ∙ of_writes line.aside.writes
-
--- no port to write to is aside
-pub called_all-none : (state : State) (all : Bool) (line : Line) → IsStirred state None all line
-    → nat_lt 0 (length line.aside.writes) ≡ false → line ≡ called_all state line
-called_all-none state all line stirred none =
-    sym (called_by-none (λ port. is_servable state (Write port)) line (λ port there. no_member line.aside.writes port none there))
-    ∙ called_by-all state all line stirred
-  where
-    no_member : (ports : List ℕ) (port : ℕ) → nat_lt 0 (length ports) ≡ false → is_among port ports ≡ true
-        → is_servable state (Write port) ≡ false
-    no_member [] port none there = absurd (cc)
-    no_member (first ∷ ports) port none there = absurd (grind (arith, nat_tests))
 
 -- ---- all ports that are owed bytes, or those of child processes alone
 

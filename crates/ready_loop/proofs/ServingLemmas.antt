@@ -1,5 +1,5 @@
 -- A whole run, from the listeners on.
-use Rattle.std.proofs.Common.{◌≡◌, ◌∙◌, ◌⊎◌, inl, inr, ℕ, Bool, true, false, List, [], ◌∷◌, ◌++◌, Option, Some, None, Result, Ok, Err, refl, sym, ap, subst, append_assoc, not, ◌&&◌, ◌||◌}
+use Rattle.std.proofs.Common.{◌≡◌, ◌∙◌, ◌⊎◌, inl, inr, ℕ, Bool, true, false, List, [], ◌∷◌, ◌++◌, Option, Some, None, Result, Ok, Err, refl, sym, ap, subst, append_assoc, not, ◌==◌, ◌&&◌, ◌||◌}
 use Rattle.std.specs.Prelude.{option_and_then, option_map}
 use Rattle.std.specs.List.{list_any}
 use Rattle.std.specs.Str.{bytes_eq}
@@ -14,8 +14,11 @@ use Rattle.world_ports.specs.declared.entry.Entry.TheVariants as entry
 use Rattle.world_ports.specs.declared.answers.Ready.{Ready}
 use Rattle.world_ports.specs.declared.events.Door.TheVariants.{Clients, Children}
 use Rattle.world_ports.specs.declared.events.Moment.{Moment}
-use Rattle.agent_model.specs.State.{State}
-use Rattle.loop_model.specs.Dues.{Free}
+use Rattle.agent_model.specs.Events.{Tick}
+use Rattle.agent_model.specs.Sound.{IsRising}
+use Rattle.agent_model.specs.State.{State, client_count}
+use Rattle.agent_model.specs.Step.{step}
+use Rattle.loop_model.specs.Dues.{Free, due_look, is_polling, same_wait, wait_of}
 use Rattle.loop_model.specs.Lines.{Line, is_idle}
 use Rattle.loop_model.specs.LegalJournal.{Turning, in_state, led, taken, taken_if, turned}
 use Rattle.ready_loop.specs.Moves.{Advances, Looks, Stops, Turns, is_poll}
@@ -26,7 +29,7 @@ use Rattle.ready_loop.specs.declared.outcome.Turn.{Turn}
 use Rattle.ready_loop.specs.declared.outcome.ServeEnd.{ServeEnd}
 use Rattle.ready_loop.specs.declared.outcome.ServeEnd.TheVariants as ends
 use Rattle.ready_loop.specs.declared.outcome.Turn.TheVariants as turns
-use Rattle.loop_model.proofs.TestLemmas.{and_true}
+use Rattle.loop_model.proofs.ClientsLemmas.{no_clients}
 use Rattle.ready_loop.proofs.TurningLemmas.{grows_more}
 
 -- ---- one part after another
@@ -114,21 +117,41 @@ poll_step setting mid to poll found may may_is is legal =
 looked : State → Line → Moment → Bool → Option Turning
 looked state line moment idle = taken_if idle (in_state state line Free) (entry.Now (Ok moment))
 
-look_step : (setting : Setting) (state : State) (line : Line) (moment : Moment) (wait : Option ℕ) (items : List Ready) (answer : Result Polled WorldFault) (to : Turning) (idle : Bool) → (setting.until_idle && (is_deserted (in_state state line Free) && idle)) ≡ false → option_and_then (λ after. turned after (entry.Poll wait items answer ∷ [])) (looked state line moment idle) ≡ Some to → option_and_then (λ after. ran setting after (entry.Poll wait items answer ∷ [])) (option_map Running (looked state line moment idle)) ≡ Some (Running to)
+-- a poll comes only where the look closed nothing
+polls_at : (polling same : Bool) (mid to : Turning) (poll : Entry) → option_and_then (λ after. turned after []) (taken_if (polling && same) mid poll) ≡ Some to → polling ≡ true
+polls_at true same mid to poll legal = refl
+polls_at false same mid to poll legal = cc
+
+none_closed : (closes : List ℕ) (idle : Bool) → is_polling (due_look closes idle) ≡ true → closes ≡ []
+none_closed [] idle is = refl
+none_closed (port ∷ later) idle is = cc
+
+-- so the loop isn't to end behind it either
+on_still : (asked joined before after : Bool) → (after ≡ true → before ≡ true) → (asked && ((joined && before) && true)) ≡ false → not (asked && (joined && after)) ≡ true
+on_still false joined before after stays done = refl
+on_still true false before after stays done = refl
+on_still true true before false stays done = refl
+on_still true true true true stays done = absurd (cc)
+on_still true true false true stays done = stays refl
+
+look_step : (setting : Setting) (state : State) (line : Line) (moment : Moment) (wait : Option ℕ) (items : List Ready) (answer : Result Polled WorldFault) (to : Turning) (idle : Bool) → IsRising 0 state.last_port state.ports → (setting.until_idle && (is_deserted (in_state state line Free) && idle)) ≡ false → option_and_then (λ after. turned after (entry.Poll wait items answer ∷ [])) (looked state line moment idle) ≡ Some to → option_and_then (λ after. ran setting after (entry.Poll wait items answer ∷ [])) (option_map Running (looked state line moment idle)) ≡ Some (Running to)
 unfolding looked
-look_step setting state line moment wait items answer to false done legal = cc
-look_step setting state line moment wait items answer to true done legal =
+look_step setting state line moment wait items answer to false rising done legal = cc
+look_step setting state line moment wait items answer to true rising done legal =
     let mid : Turning = led (in_state state line Free) (entry.Now (Ok moment)) in
     let poll = entry.Poll wait items answer in
+    let polls : is_polling mid.due ≡ true = polls_at (is_polling mid.due) (same_wait wait (wait_of mid.state)) mid to poll legal in
+    let none : (step state moment Tick).closes ≡ [] = none_closed (step state moment Tick).closes (is_idle mid.state mid.line) polls in
     let may : may_come setting.until_idle mid poll ≡ true =
-    ap (λ (b : Bool). not (setting.until_idle && b)) (sym (and_true (is_deserted (in_state state line Free)) true refl)) ∙ ap not done in
+    on_still setting.until_idle line.joined (client_count state.ports == 0) (client_count mid.state.ports == 0)
+    (no_clients state moment rising none) done in
     poll_step setting mid to poll (taken mid poll) (may_come setting.until_idle mid poll) may refl legal
 
 -- what a look and a poll add is a run, where the loop isn't to end there
-pub looks_run : (setting : Setting) (state : State) (line : Line) (moment : Moment) (wait : Option ℕ) (items : List Ready) (answer : Result Polled WorldFault) (to : Turning) → (setting.until_idle && (is_deserted (in_state state line Free) && is_idle state line)) ≡ false → turned (in_state state line Free) (entry.Now (Ok moment) ∷ entry.Poll wait items answer ∷ []) ≡ Some to → ran setting (Running (in_state state line Free)) (entry.Now (Ok moment) ∷ entry.Poll wait items answer ∷ []) ≡ Some (Running to)
+pub looks_run : (setting : Setting) (state : State) (line : Line) (moment : Moment) (wait : Option ℕ) (items : List Ready) (answer : Result Polled WorldFault) (to : Turning) → IsRising 0 state.last_port state.ports → (setting.until_idle && (is_deserted (in_state state line Free) && is_idle state line)) ≡ false → turned (in_state state line Free) (entry.Now (Ok moment) ∷ entry.Poll wait items answer ∷ []) ≡ Some to → ran setting (Running (in_state state line Free)) (entry.Now (Ok moment) ∷ entry.Poll wait items answer ∷ []) ≡ Some (Running to)
 unfolding looked
-looks_run setting state line moment wait items answer to done legal =
-    look_step setting state line moment wait items answer to (is_idle state line) done legal
+looks_run setting state line moment wait items answer to rising done legal =
+    look_step setting state line moment wait items answer to (is_idle state line) rising done legal
 
 -- ---- turns
 
@@ -144,39 +167,39 @@ served_runs setting from to turn = record {
   legal = quiet_runs setting from to turn.calls.added turn.calls.quiet turn.calls.legal;
 }
 
-pub polled_runs : {old new : Option (List Entry)} (setting : Setting) (state next : State) (line after : Line) → IsOn setting state line → Looks (Ok turns.Polled) (in_state state line Free) old new next after → Runs setting (Running (in_state state line Free)) old new (Running (in_state next after Free))
-polled_runs setting state next line after on looks = record {
+pub polled_runs : {old new : Option (List Entry)} (setting : Setting) (state next : State) (line after : Line) → IsRising 0 state.last_port state.ports → IsOn setting state line → Looks (Ok turns.Polled) (in_state state line Free) old new next after → Runs setting (Running (in_state state line Free)) old new (Running (in_state next after Free))
+polled_runs setting state next line after rising on looks = record {
   added = entry.Now (Ok looks.moment) ∷ entry.Poll looks.polls.wait looks.polls.items (Ok polled.Some) ∷ [];
   told = looks.polls.told;
-  legal = looks_run setting state line looks.moment looks.polls.wait looks.polls.items (Ok polled.Some) (in_state next after Free) on looks.polls.legal;
+  legal = looks_run setting state line looks.moment looks.polls.wait looks.polls.items (Ok polled.Some) (in_state next after Free) rising on looks.polls.legal;
 }
 
-pub over_ends : {old new : Option (List Entry)} (setting : Setting) (state next : State) (line after : Line) → IsOn setting state line → Looks (Ok turns.Over) (in_state state line Free) old new next after → Serves ends.Over setting (Running (in_state state line Free)) old new
-over_ends setting state next line after on looks = let waits = looks.polls.waits in record {
+pub over_ends : {old new : Option (List Entry)} (setting : Setting) (state next : State) (line after : Line) → IsRising 0 state.last_port state.ports → IsOn setting state line → Looks (Ok turns.Over) (in_state state line Free) old new next after → Serves ends.Over setting (Running (in_state state line Free)) old new
+over_ends setting state next line after rising on looks = let waits = looks.polls.waits in record {
   wait = waits.wait;
   items = waits.items;
   calls = record {
     to = Running looks.polls.to;
     before = entry.Now (Ok looks.moment) ∷ [];
     told = waits.told;
-    legal = looks_run setting state line looks.moment waits.wait waits.items (Ok polled.Over) looks.polls.to on waits.legal;
+    legal = looks_run setting state line looks.moment waits.wait waits.items (Ok polled.Over) looks.polls.to rising on waits.legal;
   };
 }
 
-pub fault_ends : {old new : Option (List Entry)} (setting : Setting) (state next : State) (line after : Line) → IsOn setting state line → Looks (Err faults.Poll) (in_state state line Free) old new next after → Serves ends.PollFault setting (Running (in_state state line Free)) old new
-fault_ends setting state next line after on looks = let waits = looks.polls.waits in record {
+pub fault_ends : {old new : Option (List Entry)} (setting : Setting) (state next : State) (line after : Line) → IsRising 0 state.last_port state.ports → IsOn setting state line → Looks (Err faults.Poll) (in_state state line Free) old new next after → Serves ends.PollFault setting (Running (in_state state line Free)) old new
+fault_ends setting state next line after rising on looks = let waits = looks.polls.waits in record {
   wait = waits.wait;
   items = waits.items;
   calls = record {
     to = Running looks.polls.to;
     before = entry.Now (Ok looks.moment) ∷ [];
     told = waits.told;
-    legal = looks_run setting state line looks.moment waits.wait waits.items (Err Failed) looks.polls.to on waits.legal;
+    legal = looks_run setting state line looks.moment waits.wait waits.items (Err Failed) looks.polls.to rising on waits.legal;
   };
 }
 
-pub memory_ends : {old new : Option (List Entry)} (setting : Setting) (state next : State) (line after : Line) → IsOn setting state line → (Stops (in_state state line Free) old new ⊎ Looks (Err faults.Memory) (in_state state line Free) old new next after) → Serves ends.Memory setting (Running (in_state state line Free)) old new
-memory_ends setting state next line after on (inl stops) = record {
+pub memory_ends : {old new : Option (List Entry)} (setting : Setting) (state next : State) (line after : Line) → IsRising 0 state.last_port state.ports → IsOn setting state line → (Stops (in_state state line Free) old new ⊎ Looks (Err faults.Memory) (in_state state line Free) old new next after) → Serves ends.Memory setting (Running (in_state state line Free)) old new
+memory_ends setting state next line after rising on (inl stops) = record {
   to = Running stops.to;
   calls = record {
     added = stops.calls.added;
@@ -184,7 +207,7 @@ memory_ends setting state next line after on (inl stops) = record {
     legal = quiet_runs setting (in_state state line Free) stops.to stops.calls.added stops.calls.quiet stops.calls.legal;
   };
 }
-memory_ends setting state next line after on (inr looks) =
+memory_ends setting state next line after rising on (inr looks) =
     let waits = looks.polls.last.waits in
     let answer = looks.polls.answer in
     record {
@@ -192,7 +215,7 @@ memory_ends setting state next line after on (inr looks) =
       calls = record {
         added = entry.Now (Ok looks.moment) ∷ entry.Poll waits.wait waits.items answer ∷ [];
         told = waits.told;
-        legal = looks_run setting state line looks.moment waits.wait waits.items answer looks.polls.last.to on waits.legal;
+        legal = looks_run setting state line looks.moment waits.wait waits.items answer looks.polls.last.to rising on waits.legal;
       };
     }
 

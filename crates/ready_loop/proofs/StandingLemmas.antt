@@ -1,12 +1,12 @@
 -- What stands in the queue or aside, and nowhere twice.
-use Rattle.std.proofs.Common.{◌≡◌, ◌∙◌, Bool, true, false, List, [], ◌∷◌, ◌++◌, drop, refl, sym, ap, subst, cond, not, ◌&&◌, ◌||◌}
+use Rattle.std.proofs.Common.{◌≡◌, ◌∙◌, Bool, true, false, List, [], ◌∷◌, ◌++◌, drop, refl, sym, ap, cond, not, ◌&&◌, ◌||◌}
 use Rattle.std.specs.List.{filter}
 use Rattle.loop_model.specs.Things.{Hot, same_thing, set_of}
 use Rattle.loop_model.specs.declared.thing.Thing.{Thing}
 use Rattle.loop_model.specs.Aside.{Aside, put_aside, taken_back, things_aside}
 use Rattle.loop_model.specs.Queues.{AreApart, dropped}
 use Rattle.ready_loop.specs.Standing.{IsFront, IsOnce}
-use Rattle.loop_model.proofs.TestLemmas.{and_both, or_right}
+use Rattle.loop_model.proofs.TestLemmas.{and_both}
 use Rattle.loop_model.proofs.ThingLemmas.{false_by, same_thing-refl, same_thing-true}
 use Rattle.loop_model.proofs.AsideLemmas.{set_of-append, set_of-filter, set_of-put_aside, set_of-taken_back}
 use Rattle.ready_loop.proofs.FilterLemmas.{absent-dropped, true_false}
@@ -106,21 +106,6 @@ module _ (queue : List Thing) (aside : Aside) (once : IsOnce queue aside) where
           or_first true there = refl
           or_first false there = there
 
--- a thing comes back
-pub once-brought : (queue : List Thing) (aside : Aside) (thing : Thing) → IsOnce queue aside
-    → set_of (things_aside aside) thing ≡ true → IsOnce (queue ++ thing ∷ []) (taken_back thing aside)
-once-brought queue aside thing once there =
-    once-queued queue (taken_back thing aside) (once-taken queue aside once thing) thing (aside-absent queue aside once thing there)
-    (ap (λ (hot : Hot). hot thing) (set_of-taken_back thing aside)
-    ∙ ap (λ (b : Bool). not b && set_of (things_aside aside) thing) (same_thing-refl thing))
-
--- without its first thing
-pub once-rest : (first : Thing) (queue : List Thing) (aside : Aside) → IsOnce (first ∷ queue) aside → IsOnce queue aside
-once-rest first queue aside once = record {
-  apart = once.apart.1;
-  either = λ thing there. once.either thing (or_right (same_thing first thing) (set_of queue thing) there);
-}
-
 -- a thing that isn't in the queue is set aside
 pub once-put : (thing : Thing) (queue : List Thing) (aside : Aside) → IsOnce queue aside
     → set_of queue thing ≡ false → IsOnce queue (put_aside thing aside)
@@ -133,13 +118,6 @@ once-put thing queue aside once absent = record {
       true_false (set_of queue thing) (ap (set_of queue) (same_thing-true thing other same) ∙ there) absent))
       (once.either other there);
 }
-
--- without its front
-pub once-front : (thing : Thing) (queue left : List Thing) (aside : Aside) → IsFront thing queue
-    → left ≡ drop 1 queue → IsOnce queue aside → IsOnce left aside
-once-front thing [] left aside front is once = absurd front
-once-front thing (first ∷ queue) left aside front is once =
-    subst (λ (things : List Thing). IsOnce things aside) (sym is) (once-rest first queue aside once)
 
 -- ---- the front
 

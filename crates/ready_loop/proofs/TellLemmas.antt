@@ -1,5 +1,5 @@
 -- What an event lets be served of what was set aside.
-use Rattle.std.proofs.Common.{◌≡◌, ◌∙◌, ℕ, ◌-◌, ◌^◌, Bool, true, false, List, Option, Some, refl, sym, ap, subst, not, ◌||◌, arith}
+use Rattle.std.proofs.Common.{◌≡◌, ◌∙◌, ℕ, ◌-◌, ◌^◌, ◌<◌, max, Bool, true, false, List, Option, Some, refl, sym, ap, subst, not, ◌||◌, arith}
 use Rattle.std.proofs.lemmas.Bool.Decides.{Decides-ltb}
 use Rattle.std.proofs.lemmas.Bool.{eqb-true}
 use Rattle.world_ports.specs.declared.events.Door.{Door}
@@ -11,7 +11,7 @@ use Rattle.agent_model.specs.State.{State, find_port}
 use Rattle.agent_model.specs.Step.{step}
 use Rattle.agent_model.proofs.RunLemmas.{step-last_port, step-rises}
 use Rattle.loop_model.specs.Calls.{served_of}
-use Rattle.loop_model.specs.Elsewhere.{is_clients, is_joining, is_of, may_end, stands, tells_others}
+use Rattle.loop_model.specs.Elsewhere.{calls_all, is_clients, is_due, is_joining, is_of, may_end, stands, tells_others}
 use Rattle.loop_model.specs.Orderly.{IsOrderly}
 use Rattle.loop_model.specs.Servable.{is_servable}
 use Rattle.loop_model.specs.Things.{same_door, set_of}
@@ -19,6 +19,7 @@ use Rattle.loop_model.specs.Aside.{things_aside}
 use Rattle.loop_model.specs.declared.thing.Thing.{Thing}
 use Rattle.loop_model.specs.declared.thing.Thing.TheVariants.{Accept, Read, Write}
 use Rattle.loop_model.proofs.ClosedLemmas.{open-closes}
+use Rattle.loop_model.proofs.DueLemmas.{none_ends}
 use Rattle.loop_model.proofs.ElsewhereLemmas.{owed_before, wanted_before}
 use Rattle.ready_loop.specs.Happenings.{number_after}
 use Rattle.loop_model.specs.Dues.{port_of}
@@ -56,30 +57,38 @@ both_ways : (able : Bool) → able ≡ false → able ≡ true → ⊥
 both_ways true never is = cc
 both_ways false never is = cc
 
-stirred_thing : (state : State) (moment : Moment) (event : Happening) (thing : Thing) → IsRising 0 state.last_port state.ports → is_servable state thing ≡ false → is_servable (step state moment event).state thing ≡ true → may_stir (step state moment event).state (port_of event (number_after event state.last_port)) (tells_others event state) thing ≡ true
-stirred_thing state moment event (Accept door) rising never is =
+-- nor is anything due where not all is looked at, nor does the event tell others
+neither_of : (due tells : Bool) → (due || tells) ≡ false → (due ≡ false) × (tells ≡ false)
+neither_of true tells none = absurd (true_false true refl none)
+neither_of false tells none = (refl, none)
+
+stirred_thing : (state : State) (moment : Moment) (event : Happening) (thing : Thing) → IsRising 0 state.last_port state.ports → max state.moment.mono moment.mono < 2 ^ 64 → is_servable state thing ≡ false → is_servable (step state moment event).state thing ≡ true → may_stir (step state moment event).state (port_of event (number_after event state.last_port)) (calls_all moment event state) thing ≡ true
+stirred_thing state moment event (Accept door) rising clock never is =
     let below = (Decides-ltb (step state moment event).state.last_port (2 ^ 64 - 1)).0 is in
     let rises = step-rises state moment event in
     absurd (both_ways (is_servable state (Accept door)) never ((Decides-ltb state.last_port (2 ^ 64 - 1)).1 (omega (arith, rises, below))))
-stirred_thing state moment event (Read port) rising never is =
+stirred_thing state moment event (Read port) rising clock never is =
     own_is event state.last_port port
     ∙ own_by (is_of event state.last_port port)
     (λ elsewhere. both_ways (is_servable state (Read port)) never (wanted_before state moment event port rising elsewhere is))
-stirred_thing state moment event (Write port) rising never is =
-    ap (λ (b : Bool). b || (tells_others event state || not (is_clients (find_port port (step state moment event).state.ports)))) (own_is event state.last_port port)
-    ∙ stirred_by (is_of event state.last_port port) (tells_others event state) (is_clients (find_port port (step state moment event).state.ports))
-    (λ elsewhere alone client. both_ways (is_servable state (Write port)) never (owed_before state moment event port rising alone elsewhere client is))
+stirred_thing state moment event (Write port) rising clock never is =
+    ap (λ (b : Bool). b || (calls_all moment event state || not (is_clients (find_port port (step state moment event).state.ports)))) (own_is event state.last_port port)
+    ∙ stirred_by (is_of event state.last_port port) (calls_all moment event state) (is_clients (find_port port (step state moment event).state.ports))
+    (λ elsewhere quiet client.
+    let neither = neither_of (is_due moment state) (tells_others event state) quiet in
+    both_ways (is_servable state (Write port)) never
+    (owed_before state moment event port rising (none_ends state moment clock neither.0) neither.1 elsewhere client is))
 
-stirs_now : (state : State) (moment : Moment) (event : Happening) (line : Line) → IsRising 0 state.last_port state.ports → IsQuiet state line → IsStirred (step state moment event).state (port_of event (number_after event state.last_port)) (tells_others event state) line
-stirs_now state moment event line rising quiet = λ thing there is.
-    stirred_thing state moment event thing rising (quiet thing there) is
+stirs_now : (state : State) (moment : Moment) (event : Happening) (line : Line) → IsRising 0 state.last_port state.ports → max state.moment.mono moment.mono < 2 ^ 64 → IsQuiet state line → IsStirred (step state moment event).state (port_of event (number_after event state.last_port)) (calls_all moment event state) line
+stirs_now state moment event line rising clock quiet = λ thing there is.
+    stirred_thing state moment event thing rising clock (quiet thing there) is
 
-pub stirs : (state next : State) (moment : Moment) (event : Happening) (own : Option ℕ) (all : Bool) (line : Line) → next ≡ (step state moment event).state → own ≡ port_of event (number_after event state.last_port) → all ≡ tells_others event state → IsRising 0 state.last_port state.ports → IsQuiet state line → IsStirred next own all line
-stirs state next moment event own all line is own_is all_is rising quiet =
+pub stirs : (state next : State) (moment : Moment) (event : Happening) (own : Option ℕ) (all : Bool) (line : Line) → next ≡ (step state moment event).state → own ≡ port_of event (number_after event state.last_port) → all ≡ calls_all moment event state → IsRising 0 state.last_port state.ports → max state.moment.mono moment.mono < 2 ^ 64 → IsQuiet state line → IsStirred next own all line
+stirs state next moment event own all line is own_is all_is rising clock quiet =
     subst (λ (n : State). IsStirred n own all line) (sym is)
     (subst (λ (o : Option ℕ). IsStirred (step state moment event).state o all line) (sym own_is)
     (subst (λ (a : Bool). IsStirred (step state moment event).state (port_of event (number_after event state.last_port)) a line) (sym all_is)
-    (stirs_now state moment event line rising quiet)))
+    (stirs_now state moment event line rising clock quiet)))
 
 -- ---- what stood in the list
 

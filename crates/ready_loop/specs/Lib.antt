@@ -1,5 +1,6 @@
 pub mod Happenings
 pub mod Standing
+pub mod Marks
 pub mod Rooms
 pub mod Moves
 pub mod Serving

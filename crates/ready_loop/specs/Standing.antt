@@ -1,5 +1,5 @@
 -- What holds of a line in storage, so that the front of its queue and its own port are all that a turn looks at (ours).
-use Rattle.std.specs.Prelude.{◌≡◌, ℕ, Bool, true, false, List, [], ◌∷◌, Option, Some, None, ◌==◌, ◌||◌, not, if◌then◌else◌}
+use Rattle.std.specs.Prelude.{◌≡◌, ℕ, Bool, true, false, List, [], ◌∷◌, ◌++◌, Option, Some, None, ◌==◌, ◌||◌, not, if◌then◌else◌}
 use Rattle.lists.specs.Rising.{is_among}
 use Rattle.world_ports.specs.declared.events.Door.{Door}
 use Rattle.agent_model.specs.State.{State, find_port, is_open, next_owed}
@@ -33,6 +33,13 @@ front_of (thing ∷ things) = Some thing
 abbrev pub IsCold : Option Thing → Line → Type 0
 IsCold None line = Unit {0}
 IsCold (Some thing) line = hot_of line thing ≡ false
+
+-- ---- what a thing becomes
+
+-- it stands last, and not aside
+abbrev pub listed_last : Thing → Line → Line
+listed_last thing line =
+    record line { queue = line.queue ++ thing ∷ []; aside = taken_back thing line.aside }
 
 -- ---- what an event leaves
 

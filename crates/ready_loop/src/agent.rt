@@ -61,7 +61,8 @@ pub trait Core {
     fn closes(&self) -> &[u64]
         ensures { result.now ≡ closes self.now };
 
-    /// The first second from which an identity is dead, or `None` where the clock comes to none.
+    /// The next second at which something is due, so that a moment brings more than its event: an identity is dead, or
+    /// a wait has lasted its limit. `None` where the clock comes to none.
     fn next_due(&self) -> Option<u64>
         ensures { result ≡ next_due (state self.now) };
 

@@ -4,14 +4,15 @@
 #![tactic(auto)]
 
 mod agent;
-mod aside;
 mod hub;
 mod listeners;
 mod look;
+mod marks;
 mod outcome;
 mod queue;
 mod room;
 mod serving;
+mod standings;
 mod things;
 mod turn;
 

@@ -21,7 +21,7 @@ pub fn is_idle<A: Core>(queue: &Queue, agent: &A) -> bool
     agent.starts().is_empty() && queue.is_empty()
 }
 
-// How long a poll waits: until the next identity dies.
+// How long a poll waits: until something is due.
 fn wait_of<A: Core>(agent: &A) -> Option<u64>
     ensures { result ≡ wait_of (A.state agent.now) }
 {

@@ -1,17 +1,21 @@
 // What is ready, in the order in which it is served.
-ghost use Rattle.std.specs.Prelude.{◌≡◌, ◌||◌, ◌==◌, None, OnOk, false, length, nat_lt};
+ghost use Rattle.std.specs.Bool.{OnTrue};
+ghost use Rattle.std.specs.Prelude.{◌≡◌, ◌&&◌, ◌||◌, ◌==◌, None, OnOk, Some, false, length};
 ghost use Rattle.agent_model.specs.Sound.{IsRising};
 ghost use Rattle.agent_model.specs.State.{is_client};
 ghost use Rattle.lists.specs.Rising.{IsRisingList};
+ghost use Rattle.loop_model.specs.Aside.{put_aside, things_aside};
 ghost use Rattle.loop_model.specs.Elsewhere.{stands};
 ghost use Rattle.loop_model.specs.Lines.{after_event, brought, called, called_all, called_own, empty_line, hot_of, in_hand, placed, queued, queued_all, queued_by, queued_if, queued_port, recalled, returned, settled};
-ghost use Rattle.loop_model.specs.Queues.{AreApart, dropped};
-ghost use Rattle.ready_loop.specs.Standing.{IsCold, IsFront, IsKept, IsStirred, door_aside, front_of, next_called, without, without_port, without_ports};
+ghost use Rattle.loop_model.specs.Queues.{AreApart};
+ghost use Rattle.loop_model.specs.Things.{set_of};
+ghost use Rattle.ready_loop.specs.Standing.{IsCold, IsFront, IsKept, IsStirred, door_aside, front_of, listed_last, next_called, without_port, without_ports};
 ghost use Rattle.world_ports.specs.declared.events.Door.TheVariants.{Children, Clients};
 
 use crate::Core;
-use crate::aside::Aside;
-use crate::things::{can_serve, has_thing, is_same};
+use crate::marks::Standing;
+use crate::standings::Standings;
+use crate::things::{can_serve, drop_from, drop_if, has_thing, stands};
 use loop_model::Thing;
 use std::alloc::{AllocError, Global};
 use std::collections::VecDeque;
@@ -23,19 +27,19 @@ use world_ports::{Door, Ready, Spot};
 pub struct Queue {
     // Nothing stands here twice, or both here and aside.
     things: VecDeque<Thing>,
-    aside: Aside,
+    standings: Standings,
     joined: bool,
 }
 
 impl Model for Queue {
     ghost use Rattle.loop_model.specs.Lines.{Line};
-    ghost use Rattle.ready_loop.specs.Standing.{IsOnce};
+    ghost use Rattle.ready_loop.specs.Marks.{IsMarked};
 
     ghost Value = { Line };
 
-    ghost view = { λ q. record { queue = q.things.items; aside = q.aside; joined = q.joined } };
+    ghost view = { λ q. record { queue = q.things.items; aside = q.standings.aside; joined = q.joined } };
 
-    ghost invariant = { λ q. IsOnce q.things.items q.aside };
+    ghost invariant = { λ q. IsMarked q.things.items q.standings };
 }
 
 impl Queue {
@@ -45,7 +49,7 @@ impl Queue {
     {
         Queue {
             things: VecDeque::new(alloc),
-            aside: Aside::new(alloc),
+            standings: Standings::new(alloc),
             joined: false,
         }
     }
@@ -77,6 +81,7 @@ impl Queue {
         ensures { self.new ≡ in_hand thing self.old }
     {
         self.things.pop_front();
+        self.standings.clear(thing);
     }
 
     // A connection was accepted, and joins: both its directions are ready then.
@@ -159,8 +164,9 @@ impl Queue {
     fn close(&mut self, port: u64)
         ensures { self.new ≡ without_port port self.old }
     {
-        self.drop_thing(Thing::Read(port));
-        self.drop_thing(Thing::Write(port));
+        let (read, write) = self.standings.forget(port);
+        drop_if(read, &mut self.things, Thing::Read(port));
+        drop_if(write, &mut self.things, Thing::Write(port));
     }
 
     // The listener can't be served any more.
@@ -168,8 +174,8 @@ impl Queue {
         ensures { OnOk result (self.new ≡ door_aside door self.old) }
     {
         if has_thing(&self.things, Thing::Accept(door)) {
+            self.standings.set(Thing::Accept(door), Standing::Aside)?;
             drop_from(&mut self.things, Thing::Accept(door));
-            self.aside.put(Thing::Accept(door))?;
         }
         Ok(())
     }
@@ -189,9 +195,7 @@ impl Queue {
         ensures { OnOk result (self.new ≡ returned (A.state agent.now) hand self.old) }
     {
         if let Some(thing) = hand {
-            if stands(agent, thing) {
-                self.place(agent, thing)?;
-            }
+            self.place_open(agent, thing)?;
         }
         Ok(())
     }
@@ -202,20 +206,46 @@ impl Queue {
         ensures { OnOk result (self.new ≡ placed (A.state agent.now) thing self.old) }
     {
         if can_serve(agent, thing) {
-            self.things.push_back(thing)?;
+            self.list(thing)?;
         } else {
-            self.aside.put(thing)?;
+            self.set_aside(thing)?;
         }
         Ok(())
     }
 
-    // The thing isn't ready any more, wherever it stands.
-    fn drop_thing(&mut self, thing: Thing)
-        ensures { self.new ≡ without thing self.old }
+    // The same, where it is at a port that is open. What can be served is at one.
+    fn place_open<A: Core>(&mut self, agent: &A, thing: Thing) -> Result<(), AllocError>
+        requires { hot_of self.old thing ≡ false }
+        ensures { OnOk result (self.new ≡ returned (A.state agent.now) (Some thing) self.old) }
     {
-        if !self.aside.take(thing) {
-            drop_from(&mut self.things, thing);
+        if can_serve(agent, thing) {
+            self.list(thing)?;
+        } else if stands(agent, thing) {
+            self.set_aside(thing)?;
         }
+        Ok(())
+    }
+
+    // The thing stands last, and not aside.
+    fn list(&mut self, thing: Thing) -> Result<(), AllocError>
+        requires { set_of self.old.queue thing ≡ false }
+        ensures { OnOk result (self.new ≡ listed_last thing self.old) }
+    {
+        self.standings.set(thing, Standing::Listed)?;
+        let Ok(()) = self.things.push_back(thing) else {
+            self.standings.clear(thing);
+            return Err(AllocError);
+        };
+        Ok(())
+    }
+
+    // The thing is set aside.
+    fn set_aside(&mut self, thing: Thing) -> Result<(), AllocError>
+        requires { set_of self.old.queue thing ≡ false }
+        ensures { OnOk result (self.new ≡ record self.old { aside = put_aside thing self.old.aside }) }
+    {
+        self.standings.set(thing, Standing::Aside)?;
+        Ok(())
     }
 
     // The thing is ready.
@@ -229,18 +259,20 @@ impl Queue {
     }
 
     // Whether the thing is ready.
-    fn has(&self, thing: Thing) -> bool
-        ensures { result ≡ hot_of self.now thing }
+    fn has(&mut self, thing: Thing) -> bool
+        ensures there { result ≡ hot_of self.old thing }
+        ensures same { self.new ≡ self.old }
     {
-        self.aside.has(thing) || has_thing(&self.things, thing)
+        self.standings.has(thing)
     }
 
-    // The thing is ready where the test holds.
+    // The thing is ready where the test holds, and it isn't at a port that isn't open.
     fn add_if<A: Core>(&mut self, agent: &A, test: bool, thing: Thing) -> Result<(), AllocError>
-        ensures { OnOk result (self.new ≡ queued_if test (A.state agent.now) thing self.old) }
+        ensures { OnOk result (self.new
+            ≡ queued_if (test && stands thing (A.state agent.now)) (A.state agent.now) thing self.old) }
     {
-        if test {
-            self.add(agent, thing)?;
+        if test && !self.has(thing) {
+            self.place_open(agent, thing)?;
         }
         Ok(())
     }
@@ -253,9 +285,8 @@ impl Queue {
         match item.spot {
             Spot::Door(door) => self.add_if(agent, item.readable, Thing::Accept(door)),
             Spot::Port(port) => {
-                let is_open = agent.is_port(port);
-                self.add_if(agent, item.readable && is_open, Thing::Read(port))?;
-                self.add_if(agent, item.writable && is_open, Thing::Write(port))
+                self.add_if(agent, item.readable, Thing::Read(port))?;
+                self.add_if(agent, item.writable, Thing::Write(port))
             }
         }
     }
@@ -264,8 +295,8 @@ impl Queue {
     fn call<A: Core>(&mut self, agent: &A, thing: Thing) -> Result<(), AllocError>
         ensures { OnOk result (self.new ≡ called (A.state agent.now) thing self.old) }
     {
-        if self.aside.has(thing) && can_serve(agent, thing) {
-            self.bring(thing)?;
+        if self.is_aside(thing) && can_serve(agent, thing) {
+            self.list(thing)?;
         }
         Ok(())
     }
@@ -285,18 +316,26 @@ impl Queue {
     fn bring(&mut self, thing: Thing) -> Result<(), AllocError>
         ensures { OnOk result (self.new ≡ brought thing self.old) }
     {
-        if self.aside.take(thing) {
-            self.things.push_back(thing)?;
+        if self.is_aside(thing) {
+            self.list(thing)?;
         }
         Ok(())
     }
 
-    // Whether a port to write to is set aside. Their numbers rise.
-    fn has_writes(&self) -> bool
-        ensures some { result ≡ nat_lt 0 (length self.now.aside.writes) }
-        ensures rising { IsRisingList self.now.aside.writes }
+    // Whether the thing is set aside, and so not in the list.
+    fn is_aside(&mut self, thing: Thing) -> bool
+        ensures there { result ≡ set_of (things_aside self.old.aside) thing }
+        ensures apart { OnTrue result (set_of self.old.queue thing ≡ false) }
+        ensures same { self.new ≡ self.old }
     {
-        self.aside.has_writes()
+        self.standings.is_aside(thing)
+    }
+
+    // The numbers of the ports rise that are set aside to be written to.
+    fn writes_rise(&self)
+        ensures { IsRisingList self.now.aside.writes }
+    {
+        self.standings.writes_rise();
     }
 
     // Every port that is owed bytes comes back where it was set aside: with `all` any, otherwise those of child processes
@@ -305,9 +344,7 @@ impl Queue {
         requires { IsStirred (A.state agent.now) None all self.old }
         ensures { OnOk result (self.new ≡ called_all (A.state agent.now) self.old) }
     {
-        if !self.has_writes() {
-            return Ok(());
-        }
+        self.writes_rise();
         let mut after = 0;
         'ports: while let Some(port) = next_owed(agent, after, all) {
             self.bring(Thing::Write(port))?;
@@ -327,24 +364,6 @@ fn next_owed<A: Core>(agent: &A, after: u64, all: bool) -> Option<u64>
     } else {
         agent.next_child_owed(after)
     }
-}
-
-// Whether the thing is a listener, or its port is open.
-fn stands<A: Core>(agent: &A, thing: Thing) -> bool
-    ensures { result ≡ stands thing (A.state agent.now) }
-{
-    match thing {
-        Thing::Accept(_) => true,
-        Thing::Read(port) => agent.is_port(port),
-        Thing::Write(port) => agent.is_port(port),
-    }
-}
-
-// Without this thing.
-fn drop_from(things: &mut VecDeque<Thing>, thing: Thing)
-    ensures { things.new.items ≡ dropped thing things.old.items }
-{
-    things.retain(|other| !is_same(thing, *other));
 }
 
 // Whether clients connect at this listener.

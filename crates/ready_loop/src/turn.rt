@@ -1,11 +1,11 @@
 // The parts of a turn.
-ghost use Rattle.std.specs.Prelude.{◌≡◌, ◌≤◌, OnOk, Some, length, true};
+ghost use Rattle.std.specs.Prelude.{◌≡◌, ◌<◌, ◌≤◌, ◌^◌, OnOk, Some, length, max, true};
 ghost use Rattle.agent_model.specs.Events.{Ended, Heard, Took};
 ghost use Rattle.agent_model.specs.State.{Fits, State, starts};
 ghost use Rattle.agent_model.specs.Step.{step};
 ghost use Rattle.loop_model.specs.Calls.{served_of};
 ghost use Rattle.loop_model.specs.Dues.{Free, NowFor, due_of, port_of};
-ghost use Rattle.loop_model.specs.Elsewhere.{tells_others};
+ghost use Rattle.loop_model.specs.Elsewhere.{calls_all, is_due, tells_others};
 ghost use Rattle.loop_model.specs.Fairness.{GoesRound, KeepsOrder};
 ghost use Rattle.loop_model.specs.LegalJournal.{in_state, is_first_job, read_room};
 ghost use Rattle.loop_model.specs.declared.thing.Thing.TheVariants.{Accept, Read, Write};
@@ -57,6 +57,26 @@ fn tells_others<A: Core>(agent: &A, event: &Event<'_>) -> bool
     }
 }
 
+// Whether something is due at this moment, so that its event isn't all that it brings.
+fn is_due<A: Core>(agent: &A, moment: Moment) -> bool
+    ensures value { result ≡ is_due moment (A.state agent.now) }
+    ensures clock { max (A.state agent.now).moment.mono moment.mono < 2 ^ 64 }
+{
+    let second = agent.second().max(moment.mono);
+    match agent.next_due() {
+        Some(due) => due <= second,
+        None => false,
+    }
+}
+
+// Whether an event or its moment may let something be written to a client at another port.
+fn calls_all<A: Core>(agent: &A, moment: Moment, event: &Event<'_>) -> bool
+    ensures value { result ≡ calls_all moment (happening event.now) (A.state agent.now) }
+    ensures clock { max (A.state agent.now).moment.mono moment.mono < 2 ^ 64 }
+{
+    is_due(agent, moment) || tells_others(agent, event)
+}
+
 // The port of an event, where `last` is the number of the last one that joined before it.
 fn port_of(event: &Event<'_>, last: u64) -> Option<u64>
     requires { MayJoin (happening event.now) last }
@@ -101,7 +121,7 @@ pub fn tell<A: Core>(
         (port_of (happening event.now) (A.state agent.new).last_port)
         (served_of (happening event.now)) queue.old) }
 {
-    let all = tells_others(agent, event);
+    let all = calls_all(agent, moment, event);
     let own = port_of(event, agent.ports_so_far());
     agent.step(moment, event)?;
     queue.turn(agent, own, all, served_of(event))?;

@@ -1,5 +1,5 @@
 -- The run of a schedule is that of the events which it brings.
-use Rattle.std.proofs.Common.{◌≡◌, ℕ, zero, suc, ◌+◌, nat_lt, Bool, true, false, List, [], ◌∷◌, ◌++◌, length, refl, ap, sym, subst, ◌∙◌, Option, None, Some, Result, Ok, Err}
+use Rattle.std.proofs.Common.{◌≡◌, ℕ, zero, suc, ◌+◌, ◌≤◌, ◌==◌, ◌&&◌, nat_lt, Bool, true, false, List, [], ◌∷◌, ◌++◌, length, refl, ap, arith, sym, subst, ◌∙◌, Option, None, Some, Result, Ok, Err}
 use Rattle.world_ports.specs.declared.Job.{Job}
 use Rattle.world_ports.specs.declared.Moment.{Moment}
 use Rattle.agent_laws.specs.History.{HasNumbers, IsLawful}
@@ -10,11 +10,16 @@ use Rattle.agent_model.specs.Runs.{history, run}
 use Rattle.agent_model.specs.State.{Port, State, find_port, find_to_start, first_state, owed_of, starts}
 use Rattle.agent_model.specs.Step.{step}
 use Rattle.schedule_text.specs.declared.fault.LineFault.{LineFault}
+use Rattle.schedule_text.specs.Lines.{step_of}
+use Rattle.schedule_text.proofs.Theorems.{step_of-empty}
 use Rattle.schedule_text.specs.declared.step.Step.{Step}
-use Rattle.schedule_text.specs.declared.step.Step.TheVariants.{Skip, At, Join, Hear, End, Hold, Free, Take, Started, Failed}
+use Rattle.schedule_text.specs.declared.step.Step.TheVariants.{Skip, Format2, At, Join, Hear, End, Hold, Free, Take, Started, Failed}
 use Rattle.replay_run.specs.Brought.{brought, events_by, events_from, events_of, last_events, line_events, step_events, taken_by, takings, takings_by, takings_from, where_open, where_waits, whole_events}
 use Rattle.replay_run.specs.Holding.{free_port, hold_port}
-use Rattle.replay_run.specs.Replay.{Run, Turned, at_job, at_port, happened, last_turned, line_turned, parts_of, ran, run_of, settling_turn, start_run, step_at, step_turned, took_by, turned, turned_by, whole_turned}
+use Rattle.replay_run.specs.Formats.{is_format, is_second, names_format, settings_by}
+use Rattle.replay_run.specs.Replay.{Run, Turned, at_job, at_port, format_turned, happened, last_turned, line_turned, longest_schedule, missed, parts_of, peer_turned, ran, run_of, settings_of, settling_turn, start_run, step_at, step_turned, took_by, turned, turned_by, was_closed, whole_turned}
+use Rattle.replay_run.proofs.FormatLemmas.{IsPlain, asked_is_short, begun-turned, names_the_format, plain_at, plain_later}
+use Rattle.replay_run.proofs.RunLemmas.{step_at-asked, turned-step}
 use Rattle.replay_run.specs.Settling.{delivered, next_to_take, sent, settled, settled_by, settled_from}
 
 -- events after events
@@ -50,6 +55,18 @@ run-open : (found : Option Port) (turned : Turned) (before : Run) (events : List
 run-open None turned before events is = refl
 run-open (Some port) turned before events is = is
 
+run-missed : (closed : Bool) (size : ℕ) (before : Run) → IsRun (missed closed size before) before []
+run-missed true size before = refl
+run-missed false size before = refl
+
+run-peer : (found : Option Port) (number : ℕ) (turned : Turned) (size : ℕ) (before : Run) (events : List Timed) → IsRun turned before events → IsRun (peer_turned found number turned size before) before (where_open found events)
+run-peer None number turned size before events is = run-missed (was_closed number before) size before
+run-peer (Some port) number turned size before events is = is
+
+run-format : (first : Bool) (size : ℕ) (before : Run) → first ≡ false → IsRun (format_turned first size before) before []
+run-format true size before later = absurd cc
+run-format false size before later = refl
+
 run-waits : (found : Option Job) (turned : Turned) (before : Run) (events : List Timed) → IsRun turned before events → IsRun (at_job found turned before) before (where_waits found events)
 run-waits None turned before events is = refl
 run-waits (Some job) turned before events is = is
@@ -58,48 +75,91 @@ run-took : (more : Bool) (port count size : ℕ) (before : Run) → IsRun (took_
 run-took true port count size before = refl
 run-took false port count size before = settles before.moment before.held (sent before.moment port count before.agent)
 
-run-step : (step : Step) (size : ℕ) (before : Run) → IsRun (step_turned step size before) before (step_events step before)
-run-step Skip size before = refl
-run-step (At moment) size before = run-happened Tick size (record before { moment = moment })
-run-step (Join door) size before = run-happened (Joined door) size before
-run-step (Hear port bytes) size before = run-open (find_port port before.agent.ports) _ before _ (run-happened (Heard port bytes) size before)
-run-step (End port) size before = run-open (find_port port before.agent.ports) _ before _ (run-happened (Ended port) size before)
-run-step (Hold port) size before = run-open (find_port port before.agent.ports) _ before _ (settles before.moment (hold_port port before.held) before.agent)
-run-step (Free port) size before = run-open (find_port port before.agent.ports) _ before _ (settles before.moment (free_port port before.held) before.agent)
-run-step (Take port count) size before =
-    run-open (find_port port before.agent.ports) _ before _ (run-took (nat_lt (length (owed_of port before.agent)) count) port count size before)
-run-step (Started job ticket) size before = run-waits (find_to_start job (starts before.agent)) _ before _ (run-happened (JobStarted job ticket) size before)
-run-step (Failed job) size before = run-waits (find_to_start job (starts before.agent)) _ before _ (run-happened (StartFailed job) size before)
+run-step : (step : Step) (size : ℕ) (before : Run) → (is_format step && (before.line == 0)) ≡ false → IsRun (step_turned step size before) before (step_events step before)
+run-step Skip size before plain = refl
+run-step Format2 size before plain = run-format (before.line == 0) size before plain
+run-step (At moment) size before plain = run-happened Tick size (record before { moment = moment })
+run-step (Join door) size before plain = run-happened (Joined door) size before
+run-step (Hear port bytes) size before plain = run-peer (find_port port before.agent.ports) port _ size before _ (run-happened (Heard port bytes) size before)
+run-step (End port) size before plain = run-peer (find_port port before.agent.ports) port _ size before _ (run-happened (Ended port) size before)
+run-step (Hold port) size before plain = run-open (find_port port before.agent.ports) _ before _ (settles before.moment (hold_port port before.held) before.agent)
+run-step (Free port) size before plain = run-open (find_port port before.agent.ports) _ before _ (settles before.moment (free_port port before.held) before.agent)
+run-step (Take port count) size before plain =
+    run-peer (find_port port before.agent.ports) port _ size before _ (run-took (nat_lt (length (owed_of port before.agent)) count) port count size before)
+run-step (Started job ticket) size before plain = run-waits (find_to_start job (starts before.agent)) _ before _ (run-happened (JobStarted job ticket) size before)
+run-step (Failed job) size before plain = run-waits (find_to_start job (starts before.agent)) _ before _ (run-happened (StartFailed job) size before)
 
-run-line : (read : Result Step LineFault) (size : ℕ) (before : Run) → IsRun (line_turned read size before) before (line_events read before)
-run-line (Ok step) size before = run-step step size before
-run-line (Err fault) size before = refl
+run-line : (read : Result Step LineFault) (size : ℕ) (before : Run) → (names_format read && (before.line == 0)) ≡ false → IsRun (line_turned read size before) before (line_events read before)
+run-line (Ok step) size before plain = run-step step size before plain
+run-line (Err fault) size before plain = refl
 
-run-by : (refused : Option LineFault) (line : List ℕ) (size : ℕ) (before : Run) → IsRun (turned_by refused line size before) before (events_by refused line size before)
-run-by None line size before = run-line (step_at (before.read + size) line) size before
-run-by (Some fault) line size before = refl
+run-by : (refused : Option LineFault) (line : List ℕ) (size : ℕ) (before : Run) → before.refused ≡ refused → IsPlain line before → IsRun (turned_by refused line size before) before (events_by refused line size before)
+run-by None line size before is plain =
+    run-line (step_at (before.read + size) line) size before (plain_at (nat_lt longest_schedule (before.read + size)) line (before.line == 0) (plain is))
+run-by (Some fault) line size before is plain = refl
 
-run-turned : (line : List ℕ) (size : ℕ) (before : Run) → IsRun (turned line size before) before (events_by before.refused line size before)
+run-turned : (line : List ℕ) (size : ℕ) (before : Run) → IsPlain line before → IsRun (turned line size before) before (events_by before.refused line size before)
 unfolding turned
-run-turned line size before = run-by before.refused line size before
+run-turned line size before plain = run-by before.refused line size before refl plain
 
-run-last : (part : List ℕ) (before : Run) → IsRun (last_turned part before) before (last_events part before)
-run-last [] before = refl
-run-last (byte ∷ bytes) before = run-turned (byte ∷ bytes) (length (byte ∷ bytes)) before
+run-last : (part : List ℕ) (before : Run) → IsPlain part before → IsRun (last_turned part before) before (last_events part before)
+run-last [] before plain = refl
+run-last (byte ∷ bytes) before plain = run-turned (byte ∷ bytes) (length (byte ∷ bytes)) before plain
 
 -- ---- a schedule
 
-run-parts : (before : Run) (parts : List (List ℕ)) → (ran true before parts).agent ≡ run before.agent (events_from before parts)
+-- the first of these lines begins no schedule of format 2
+abbrev BeginPlain : List (List ℕ) → Run → Type 0
+BeginPlain [] run = Unit {0}
+BeginPlain (line ∷ lines) run = IsPlain line run
+
+run-parts : (before : Run) (parts : List (List ℕ)) → BeginPlain parts before → (ran true before parts).agent ≡ run before.agent (events_from before parts)
 unfolding ran events_from
-run-parts before [] = refl
-run-parts before (part ∷ []) = run-last part before
-run-parts before (line ∷ next ∷ parts) =
-    run-parts (whole_turned line before).run (next ∷ parts)
-    ∙ ap (λ state. run state (events_from (whole_turned line before).run (next ∷ parts))) (run-turned line (length line + 1) before)
+run-parts before [] plain = refl
+run-parts before (part ∷ []) plain = run-last part before plain
+run-parts before (line ∷ next ∷ parts) plain =
+    run-parts (whole_turned line before).run (next ∷ parts) (plain_later next (whole_turned line before).run (begun-turned line (length line + 1) before))
+    ∙ ap (λ state. run state (events_from (whole_turned line before).run (next ∷ parts))) (run-turned line (length line + 1) before plain)
     ∙ sym (run-append before.agent (whole_events line before) (events_from (whole_turned line before).run (next ∷ parts)))
 
-pub run-schedule : (life : Option ℕ) (text : List ℕ) → (run_of life text).agent ≡ run (first_state life) (events_of life text)
-run-schedule life text = run-parts (start_run life) (parts_of text)
+-- line 1 of a schedule of format 2 leaves the agent with limits, and brings nothing
+pub record BeginsSecond (life : Option ℕ) (line : List ℕ) (size : ℕ) : Type 0 where
+  pub agent : (turned line size (start_run life)).run.agent ≡ first_state (settings_by true life)
+  pub events : events_by None line size (start_run life) ≡ []
 
-pub schedule-lawful : (life : Option ℕ) (text : List ℕ) → HasNumbers (run_of life text).agent → IsLawful life [] (history (first_state life) (events_of life text))
-schedule-lawful life text numbers = first-lawful life (events_of life text) (subst HasNumbers (run-schedule life text) numbers)
+begins_second : (life : Option ℕ) (line : List ℕ) (size : ℕ) → step_of line ≡ Ok Format2 → size ≤ length line + 1 → BeginsSecond life line size
+begins_second life line size asked most =
+    let short = asked_is_short line Format2 asked in
+    let within : (start_run life).read + size ≤ longest_schedule = omega arith in
+    record {
+      agent = ap (λ (t : Turned). t.run.agent) (turned-step line size (start_run life) Format2 refl within asked);
+      events = ap (λ (read : Result Step LineFault). line_events read (start_run life)) (step_at-asked line ((start_run life).read + size) within asked);
+    }
+
+run-second : (life : Option ℕ) (line : List ℕ) (parts : List (List ℕ)) → step_of line ≡ Ok Format2 → (ran true (start_run life) (line ∷ parts)).agent ≡ run (first_state (settings_by true life)) (events_from (start_run life) (line ∷ parts))
+unfolding ran events_from
+run-second life [] [] asked = let no : Ok Skip ≡ Ok Format2 = sym step_of-empty ∙ asked in absurd cc
+run-second life (byte ∷ bytes) [] asked =
+    let begins = begins_second life (byte ∷ bytes) (length (byte ∷ bytes)) asked (omega arith) in
+    begins.agent ∙ sym (ap (run (first_state (settings_by true life))) begins.events)
+run-second life line (next ∷ parts) asked =
+    let begins = begins_second life line (length line + 1) asked (omega arith) in
+    run-parts (whole_turned line (start_run life)).run (next ∷ parts) (plain_later next (whole_turned line (start_run life)).run (begun-turned line (length line + 1) (start_run life)))
+    ∙ ap (λ state. run state (events_from (whole_turned line (start_run life)).run (next ∷ parts))) begins.agent
+    ∙ sym (ap (λ events. run (first_state (settings_by true life)) (events ++ events_from (whole_turned line (start_run life)).run (next ∷ parts))) begins.events)
+
+-- by whether line 1 names format 2
+run-begun : (life : Option ℕ) (parts : List (List ℕ)) → (ran true (start_run life) parts).agent ≡ run (first_state (settings_by (is_second parts) life)) (events_from (start_run life) parts)
+unfolding ran events_from
+run-begun life [] = refl
+run-begun life (line ∷ parts) = by_test (names_format (step_of line)) refl
+  where
+    by_test : (second : Bool) → names_format (step_of line) ≡ second → (ran true (start_run life) (line ∷ parts)).agent ≡ run (first_state (settings_by second life)) (events_from (start_run life) (line ∷ parts))
+    by_test true is = run-second life line parts (names_the_format (step_of line) is)
+    by_test false is = run-parts (start_run life) (line ∷ parts) (λ accepted. ap (λ test. test && true) is)
+
+pub run-schedule : (life : Option ℕ) (text : List ℕ) → (run_of life text).agent ≡ run (first_state (settings_of life text)) (events_of life text)
+run-schedule life text = run-begun life (parts_of text)
+
+pub schedule-lawful : (life : Option ℕ) (text : List ℕ) → HasNumbers (run_of life text).agent → IsLawful life [] (history (first_state (settings_of life text)) (events_of life text))
+schedule-lawful life text numbers = first-lawful (settings_of life text) (events_of life text) (subst HasNumbers (run-schedule life text) numbers)

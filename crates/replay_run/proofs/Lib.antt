@@ -2,6 +2,7 @@ pub mod HoldingLemmas
 pub mod SettlingLemmas
 pub mod RunLemmas
 pub mod GoesOnLemmas
+pub mod FormatLemmas
 pub mod RunCounts
 pub mod TurnLemmas
 pub mod LineEnds

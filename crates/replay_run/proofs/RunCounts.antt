@@ -1,18 +1,19 @@
 -- A line keeps what the numbers of a run say.
-use Rattle.std.proofs.Common.{◌≡◌, ℕ, suc, ◌+◌, ◌<◌, ◌≤◌, List, [], length, refl, ap, sym, ◌∙◌, arith, Option, Some, None, Bool, true, false, nat_lt, if◌then◌else◌, Result, Ok, Err}
+use Rattle.std.proofs.Common.{◌≡◌, ℕ, suc, ◌+◌, ◌<◌, ◌≤◌, List, [], length, refl, ap, sym, ◌∙◌, arith, Option, Some, None, Bool, true, false, nat_lt, ◌==◌, if◌then◌else◌, Result, Ok, Err}
 use Rattle.std.proofs.lemmas.Bool.Decides.{nat_tests}
 use Rattle.world_ports.specs.declared.Job.{Job}
 use Rattle.agent_model.specs.Events.{Happening, Joined, Heard, Ended, Took, Started, StartFailed, Tick}
-use Rattle.agent_model.specs.State.{State, Port, find_port, find_to_start, owed_of, starts}
+use Rattle.agent_model.specs.State.{State, Port, first_state, find_port, find_to_start, owed_of, starts}
 use Rattle.agent_model.proofs.RunLemmas.{step-last_port, last_after}
 use Rattle.schedule_text.specs.declared.fault.LineFault.{LineFault}
 use Rattle.schedule_text.specs.declared.fault.LineFault.TheVariants.{TooLong}
 use Rattle.schedule_text.specs.declared.step.Step.{Step}
-use Rattle.schedule_text.specs.declared.step.Step.TheVariants.{Skip, At, Join, Hear, End, Hold, Free, Take, Started as StartedStep, Failed}
+use Rattle.schedule_text.specs.declared.step.Step.TheVariants.{Skip, Format2, At, Join, Hear, End, Hold, Free, Take, Started as StartedStep, Failed}
 use Rattle.schedule_text.specs.Lines.{step_of}
 use Rattle.replay_run.specs.Holding.{free_port, hold_port}
-use Rattle.replay_run.specs.Settling.{after_event, event_lines, sending_lines, sent}
-use Rattle.replay_run.specs.Replay.{Run, Turned, happened, settling_turn, took, took_by, at_job, at_port, step_turned, line_turned, turned, turned_by, longest_schedule}
+use Rattle.replay_run.specs.Settling.{after_event, closed_at, event_lines, sending_lines, sent}
+use Rattle.replay_run.specs.Formats.{settings_by}
+use Rattle.replay_run.specs.Replay.{Run, Turned, at_job, at_port, closing, format_turned, happened, line_turned, longest_schedule, missed, peer_turned, settling_turn, skipped, step_turned, took, took_by, turned, turned_by, was_closed}
 use Rattle.replay_run.specs.Counts.{IsCounted, IsNext}
 use Rattle.replay_run.proofs.SettlingLemmas.{settled-last_port}
 
@@ -52,7 +53,56 @@ happened-next event size run after some within counted agent_is line_is read_is 
     settling-next (event_lines after.moment after.agent event) size run (record after { agent = state }) some within counted
     (rw stepping (last_after-most event run.agent.last_port)) line_is read_is accepted
 
--- the line of a port
+-- a line from which nothing comes
+skipped-next : (size : ℕ) (run after : Run) → 0 < size → run.read + size ≤ longest_schedule → IsCounted run
+    → after.agent.last_port ≤ run.agent.last_port → after.line ≡ run.line → after.read ≡ run.read → after.refused ≡ None
+    → IsNext run size (skipped size after).run
+skipped-next size run after some within counted most line_is read_is accepted = record {
+  counted = record {
+    accepted = accepted;
+    ports = omega (arith, counted.ports, most, line_is);
+    lines = omega (arith, counted.lines, line_is, read_is);
+    within = omega (arith, within, read_is);
+  };
+  read = ap (λ n. n + size) read_is;
+}
+
+-- the line of a format
+format-next : (first : Bool) (size : ℕ) (run : Run) → 0 < size → run.read + size ≤ longest_schedule → IsCounted run
+    → (format_turned first size run).run.refused ≡ None → IsNext run size (format_turned first size run).run
+format-next true size run some within counted accepted =
+    skipped-next size run (record run { agent = first_state (settings_by true run.life) }) some within counted (omega arith) refl refl counted.accepted
+format-next false size run some within counted accepted = absurd (cc)
+
+-- which ports a moment closed
+closing-next : (ports : List ℕ) (turned : Turned) (size : ℕ) (run : Run) → IsNext run size turned.run
+    → IsNext run size (closing ports turned).run
+closing-next ports turned size run next = record {
+  counted = record {
+    accepted = next.counted.accepted;
+    ports = next.counted.ports;
+    lines = next.counted.lines;
+    within = next.counted.within;
+  };
+  read = next.read;
+}
+
+-- the line of a port that isn't open
+missed-next : (closed : Bool) (size : ℕ) (run : Run) → 0 < size → run.read + size ≤ longest_schedule → IsCounted run
+    → (missed closed size run).run.refused ≡ None → IsNext run size (missed closed size run).run
+missed-next true size run some within counted accepted =
+    skipped-next size run run some within counted (omega arith) refl refl counted.accepted
+missed-next false size run some within counted accepted = absurd (cc)
+
+-- the line of a port that hears or ends
+peer-next : (found : Option Port) (number : ℕ) (turned : Turned) (size : ℕ) (run : Run) → 0 < size → run.read + size ≤ longest_schedule → IsCounted run
+    → IsNext run size turned.run → (peer_turned found number turned size run).run.refused ≡ None
+    → IsNext run size (peer_turned found number turned size run).run
+peer-next None number turned size run some within counted next accepted =
+    missed-next (was_closed number run) size run some within counted accepted
+peer-next (Some port) number turned size run some within counted next accepted = next
+
+-- the line of a port that is held or free
 at_port-next : (found : Option Port) (turned : Turned) (size : ℕ) (run : Run) → IsNext run size turned.run
     → (at_port found turned run).run.refused ≡ None → IsNext run size (at_port found turned run).run
 at_port-next None turned size run next accepted = absurd (cc)
@@ -76,31 +126,28 @@ took_by-next false port count size run some within counted accepted =
 
 -- the same, where the port is open
 took_at-next : (found : Option Port) (port count size : ℕ) (run : Run) → 0 < size → run.read + size ≤ longest_schedule → IsCounted run
-    → (at_port found (took port count size run) run).run.refused ≡ None → IsNext run size (at_port found (took port count size run) run).run
-took_at-next None port count size run some within counted accepted = absurd (cc)
+    → (peer_turned found port (took port count size run) size run).run.refused ≡ None → IsNext run size (peer_turned found port (took port count size run) size run).run
+took_at-next None port count size run some within counted accepted =
+    missed-next (was_closed port run) size run some within counted accepted
 took_at-next (Some open_port) port count size run some within counted accepted =
     took_by-next (nat_lt (length (owed_of port run.agent)) count) port count size run some within counted accepted
 
 -- what a step brings
 step_turned-next : (step : Step) (size : ℕ) (run : Run) → 0 < size → run.read + size ≤ longest_schedule → IsCounted run → (step_turned step size run).run.refused ≡ None → IsNext run size (step_turned step size run).run
-step_turned-next Skip size run some within counted accepted = record {
-  counted = record {
-    accepted = counted.accepted;
-    ports = omega (arith, counted.ports);
-    lines = omega (arith, counted.lines);
-    within = within;
-  };
-  read = refl;
-}
+step_turned-next Skip size run some within counted accepted =
+    skipped-next size run run some within counted (omega arith) refl refl counted.accepted
+step_turned-next Format2 size run some within counted accepted =
+    format-next (run.line == 0) size run some within counted accepted
 step_turned-next (At moment) size run some within counted accepted =
-    happened-next Tick size run (record run { moment = moment }) some within counted refl refl refl counted.accepted
+    closing-next (closed_at moment run.agent Tick) (happened Tick size (record run { moment = moment })) size run
+    (happened-next Tick size run (record run { moment = moment }) some within counted refl refl refl counted.accepted)
 step_turned-next (Join door) size run some within counted accepted =
     happened-next (Joined door) size run run some within counted refl refl refl counted.accepted
 step_turned-next (Hear port bytes) size run some within counted accepted =
-    at_port-next (find_port port run.agent.ports) (happened (Heard port bytes) size run) size run
+    peer-next (find_port port run.agent.ports) port (happened (Heard port bytes) size run) size run some within counted
     (happened-next (Heard port bytes) size run run some within counted refl refl refl counted.accepted) accepted
 step_turned-next (End port) size run some within counted accepted =
-    at_port-next (find_port port run.agent.ports) (happened (Ended port) size run) size run
+    peer-next (find_port port run.agent.ports) port (happened (Ended port) size run) size run some within counted
     (happened-next (Ended port) size run run some within counted refl refl refl counted.accepted) accepted
 step_turned-next (Hold port) size run some within counted accepted =
     let after : Run = record run { held = hold_port port run.held } in

@@ -152,6 +152,11 @@ turned-asked line size run accepted within =
     ap (λ r. turned_by r line size run) accepted
     ∙ ap (λ t. line_turned (if t then Err TooLong else step_of line) size run) (lt-false longest_schedule (run.read + size) within)
 
+-- what it asks for is what it says
+pub step_at-asked : (line : List ℕ) (end : ℕ) {step : Step} → end ≤ longest_schedule → step_of line ≡ Ok step → step_at end line ≡ Ok step
+step_at-asked line end within asked =
+    ap (λ t. if t then Err TooLong else step_of line) (lt-false longest_schedule end within) ∙ asked
+
 -- it brings the step that it asks for
 pub turned-step : (line : List ℕ) (size : ℕ) (run : Run) (step : Step) → run.refused ≡ None → run.read + size ≤ longest_schedule → step_of line ≡ Ok step → turned line size run ≡ step_turned step size run
 turned-step line size run step accepted within asked =

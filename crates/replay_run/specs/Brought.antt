@@ -8,7 +8,7 @@ use Rattle.agent_model.specs.Events.{Happening, Timed, Joined, Heard, Ended, Sta
 use Rattle.agent_model.specs.State.{Port, State, find_port, find_to_start, owed_of, starts}
 use Rattle.schedule_text.specs.declared.fault.LineFault.{LineFault}
 use Rattle.schedule_text.specs.declared.step.Step.{Step}
-use Rattle.schedule_text.specs.declared.step.Step.TheVariants.{Skip, At, Join, Hear, End, Hold, Free, Take, Started, Failed}
+use Rattle.schedule_text.specs.declared.step.Step.TheVariants.{Skip, Format2, At, Join, Hear, End, Hold, Free, Take, Started, Failed}
 use Rattle.replay_run.specs.Holding.{free_port, hold_port}
 use Rattle.replay_run.specs.Replay.{Run, parts_of, start_run, step_at, whole_turned}
 use Rattle.replay_run.specs.Settling.{after_event, delivered, next_to_take, sent}
@@ -59,6 +59,7 @@ taken_by false port count run =
 -- what a step brings
 abbrev pub step_events : Step → Run → List Timed
 step_events Skip run = []
+step_events Format2 run = []
 step_events (At moment) run = brought Tick (record run { moment = moment })
 step_events (Join door) run = brought (Joined door) run
 step_events (Hear port bytes) run = where_open (find_port port run.agent.ports) (brought (Heard port bytes) run)

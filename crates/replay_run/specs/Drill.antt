@@ -14,7 +14,7 @@ use Rattle.child_msg.specs.declared.fault.ChildFault.{ChildFault}
 use Rattle.agent_core.specs.Owing.{is_client_at}
 use Rattle.agent_model.specs.Budget.{budget}
 use Rattle.agent_model.specs.Events.{Happening, Joined, Heard, Started, Tick}
-use Rattle.agent_model.specs.State.{State, find_port, find_to_start, first_state, next_owed, owed_of, starts}
+use Rattle.agent_model.specs.State.{State, find_port, find_to_start, first_state, next_owed, no_settings, owed_of, starts}
 use Rattle.replay_run.specs.Draws.{Draws, Asking, asking_of, draws_of}
 use Rattle.replay_run.specs.Settling.{after_event, delivered}
 
@@ -71,7 +71,7 @@ pub record Drilled : Type 0 where
 -- before the first line
 abbrev pub start_drill : ℕ → Drilled
 start_drill seed = record {
-  agent = first_state None;
+  agent = first_state no_settings;
   counts = no_counts;
   ask = None;
   number = seed;

@@ -1,6 +1,7 @@
--- what public contracts say: how a run ends, what a schedule prints, and how ports settle
+-- what public contracts say: how a run ends, what a schedule prints, its format, and how ports settle
 pub mod Claims
 pub mod Replay
+pub mod Formats
 pub mod Brought
 pub mod Settling
 pub mod Holding

@@ -3,25 +3,29 @@
 -- its event is one step of the abstract agent, agent_model's specs/Step.antt, and what ports take
 -- after it is in specs/Settling.antt.
 use Rattle.std.specs.Prelude.{ℕ, suc, ◌+◌, ◌==◌, ◌||◌, nat_lt, Bool, true, false, if◌then◌else◌, List, [], ◌∷◌, ◌++◌, length, Option, None, Some, Result, Ok, Err}
-use Rattle.std.specs.List.{slice_split}
+use Rattle.std.specs.List.{list_any, slice_split}
 use Rattle.world_ports.specs.declared.Job.{Job}
 use Rattle.world_ports.specs.declared.Moment.{Moment}
 use Rattle.agent_model.specs.Events.{Happening, Joined, Heard, Ended, StartFailed, Started as JobStarted, Tick}
-use Rattle.agent_model.specs.State.{State, Port, first_state, find_port, find_to_start, owed_of, starts}
+use Rattle.agent_model.specs.State.{State, Port, Settings, first_state, find_port, find_to_start, owed_of, starts}
 use Rattle.schedule_text.specs.declared.fault.LineFault.{LineFault}
-use Rattle.schedule_text.specs.declared.fault.LineFault.TheVariants.{UnknownPort, Order, TooLong}
+use Rattle.schedule_text.specs.declared.fault.LineFault.TheVariants.{Word, UnknownPort, Order, TooLong}
 use Rattle.schedule_text.specs.declared.step.Step.{Step}
-use Rattle.schedule_text.specs.declared.step.Step.TheVariants.{Skip, At, Join, Hear, End, Hold, Free, Take, Started, Failed}
+use Rattle.schedule_text.specs.declared.step.Step.TheVariants.{Skip, Format2, At, Join, Hear, End, Hold, Free, Take, Started, Failed}
 use Rattle.schedule_text.specs.Deeds.{refused_line, end_line}
 use Rattle.schedule_text.specs.Lines.{step_of}
+use Rattle.replay_run.specs.Formats.{is_second, settings_by}
 use Rattle.replay_run.specs.Holding.{hold_port, free_port}
-use Rattle.replay_run.specs.Settling.{after_event, event_lines, sending_lines, sent, settled}
+use Rattle.replay_run.specs.Settling.{after_event, closed_at, event_lines, sending_lines, sent, settled}
 
--- a run so far: the agent, the moment of the last `at` line, the held ports, how many lines were run, how many
+-- a run so far: for how many seconds identities live that come without a lifetime, the agent, the moment of the last
+-- `at` line, the ports that it closed where it is the line before, the held ports, how many lines were run, how many
 -- bytes they had, and why the next one was refused; the refused line is counted, and its bytes are not
 pub record Run : Type 0 where
+  pub life : Option ℕ
   pub agent : State
   pub moment : Moment
+  pub closed : List ℕ
   pub held : List ℕ
   pub line : ℕ
   pub read : ℕ
@@ -30,8 +34,10 @@ pub record Run : Type 0 where
 -- the run before the first line; identities that come without a lifetime live for so many seconds
 abbrev pub start_run : Option ℕ → Run
 start_run life = record {
-  agent = first_state life;
+  life = life;
+  agent = first_state (settings_by false life);
   moment = record { mono = 0; wall = 0 };
+  closed = [];
   held = [];
   line = 0;
   read = 0;
@@ -49,7 +55,7 @@ unturned run = record { run = run; output = [] }
 
 -- one more line, of so many bytes
 abbrev pub counted : ℕ → Run → Run
-counted size run = record run { line = suc run.line; read = run.read + size }
+counted size run = record run { closed = []; line = suc run.line; read = run.read + size }
 
 -- a skipped line is counted
 abbrev pub skipped : ℕ → Run → Turned
@@ -77,10 +83,43 @@ happened event size run =
     settling_turn (event_lines run.moment run.agent event) size
     (record run { agent = after_event run.moment run.agent event })
 
+-- the line `schedule 2`: in line 1, where nothing was run yet, the schedule is of format 2; else it is refused
+abbrev pub format_turned : Bool → ℕ → Run → Turned
+format_turned true size run =
+    skipped size (record run { agent = first_state (settings_by true run.life) })
+format_turned false size run = refuse Word run
+
+-- a line of a moment: the ports that this closed are known to the next line
+abbrev pub closing : List ℕ → Turned → Turned
+closing ports turned = record turned { run = record turned.run { closed = ports } }
+
+abbrev pub set_moment : Moment → ℕ → Run → Turned
+set_moment moment size run =
+    closing (closed_at moment run.agent Tick) (happened Tick size (record run { moment = moment }))
+
 -- what a line of a port brings, where that one is open
 abbrev pub at_port : Option Port → Turned → Run → Turned
 at_port None turned run = refuse UnknownPort run
 at_port (Some port) turned run = turned
+
+-- the moment of the line before closed the port
+abbrev pub was_closed : ℕ → Run → Bool
+was_closed port run = list_any (λ other. other == port) run.closed
+
+-- a port that isn't open hears, ends and takes nothing: the line is refused, unless the moment of the line before
+-- closed the port
+abbrev pub missed : Bool → ℕ → Run → Turned
+missed true size run = skipped size run
+missed false size run = refuse UnknownPort run
+
+-- what a line brings that a port hears, ends or takes, where that one is open
+abbrev pub peer_turned : Option Port → ℕ → Turned → ℕ → Run → Turned
+peer_turned None number turned size run = missed (was_closed number run) size run
+peer_turned (Some port) number turned size run = turned
+
+abbrev pub at_peer : ℕ → Turned → ℕ → Run → Turned
+at_peer number turned size run =
+    peer_turned (find_port number run.agent.ports) number turned size run
 
 -- what a line of a job brings, where that one waits to be started
 abbrev pub at_job : Option Job → Turned → Run → Turned
@@ -101,20 +140,19 @@ took port count size run =
 -- what a step brings
 abbrev pub step_turned : Step → ℕ → Run → Turned
 step_turned Skip size run = skipped size run
-step_turned (At moment) size run = happened Tick size (record run { moment = moment })
+step_turned Format2 size run = format_turned (run.line == 0) size run
+step_turned (At moment) size run = set_moment moment size run
 step_turned (Join door) size run = happened (Joined door) size run
 step_turned (Hear port bytes) size run =
-    at_port (find_port port run.agent.ports) (happened (Heard port bytes) size run) run
-step_turned (End port) size run =
-    at_port (find_port port run.agent.ports) (happened (Ended port) size run) run
+    at_peer port (happened (Heard port bytes) size run) size run
+step_turned (End port) size run = at_peer port (happened (Ended port) size run) size run
 step_turned (Hold port) size run =
     at_port (find_port port run.agent.ports)
     (settling_turn [] size (record run { held = hold_port port run.held })) run
 step_turned (Free port) size run =
     at_port (find_port port run.agent.ports)
     (settling_turn [] size (record run { held = free_port port run.held })) run
-step_turned (Take port count) size run =
-    at_port (find_port port run.agent.ports) (took port count size run) run
+step_turned (Take port count) size run = at_peer port (took port count size run) size run
 step_turned (Started job ticket) size run =
     at_job (find_to_start job (starts run.agent)) (happened (JobStarted job ticket) size run) run
 step_turned (Failed job) size run =
@@ -194,6 +232,10 @@ unfoldable pub ran : Bool → Run → List (List ℕ) → Run
 ran ended run [] = run
 ran ended run (part ∷ []) = (part_turned ended part run).run
 ran ended run (line ∷ next ∷ parts) = ran ended (whole_turned line run).run (next ∷ parts)
+
+-- the settings of a schedule
+abbrev pub settings_of : Option ℕ → List ℕ → Settings
+settings_of life text = settings_by (is_second (parts_of text)) life
 
 -- all that a schedule prints, where identities that come without a lifetime live for so many seconds
 abbrev pub output_of : Option ℕ → List ℕ → List ℕ

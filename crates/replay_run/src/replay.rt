@@ -5,7 +5,7 @@ ghost use Rattle.agent_model.specs.State.{Fits};
 ghost use Rattle.schedule_text.specs.Steps.{SaysSome};
 ghost use Rattle.replay_run.specs.Counts.{IsCounted};
 ghost use Rattle.replay_run.specs.Replay.{start_run, longest_schedule, turned, step_turned};
-ghost use Rattle.replay_run.specs.Replay.{refuse, happened, settling_turn};
+ghost use Rattle.replay_run.specs.Replay.{counted, refuse, happened, settling_turn};
 
 mod steps;
 
@@ -18,12 +18,15 @@ use std::alloc::Global;
 use std::marker::Model;
 use world_ports::Moment;
 
-/// The agent, the moment of its events, the held ports, and how far the schedule was run.
+/// The agent, the moment of its events, the ports that the last line closed by its moment, the held ports, and how far the
+/// schedule was run.
 #[derive(Drop)]
 pub struct Replay {
     alloc: Global,
+    life: Option<u32>,
     agent: Agent,
     moment: Moment,
+    closed: Vec<u64>,
     held: Held,
     line: u64,
     read: u64,
@@ -36,8 +39,10 @@ impl Model for Replay {
     ghost Value = { Run };
 
     ghost view = { λ r. record {
+      life = r.life;
       agent = r.agent.state;
       moment = r.moment;
+      closed = r.closed.items;
       held = r.held;
       line = r.line;
       read = r.read;
@@ -49,10 +54,17 @@ impl Replay {
     pub fn new(alloc: Global, default_life: Option<u32>) -> Self
         ensures { result ≡ start_run default_life }
     {
+        let settings = Settings {
+            default_life,
+            ask_limit: None,
+            confirm_limit: None,
+        };
         Replay {
             alloc,
-            agent: Agent::new(alloc, Settings { default_life }),
+            life: default_life,
+            agent: Agent::new(alloc, settings),
             moment: Moment { mono: 0, wall: 0 },
+            closed: Vec::new(alloc),
             held: Held::new(alloc),
             line: 0,
             read: 0,
@@ -119,10 +131,10 @@ impl Replay {
     {
         match step {
             Step::Skip => {
-                self.line += 1;
-                self.read += size;
+                self.skip(size);
                 Ok(())
             }
+            Step::Format2 => self.set_format(size, out),
             Step::At(moment) => self.set_moment(*moment, size, out),
             Step::Join(door) => self.happen(&Event::Joined(*door), size, out),
             Step::Hear { port, bytes } => {
@@ -167,9 +179,19 @@ impl Replay {
             ++ (settling_turn [] size self.old).output) }
     {
         settle(self.alloc, &mut self.agent, self.moment, &self.held, out)?;
+        self.skip(size);
+        Ok(())
+    }
+
+    // Counts the line.
+    fn skip(&mut self, size: u64)
+        requires lines { self.old.line ≤ longest_schedule }
+        requires within { self.old.read + size ≤ longest_schedule }
+        ensures { self.new ≡ counted size self.old }
+    {
+        self.closed.clear();
         self.line += 1;
         self.read += size;
-        Ok(())
     }
 
     // Refuses the next line, unless its fault only says that memory ran out.

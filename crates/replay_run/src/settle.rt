@@ -3,7 +3,7 @@ ghost use Rattle.std.specs.Prelude.{◌≡◌, ◌++◌, ◌<◌, ◌≤◌, OnO
 ghost use Rattle.agent_core.specs.Happenings.{happening};
 ghost use Rattle.agent_model.specs.Sound.{IsSteady};
 ghost use Rattle.agent_model.specs.State.{Fits, find_to_start, owed_of};
-ghost use Rattle.replay_run.specs.Settling.{after_event, close_lines, event_lines, next_to_take, settled};
+ghost use Rattle.replay_run.specs.Settling.{after_event, close_lines, closed_at, event_lines, next_to_take, settled};
 ghost use Rattle.replay_run.specs.Settling.{sending_lines, sent, start_lines};
 
 use crate::held::Held;
@@ -52,6 +52,8 @@ pub fn run_event(
     requires { Fits (happening event.now) agent.old.state }
     ensures agent { OnOk result
         (agent.new.state ≡ after_event moment agent.old.state (happening event.now)) }
+    ensures closes { OnOk result
+        (agent.new.closes ≡ closed_at moment agent.old.state (happening event.now)) }
     ensures out { OnOk result (out.new.items ≡ out.old.items
         ++ event_lines moment agent.old.state (happening event.now)) }
 {

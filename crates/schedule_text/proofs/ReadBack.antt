@@ -11,7 +11,7 @@ use Rattle.hex.specs.Hex.{encode_lower, encode_with, lower_digits, IsBytes}
 use Rattle.world_ports.specs.declared.Door.TheVariants.{Clients, Children}
 use Rattle.schedule_text.specs.declared.fault.LineFault.TheVariants.{Hex, Number, TooLong}
 use Rattle.schedule_text.specs.declared.step.Step.{Step}
-use Rattle.schedule_text.specs.declared.step.Step.TheVariants.{Skip, At, Join, Hear, End, Hold, Free, Take, Started, Failed}
+use Rattle.schedule_text.specs.declared.step.Step.TheVariants.{Skip, Format2, At, Join, Hear, End, Hold, Free, Take, Started, Failed}
 use Rattle.schedule_text.specs.Fields.{fields_of, is_space}
 use Rattle.schedule_text.specs.Lines.{◌>>=◌, at_least_one, at_step, bytes_field, count_field, hear_step, number_field, only_number, sixteen, started_step, step_of, step_of_fields, step_of_short, take_step, ticket_field}
 use Rattle.schedule_text.specs.Steps.{IsReadBack, bytes_text, one_text, two_text}
@@ -156,6 +156,7 @@ bytes_line word n bytes none said small short =
 
 pub read_back : IsReadBack
 read_back Skip range line = step_of-empty
+read_back Format2 range line = step_of-says (codes "schedule 2") line.short refl
 read_back (At moment) range line =
     two_line (codes "at") moment.mono moment.wall (refl, (refl, tt)) refl range.0 range.1 line.short
     ∙ at_back moment.mono moment.wall range.0 range.1

@@ -6,7 +6,7 @@ use Rattle.schedule_text.specs.declared.fault.LineFault.TheVariants.{Hex, Memory
 use Rattle.schedule_text.specs.declared.step.Step.{Step}
 use Rattle.schedule_text.specs.declared.step.Step.TheVariants.{Skip, Started, Take}
 use Rattle.schedule_text.specs.Fields.{fields_of}
-use Rattle.schedule_text.specs.Lines.{◌>>=◌, at_least_one, at_step, end_step, failed_step, free_step, hear_step, hold_step, join_step, sixteen, started_step, step_of, step_of_fields, step_of_short, take_step}
+use Rattle.schedule_text.specs.Lines.{◌>>=◌, at_least_one, at_step, end_step, failed_step, format_step, free_step, hear_step, hold_step, join_step, sixteen, started_step, step_of, step_of_fields, step_of_short, take_step}
 use Rattle.schedule_text.specs.Numbers.{bytes_of, number_of}
 use Rattle.schedule_text.specs.Steps.{SaysSome}
 use Rattle.schedule_text.proofs.NumberLemmas.{length-bytes_of}
@@ -45,6 +45,11 @@ IsSound-at (mono ∷ []) = tt
 IsSound-at (mono ∷ wall ∷ []) =
     IsSound-field (number_of mono) Number _ tt (λ m _. IsSound-field (number_of wall) Number _ tt (λ w _. tt))
 IsSound-at (mono ∷ wall ∷ next ∷ fields) = tt
+
+IsSound-format : (fields : List (List ℕ)) → IsSound (format_step fields)
+IsSound-format [] = tt
+IsSound-format (format ∷ []) = IsSound-if (bytes_eq format (codes "2")) _ _ tt tt
+IsSound-format (format ∷ next ∷ fields) = tt
 
 IsSound-join : (fields : List (List ℕ)) → IsSound (join_step fields)
 IsSound-join [] = tt
@@ -121,7 +126,8 @@ IsSound-fields (word ∷ fields) =
     IsSound-if (bytes_eq word (codes "free")) _ _ (IsSound-free fields) (
     IsSound-if (bytes_eq word (codes "take")) _ _ (IsSound-take fields) (
     IsSound-if (bytes_eq word (codes "started")) _ _ (IsSound-started fields) (
-    IsSound-if (bytes_eq word (codes "failed")) _ _ (IsSound-failed fields) tt))))))))
+    IsSound-if (bytes_eq word (codes "failed")) _ _ (IsSound-failed fields) (
+    IsSound-if (bytes_eq word (codes "schedule")) _ _ (IsSound-format fields) tt)))))))))
 
 IsSound-short : (line : List ℕ) → IsSound (step_of_short line)
 IsSound-short [] = tt

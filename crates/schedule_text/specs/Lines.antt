@@ -4,7 +4,7 @@ use Rattle.world_ports.specs.declared.Door.TheVariants.{Clients, Children}
 use Rattle.schedule_text.specs.declared.fault.LineFault.{LineFault}
 use Rattle.schedule_text.specs.declared.fault.LineFault.TheVariants.{Hex, Memory, Number, TooLong, Word}
 use Rattle.schedule_text.specs.declared.step.Step.{Step}
-use Rattle.schedule_text.specs.declared.step.Step.TheVariants.{Skip, At, Join, Hear, End, Hold, Free, Take, Started, Failed}
+use Rattle.schedule_text.specs.declared.step.Step.TheVariants.{Skip, Format2, At, Join, Hear, End, Hold, Free, Take, Started, Failed}
 use Rattle.schedule_text.specs.Fields.{fields_of}
 use Rattle.schedule_text.specs.Numbers.{bytes_of, number_of}
 
@@ -50,6 +50,11 @@ ticket_field field = do
 abbrev pub only_number : List (List ℕ) → Result ℕ LineFault
 only_number (field ∷ []) = number_field field
 only_number _ = Err Word
+
+-- `schedule 2`; no other format has a line
+abbrev pub format_step : List (List ℕ) → Result Step LineFault
+format_step (format ∷ []) = if bytes_eq format (codes "2") then Ok Format2 else Err Word
+format_step _ = Err Word
 
 -- `at MONO WALL`
 abbrev pub at_step : List (List ℕ) → Result Step LineFault
@@ -128,6 +133,7 @@ step_of_fields (word ∷ fields) =
     else if bytes_eq word (codes "take") then take_step fields
     else if bytes_eq word (codes "started") then started_step fields
     else if bytes_eq word (codes "failed") then failed_step fields
+    else if bytes_eq word (codes "schedule") then format_step fields
     else Err Word
 
 -- what a line that isn't too long asks for, or its first fault; an empty one, and one that begins with

@@ -4,7 +4,7 @@ use Rattle.hex.specs.Hex.{encode_lower, IsBytes}
 use Rattle.world_ports.specs.declared.Door.{Door}
 use Rattle.world_ports.specs.declared.Door.TheVariants.{Clients, Children}
 use Rattle.schedule_text.specs.declared.step.Step.{Step}
-use Rattle.schedule_text.specs.declared.step.Step.TheVariants.{Skip, At, Join, Hear, End, Hold, Free, Take, Started, Failed}
+use Rattle.schedule_text.specs.declared.step.Step.TheVariants.{Skip, Format2, At, Join, Hear, End, Hold, Free, Take, Started, Failed}
 use Rattle.schedule_text.specs.Lines.{step_of}
 
 -- a word, and a number behind it
@@ -27,6 +27,7 @@ door_word Children = codes "child"
 -- the line of a step, without its LF
 abbrev pub step_text : Step → List ℕ
 step_text Skip = []
+step_text Format2 = codes "schedule 2"
 step_text (At moment) = two_text (codes "at") moment.mono moment.wall
 step_text (Join door) = codes "join " ++ door_word door
 step_text (Hear port bytes) = bytes_text (codes "hear") port bytes
@@ -55,6 +56,7 @@ pub record HasLine (step : Step) : Type 0 where
 -- numbers are below 2 ^ 64, bytes below 256, and a one-time token has 16 of them
 abbrev pub IsInRange : Step → Type 0
 IsInRange Skip = Unit {0}
+IsInRange Format2 = Unit {0}
 IsInRange (At moment) = (moment.mono < 2 ^ 64) × (moment.wall < 2 ^ 64)
 IsInRange (Join door) = Unit {0}
 IsInRange (Hear port bytes) = (port < 2 ^ 64) × IsBytes bytes

@@ -3,7 +3,7 @@
 ghost use Rattle.std.specs.Prelude.{◌≡◌, IfOk, IfErr};
 ghost use Rattle.schedule_text.specs.Fields.{fields_of};
 ghost use Rattle.schedule_text.specs.Lines.{IsFaultOf, bytes_field, count_field, number_field, only_number};
-ghost use Rattle.schedule_text.specs.Lines.{at_step, hear_step, join_step, started_step, take_step, step_of};
+ghost use Rattle.schedule_text.specs.Lines.{at_step, format_step, hear_step, join_step, started_step, take_step, step_of};
 ghost use Rattle.schedule_text.specs.Lines.{step_of_fields, ticket_field};
 
 use crate::fields::Fields;
@@ -60,8 +60,23 @@ fn read_fields(alloc: Global, line: &[u8]) -> Result<Step, LineFault>
         read_started(fields)
     } else if word == b"failed".as_slice() {
         Ok(Step::Failed(read_only_number(fields)?))
+    } else if word == b"schedule".as_slice() {
+        read_format(fields)
     } else {
         Err(LineFault::Word)
+    }
+}
+
+/// The rest of the line `schedule 2`.
+fn read_format(mut fields: Fields<'_>) -> Result<Step, LineFault>
+    ensures { result ≡ format_step fields.entry }
+{
+    let (Some(format), None) = (fields.next_field(), fields.next_field()) else {
+        return Err(LineFault::Word);
+    };
+    match format {
+        b"2" => Ok(Step::Format2),
+        _ => Err(LineFault::Word),
     }
 }
 

@@ -10,6 +10,8 @@ use world_ports::{Door, Moment};
 pub enum Step {
     /// A line that is empty or begins with `#`. It is counted and does nothing else.
     Skip,
+    /// `schedule 2`: the schedule is of format 2. For the run it stands in line 1 alone.
+    Format2,
     /// `at MONO WALL`: the moment of the lines that follow.
     At(Moment),
     /// `join client` or `join child`: a connection comes in.

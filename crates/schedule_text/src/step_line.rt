@@ -42,6 +42,7 @@ fn put_text(out: &mut Vec<u8>, step: &Step) -> Result<(), AllocError>
 {
     match step {
         Step::Skip => Ok(()),
+        Step::Format2 => out.extend_from_slice(b"schedule 2"),
         Step::At(moment) => put_two(out, b"at", moment.mono, moment.wall),
         Step::Join(door) => put_join(out, *door),
         Step::Hear { port, bytes } => put_bytes(out, b"hear", *port, bytes.as_slice()),

@@ -20,6 +20,10 @@ fn each_schedule_prints_its_output_in_any_pieces(rt: HostRuntime) {
         line,
         fault: LineFault::UnknownPort,
     };
+    let no_format = |line: u64| Status::ScheduleRefused {
+        line,
+        fault: LineFault::Word,
+    };
     let cases = [
         (b"".as_slice(), Status::Done, b"end\n".as_slice()),
         (
@@ -46,6 +50,22 @@ fn each_schedule_prints_its_output_in_any_pieces(rt: HostRuntime) {
             b"join client\nend 1\nhear 1 00".as_slice(),
             refused(3),
             b"close 1\nrefused 3 port\n".as_slice(),
+        ),
+        (b"schedule 2".as_slice(), Status::Done, b"end\n".as_slice()),
+        (
+            b"schedule 2\njoin client\nhear 1 000000010b\n".as_slice(),
+            Status::Done,
+            b"to 1 000000050c00000000\nend\n".as_slice(),
+        ),
+        (
+            b"schedule 2\nschedule 2\n".as_slice(),
+            no_format(2),
+            b"refused 2 word\n".as_slice(),
+        ),
+        (
+            b"join client\nschedule 2\n".as_slice(),
+            no_format(2),
+            b"refused 2 word\n".as_slice(),
         ),
     ];
     for (schedule, status, written) in cases {

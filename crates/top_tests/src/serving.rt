@@ -12,16 +12,17 @@ use std::test::*;
 use world_ports::{Cue, Door, Entry, ScriptWorld, SliceSource, VecSink, Wrote};
 
 /// The blob of the key: its type, and a tag of 32 bytes.
-const BLOB: &[u8] = b"\0\0\0\x18keyed-sha256@example.com\
+pub const BLOB: &[u8] = b"\0\0\0\x18keyed-sha256@example.com\
     \0\0\0\x20\x11\x11\x11\x11\x11\x11\x11\x11\x11\x11\x11\x11\x11\x11\x11\x11\
     \x11\x11\x11\x11\x11\x11\x11\x11\x11\x11\x11\x11\x11\x11\x11\x11";
 
 /// Its secret, a string of 32 bytes.
-const SECRET: &[u8] = b"\0\0\0\x20\x21\x21\x21\x21\x21\x21\x21\x21\x21\x21\x21\x21\x21\x21\x21\x21\
+pub const SECRET: &[u8] =
+    b"\0\0\0\x20\x21\x21\x21\x21\x21\x21\x21\x21\x21\x21\x21\x21\x21\x21\x21\x21\
     \x21\x21\x21\x21\x21\x21\x21\x21\x21\x21\x21\x21\x21\x21\x21\x21";
 
 /// SSH_AGENT_SUCCESS.
-const SUCCESS: &[u8] = b"\0\0\0\x01\x06";
+pub const SUCCESS: &[u8] = b"\0\0\0\x01\x06";
 
 /// The helper's process says that it is job 1's, by a token of sixteen zeros.
 const HELLO: &[u8] = b"\0\0\0\x1d\x01\0\0\0\0\0\0\0\x01\0\0\0\x10\0\0\0\0\0\0\0\0\0\0\0\0\0\0\0\0";
@@ -41,7 +42,7 @@ fn joined(alloc: Global, pieces: &[&[u8]]) -> Result<Vec<u8>, AllocError> {
 }
 
 // A port sends these pieces.
-fn send(alloc: Global, port: u64, pieces: &[&[u8]]) -> Result<Cue, AllocError> {
+pub fn send(alloc: Global, port: u64, pieces: &[&[u8]]) -> Result<Cue, AllocError> {
     Ok(Cue::Send {
         port,
         bytes: Bytes::from_vec(joined(alloc, pieces)?),
@@ -49,13 +50,13 @@ fn send(alloc: Global, port: u64, pieces: &[&[u8]]) -> Result<Cue, AllocError> {
 }
 
 // A client adds the key under the comment "one".
-fn adds(alloc: Global, port: u64) -> Result<Cue, AllocError> {
+pub fn adds(alloc: Global, port: u64) -> Result<Cue, AllocError> {
     let tail = b"\0\0\0\x03one".as_slice();
     send(alloc, port, &[b"\0\0\0\x6c\x11", BLOB, SECRET, tail])
 }
 
 // A client asks for a signature of three bytes with it.
-fn asks(alloc: Global, port: u64, message: &[u8]) -> Result<Cue, AllocError> {
+pub fn asks(alloc: Global, port: u64, message: &[u8]) -> Result<Cue, AllocError> {
     let front = b"\0\0\0\x50\x0d\0\0\0\x40".as_slice();
     send(
         alloc,
@@ -84,7 +85,11 @@ fn ask_frame(alloc: Global, ask: u8, message: &[u8]) -> Result<Vec<u8>, AllocErr
 }
 
 // How the agent that serves ends over these turns, and the world then.
-fn serve<R: Abort + Wait>(rt: &R, alloc: Global, turns: Vec<Vec<Cue>>) -> (Status, ScriptWorld) {
+pub fn serve<R: Abort + Wait>(
+    rt: &R,
+    alloc: Global,
+    turns: Vec<Vec<Cue>>,
+) -> (Status, ScriptWorld) {
     let words = texts(rt, alloc, "serve -a agent.sock --helper helper");
     let mut world = ScriptWorld::new(alloc, turns, Vec::new(alloc));
     let mut input = SliceSource::new(b"", 1, Vec::new(alloc));
@@ -113,13 +118,13 @@ fn taken(alloc: Global, world: &ScriptWorld, port: u64) -> Result<Vec<u8>, Alloc
 }
 
 // A port took these bytes, and no others.
-fn takes(rt: &impl Abort, alloc: Global, world: &ScriptWorld, port: u64, bytes: &[u8]) {
+pub fn takes(rt: &impl Abort, alloc: Global, world: &ScriptWorld, port: u64, bytes: &[u8]) {
     let all = taken(alloc, world, port).expect(rt, "what a port took");
     assert!(rt; all.as_slice() == bytes, "what port {port} took");
 }
 
 // It ended so.
-fn ends(rt: &impl Abort, status: Status, wanted: Status) {
+pub fn ends(rt: &impl Abort, status: Status, wanted: Status) {
     assert_eq!(rt; status, wanted);
 }
 

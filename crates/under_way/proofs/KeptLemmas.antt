@@ -9,6 +9,8 @@ use Rattle.lists.proofs.FirstLemmas.{find-map, find-push_other, find-remove_none
 use Rattle.world_ports.specs.declared.Job.{Job}
 use Rattle.world_ports.specs.declared.JobKind.{JobKind}
 use Rattle.world_ports.specs.declared.JobKind.TheVariants as kinds
+use Rattle.helper_link.specs.declared.state.LinkState.{LinkState}
+use Rattle.helper_link.specs.declared.state.LinkState.TheVariants as states
 use Rattle.confirm_desk.specs.Confirmations.{Confirmation, change_job, find_job, linked, linked_at, remove_job}
 use Rattle.agent_model.specs.Asking.{JobsRise}
 use Rattle.wire_text.specs.Bounds.{longest_body}
@@ -18,7 +20,7 @@ use Rattle.agent_model.specs.State.{StartedJob, find_to_start, job_number}
 use Rattle.agent_model.proofs.JobLemmas.{change-apart, find_job-push, find_job-remove, jobs-change, jobs-higher, jobs-push, jobs-remove, job_within}
 use Rattle.under_way.specs.Jobs.{all_started}
 use Rattle.under_way.specs.declared.jobs.Started.{Started}
-use Rattle.under_way.specs.Parts.{AreGiven, AreKept, AreShort, FitsStarted, FitsToStart, IsUnlinked, helpers, is_helper, jobs_of, the_job}
+use Rattle.under_way.specs.Parts.{AreGiven, AreKept, AreShort, AreStartedFor, FitsStarted, FitsToStart, IsStartedFor, IsUnlinked, jobs_of, the_job}
 
 -- ---- numbers
 
@@ -65,20 +67,45 @@ pushed-jobs (one ∷ others) more = ap (λ (left : List Job). one.job ∷ left) 
 
 -- ---- helpers' jobs
 
-pub helpers-push : (jobs : List Job) (last : Job) → helpers (jobs ++ last ∷ []) ≡ helpers jobs + is_helper last.kind
-helpers-push [] last = omega arith
-helpers-push (job ∷ jobs) last = omega (arith, helpers-push jobs last)
-
-pub helpers-remove : (number : ℕ) (jobs : List Job) (job : Job) → find_to_start number jobs ≡ Some job →
-    helpers (remove_to_start number jobs) + is_helper job.kind ≡ helpers jobs
-helpers-remove number [] job found = absurd (none-some job found)
-helpers-remove number (first ∷ jobs) job found = by (eqb first.number number) found (helpers-remove number jobs job)
+-- one less is to start or was started
+pub for-remove : (state : LinkState) (number : ℕ) (jobs : List Job) → AreStartedFor state jobs → AreStartedFor state (remove_to_start number jobs)
+for-remove state number [] all = tt
+for-remove state number (job ∷ jobs) all = by (eqb job.number number) (for-remove state number jobs all.1)
   where
-    by : (here : Bool) → cond here (Some first) (find_to_start number jobs) ≡ Some job →
-        (find_to_start number jobs ≡ Some job → helpers (remove_to_start number jobs) + is_helper job.kind ≡ helpers jobs) →
-        helpers (cond here jobs (first ∷ remove_to_start number jobs)) + is_helper job.kind ≡ is_helper first.kind + helpers jobs
-    by true some later = let kind = ap (λ (j : Job). is_helper j.kind) (same_Some first job some) in omega (arith, kind)
-    by false some later = omega (arith, later some)
+    by : (here : Bool) → AreStartedFor state (remove_to_start number jobs) → AreStartedFor state (cond here jobs (job ∷ remove_to_start number jobs))
+    by true later = all.1
+    by false later = (all.0, later)
+
+-- and one more
+pub for-push : (state : LinkState) (jobs : List Job) (last : Job) → AreStartedFor state jobs → IsStartedFor last.kind last.number state → AreStartedFor state (jobs ++ last ∷ [])
+for-push state [] last all is = (is, tt)
+for-push state (job ∷ jobs) last all is = (all.0, for-push state jobs last all.1 is)
+
+-- of the one that is found
+pub for_at : (state : LinkState) (number : ℕ) (jobs : List Job) (job : Job) → AreStartedFor state jobs → find_to_start number jobs ≡ Some job →
+    IsStartedFor job.kind job.number state
+for_at state number [] job all found = absurd (none-some job found)
+for_at state number (first ∷ jobs) job all found = by (eqb first.number number) found (for_at state number jobs job all.1)
+  where
+    by : (here : Bool) → cond here (Some first) (find_to_start number jobs) ≡ Some job → (find_to_start number jobs ≡ Some job → IsStartedFor job.kind job.number state) →
+        IsStartedFor job.kind job.number state
+    by true some later = subst (λ (j : Job). IsStartedFor j.kind j.number state) (same_Some first job some) all.0
+    by false some later = later some
+
+-- where none is the job by which the link is starting, none is a helper's, and the link may come to any state
+pub for-any : (state other : LinkState) (jobs : List Job) → ((n : ℕ) → state ≡ states.Starting n → find_to_start n jobs ≡ None) → AreStartedFor state jobs →
+    AreStartedFor other jobs
+for-any state other [] none all = tt
+for-any state other (job ∷ jobs) none all = (
+  by job.kind all.0,
+  for-any state other jobs (λ n is. (some_or_later (eqb job.number n) job (find_to_start n jobs) (none n is)).1) all.1,
+)
+  where
+    by : (kind : JobKind) → IsStartedFor kind job.number state → IsStartedFor kind job.number other
+    by kinds.Confirm is = tt
+    by kinds.Helper is =
+        let no : eqb job.number job.number ≡ false = (some_or_later (eqb job.number job.number) job (find_to_start job.number jobs) (none job.number is)).0 in
+        let yes : eqb job.number job.number ≡ true = eq-eqb job.number job.number refl in absurd cc
 
 -- ---- jobs that were given
 

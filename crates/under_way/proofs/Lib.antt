@@ -1,4 +1,5 @@
 pub mod KeepLemmas
 pub mod KeptLemmas
 pub mod PlaceLemmas
+pub mod TimeLemmas
 pub mod VerificationLemmas

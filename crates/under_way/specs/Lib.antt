@@ -1,3 +1,4 @@
 pub mod Jobs
 pub mod Parts
+pub mod Times
 pub mod Verifications

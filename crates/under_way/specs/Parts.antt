@@ -1,20 +1,21 @@
 -- What is under way, from its parts in storage (ours).
-use Rattle.std.specs.Prelude.{◌≡◌, ℕ, ◌+◌, ◌≤◌, List, [], ◌∷◌, length, map, Option, Some, None}
+use Rattle.std.specs.Prelude.{◌≡◌, ℕ, ◌≤◌, Bool, List, [], ◌∷◌, length, map, Option, Some, None, is_some}
 use Rattle.world_ports.specs.declared.Job.{Job}
 use Rattle.world_ports.specs.declared.JobKind.{JobKind}
 use Rattle.world_ports.specs.declared.JobKind.TheVariants as kinds
 use Rattle.agent_msg.specs.Replies.{failure}
-use Rattle.helper_link.specs.HelperLink.{HelperLink, IsStarting}
+use Rattle.helper_link.specs.HelperLink.{ArePutBy, HelperLink}
 use Rattle.helper_link.specs.declared.state.LinkState.{LinkState}
 use Rattle.helper_link.specs.declared.state.LinkState.TheVariants as states
 use Rattle.confirm_desk.specs.Calls.{Telling, telling}
-use Rattle.confirm_desk.specs.Confirmations.{Confirmation, find_job, find_linked}
+use Rattle.confirm_desk.specs.Confirmations.{AreRaisedBy, Confirmation, find_job, find_linked}
 use Rattle.confirm_desk.specs.declared.held.Verdict.{Verdict as DeskVerdict}
 use Rattle.confirm_desk.specs.declared.held.Verdict.TheVariants as verdicts
 use Rattle.agent_model.specs.Asking.{JobsRise}
+use Rattle.agent_model.specs.Children.{is_started_by}
 use Rattle.agent_model.specs.Consents.{without_confirmation}
 use Rattle.wire_text.specs.Bounds.{longest_body}
-use Rattle.agent_model.specs.State.{Nothing, OnAsk, OnConfirmation, StartedJob, UnderWay, find_to_start}
+use Rattle.agent_model.specs.State.{Nothing, OnAsk, OnConfirmation, StartedJob, TimeLimits, UnderWay, find_to_start}
 use Rattle.agent_model.specs.Verdicts.{Awaits, Verdict, verdict_text, verdict_waits}
 use Rattle.under_way.specs.Jobs.{all_started}
 use Rattle.under_way.specs.Verifications.{all_verifications}
@@ -22,14 +23,16 @@ use Rattle.under_way.specs.declared.jobs.Started.{Started}
 use Rattle.under_way.specs.declared.verification.Verification.{Verification}
 
 -- its parts together
-abbrev pub under_way_of : HelperLink → List Job → List Started → List Verification → List Confirmation → ℕ → UnderWay
-under_way_of link to_start started verifications confirmations last_job = record {
+abbrev pub under_way_of : HelperLink → List Job → List Started → List Verification → List Confirmation → ℕ → TimeLimits → ℕ → UnderWay
+under_way_of link to_start started verifications confirmations last_job limits second = record {
   link = link;
   to_start = to_start;
   started = all_started started;
   verifications = all_verifications verifications;
   confirmations = confirmations;
   last_job = last_job;
+  limits = limits;
+  second = second;
 }
 
 -- ---- the jobs
@@ -78,48 +81,40 @@ pub record AreKept (last : ℕ) (confirmations : List Confirmation) (due begun :
 
 -- ---- the helper's job
 
--- 1 for that of a helper
-abbrev pub is_helper : JobKind → ℕ
-is_helper kinds.Helper = 1
-is_helper kinds.Confirm = 0
+-- a job that is still wanted: the link is starting by it, or its confirmation is waited for
+abbrev pub is_wanted_by : JobKind → ℕ → LinkState → List Confirmation → Bool
+is_wanted_by kinds.Helper number state confirmations = is_started_by number state
+is_wanted_by kinds.Confirm number state confirmations = is_some (find_job number confirmations)
 
--- how many of the jobs are a helper's
-abbrev pub helpers : List Job → ℕ
-helpers [] = 0
-helpers (job ∷ jobs) = is_helper job.kind + helpers jobs
+-- a started job of a helper is the one by which the link is starting
+abbrev pub IsStartedFor : JobKind → ℕ → LinkState → Type 0
+IsStartedFor kinds.Helper number state = state ≡ states.Starting number
+IsStartedFor kinds.Confirm number state = Unit {0}
 
--- and how many there may be: one while it is being started
-abbrev pub helpers_coming : LinkState → ℕ
-helpers_coming states.None = 0
-helpers_coming (states.Starting job) = 1
-helpers_coming (states.Linked port) = 0
+-- so it is for each of these; one that is still to start may be that of a helper that was lost
+abbrev pub AreStartedFor : LinkState → List Job → Type 0
+AreStartedFor state [] = Unit {0}
+AreStartedFor state (job ∷ jobs) = IsStartedFor job.kind job.number state × AreStartedFor state jobs
 
 -- what waits for consent is no longer than a client's message
 abbrev pub AreShort : List Confirmation → Type 0
 AreShort [] = Unit {0}
 AreShort (one ∷ others) = (length one.message ≤ longest_body) × AreShort others
 
--- what holds of what is under way
+-- what holds of what is under way: no ask and no confirmation is younger than the second
 pub record IsKept (under_way : UnderWay) : Type 0 where
   pub jobs : AreKept under_way.last_job under_way.confirmations under_way.to_start (jobs_of under_way.started)
-  pub coming : helpers under_way.to_start + helpers (jobs_of under_way.started) ≤ helpers_coming under_way.link.state
+  pub coming : AreStartedFor under_way.link.state (jobs_of under_way.started)
   pub short : AreShort under_way.confirmations
-
--- no job of a helper is to be started or was
-abbrev pub HasNoHelper : UnderWay → Type 0
-HasNoHelper under_way = helpers under_way.to_start + helpers (jobs_of under_way.started) ≡ 0
+  pub asked : ArePutBy under_way.second under_way.link.asks
+  pub raised : AreRaisedBy under_way.second under_way.confirmations
 
 -- ---- what is told
 
--- what a started job is for: the helper that is being started, or a confirmation that no child process came for yet
+-- what a started job is for: the helper that is being started by it, or a confirmation that no child process came for yet
 abbrev pub IsFor : JobKind → ℕ → UnderWay → Type 0
-IsFor kinds.Helper job under_way = IsStarting under_way.link.state
+IsFor kinds.Helper job under_way = under_way.link.state ≡ states.Starting job
 IsFor kinds.Confirm job under_way = IsAwaited (find_job job under_way.confirmations)
-
--- the start of a job that is its helper's failed: that helper was being started, and has no job any more
-abbrev pub HasFailed : JobKind → UnderWay → Type 0
-HasFailed kinds.Helper under_way = IsStarting under_way.link.state × HasNoHelper under_way
-HasFailed kinds.Confirm under_way = Unit {0}
 
 -- what is told of a verdict: the number of the ask that is waited for, or nothing where it is a refusal
 abbrev pub TellsOf : Verdict → Option ℕ → Type 0

@@ -3,10 +3,12 @@
 ghost use Rattle.std.specs.Prelude.{◌≡◌, ◌↔◌, ◌≤◌, IsSome, IsTrue, None, MatchOption, length, vec_capacity};
 ghost use Rattle.std.specs.List.{position};
 ghost use Rattle.lists.specs.Keyed.{has_key};
+ghost use Rattle.agent_model.specs.Answers.{forget_helper};
 ghost use Rattle.agent_model.specs.Consents.{find_started, remove_started};
 ghost use Rattle.agent_model.specs.State.{find_to_start, job_number};
 ghost use Rattle.under_way.specs.Jobs.{IsJobAt, IsStartedAt, all_started, begun_number};
 
+use helper_link::LinkState;
 use world_ports::Job;
 
 /// A child process that was started, and that hasn't named itself by its ticket yet.
@@ -64,5 +66,17 @@ pub fn forget(started: &mut Vec<Started>, number: u64)
 {
     if let Some(place) = place_of_started(started, number) {
         started.remove(place);
+    }
+}
+
+/// Takes out the started job by which the link is starting, where there is one.
+pub fn forget_helper(started: &mut Vec<Started>, state: LinkState)
+    ensures left { all_started started.new.items ≡ forget_helper state (all_started started.old.items) }
+    ensures fewer { length started.new.items ≤ length started.old.items }
+    ensures room { vec_capacity started.new ≡ vec_capacity started.old }
+{
+    match state {
+        LinkState::Starting { job } => forget(started, job),
+        LinkState::None | LinkState::Linked { .. } => {}
     }
 }

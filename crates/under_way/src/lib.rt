@@ -3,10 +3,15 @@
 //! the same name (agent_model's specs/Errands.antt, Answers.antt and Children.antt). Stands on helper_link.
 #![tactic(auto)]
 
+mod children;
+mod consents;
+mod helper;
 mod jobs;
 mod state;
+mod time;
 mod verification;
 
 pub use jobs::Started;
 pub use state::{JobMemory, UnderWay};
+pub use time::{TimeLimits, earlier};
 pub use verification::Verification;

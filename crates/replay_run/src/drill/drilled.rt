@@ -60,9 +60,14 @@ impl Drill {
     pub fn new(alloc: Global, seed: u64) -> Self
         ensures { result ≡ start_drill seed }
     {
+        let settings = Settings {
+            default_life: None,
+            ask_limit: None,
+            confirm_limit: None,
+        };
         Drill {
             alloc,
-            agent: Agent::new(alloc, Settings { default_life: None }),
+            agent: Agent::new(alloc, settings),
             counts: Counts::new(),
             ask: None,
             draws: Draws { number: seed },

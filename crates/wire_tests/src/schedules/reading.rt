@@ -82,6 +82,12 @@ fn moments_and_held_ports_are_read(rt: HostRuntime) {
 }
 
 #[test]
+fn one_line_names_a_format(rt: HostRuntime) {
+    let line = b"schedule 2".as_slice();
+    assert!(rt; read_line(rt.alloc(), line) == Ok(Step::Format2));
+}
+
+#[test]
 fn another_word_or_number_of_fields_is_refused(rt: HostRuntime) {
     let lines = [
         b" ".as_slice(),
@@ -113,6 +119,15 @@ fn another_word_or_number_of_fields_is_refused(rt: HostRuntime) {
         b"started 1 00000000000000000000000000000000 1".as_slice(),
         b"failed".as_slice(),
         b"failed 1 1".as_slice(),
+        b"schedule".as_slice(),
+        b"schedule ".as_slice(),
+        b"schedule 1".as_slice(),
+        b"schedule 02".as_slice(),
+        b"schedule 2 ".as_slice(),
+        b"schedule 2 2".as_slice(),
+        b"schedule  2".as_slice(),
+        b"Schedule 2".as_slice(),
+        b"schedules 2".as_slice(),
     ];
     for line in lines {
         assert_eq!(rt;

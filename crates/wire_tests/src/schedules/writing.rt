@@ -68,6 +68,7 @@ fn each_step_has_its_line(rt: HostRuntime) -> Result<(), Fail> {
     let alloc = rt.alloc();
     let mut out = Vec::new(alloc);
     let bytes = Bytes::from_vec(Vec::from_slice(alloc, &[0, 171, 255])?);
+    put_step(&mut out, &Step::Format2)?;
     put_step(&mut out, &Step::Skip)?;
     put_step(
         &mut out,
@@ -91,7 +92,7 @@ fn each_step_has_its_line(rt: HostRuntime) -> Result<(), Fail> {
         },
     )?;
     put_step(&mut out, &Step::Failed(4))?;
-    let want = "\nat 7 1700000000\njoin client\njoin child\nhear 1 00abff\nend 10\n\
+    let want = "schedule 2\n\nat 7 1700000000\njoin client\njoin child\nhear 1 00abff\nend 10\n\
         hold 2\nfree 2\ntake 2 1\n\
         started 3 a1a1a1a1a1a1a1a1a1a1a1a1a1a1a1a1\nfailed 4\n";
     assert_eq!(rt; out.as_slice(), want.as_bytes());

@@ -2,6 +2,7 @@ use Rattle.std.specs.Option.{IsSomeAnd}
 use Rattle.std.proofs.Common.{◌∙◌, Option, ap, refl, subst, sym}
 use Rattle.wire_text.specs.Frames.{after_front, front_body}
 use Rattle.child_msg.specs.Reading.{from_child_of}
+use Rattle.helper_link.specs.HelperLink.{IsLinked}
 use Rattle.confirm_desk.specs.Confirmations.{Confirmation, find_linked, linked_at}
 use Rattle.agent_model.specs.Children.{unheard}
 use Rattle.agent_model.specs.State.{Port, UnderWay}
@@ -11,12 +12,10 @@ use Rattle.agent_core.specs.Slots.{OpenPorts, heard_in}
 use Rattle.agent_core.proofs.BoundLemmas.{bound-named}
 use Rattle.agent_core.proofs.ChildLemmas.{child_asks, child_named, confirmation_named, held-changed, linked_there}
 use Rattle.agent_core.proofs.HeldLemmas.{after_ok}
-use Rattle.agent_core.proofs.HelperLemmas.{open-change_port}
 use Rattle.agent_core.proofs.children.take_first.Goals as goal
 
-pub hear_helper-requires-clause-is_open : goal.hear_helper-requires-clause-is_open
-hear_helper-requires-clause-is_open c =
-    rw c.take_heard-heard.ensures.ports (open-change_port c.args.number c.args.number unheard c.args.ports.now.ports (λ p. refl) c.requires.is_open)
+pub hear_helper-requires-clause-linked : goal.hear_helper-requires-clause-linked
+hear_helper-requires-clause-linked c = subst (λ (u : UnderWay). IsLinked u.link.state) (sym c.helper_named.ensures) tt
 
 pub hear_helper-requires-clause-bound : goal.hear_helper-requires-clause-bound
 hear_helper-requires-clause-bound c =

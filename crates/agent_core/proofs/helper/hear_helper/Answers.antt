@@ -1,9 +1,11 @@
-use Rattle.std.proofs.Common.{◌∙◌, ℕ, List, None, Some, sym, subst}
+use Rattle.std.proofs.Common.{◌∙◌, ℕ, List, None, Some, ap, sym, subst}
+use Rattle.helper_link.specs.HelperLink.{IsLinked}
 use Rattle.agent_model.specs.KeyStates.{KeyState}
+use Rattle.agent_model.specs.State.{UnderWay}
 use Rattle.helper_link.specs.declared.answer.Settled.{Settled}
 use Rattle.agent_core.specs.Settlings.{AreShortAnswers}
 use Rattle.agent_core.proofs.BoundLemmas.{bound-answered, provable-answers}
-use Rattle.agent_core.proofs.HelperLemmas.{heard_parts, open-answered}
+use Rattle.agent_core.proofs.HelperLemmas.{heard_parts, linked_some}
 use Rattle.agent_core.proofs.ShortLemmas.{told_short}
 use Rattle.agent_core.proofs.helper.hear_helper.Goals as goal
 
@@ -16,9 +18,10 @@ pub answer_all-requires-clause-provable : goal.answer_all-requires-clause-provab
 answer_all-requires-clause-provable c =
     provable-answers c.args.piece.now c.args.ports.now c.args.under_way.now c.helper_told.new.self c.as_slice.result.now c.requires.bound c.in_ok-told.ensures.link (c.as_slice.ensures ∙ c.in_ok-told.ensures.settled)
 
-pub lose_helper-requires-clause-is_open : goal.lose_helper-requires-clause-is_open
-lose_helper-requires-clause-is_open c =
-    rw c.in_ok-answer_all.ensures.ports (open-answered c.args.helper c.as_slice.result.now c.helper_told.new.self.verifications c.args.ports.now.ports c.requires.is_open)
+pub lose_helper-requires-clause-some : goal.lose_helper-requires-clause-some
+lose_helper-requires-clause-some c =
+    let same = ap (λ (u : UnderWay). u.link.state) (c.in_ok-answer_all.ensures.under_way) ∙ ap (λ (u : UnderWay). u.link.state) c.in_ok-told.ensures.link in
+    linked_some c.answer_all.new.under_way.link.state (subst IsLinked (sym same) c.requires.linked)
 
 pub lose_helper-requires-clause-bound : goal.lose_helper-requires-clause-bound
 lose_helper-requires-clause-bound c =
@@ -26,7 +29,7 @@ lose_helper-requires-clause-bound c =
 
 pub returns-in-Some : goal.returns-in-Some
 returns-in-Some c = λ (wall : ℕ) (keys : KeyState).
-    c.lose_helper.ensures.parts wall keys
+    c.lose_helper.ensures wall keys
     ∙ heard_parts wall keys c.args.under_way.now c.helper_told.new.self c.answer_all.new.under_way c.args.ports.now c.answer_all.new.ports c.args.piece.now c.as_slice.result.now (Some c.in-Some.field-0) c.in_ok-told.ensures.link (c.as_slice.ensures ∙ c.in_ok-told.ensures.settled) (sym c.in-Some.is ∙ c.in_ok-told.ensures.fault) c.in_ok-answer_all.ensures.under_way c.in_ok-answer_all.ensures.ports
 
 pub returns : goal.returns

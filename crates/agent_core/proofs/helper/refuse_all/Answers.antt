@@ -11,7 +11,7 @@ use Rattle.agent_core.proofs.helper.refuse_all.Goals as goal
 
 -- an ask that isn't there
 abbrev no_ask : Ask
-no_ask = record { number = 0; asker = 0; kind = Signing }
+no_ask = record { number = 0; asker = 0; kind = Signing; put_at = 0 }
 
 pub refuse_one-requires : goal.refuse_one-requires
 refuse_one-requires c =

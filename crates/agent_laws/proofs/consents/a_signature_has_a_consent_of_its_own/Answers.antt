@@ -13,22 +13,22 @@ pub returns-clause-put : goal.returns-clause-put
 returns-clause-put c = run-put
 
 pub returns-clause-granted : goal.returns-clause-granted
-returns-clause-granted c = λ life events moment event job among.
-    noted_some (noted job (run (first_state life) events).under_way.confirmations) (pending (actions_of (first_state life) events) job) (run-tie life events job)
-    ((step-traces job (run (first_state life) events) moment event (run-tied (first_state life) events (first-tied life))).granted among)
+returns-clause-granted c = λ settings events moment event job among.
+    noted_some (noted job (run (first_state settings) events).under_way.confirmations) (pending (actions_of (first_state settings) events) job) (run-tie settings events job)
+    ((step-traces job (run (first_state settings) events) moment event (run-tied (first_state settings) events (first-tied settings))).granted among)
 
 pub returns-clause-over : goal.returns-clause-over
-returns-clause-over c = λ life events moment event job among.
-    noted_some (noted job (run (first_state life) events).under_way.confirmations) (pending (actions_of (first_state life) events) job) (run-tie life events job)
-    ((step-traces job (run (first_state life) events) moment event (run-tied (first_state life) events (first-tied life))).over among)
+returns-clause-over c = λ settings events moment event job among.
+    noted_some (noted job (run (first_state settings) events).under_way.confirmations) (pending (actions_of (first_state settings) events) job) (run-tie settings events job)
+    ((step-traces job (run (first_state settings) events) moment event (run-tied (first_state settings) events (first-tied settings))).over among)
 
 pub returns-clause-ended : goal.returns-clause-ended
-returns-clause-ended c = λ life events job.
-    omega (arith, run-ended job (first_state life) events (first-tied life), endable_most job (first_state life).under_way)
+returns-clause-ended c = λ settings events job.
+    omega (arith, run-ended job (first_state settings) events (first-tied settings), endable_most job (first_state settings).under_way)
 
 pub returns-clause-raised : goal.returns-clause-raised
-returns-clause-raised c = λ life events job.
-    omega (arith, run-raised job (first_state life) events (first-tied life), unused_most job 0)
+returns-clause-raised c = λ settings events job.
+    omega (arith, run-raised job (first_state settings) events (first-tied settings), unused_most job 0)
 
 pub returns-clause-waits : goal.returns-clause-waits
 returns-clause-waits c = run-tie

@@ -4,7 +4,7 @@ use Rattle.agent_model.proofs.FatedLemmas.{first-tied, run-tied, step-fated, wai
 use Rattle.agent_model.proofs.asks.a_client_gets_its_own_answer.Goals as goal
 
 pub returns-clause-tied : goal.returns-clause-tied
-returns-clause-tied c = λ life events. run-tied (first_state life) events (first-tied life)
+returns-clause-tied c = λ settings events. run-tied (first_state settings) events (first-tied settings)
 
 pub returns-clause-waits : goal.returns-clause-waits
 returns-clause-waits c = λ state number ask port tied found waits.

@@ -17,7 +17,7 @@ pub returns-clause-others : goal.returns-clause-others
 returns-clause-others c = others-told
 
 pub returns-clause-judged : goal.returns-clause-judged
-returns-clause-judged c = λ life events. run-judged (first_state life) events (first-tied life) (first-judged life)
+returns-clause-judged c = λ settings events. run-judged (first_state settings) events (first-tied settings) (first-judged settings)
 
 pub returns-clause-step : goal.returns-clause-step
 returns-clause-step c = λ state moment event tied judged. (step-judged state moment event tied judged).judged

@@ -6,7 +6,7 @@ pub returns-clause-request : goal.returns-clause-request
 returns-clause-request c = unseen-reply
 
 pub returns-clause-heard : goal.returns-clause-heard
-returns-clause-heard c = unseen-heard
+returns-clause-heard c = λ state moment number port key before after found door alone. unseen-heard state moment number port key before after found alone door
 
 pub returns-clause-took : goal.returns-clause-took
-returns-clause-took c = unseen-took
+returns-clause-took c = λ state moment number port key before after found door alone. unseen-took state moment number port key before after found alone door

@@ -7,4 +7,4 @@ returns-clause-waits c = λ state number job port tied found waits.
     record { port = port; found = found; door = asking.door; owed = asking.owed; waits = waits }
 
 pub returns-clause-agreed : goal.returns-clause-agreed
-returns-clause-agreed c = λ state moment event number job tied open_yet. step-agreed number job state moment event open_yet tied
+returns-clause-agreed c = λ state moment event number job tied open_yet untaken. step-agreed number job state moment event open_yet untaken tied

@@ -4,7 +4,7 @@ use Rattle.agent_model.proofs.FatedLemmas.{first-tied}
 use Rattle.agent_model.proofs.consents.who_waits_for_the_user_is_open.Goals as goal
 
 pub returns-clause-attended : goal.returns-clause-attended
-returns-clause-attended c = λ life events. run-attended (first_state life) events (first-tied life) (first-attended life)
+returns-clause-attended c = λ settings events. run-attended (first_state settings) events (first-tied settings) (first-attended settings)
 
 pub returns-clause-step : goal.returns-clause-step
 returns-clause-step c = step-attended

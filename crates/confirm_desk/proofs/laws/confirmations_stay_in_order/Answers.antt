@@ -7,7 +7,7 @@ pub returns : goal.returns
 returns c = record {
   first = omega arith;
   raised =
-      λ job last held prompt desk above rise. rise-push job_of 0 last desk (confirmation_of job held prompt) above rise;
+      λ job last held prompt now desk above rise. rise-push job_of 0 last desk (confirmation_of job held prompt now) above rise;
   linked =
       λ job port last desk rise. rise-change job_of job 0 last (linked_at port) desk (λ _. refl) rise;
   took =

@@ -8,9 +8,9 @@ use Rattle.confirm_desk.proofs.laws.desks_stay_sound.Goals as goal
 
 pub returns : goal.returns
 returns c = record {
-  first = record { few = omega arith; apart = tt };
-  raised = λ job held prompt desk room free alone sound.
-      IsSound-append desk (confirmation_of job held prompt) room free alone refl (front-short longest_body [] (omega arith)) sound;
+  first = record { few = omega arith; apart = tt; seconds = tt };
+  raised = λ job held prompt now desk room free alone later sound.
+      IsSound-append desk (confirmation_of job held prompt now) room free alone later refl (front-short longest_body [] (omega arith)) sound;
   linked = IsSound-linked;
   took = IsSound-took;
   told = IsSound-telling;

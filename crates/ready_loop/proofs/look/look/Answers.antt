@@ -10,6 +10,7 @@ use Rattle.ready_loop.proofs.CallLemmas.{look-any, look-closes, look-none, looke
 use Rattle.agent_model.specs.Events.{Tick}
 use Rattle.ready_loop.proofs.KeepingLemmas.{on_ok, then_ok, told-ordered, told-orderly}
 use Rattle.ready_loop.proofs.MomentLemmas.{second-within}
+use Rattle.ready_loop.proofs.TellLemmas.{last-stepped}
 use Rattle.ready_loop.proofs.TurningLemmas.{advances, advances_once, goes_stops, one_call, stops_later, stops_short, stops_there, looks_by}
 use Rattle.ready_loop.proofs.look.look.Goals as goal
 
@@ -151,3 +152,22 @@ returns-clause-second g c =
     second-within (g.A.Core.state c.args.agent.now) (g.A.Core.state c.tell.new.agent) c.in-Ok.moment Tick
     (g.W.World.greatest c.args.world.now) (g.W.World.greatest c.poll.new.world) c.in-Ok-tell.ensures.stepped
     c.requires.second c.in-Ok.ensures.moment.0 (same ∙ c.in-Ok.ensures.moment.1))
+
+pub returns-then-not-is_empty-clause-ports : goal.returns-then-not-is_empty-clause-ports
+returns-then-not-is_empty-clause-ports g c =
+    c.in-Ok-close_all.ensures.ports ∙ c.in-Ok.ensures.ports ∙ c.requires.ports
+    ∙ last-stepped (g.A.Core.state c.args.agent.now) (g.A.Core.state c.tell.new.agent) c.in-Ok.moment Tick
+    c.in-Ok-tell.ensures.stepped
+
+pub returns-then-not-is_idle-clause-ports : goal.returns-then-not-is_idle-clause-ports
+returns-then-not-is_idle-clause-ports g c =
+    c.in-Ok.ensures.ports ∙ c.requires.ports
+    ∙ last-stepped (g.A.Core.state c.args.agent.now) (g.A.Core.state c.tell.new.agent) c.in-Ok.moment Tick
+    c.in-Ok-tell.ensures.stepped
+
+pub returns-clause-ports : goal.returns-clause-ports
+returns-clause-ports g c =
+    then_ok c.poll.result c.poll.ensures.ports (λ same.
+    same ∙ c.in-Ok.ensures.ports ∙ c.requires.ports
+    ∙ last-stepped (g.A.Core.state c.args.agent.now) (g.A.Core.state c.tell.new.agent) c.in-Ok.moment Tick
+    c.in-Ok-tell.ensures.stepped)

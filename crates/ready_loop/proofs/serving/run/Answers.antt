@@ -50,7 +50,7 @@ turns-preserved g c = (
   λ path state. runs_more (c.turns.invariant.2 path state)
       (polled_runs (record { path = path; until_idle = c.args.until_idle; state = state })
       (g.A.Core.state c.turns.agent) (g.A.Core.state c.turn.new.agent) c.turns.hub c.turn.new.self
-      (sym c.is_done.ensures ∙ c.if-is_done.false)
+      c.turns.invariant.6.sound.rising (sym c.is_done.ensures ∙ c.if-is_done.false)
       (turn_at (in_state (g.A.Core.state c.turns.agent) c.turns.hub Free) (g.W.World.journal c.turns.world) (g.W.World.journal c.turn.new.world)
       (g.A.Core.state c.turn.new.agent) c.turn.new.self (c.in-Ok-Polled.is ∙ ap Ok c.in-Ok-Polled.field-0-is) c.turn.ensures.legal)),
   c.in-Ok-Polled.ensures.ports,
@@ -69,7 +69,7 @@ returns-in-Ok-Over-clause-serves g c = λ path state.
     (g.W.World.journal c.args.world.now) (g.W.World.journal c.turns.world) (g.W.World.journal c.turn.new.world)
     (c.turns.invariant.2 path state)
     (over_ends setting (g.A.Core.state c.turns.agent) (g.A.Core.state c.turn.new.agent) c.turns.hub c.turn.new.self
-    (sym c.is_done.ensures ∙ c.if-is_done.false)
+    c.turns.invariant.6.sound.rising (sym c.is_done.ensures ∙ c.if-is_done.false)
     (turn_at (in_state (g.A.Core.state c.turns.agent) c.turns.hub Free) (g.W.World.journal c.turns.world) (g.W.World.journal c.turn.new.world)
     (g.A.Core.state c.turn.new.agent) c.turn.new.self (c.in-Ok-Over.is ∙ ap Ok c.in-Ok-Over.field-0-is) c.turn.ensures.legal))
 
@@ -81,7 +81,7 @@ returns-in-Err-Poll-clause-serves g c = λ path state.
     (g.W.World.journal c.args.world.now) (g.W.World.journal c.turns.world) (g.W.World.journal c.turn.new.world)
     (c.turns.invariant.2 path state)
     (fault_ends setting (g.A.Core.state c.turns.agent) (g.A.Core.state c.turn.new.agent) c.turns.hub c.turn.new.self
-    (sym c.is_done.ensures ∙ c.if-is_done.false)
+    c.turns.invariant.6.sound.rising (sym c.is_done.ensures ∙ c.if-is_done.false)
     (turn_at (in_state (g.A.Core.state c.turns.agent) c.turns.hub Free) (g.W.World.journal c.turns.world) (g.W.World.journal c.turn.new.world)
     (g.A.Core.state c.turn.new.agent) c.turn.new.self (c.in-Err-Poll.is ∙ ap Err c.in-Err-Poll.field-0-is) c.turn.ensures.legal))
 
@@ -93,6 +93,6 @@ returns-in-Err-Memory-clause-serves g c = λ path state.
     (g.W.World.journal c.args.world.now) (g.W.World.journal c.turns.world) (g.W.World.journal c.turn.new.world)
     (c.turns.invariant.2 path state)
     (memory_ends setting (g.A.Core.state c.turns.agent) (g.A.Core.state c.turn.new.agent) c.turns.hub c.turn.new.self
-    (sym c.is_done.ensures ∙ c.if-is_done.false)
+    c.turns.invariant.6.sound.rising (sym c.is_done.ensures ∙ c.if-is_done.false)
     (turn_at (in_state (g.A.Core.state c.turns.agent) c.turns.hub Free) (g.W.World.journal c.turns.world) (g.W.World.journal c.turn.new.world)
     (g.A.Core.state c.turn.new.agent) c.turn.new.self (c.in-Err-Memory.is ∙ ap Err c.in-Err-Memory.field-0-is) c.turn.ensures.legal))

@@ -1,20 +1,20 @@
-use Rattle.std.proofs.Common.{subst, sym}
+use Rattle.std.proofs.Common.{◌∙◌, ap, refl, subst, sym}
 use Rattle.agent_model.proofs.AttendedLemmas.{first-attended}
 use Rattle.agent_model.proofs.FatedLemmas.{first-tied}
 use Rattle.agent_model.proofs.JudgedRunLemmas.{first-judged}
 use Rattle.agent_model.specs.KeyStates.{KeyState, no_keys}
-use Rattle.agent_model.specs.State.{UnderWay, first_state, nothing_under_way}
+use Rattle.agent_model.specs.State.{Settings, UnderWay, first_state, nothing_under_way}
 use Rattle.agent_core.specs.Bound.{IsAtRest}
-use Rattle.agent_core.specs.Parts.{state_of}
+use Rattle.agent_core.specs.Parts.{settings_of, state_of}
 use Rattle.agent_core.specs.Slots.{OpenPorts}
 use Rattle.agent_core.proofs.agent.Agent.new.Goals as goal
 
 pub invariant_of-result : goal.invariant_of-result
 invariant_of-result c =
-    let life = c.args.settings.default_life in
-    let first : IsAtRest (first_state life) =
-    record { tied = first-tied life; attended = first-attended life; judged = first-judged life } in
+    let settings : Settings = settings_of c.args.settings in
+    let first : IsAtRest (first_state settings) =
+    record { tied = first-tied settings; attended = first-attended settings; judged = first-judged settings; second = refl } in
     let of_keys : KeyState → Type 0 = λ v. IsAtRest (state_of 0 v c.new-2.result c.new-3.result) in
-    let of_going : UnderWay → Type 0 = λ v. IsAtRest (state_of 0 (no_keys life) v c.new-3.result) in
-    let of_ports : OpenPorts → Type 0 = λ v. IsAtRest (state_of 0 (no_keys life) nothing_under_way v) in
-    subst of_keys (sym c.new.ensures) (subst of_going (sym c.new-2.ensures) (subst of_ports (sym c.new-3.ensures) first))
+    let of_going : UnderWay → Type 0 = λ v. IsAtRest (state_of 0 (no_keys settings.life) v c.new-3.result) in
+    let of_ports : OpenPorts → Type 0 = λ v. IsAtRest (state_of 0 (no_keys settings.life) (nothing_under_way settings.limits) v) in
+    subst of_keys (sym c.new.ensures) (subst of_going (sym (c.new-2.ensures ∙ ap nothing_under_way c.limits_of.ensures)) (subst of_ports (sym c.new-3.ensures) first))

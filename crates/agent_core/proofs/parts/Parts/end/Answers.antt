@@ -1,11 +1,13 @@
 use Rattle.std.proofs.Common.{◌∙◌, Option, Some, IsSome, ap, refl, subst, sym}
 use Rattle.confirm_desk.specs.Confirmations.{Confirmation}
-use Rattle.agent_model.specs.State.{State}
+use Rattle.helper_link.specs.HelperLink.{IsLinked}
+use Rattle.agent_model.specs.State.{State, Unnamed}
 use Rattle.agent_core.specs.Parts.{after, state_of}
 use Rattle.agent_core.proofs.AgentLemmas.{agent_asks, agent_linked, bound_of, shut_parts}
 use Rattle.agent_core.proofs.ConfirmerLemmas.{quiet-asking}
-use Rattle.agent_core.proofs.FailLemmas.{client_ends, confirmer_ends, helper_ends, unnamed_ends}
-use Rattle.agent_core.proofs.RoleLemmas.{client-kind, confirmer-kind, helper-kind, unnamed-kind}
+use Rattle.agent_core.proofs.FailLemmas.{absent_ends, client_ends, confirmer_ends, helper_ends, unnamed_ends}
+use Rattle.agent_core.proofs.HelperLemmas.{linked_some}
+use Rattle.agent_core.proofs.RoleLemmas.{client-kind, confirmer-kind, helper-kind, none-kind, some_of_role, unnamed-kind}
 use Rattle.agent_core.proofs.parts.Parts.end.Goals as goal
 
 pub lose_client-requires : goal.lose_client-requires
@@ -24,16 +26,21 @@ returns-in-Some-Client c =
 pub returns-in-Some-Unnamed : goal.returns-in-Some-Unnamed
 returns-in-Some-Unnamed c =
     let is = unnamed-kind _ (sym c.role_at.ensures ∙ c.in-Some-Unnamed.is ∙ ap Some c.in-Some-Unnamed.field-0-is) in
-    let some = rw (← c.self.view_is) at c.requires.is_open in
+    let some = some_of_role c.args.port c.self.inside.ports.ports c.self.inside.under_way Unnamed is in
     let parts = c.self.inside in
     let state : State = state_of parts.wall parts.keys parts.under_way parts.ports in
     rw (← c.self.view_is) (shut_parts parts.wall parts.keys parts.under_way parts.ports c.close.new.self c.args.port some c.close.ensures.ports
     ∙ ap (after parts.ports.closed) (unnamed_ends c.args.port state is))
 
-pub lose_helper-requires-clause-linked : goal.lose_helper-requires-clause-linked
-lose_helper-requires-clause-linked c =
+pub close-requires : goal.close-requires
+close-requires c =
+    let is = unnamed-kind _ (sym c.role_at.ensures ∙ c.in-Some-Unnamed.is ∙ ap Some c.in-Some-Unnamed.field-0-is) in
+    some_of_role c.args.port c.self.inside.ports.ports c.self.inside.under_way Unnamed is
+
+pub lose_helper-requires-clause-some : goal.lose_helper-requires-clause-some
+lose_helper-requires-clause-some c =
     let is = helper-kind _ (sym c.role_at.ensures ∙ c.in-Some-Helper.is ∙ ap Some c.in-Some-Helper.field-0-is) in
-    agent_linked c.args.port c.self.inside.ports.ports c.self.inside.under_way is
+    linked_some c.self.inside.under_way.link.state (subst IsLinked (sym (agent_linked c.args.port c.self.inside.ports.ports c.self.inside.under_way is)) tt)
 
 pub lose_helper-requires-clause-bound : goal.lose_helper-requires-clause-bound
 lose_helper-requires-clause-bound c =
@@ -44,10 +51,11 @@ lose_helper-requires-clause-bound c =
 pub returns-in-Some-Helper : goal.returns-in-Some-Helper
 returns-in-Some-Helper c =
     let is = helper-kind _ (sym c.role_at.ensures ∙ c.in-Some-Helper.is ∙ ap Some c.in-Some-Helper.field-0-is) in
+    let rest = rw (← c.self.view_is) at c.requires.rest in
     let parts = c.self.inside in
     let state : State = state_of parts.wall parts.keys parts.under_way parts.ports in
-    rw (← c.self.view_is) (c.lose_helper.ensures.parts parts.wall parts.keys
-    ∙ ap (after parts.ports.closed) (helper_ends c.args.port parts.ports.last state c.lose_helper.ensures.rising is))
+    rw (← c.self.view_is) (c.lose_helper.ensures parts.wall parts.keys
+    ∙ ap (after parts.ports.closed) (helper_ends c.args.port parts.ports.last state rest.tied.rising is))
 
 pub lose_confirmer-requires-clause-there : goal.lose_confirmer-requires-clause-there
 lose_confirmer-requires-clause-there c =
@@ -73,3 +81,9 @@ returns-in-Some-Confirmer c =
     let state : State = state_of parts.wall parts.keys parts.under_way parts.ports in
     rw (← c.self.view_is) (c.lose_confirmer.ensures.parts parts.wall parts.keys is.0 at
     ∙ ap (after parts.ports.closed) (confirmer_ends c.args.port state is.0 is.1))
+
+pub returns-in-None : goal.returns-in-None
+returns-in-None c =
+    let parts = c.self.inside in
+    let state : State = state_of parts.wall parts.keys parts.under_way parts.ports in
+    rw (← c.self.view_is) (ap (after parts.ports.closed) (absent_ends c.args.port state (none-kind _ parts.under_way (sym c.role_at.ensures ∙ c.in-None.is))))

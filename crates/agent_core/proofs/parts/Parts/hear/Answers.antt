@@ -1,6 +1,7 @@
 use Rattle.std.proofs.Common.{◌≡◌, ◌∙◌, ap, sym, subst, Option, Some}
 use Rattle.std.specs.Option.{IsSomeAnd}
 use Rattle.confirm_desk.specs.Confirmations.{Confirmation}
+use Rattle.helper_link.specs.HelperLink.{IsLinked}
 use Rattle.agent_model.specs.Actions.{Stepped}
 use Rattle.agent_model.specs.State.{Client, Confirmer, Helper, State, Unnamed, find_port}
 use Rattle.agent_core.specs.Confirmers.{IsHeldFor}
@@ -8,8 +9,9 @@ use Rattle.agent_core.specs.Parts.{after, state_of}
 use Rattle.agent_core.specs.Roles.{role_by}
 use Rattle.agent_core.proofs.AgentLemmas.{agent_asks, agent_free, agent_hears, agent_linked, agent_unnamed, bound_of, held_of_all}
 use Rattle.agent_core.proofs.ConfirmerLemmas.{found_linked}
+use Rattle.agent_core.proofs.FailLemmas.{absent_hears}
 use Rattle.agent_core.proofs.HeldLemmas.{after_ok}
-use Rattle.agent_core.proofs.RoleLemmas.{client-kind, confirmer-kind, heard-as, helper-kind, port_of_role, unnamed-kind}
+use Rattle.agent_core.proofs.RoleLemmas.{client-kind, confirmer-kind, heard-as, helper-kind, none-kind, port_of_role, some_of_role, unnamed-kind}
 use Rattle.agent_core.proofs.parts.Parts.hear.Goals as goal
 
 pub returns-in-Some-Client : goal.returns-in-Some-Client
@@ -54,7 +56,24 @@ returns-in-Some-Confirmer c =
 pub hear_helper-requires-clause-linked : goal.hear_helper-requires-clause-linked
 hear_helper-requires-clause-linked c =
     let is = helper-kind _ (sym c.role_at.ensures ∙ c.in-Some-Helper.is ∙ ap Some c.in-Some-Helper.field-0-is) in
-    agent_linked c.args.port c.self.inside.ports.ports c.self.inside.under_way is
+    subst IsLinked (sym (agent_linked c.args.port c.self.inside.ports.ports c.self.inside.under_way is)) tt
+
+pub hear_client-requires-clause-is_open : goal.hear_client-requires-clause-is_open
+hear_client-requires-clause-is_open c =
+    let is = client-kind _ (sym c.role_at.ensures ∙ c.in-Some-Client.is ∙ ap Some c.in-Some-Client.field-0-is) in
+    let P : Stepped → Type 0 = λ s. role_by (find_port c.args.port s.state.ports) s.state.under_way ≡ Some Client in
+    some_of_role c.args.port c.args.self.now.state.ports c.args.self.now.state.under_way Client (subst P c.self.view_is is)
+
+pub hear_unnamed-requires-clause-is_open : goal.hear_unnamed-requires-clause-is_open
+hear_unnamed-requires-clause-is_open c =
+    let is = unnamed-kind _ (sym c.role_at.ensures ∙ c.in-Some-Unnamed.is ∙ ap Some c.in-Some-Unnamed.field-0-is) in
+    some_of_role c.args.port c.self.inside.ports.ports c.self.inside.under_way Unnamed is
+
+pub returns-in-None : goal.returns-in-None
+returns-in-None c =
+    let parts = c.self.inside in
+    let state : State = state_of parts.wall parts.keys parts.under_way parts.ports in
+    rw (← c.self.view_is) (ap (after parts.ports.closed) (absent_hears c.args.port c.args.piece.now state (none-kind _ parts.under_way (sym c.role_at.ensures ∙ c.in-None.is))))
 
 pub hear_helper-requires-clause-bound : goal.hear_helper-requires-clause-bound
 hear_helper-requires-clause-bound c =

@@ -1,27 +1,41 @@
-use Rattle.std.proofs.Common.{◌∙◌, ◌≡◌, max, ap, subst, sym}
+use Rattle.std.proofs.Common.{subst, sym}
+use Rattle.agent_model.specs.Actions.{Stepped}
+use Rattle.agent_model.specs.Sound.{IsTied}
 use Rattle.agent_model.specs.State.{State}
-use Rattle.agent_core.specs.Bound.{IsAtRest}
+use Rattle.agent_model.proofs.FatedMakeLemmas.{tied-taken}
+use Rattle.agent_core.specs.Bound.{IsAtRest, IsBound, StillFits}
 use Rattle.agent_core.specs.Happenings.{happening}
-use Rattle.agent_core.specs.Parts.{state_of}
-use Rattle.agent_core.specs.Slots.{OpenPorts}
-use Rattle.agent_core.proofs.AgentLemmas.{agent_begins, agent_steps, rest-moved}
+use Rattle.agent_core.proofs.AgentLemmas.{agent_opened, agent_steps, bound-taken, tied-lost}
 use Rattle.agent_core.proofs.HeldLemmas.{after_ok}
+use Rattle.agent_core.proofs.LateLemmas.{rest-opened, still-fits}
 use Rattle.agent_core.proofs.parts.Parts.take.Goals as goal
 
-pub returns-clause-stepped : goal.returns-clause-stepped
-returns-clause-stepped c =
-    let now : c.max.result ≡ max c.self.inside.keys.table.greatest c.args.moment.mono = c.max.ensures ∙ ap (λ n. max n c.args.moment.mono) c.second.ensures in
-    let parts = c.self.inside in
-    let state : State = state_of parts.wall parts.keys parts.under_way parts.ports in
-    let mid : State = state_of c.args.moment.wall c.expire.new.self parts.under_way c.begin.new.self in
-    let begins = agent_begins c.args.moment parts.wall c.max.result parts.keys c.expire.new.self parts.under_way parts.ports c.begin.new.self now c.expire.ensures c.begin.ensures in
-    rw (← c.self.view_is) (after_ok c.handle.result (λ handled.
-    agent_steps c.args.moment (happening c.args.event.now) state mid c.begin.new.self.closed c.handle.new.self begins (ap (λ (v : OpenPorts). v.closed) c.begin.ensures) handled)
-    c.handle.ensures.handled)
+pub take_in-requires : goal.take_in-requires
+take_in-requires c = c.requires.rest.second
+
+pub lose_late-requires : goal.lose_late-requires
+lose_late-requires c =
+    subst (λ (s : Stepped). IsBound s.state.ports s.state.under_way) (sym c.take_in.ensures) (bound-taken c.args.moment c.args.self.now.state c.requires.rest)
+
+pub end_late-requires : goal.end_late-requires
+end_late-requires c =
+    let taken = tied-taken c.args.moment c.args.self.now.state c.requires.rest.tied in
+    subst (λ (s : Stepped). IsTied s.state) (sym c.lose_late.ensures)
+    (tied-lost c.take_in.new.self.state (subst (λ (s : Stepped). IsTied s.state) (sym c.take_in.ensures) taken))
+
+pub handle-requires-clause-fits : goal.handle-requires-clause-fits
+handle-requires-clause-fits c =
+    let event = happening c.args.event.now in
+    let opened = agent_opened c.args.moment c.args.self.now.state c.take_in.new.self c.lose_late.new.self c.end_late.new.self c.take_in.ensures c.lose_late.ensures c.end_late.ensures in
+    subst (λ (s : State). StillFits event s) (sym opened) (still-fits c.args.moment event c.args.self.now.state c.requires.fits)
 
 pub handle-requires-clause-rest : goal.handle-requires-clause-rest
 handle-requires-clause-rest c =
-    let rest = rw (← c.self.view_is) at c.requires.rest in
-    let parts = c.self.inside in
-    let P : OpenPorts → Type 0 = λ v. IsAtRest (state_of c.args.moment.wall c.expire.new.self parts.under_way v) in
-    subst P (sym c.begin.ensures) (rest-moved parts.wall c.args.moment.wall parts.keys c.expire.new.self parts.under_way parts.ports rest)
+    let opened = agent_opened c.args.moment c.args.self.now.state c.take_in.new.self c.lose_late.new.self c.end_late.new.self c.take_in.ensures c.lose_late.ensures c.end_late.ensures in
+    subst (λ (s : State). IsAtRest s) (sym opened) (rest-opened c.args.moment c.args.self.now.state c.requires.rest)
+
+pub returns-clause-stepped : goal.returns-clause-stepped
+returns-clause-stepped c =
+    after_ok c.handle.result (λ handled.
+    agent_steps c.args.moment (happening c.args.event.now) c.args.self.now.state c.take_in.new.self c.lose_late.new.self c.end_late.new.self c.handle.new.self c.take_in.ensures c.lose_late.ensures c.end_late.ensures handled)
+    c.handle.ensures.handled

@@ -1,24 +1,21 @@
 use Rattle.std.proofs.Common.{◌≡◌, ◌∙◌, sym, ap}
 use Rattle.agent_core.specs.Slots.{OpenPorts, ports_of}
 use Rattle.agent_model.specs.State.{remove_port}
-use Rattle.agent_core.proofs.KeptLemmas.{closed_room, kept-removed, kept_numbers, kept_rising, ports_of-remove}
+use Rattle.agent_core.proofs.KeptLemmas.{closed_room, kept-removed, kept_rising, ports_of-remove}
 use Rattle.agent_core.proofs.ports.Ports.close.Goals as goal
 
-pub place_of-requires : goal.place_of-requires
-place_of-requires c = rw c.deref.ensures.value (kept_rising _ _ _ _ _ _ c.self.invariant)
-
-pub take_out-requires : goal.take_out-requires
-take_out-requires c = kept_numbers _ _ _ _ _ _ c.self.invariant
+pub place_near-requires : goal.place_near-requires
+place_near-requires c = rw c.deref.ensures.value (kept_rising _ _ _ _ c.self.invariant)
 
 pub put_in-requires-clause-room : goal.put_in-requires-clause-room
 put_in-requires-clause-room c =
     let is = rw c.deref.ensures.value at c.in-Some.ensures in
-    closed_room _ _ _ _ _ _ c.args.number c.in-Some.place c.self.invariant is
+    closed_room _ _ _ _ c.args.number c.in-Some.place c.self.invariant is
 
 pub invariant_of-self : goal.invariant_of-self
 invariant_of-self c =
     let is = rw c.deref.ensures.value at c.in-Some.ensures in
-    rw (c.remove.ensures.items, c.take_out.ensures.items, c.put_in.ensures.items) (kept-removed _ _ _ _ _ _ c.args.number c.in-Some.place _ _ c.self.invariant is c.take_out.ensures.room c.put_in.ensures.room)
+    rw (c.remove.ensures.items, c.put_in.ensures.items) (kept-removed _ _ _ _ c.args.number c.in-Some.place _ c.self.invariant is c.put_in.ensures.room)
 
 pub returns-clause-ports : goal.returns-clause-ports
 returns-clause-ports c =

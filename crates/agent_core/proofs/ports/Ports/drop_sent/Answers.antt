@@ -2,34 +2,18 @@ use Rattle.std.proofs.Common.{ap}
 use Rattle.agent_model.specs.Step.{took_some}
 use Rattle.agent_model.proofs.PortsLemmas.{found_number}
 use Rattle.agent_core.specs.Slots.{OpenPorts, port_of, ports_of}
-use Rattle.agent_core.proofs.KeptLemmas.{found_slot, kept-changed, kept_numbers, kept_rising, kept_room, set_changed}
+use Rattle.agent_core.proofs.KeptLemmas.{found_slot, kept-changed, kept_rising, set_changed}
 use Rattle.agent_core.proofs.ports.Ports.drop_sent.Goals as goal
 
-pub place_of-requires : goal.place_of-requires
-place_of-requires c = rw c.deref.ensures.value (kept_rising _ _ _ _ _ _ c.self.invariant)
-
-pub drop_sent_at-requires-clause-count : goal.drop_sent_at-requires-clause-count
-drop_sent_at-requires-clause-count c =
-    let is = rw c.deref.ensures.value at c.in-Some.ensures in
-    let found = found_slot _ _ _ _ is c.index_mut.ensures.value in
-    c.requires.count (port_of c.index_mut.result.now) (rw (← c.self.view_is) found)
-
-pub drop_sent_at-requires-clause-rising : goal.drop_sent_at-requires-clause-rising
-drop_sent_at-requires-clause-rising c = kept_numbers _ _ _ _ _ _ c.self.invariant
-
-pub drop_sent_at-requires-clause-room : goal.drop_sent_at-requires-clause-room
-drop_sent_at-requires-clause-room c =
-    let is = rw c.deref.ensures.value at c.in-Some.ensures in
-    let found = found_slot _ _ _ _ is c.index_mut.ensures.value in
-    let same = found_number c.args.number (ports_of c.self.inside.slots.items) (port_of c.index_mut.result.now) found in
-    rw same (kept_room _ _ _ _ _ _ c.args.number (port_of c.index_mut.result.now) c.self.invariant found)
+pub place_near-requires : goal.place_near-requires
+place_near-requires c = rw c.deref.ensures.value (kept_rising _ _ _ _ c.self.invariant)
 
 pub invariant_of-self : goal.invariant_of-self
 invariant_of-self c =
     let is = rw c.deref.ensures.value at c.in-Some.ensures in
     let found = found_slot _ _ _ _ is c.index_mut.ensures.value in
     let same = found_number c.args.number (ports_of c.self.inside.slots.items) (port_of c.index_mut.result.now) found in
-    rw (c.drop_sent_at.ensures.items, same) (kept-changed _ _ _ _ _ _ c.args.number c.in-Some.place _ c.drop_sent_at.new.slot c.index_mut.result.now c.self.invariant is found c.drop_sent_at.ensures.number c.drop_sent_at.ensures.door c.drop_sent_at.ensures.room)
+    kept-changed _ _ _ _ c.args.number c.in-Some.place c.drop_sent.new.slot c.index_mut.result.now c.self.invariant is found c.drop_sent.ensures.number c.drop_sent.ensures.door
 
 pub returns : goal.returns
 returns c =
@@ -37,5 +21,5 @@ returns c =
     let found = found_slot _ _ _ _ is c.index_mut.ensures.value in
     record {
       ports = rw (← c.self.view_is) (ap (λ ports. let v : OpenPorts = record { ports = ports; last = c.self.inside.last; closed = c.self.inside.closed.items } in v)
-          (set_changed c.self.inside.slots.items c.args.number c.in-Some.place c.drop_sent_at.new.slot (port_of c.index_mut.result.now) (took_some c.args.count) is found c.drop_sent_at.ensures.port));
+          (set_changed c.self.inside.slots.items c.args.number c.in-Some.place c.drop_sent.new.slot (port_of c.index_mut.result.now) (took_some c.args.count) is found c.drop_sent.ensures.port));
     }

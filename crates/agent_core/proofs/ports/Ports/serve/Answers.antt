@@ -5,62 +5,52 @@ use Rattle.confirm_desk.specs.Confirmations.{find_asker}
 use Rattle.agent_core.specs.Served.{served_at}
 use Rattle.agent_core.specs.Slots.{OpenPorts, port_of, ports_of}
 use Rattle.agent_core.proofs.HeldLemmas.{after_ok}
-use Rattle.agent_core.proofs.KeptLemmas.{found_slot, kept-changed, kept_numbers, kept_rising, kept_room, same_found, serve_changed}
+use Rattle.agent_core.proofs.KeptLemmas.{found_slot, kept-changed, kept_rising, same_found, serve_changed}
 use Rattle.agent_core.proofs.ports.Ports.serve.Goals as goal
 
-pub place_of-requires : goal.place_of-requires
-place_of-requires c = rw c.deref.ensures.value (kept_rising _ _ _ _ _ _ c.self.invariant)
+pub place_near-requires : goal.place_near-requires
+place_near-requires c = rw c.deref.ensures.value (kept_rising _ _ _ _ c.self.invariant)
 
-pub serve_at-requires-clause-due : goal.serve_at-requires-clause-due
-serve_at-requires-clause-due c =
+pub serve-requires-clause-due : goal.serve-requires-clause-due
+serve-requires-clause-due c =
     let is = rw c.deref.ensures.value at c.in-Some.ensures in
     let found = found_slot _ _ _ _ is c.index_mut.ensures.value in
     rw (← c.self.view_is, found) at c.requires.due
-
-pub serve_at-requires-clause-rising : goal.serve_at-requires-clause-rising
-serve_at-requires-clause-rising c = kept_numbers _ _ _ _ _ _ c.self.invariant
-
-pub serve_at-requires-clause-room : goal.serve_at-requires-clause-room
-serve_at-requires-clause-room c =
-    let is = rw c.deref.ensures.value at c.in-Some.ensures in
-    let found = found_slot _ _ _ _ is c.index_mut.ensures.value in
-    let same = found_number c.args.number (ports_of c.self.inside.slots.items) (port_of c.index_mut.result.now) found in
-    rw same (kept_room _ _ _ _ _ _ c.args.number (port_of c.index_mut.result.now) c.self.invariant found)
 
 pub invariant_of-self : goal.invariant_of-self
 invariant_of-self c =
     let is = rw c.deref.ensures.value at c.in-Some.ensures in
     let found = found_slot _ _ _ _ is c.index_mut.ensures.value in
     let same = found_number c.args.number (ports_of c.self.inside.slots.items) (port_of c.index_mut.result.now) found in
-    rw (c.serve_at.ensures.items, same) (kept-changed _ _ _ _ _ _ c.args.number c.in-Some.place _ c.serve_at.new.slot c.index_mut.result.now c.self.invariant is found c.serve_at.ensures.number c.serve_at.ensures.door c.serve_at.ensures.room)
+    kept-changed _ _ _ _ c.args.number c.in-Some.place c.serve.new.slot c.index_mut.result.now c.self.invariant is found c.serve.ensures.number c.serve.ensures.door
 
 pub returns-clause-ports : goal.returns-clause-ports
 returns-clause-ports c =
     let is = rw c.deref.ensures.value at c.in-Some.ensures in
     let found = found_slot _ _ _ _ is c.index_mut.ensures.value in
     rw (← c.self.view_is) (λ (port : Port) (there : find_port c.args.number (ports_of c.self.inside.slots.items) ≡ Some port).
-    after_ok c.serve_at.result (λ told.
+    after_ok c.serve.result (λ told.
     ap (λ ports. let v : OpenPorts = record { ports = ports; last = c.self.inside.last; closed = c.self.inside.closed.items } in v)
-    (serve_changed c.self.inside.slots.items c.args.number c.in-Some.place c.serve_at.new.slot c.index_mut.result.now c.args.wall c.args.body_len c.args.keys.now c.args.under_way.now port is found there told)) c.serve_at.ensures.port)
+    (serve_changed c.self.inside.slots.items c.args.number c.in-Some.place c.serve.new.slot c.index_mut.result.now c.args.wall c.args.body_len c.args.keys.now c.args.under_way.now port is found there told)) c.serve.ensures.port)
 
 pub returns-clause-keys : goal.returns-clause-keys
 returns-clause-keys c =
     let is = rw c.deref.ensures.value at c.in-Some.ensures in
     let found = found_slot _ _ _ _ is c.index_mut.ensures.value in
     rw (← c.self.view_is) (λ (port : Port) (there : find_port c.args.number (ports_of c.self.inside.slots.items) ≡ Some port).
-    after_ok c.serve_at.result (λ kept.
-    kept ∙ ap (λ (p : Port). (served_at c.args.body_len c.args.wall p c.args.keys.now c.args.under_way.now).held) (same_found c.self.inside.slots.items c.args.number c.index_mut.result.now port found there)) c.serve_at.ensures.keys)
+    after_ok c.serve.result (λ kept.
+    kept ∙ ap (λ (p : Port). (served_at c.args.body_len c.args.wall p c.args.keys.now c.args.under_way.now).held) (same_found c.self.inside.slots.items c.args.number c.index_mut.result.now port found there)) c.serve.ensures.keys)
 
 pub returns-clause-under_way : goal.returns-clause-under_way
 returns-clause-under_way c =
     let is = rw c.deref.ensures.value at c.in-Some.ensures in
     let found = found_slot _ _ _ _ is c.index_mut.ensures.value in
     rw (← c.self.view_is) (λ (port : Port) (there : find_port c.args.number (ports_of c.self.inside.slots.items) ≡ Some port).
-    after_ok c.serve_at.result (λ left.
-    left ∙ ap (λ (p : Port). (served_at c.args.body_len c.args.wall p c.args.keys.now c.args.under_way.now).work.under_way) (same_found c.self.inside.slots.items c.args.number c.index_mut.result.now port found there)) c.serve_at.ensures.under_way)
+    after_ok c.serve.result (λ left.
+    left ∙ ap (λ (p : Port). (served_at c.args.body_len c.args.wall p c.args.keys.now c.args.under_way.now).work.under_way) (same_found c.self.inside.slots.items c.args.number c.index_mut.result.now port found there)) c.serve.ensures.under_way)
 
-pub serve_at-requires-clause-alone : goal.serve_at-requires-clause-alone
-serve_at-requires-clause-alone c =
+pub serve-requires-clause-alone : goal.serve-requires-clause-alone
+serve-requires-clause-alone c =
     let is = rw c.deref.ensures.value at c.in-Some.ensures in
     let found = found_slot _ _ _ _ is c.index_mut.ensures.value in
     let same = found_number c.args.number (ports_of c.self.inside.slots.items) (port_of c.index_mut.result.now) found in

@@ -2,17 +2,17 @@ use Rattle.std.proofs.Common.{◌≡◌, ◌∙◌, ap, Some}
 use Rattle.agent_model.specs.Children.{unheard}
 use Rattle.agent_model.specs.State.{Port, find_port}
 use Rattle.agent_core.specs.Slots.{OpenPorts, port_of, ports_of}
-use Rattle.agent_core.proofs.KeptLemmas.{found_slot, kept-heard, kept_rising, set_changed}
+use Rattle.agent_core.proofs.KeptLemmas.{found_slot, kept-changed, kept_rising, set_changed}
 use Rattle.agent_core.proofs.ports.Ports.take_heard.Goals as goal
 
-pub place_of-requires : goal.place_of-requires
-place_of-requires c = rw c.deref.ensures.value (kept_rising _ _ _ _ _ _ c.self.invariant)
+pub place_near-requires : goal.place_near-requires
+place_near-requires c = rw c.deref.ensures.value (kept_rising _ _ _ _ c.self.invariant)
 
 pub invariant_of-self : goal.invariant_of-self
 invariant_of-self c =
     let is = rw c.deref.ensures.value at c.in-Some.ensures in
     let found = found_slot _ _ _ _ is c.index_mut.ensures.value in
-    kept-heard _ _ _ _ _ _ c.args.number c.in-Some.place c.take_heard.new.slot c.index_mut.result.now c.self.invariant is found c.take_heard.ensures.number c.take_heard.ensures.door c.take_heard.ensures.owed
+    kept-changed _ _ _ _ c.args.number c.in-Some.place c.take_heard.new.slot c.index_mut.result.now c.self.invariant is found c.take_heard.ensures.number c.take_heard.ensures.door
 
 pub returns-clause-ports : goal.returns-clause-ports
 returns-clause-ports c =

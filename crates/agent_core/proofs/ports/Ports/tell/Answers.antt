@@ -5,36 +5,26 @@ use Rattle.agent_core.specs.Settlings.{verdict_of}
 use Rattle.agent_core.specs.Slots.{OpenPorts, port_of, ports_of}
 use Rattle.agent_core.proofs.HeldLemmas.{after_ok}
 use Rattle.agent_core.proofs.HelperLemmas.{change_port-absent}
-use Rattle.agent_core.proofs.KeptLemmas.{found_slot, kept-changed, kept_numbers, kept_rising, kept_room, set_changed}
+use Rattle.agent_core.proofs.KeptLemmas.{found_slot, kept-changed, kept_rising, set_changed}
 use Rattle.agent_core.proofs.ports.Ports.tell.Goals as goal
 
-pub place_of-requires : goal.place_of-requires
-place_of-requires c = rw c.deref.ensures.value (kept_rising _ _ _ _ _ _ c.self.invariant)
-
-pub tell_at-requires-clause-rising : goal.tell_at-requires-clause-rising
-tell_at-requires-clause-rising c = kept_numbers _ _ _ _ _ _ c.self.invariant
-
-pub tell_at-requires-clause-room : goal.tell_at-requires-clause-room
-tell_at-requires-clause-room c =
-    let is = rw c.deref.ensures.value at c.in-Some.ensures in
-    let found = found_slot _ _ _ _ is c.index_mut.ensures.value in
-    let same = found_number c.args.number (ports_of c.self.inside.slots.items) (port_of c.index_mut.result.now) found in
-    rw same (kept_room _ _ _ _ _ _ c.args.number (port_of c.index_mut.result.now) c.self.invariant found)
+pub place_near-requires : goal.place_near-requires
+place_near-requires c = rw c.deref.ensures.value (kept_rising _ _ _ _ c.self.invariant)
 
 pub invariant_of-self : goal.invariant_of-self
 invariant_of-self c =
     let is = rw c.deref.ensures.value at c.in-Some.ensures in
     let found = found_slot _ _ _ _ is c.index_mut.ensures.value in
     let same = found_number c.args.number (ports_of c.self.inside.slots.items) (port_of c.index_mut.result.now) found in
-    rw (c.tell_at.ensures.items, same) (kept-changed _ _ _ _ _ _ c.args.number c.in-Some.place _ c.tell_at.new.slot c.index_mut.result.now c.self.invariant is found c.tell_at.ensures.number c.tell_at.ensures.door c.tell_at.ensures.room)
+    kept-changed _ _ _ _ c.args.number c.in-Some.place c.tell.new.slot c.index_mut.result.now c.self.invariant is found c.tell.ensures.number c.tell.ensures.door
 
 pub returns-in-Some : goal.returns-in-Some
 returns-in-Some c =
     let is = rw c.deref.ensures.value at c.in-Some.ensures in
     let found = found_slot _ _ _ _ is c.index_mut.ensures.value in
-    rw (← c.self.view_is) (after_ok c.tell_at.result (λ told.
+    rw (← c.self.view_is) (after_ok c.tell.result (λ told.
     ap (λ ports. let v : OpenPorts = record { ports = ports; last = c.self.inside.last; closed = c.self.inside.closed.items } in v)
-    (set_changed c.self.inside.slots.items c.args.number c.in-Some.place c.tell_at.new.slot (port_of c.index_mut.result.now) (tell (verdict_of c.args.answer.now)) is found told)) c.tell_at.ensures.port)
+    (set_changed c.self.inside.slots.items c.args.number c.in-Some.place c.tell.new.slot (port_of c.index_mut.result.now) (tell (verdict_of c.args.answer.now)) is found told)) c.tell.ensures.port)
 
 pub returns-in-None : goal.returns-in-None
 returns-in-None c =

@@ -9,6 +9,6 @@ use Rattle.confirm_desk.proofs.desk.Desk.raise.Goals as goal
 pub invariant_of-self-2 : goal.invariant_of-self-2
 invariant_of-self-2 c =
     rw (c.in_ok-push.ensures.items, c.in_ok-one.ensures)
-    (IsSound-append c.self.inside.confirmations.items (confirmation_of c.args.job (held_of c.args.held) c.args.prompt.now)
+    (IsSound-append c.self.inside.confirmations.items (confirmation_of c.args.job (held_of c.args.held) c.args.prompt.now c.args.now)
     (omega (arith, c.if-len-ge-MAX_CONFIRMATIONS.false, c.len.ensures)) (rw c.self.view_is c.requires.job) (rw c.self.view_is c.requires.asker)
-    refl (front-short longest_body [] (omega arith)) c.self.invariant)
+    (rw c.self.view_is c.requires.later) refl (front-short longest_body [] (omega arith)) c.self.invariant)

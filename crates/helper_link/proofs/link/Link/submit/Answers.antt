@@ -1,5 +1,5 @@
 use Rattle.std.proofs.Common.{◌≡◌, ◌≢◌, ◌<◌, length, subst, sym}
-use Rattle.helper_link.specs.HelperLink.{HelperLink, most_asks}
+use Rattle.helper_link.specs.HelperLink.{ArePutBy, HelperLink, most_asks}
 use Rattle.helper_link.specs.Sound.{link_of}
 use Rattle.helper_link.specs.declared.state.LinkState.TheVariants as states
 use Rattle.helper_link.proofs.SoundLemmas.{IsSound-push}
@@ -15,6 +15,8 @@ invariant_of-self-2 c =
     (sym same) c.requires.state in
     let room = subst (λ (link : HelperLink). length link.asks < most_asks)
     (sym same) c.requires.few in
+    let later = subst (λ (link : HelperLink). ArePutBy c.args.now link.asks)
+    (sym same) c.requires.later in
     rw (c.in_ok-push.ensures.items, c.in_ok-reserve.ensures.items)
-    (IsSound-push c.args.kind c.args.asker c.write_to_child.new.out.live old some room
-    c.self.invariant)
+    (IsSound-push c.args.kind c.args.asker c.args.now c.write_to_child.new.out.live old some room
+    later c.self.invariant)

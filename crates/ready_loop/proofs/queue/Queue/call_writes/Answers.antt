@@ -1,16 +1,12 @@
-use Rattle.std.proofs.Common.{◌∙◌, ◌<◌, ◌-◌, arith, sym}
+use Rattle.std.proofs.Common.{◌∙◌, ◌<◌, ◌-◌, arith}
 use Rattle.ready_loop.proofs.NextLemmas.{upto-zero}
-use Rattle.ready_loop.proofs.RecallLemmas.{called-more, called-next, called-rest, called_all-none, is_called}
+use Rattle.ready_loop.proofs.RecallLemmas.{called-more, called-next, called-rest, is_called}
 use Rattle.ready_loop.proofs.queue.Queue.call_writes.Goals as goal
-
-pub returns-then-not-has_writes : goal.returns-then-not-has_writes
-returns-then-not-has_writes g c =
-    called_all-none (g.A.Core.state c.args.agent.now) c.args.all c.args.self.now c.requires (sym c.if-not-has_writes.ensures.some)
 
 pub ports-init : goal.ports-init
 ports-init g c =
     let state = g.A.Core.state c.args.agent.now in
-    record { rising = c.has_writes.ensures.rising; back = upto-zero (is_called c.args.all state.under_way) state.ports c.args.self.now }
+    record { rising = c.writes_rise.ensures; back = upto-zero (is_called c.args.all state.under_way) state.ports c.args.self.now }
 
 pub ports-smaller : goal.ports-smaller
 ports-smaller g c =

@@ -4,4 +4,4 @@ use Rattle.loop_model.specs.Queues.{AreApart}
 use Rattle.ready_loop.proofs.queue.Queue.stands_once.Goals as goal
 
 pub returns : goal.returns
-returns c = subst (λ (line : Line). AreApart line.queue) c.self.view_is c.self.invariant.apart
+returns c = subst (λ (line : Line). AreApart line.queue) c.self.view_is c.self.invariant.once.apart

@@ -1,21 +1,18 @@
-use Rattle.std.proofs.Common.{◌≡◌, ◌∙◌, ◌+◌, ◌≤◌, ap, arith, subst, sym}
-use Rattle.helper_link.specs.HelperLink.{begun, begun_by}
-use Rattle.helper_link.specs.declared.state.LinkState.{LinkState}
+use Rattle.std.proofs.Common.{◌≡◌, ◌∙◌, ◌+◌, ap, arith, refl}
+use Rattle.helper_link.specs.HelperLink.{begun}
 use Rattle.helper_link.specs.declared.state.LinkState.TheVariants as states
 use Rattle.agent_model.specs.State.{UnderWay as State}
-use Rattle.under_way.specs.Parts.{helpers_coming, under_way_of}
+use Rattle.under_way.specs.Parts.{under_way_of}
+use Rattle.under_way.specs.Times.{limits_of}
 use Rattle.under_way.proofs.KeepLemmas.{keeps-helper}
 use Rattle.under_way.proofs.state.UnderWay.begin_helper.Goals as goal
 
 pub invariant_of-self-2 : goal.invariant_of-self-2
 invariant_of-self-2 c =
     let inside = c.self.inside in
-    let u : State = under_way_of inside.link inside.to_start.items inside.started.items inside.verifications.items inside.desk inside.last_job in
-    let none : inside.link.state ≡ states.None = ap (λ (v : State). v.link.state) c.self.view_is ∙ c.requires.none in
-    let least : 1 ≤ 1 = omega arith in
-    let one : 1 ≤ helpers_coming (begun_by (inside.last_job + 1) inside.link.state) =
-    subst (λ (state : LinkState). 1 ≤ helpers_coming (begun_by (inside.last_job + 1) state)) (sym none) least in (
+    let u : State = under_way_of inside.link inside.to_start.items inside.started.items inside.verifications.items inside.desk inside.last_job (limits_of inside.limits) inside.second in
+    let none : inside.link.state ≡ states.None = ap (λ (v : State). v.link.state) c.self.view_is ∙ c.requires.none in (
       rw (c.begin.ensures, c.in_ok-push.ensures.items, c.in_ok-reserve.ensures.items)
-          (keeps-helper u (begun (inside.last_job + 1) inside.link) c.self.invariant.0 none one),
+          (keeps-helper u (begun (inside.last_job + 1) inside.link) c.self.invariant.0 none refl),
       omega (arith, c.in_ok-push.ensures.len, c.in_ok-reserve.ensures.len, c.in_ok-reserve.ensures.ok, c.len-room.ensures),
     )

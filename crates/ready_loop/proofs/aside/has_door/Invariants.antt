@@ -1,9 +1,0 @@
-use Rattle.std.proofs.Common.{◌≡◌, drop}
-use Rattle.loop_model.specs.Things.{set_of}
-use Rattle.loop_model.specs.declared.thing.Thing.TheVariants.{Accept}
-use Rattle.loop_model.specs.Aside.{accepts_of}
-use Rattle.ready_loop.proofs.aside.has_door.Given as goal
-
--- it isn't before the index
-abbrev pub invariant-doors : goal.invariant-doors
-invariant-doors l = set_of (accepts_of (drop l.other-index l.doors)) (Accept l.door) ≡ set_of (accepts_of l.doors) (Accept l.door)
