@@ -68,7 +68,6 @@ fn each_step_has_its_line(rt: HostRuntime) -> Result<(), Fail> {
     let alloc = rt.alloc();
     let mut out = Vec::new(alloc);
     let bytes = Bytes::from_vec(Vec::from_slice(alloc, &[0, 171, 255])?);
-    put_step(&mut out, &Step::Format2)?;
     put_step(&mut out, &Step::Skip)?;
     put_step(
         &mut out,
@@ -92,9 +91,17 @@ fn each_step_has_its_line(rt: HostRuntime) -> Result<(), Fail> {
         },
     )?;
     put_step(&mut out, &Step::Failed(4))?;
-    let want = "schedule 2\n\nat 7 1700000000\njoin client\njoin child\nhear 1 00abff\nend 10\n\
+    let want = "\nat 7 1700000000\njoin client\njoin child\nhear 1 00abff\nend 10\n\
         hold 2\nfree 2\ntake 2 1\n\
         started 3 a1a1a1a1a1a1a1a1a1a1a1a1a1a1a1a1\nfailed 4\n";
     assert_eq!(rt; out.as_slice(), want.as_bytes());
+    Ok(())
+}
+
+#[test]
+fn the_second_format_has_its_line(rt: HostRuntime) -> Result<(), Fail> {
+    let mut out = Vec::new(rt.alloc());
+    put_step(&mut out, &Step::Format2)?;
+    assert_eq!(rt; out.as_slice(), b"schedule 2\n".as_slice());
     Ok(())
 }
