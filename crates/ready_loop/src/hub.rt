@@ -118,6 +118,7 @@ impl Hub {
         ensures second { OnOk result ((A.state agent.new).moment.mono ≤ W.greatest world.new) }
         ensures cause { result ≡ Err HubFault.Poll → Rose (W.faults world.old) (W.faults world.new) }
         ensures later { W.faults world.old ≤ W.faults world.new }
+        ensures led { W.leads world.old world.new }
     {
         let turned = self.serve(agent, world);
         self.queue.stands_once();
@@ -141,6 +142,7 @@ impl Hub {
         ensures second { OnOk result ((A.state agent.new).moment.mono ≤ W.greatest world.new) }
         ensures cause { result ≡ Err HubFault.Poll → Rose (W.faults world.old) (W.faults world.new) }
         ensures later { W.faults world.old ≤ W.faults world.new }
+        ensures led { W.leads world.old world.new }
     {
         if let Some(job) = next_job(agent) {
             return served(start(&mut self.queue, agent, world, job));

@@ -26,6 +26,7 @@ pub fn open<W: World>(alloc: Global, world: &mut W, path: &str) -> Result<(), Wo
     ensures second { W.greatest world.new ≡ W.greatest world.old }
     ensures cause { result ≡ Err Failed → Rose (W.faults world.old) (W.faults world.new) }
     ensures later { W.faults world.old ≤ W.faults world.new }
+    ensures led { W.leads world.old world.new }
 {
     let Ok(children) = children_path(alloc, path) else {
         return Err(WorldFault::Memory);

@@ -46,6 +46,7 @@ fn poll<A: Core, W: World>(
         → OnOk result (IsOrdered (A.state agent.now) queue.new) }
     ensures cause { result ≡ Err HubFault.Poll → Rose (W.faults world.old) (W.faults world.new) }
     ensures later { W.faults world.old ≤ W.faults world.new }
+    ensures led { W.leads world.old world.new }
 {
     match world.poll(wait_of(agent), ready) {
         Ok(Polled::Some) => {
@@ -80,6 +81,7 @@ pub fn look<A: Core, W: World>(
     ensures orderly { OnOk result (IsOrderly (A.state agent.new)) }
     ensures cause { result ≡ Err HubFault.Poll → Rose (W.faults world.old) (W.faults world.new) }
     ensures later { W.faults world.old ≤ W.faults world.new }
+    ensures led { W.leads world.old world.new }
 {
     let Ok(moment) = world.now() else {
         return Err(HubFault::Memory);

@@ -43,6 +43,7 @@ fn run<R: Wait, A: Core, W: World>(
     ensures poll { result ≡ ServeEnd.PollFault → Rose (W.faults world.old) (W.faults world.new) }
     ensures bind { result ≡ ServeEnd.BindFault → Rose (W.faults world.old) (W.faults world.new) }
     ensures later { W.faults world.old ≤ W.faults world.new }
+    ensures led { W.leads world.old world.new }
 {
     'turns: for _ in rt.forever() {
         if is_done(hub, agent, until_idle) {
@@ -80,6 +81,7 @@ pub fn serve<R: Wait, A: Core, W: World>(
     ensures bind { result ≡ ServeEnd.BindFault → Rose (W.faults world.old) (W.faults world.new) }
     ensures poll { result ≡ ServeEnd.PollFault → Rose (W.faults world.old) (W.faults world.new) }
     ensures later { W.faults world.old ≤ W.faults world.new }
+    ensures led { W.leads world.old world.new }
 {
     match open(alloc, world, path) {
         Ok(()) => {

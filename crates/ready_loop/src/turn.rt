@@ -37,6 +37,7 @@ pub fn close_all<A: Core, W: World>(
     ensures ports { W.last_port world.new ≡ W.last_port world.old }
     ensures second { W.greatest world.new ≡ W.greatest world.old }
     ensures later { W.faults world.old ≤ W.faults world.new }
+    ensures led { W.leads world.old world.new }
 {
     'ports: for port in agent.closes() {
         let Ok(()) = world.close(*port) else {
@@ -154,6 +155,7 @@ fn happen<A: Core, W: World>(
     ensures ports { OnOk result (W.last_port world.new ≡ (A.state agent.new).last_port) }
     ensures second { OnOk result ((A.state agent.new).moment.mono ≤ W.greatest world.new) }
     ensures later { W.faults world.old ≤ W.faults world.new }
+    ensures led { W.leads world.old world.new }
 {
     let Ok(moment) = world.now() else {
         return Err(CoreMemory);
@@ -183,6 +185,7 @@ pub fn accept<A: Core, W: World>(
     ensures second { OnOk result ((A.state agent.new).moment.mono ≤ W.greatest world.new) }
     ensures round { OnOk result (GoesRound (Accept door) queue.old.queue queue.new.queue) }
     ensures later { W.faults world.old ≤ W.faults world.new }
+    ensures led { W.leads world.old world.new }
 {
     match world.accept(door) {
         Ok(Accepted::Port(number)) => {
@@ -228,6 +231,7 @@ fn hear<A: Core, W: World>(
     ensures second { OnOk result ((A.state agent.new).moment.mono ≤ W.greatest world.new) }
     ensures round { OnOk result (GoesRound (Read port) queue.old.queue queue.new.queue) }
     ensures later { W.faults world.old ≤ W.faults world.new }
+    ensures led { W.leads world.old world.new }
 {
     queue.take(Thing::Read(port));
     happen(queue, agent, world, &Event::Heard { port, piece })
@@ -257,6 +261,7 @@ fn end<A: Core, W: World>(
     ensures second { OnOk result ((A.state agent.new).moment.mono ≤ W.greatest world.new) }
     ensures round { OnOk result (GoesRound found queue.old.queue queue.new.queue) }
     ensures later { W.faults world.old ≤ W.faults world.new }
+    ensures led { W.leads world.old world.new }
 {
     queue.take(found);
     happen(queue, agent, world, &Event::Ended { port })
@@ -284,6 +289,7 @@ pub fn read<A: Core, W: World>(
     ensures second { OnOk result ((A.state agent.new).moment.mono ≤ W.greatest world.new) }
     ensures round { OnOk result (GoesRound (Read port) queue.old.queue queue.new.queue) }
     ensures later { W.faults world.old ≤ W.faults world.new }
+    ensures led { W.leads world.old world.new }
     ensures zero { IsWiped room.new }
 {
     match world.read(port, room) {
@@ -325,6 +331,7 @@ fn send<A: Core, W: World>(
     ensures second { OnOk result ((A.state agent.new).moment.mono ≤ W.greatest world.new) }
     ensures round { OnOk result (GoesRound (Write port) queue.old.queue queue.new.queue) }
     ensures later { W.faults world.old ≤ W.faults world.new }
+    ensures led { W.leads world.old world.new }
 {
     queue.take(Thing::Write(port));
     happen(queue, agent, world, &Event::Took { port, count })
@@ -349,6 +356,7 @@ pub fn write<A: Core, W: World>(
     ensures second { OnOk result ((A.state agent.new).moment.mono ≤ W.greatest world.new) }
     ensures round { OnOk result (GoesRound (Write port) queue.old.queue queue.new.queue) }
     ensures later { W.faults world.old ≤ W.faults world.new }
+    ensures led { W.leads world.old world.new }
 {
     match world.write(port, agent.owed(port)) {
         Ok(Wrote::Took(n)) => send(queue, agent, world, port, n as usize),
@@ -380,6 +388,7 @@ pub fn start<A: Core, W: World>(
     ensures second { OnOk result ((A.state agent.new).moment.mono ≤ W.greatest world.new) }
     ensures round { OnOk result (KeepsOrder queue.old.queue queue.new.queue) }
     ensures later { W.faults world.old ≤ W.faults world.new }
+    ensures led { W.leads world.old world.new }
 {
     let number = job.number;
     match world.start(job) {

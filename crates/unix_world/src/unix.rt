@@ -311,4 +311,8 @@ impl<R: Files<File = File> + Net + Processes + RandomSource + Clock> World for U
         }
         Ok(self.moment)
     }
+
+    ghost stays = { λ _. tt };
+
+    ghost goes_on = { λ _ _ _ _ _. tt };
 }

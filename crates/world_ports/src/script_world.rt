@@ -256,4 +256,8 @@ impl World for ScriptWorld {
         self.greatest = moment.mono;
         Ok(moment)
     }
+
+    ghost stays = { λ _. tt };
+
+    ghost goes_on = { λ _ _ _ _ _. tt };
 }

@@ -1,5 +1,5 @@
 // The outside as the agent's loop sees it: listeners, connections, child processes and clocks.
-ghost use Rattle.std.specs.Prelude.{◌≡◌, ◌<◌, ◌-◌, ◌^◌, ℕ, List, Option, length, is_err};
+ghost use Rattle.std.specs.Prelude.{◌≡◌, ◌<◌, ◌-◌, ◌^◌, ⊤, ℕ, List, Option, length, is_err};
 ghost use Rattle.world_ports.specs.declared.entry.Entry.{Entry};
 ghost use Rattle.world_ports.specs.declared.entry.Entry.TheVariants as entry;
 ghost use Rattle.world_ports.specs.Journal.{Tells, got_of, is_short};
@@ -25,13 +25,17 @@ pub trait World {
     /// The greatest second of the monotonic clock that `now` gave, 0 before the first.
     ghost greatest: { Self → ℕ };
 
+    /// The second is a later state of the same world as the first, or the same.
+    ghost leads: { Self → Self → Type 0 } = { λ _ _. ⊤ };
+
     /// Listens at a path.
     fn bind(&mut self, door: Door, path: &str) -> Result<(), WorldFault>
         ensures told { Tells (journal self.old) (journal self.new) (is_short result)
             (entry.Bind door path.now result) }
         ensures cause { IsCounted (faults self.old) (faults self.new) result }
         ensures ports { last_port self.new ≡ last_port self.old }
-        ensures moment { greatest self.new ≡ greatest self.old };
+        ensures moment { greatest self.new ≡ greatest self.old }
+        ensures led { leads self.old self.new };
 
     /// Waits until something is ready, for so many seconds at the most, or without a bound. What
     /// became ready since the last wait replaces what stands in `out`. It may wait for less, and
@@ -41,7 +45,8 @@ pub trait World {
             (entry.Poll wait out.new.items result) }
         ensures cause { IsCounted (faults self.old) (faults self.new) result }
         ensures ports { last_port self.new ≡ last_port self.old }
-        ensures moment { greatest self.new ≡ greatest self.old };
+        ensures moment { greatest self.new ≡ greatest self.old }
+        ensures led { leads self.old self.new };
 
     /// Takes the next connection at a listener.
     fn accept(&mut self, door: Door) -> Result<Accepted, WorldFault>
@@ -50,7 +55,8 @@ pub trait World {
             (entry.Accept door result) }
         ensures cause { IsCounted (faults self.old) (faults self.new) result }
         ensures ports { NumbersPort result (last_port self.old) (last_port self.new) }
-        ensures moment { greatest self.new ≡ greatest self.old };
+        ensures moment { greatest self.new ≡ greatest self.old }
+        ensures led { leads self.old self.new };
 
     /// Reads into the front of `room`, and leaves the rest of it as it was.
     fn read(&mut self, port: u64, room: &mut [u8]) -> Result<Got, WorldFault>
@@ -61,7 +67,8 @@ pub trait World {
         ensures rest { KeepsRest result room.old room.new }
         ensures cause { IsCounted (faults self.old) (faults self.new) result }
         ensures ports { last_port self.new ≡ last_port self.old }
-        ensures moment { greatest self.new ≡ greatest self.old };
+        ensures moment { greatest self.new ≡ greatest self.old }
+        ensures led { leads self.old self.new };
 
     /// Writes some of `bytes` from their front.
     fn write(&mut self, port: u64, bytes: &[u8]) -> Result<Wrote, WorldFault>
@@ -71,7 +78,8 @@ pub trait World {
         ensures within { TookWithin result (length bytes.now) }
         ensures cause { IsCounted (faults self.old) (faults self.new) result }
         ensures ports { last_port self.new ≡ last_port self.old }
-        ensures moment { greatest self.new ≡ greatest self.old };
+        ensures moment { greatest self.new ≡ greatest self.old }
+        ensures led { leads self.old self.new };
 
     /// Closes a connection. Only the journal may want memory for it.
     fn close(&mut self, port: u64) -> Result<(), AllocError>
@@ -79,7 +87,8 @@ pub trait World {
             (entry.Close port result) }
         ensures cause { faults self.new ≡ faults self.old }
         ensures ports { last_port self.new ≡ last_port self.old }
-        ensures moment { greatest self.new ≡ greatest self.old };
+        ensures moment { greatest self.new ≡ greatest self.old }
+        ensures led { leads self.old self.new };
 
     /// Starts a child process, and answers the one-time token that it was given.
     fn start(&mut self, job: Job) -> Result<[u8; 16], WorldFault>
@@ -87,7 +96,8 @@ pub trait World {
             (entry.Start job result) }
         ensures cause { IsCounted (faults self.old) (faults self.new) result }
         ensures ports { last_port self.new ≡ last_port self.old }
-        ensures moment { greatest self.new ≡ greatest self.old };
+        ensures moment { greatest self.new ≡ greatest self.old }
+        ensures led { leads self.old self.new };
 
     /// Reads the clocks. The monotonic one is never lower than before. Only the journal may want
     /// memory for it.
@@ -96,5 +106,10 @@ pub trait World {
             (entry.Now result) }
         ensures cause { faults self.new ≡ faults self.old }
         ensures ports { last_port self.new ≡ last_port self.old }
-        ensures moment { ReadsClock result (greatest self.old) (greatest self.new) };
+        ensures moment { ReadsClock result (greatest self.old) (greatest self.new) }
+        ensures led { leads self.old self.new };
+
+    ghost stays: { (world : Self) → leads world world };
+
+    ghost goes_on: { (first then last : Self) → leads first then → leads then last → leads first last };
 }

@@ -41,6 +41,7 @@ turns-preserved-in-Ok-Served g c = (
   c.in-Ok-Served.ensures.orderly,
   c.in-Ok-Served.ensures.exact,
   c.in-Ok-Served.ensures.second,
+  g.met.W.World.goes_on c.args.world.now c.turns.world c.turn.new.world c.turns.invariant.9 c.turn.ensures.led,
 )
 
 pub turns-preserved : goal.turns-preserved
@@ -59,6 +60,7 @@ turns-preserved g c = (
   c.in-Ok-Polled.ensures.orderly,
   c.in-Ok-Polled.ensures.exact,
   c.in-Ok-Polled.ensures.second,
+  g.met.W.World.goes_on c.args.world.now c.turns.world c.turn.new.world c.turns.invariant.9 c.turn.ensures.led,
 )
 
 pub returns-in-Ok-Over-clause-serves : goal.returns-in-Ok-Over-clause-serves

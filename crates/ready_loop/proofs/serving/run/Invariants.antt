@@ -20,3 +20,4 @@ invariant-turns g l =
     × IsOrderly (g.A.Core.state l.agent)
     × IsExact (g.A.Core.state l.agent) l.hub
     × ((g.A.Core.state l.agent).moment.mono ≤ g.W.World.greatest l.world)
+    × g.W.World.leads l.fn.world l.world

@@ -43,4 +43,5 @@ ports-preserved g c =
       ports = c.close.ensures.ports ∙ c.ports.invariant.ports;
       second = c.close.ensures.moment ∙ c.ports.invariant.second;
       later = omega (arith, c.close.ensures.cause, c.ports.invariant.later);
+      led = g.met.W.World.goes_on c.args.world.now c.ports.world c.close.new.self c.ports.invariant.led c.close.ensures.led;
     }

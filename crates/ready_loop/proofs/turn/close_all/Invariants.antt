@@ -13,4 +13,5 @@ invariant-ports g l = let state = g.A.Core.state l.agent in record {
   ports : g.W.World.last_port l.world ≡ g.W.World.last_port l.fn.world;
   second : g.W.World.greatest l.world ≡ g.W.World.greatest l.fn.world;
   later : g.W.World.faults l.fn.world ≤ g.W.World.faults l.world;
+  led : g.W.World.leads l.fn.world l.world;
 }
