@@ -9,3 +9,4 @@ pub mod PublicLemmas
 pub mod FaultLemmas
 pub mod Theorems
 pub mod SizeLemmas
+pub mod PlaceLemmas

@@ -311,7 +311,8 @@ within_by bytes (Err fault) = omega arith
 pub private_from_is_within : (bytes : List ℕ) → private_from bytes ≤ length bytes
 private_from_is_within bytes = within_by bytes (private_at bytes)
 
-private_at-addition : (key : AddedKey) (is : IsAddedKey key) → private_at key.private ≡ Ok (strings is.private)
+-- it is found
+pub private_at-addition : (key : AddedKey) (is : IsAddedKey key) → private_at key.private ≡ Ok (strings is.private)
 unfolding private_at
 private_at-addition key is =
     let type = type_of is.form in

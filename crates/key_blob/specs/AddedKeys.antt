@@ -54,6 +54,10 @@ pub record IsAddedKey (key : AddedKey) : Type 0 where
   pub text : key.private ≡ string (type_of form).name
       ++ (blob_text ++ (strings again ++ strings private))
 
+-- the bytes are an addition, of some key
+abbrev pub IsAddition : List ℕ → Type 0
+IsAddition bytes = (key : AddedKey) × IsAddedKey key × (key.private ≡ bytes)
+
 -- ---- reading from left to right
 
 -- the public fields of a blob, from those of an addition, and the bytes that follow these

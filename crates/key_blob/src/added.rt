@@ -4,7 +4,7 @@ ghost use Rattle.key_blob.specs.declared.fault.KeyFault.TheVariants.{Memory};
 ghost use Rattle.key_blob.specs.KeyTypes.{key_type};
 ghost use Rattle.key_blob.specs.Rows.{line_of};
 ghost use Rattle.key_blob.specs.declared.added.AddedKey.{AddedKey};
-ghost use Rattle.key_blob.specs.AddedKeys.{IsAddedKey, blob_fields_at, certificate_blob_at, blob_at, added_key_at};
+ghost use Rattle.key_blob.specs.AddedKeys.{IsAddedKey, IsAddition, blob_fields_at, certificate_blob_at, blob_at, added_key_at, private_at, private_from};
 
 use crate::fault::KeyFault;
 use crate::fields::{skip_fields, take_field, take_form};
@@ -144,4 +144,48 @@ pub fn read_added(alloc: Global, from: &mut Cursor<'_>) -> Result<AddedKey, KeyF
     let (key, rest) = key_at(alloc, bytes)?;
     *from = Cursor::new(rest);
     Ok(key)
+}
+
+/// Takes the public fields or the certificate, which are not looked at further.
+///
+/// A refused call may have moved the cursor.
+#[tactic(auto, unfolding(crate::specs::AddedKeys::blob_at, crate::specs::AddedKeys::blob_fields_at, crate::specs::Reading::after_fields))]
+fn skip_public(from: &mut Cursor<'_>, form: Form) -> Result<(), KeyFault>
+    ensures { MatchResult result
+        (λ _. (blob : List ℕ) × (blob_at form from.old ≡ Ok (blob, from.new)))
+        (λ fault. blob_at form from.old ≡ Err fault) }
+{
+    let key_type = row(form);
+    match form {
+        Form::Plain(_) => skip_fields(from, key_type.public),
+        Form::Certified(_) => {
+            take_certified(from, &key_type)?;
+            Ok(())
+        }
+    }
+}
+
+/// The bytes from the first private field of an addition on.
+#[tactic(auto, unfolding(crate::specs::AddedKeys::private_at))]
+fn private_fields(added: &[u8]) -> Result<&[u8], KeyFault>
+    ensures { MatchResult result (λ private. private_at added.now ≡ Ok private.now)
+        (λ fault. private_at added.now ≡ Err fault) }
+{
+    let mut from = Cursor::new(added);
+    let form = take_form(&mut from)?;
+    skip_public(&mut from, form)?;
+    skip_fields(&mut from, row(form).again)?;
+    Ok(from.rest())
+}
+
+/// How many bytes of an addition stand in front of its first private field, that is, of the length
+/// of that field. From there on only private fields stand. It takes no memory.
+pub fn private_from(added: &[u8]) -> usize
+    requires { IsAddition added.now }
+    ensures { result ≡ private_from added.now }
+{
+    match private_fields(added) {
+        Ok(private) => added.len() - private.len(),
+        Err(_) => 0,
+    }
 }

@@ -15,9 +15,10 @@ mod key_type;
 mod kind;
 mod laws;
 mod public_key;
+mod rows;
 mod size;
 
-pub use added::{AddedKey, read_added};
+pub use added::{AddedKey, private_from, read_added};
 pub use certificate::valid_for;
 pub use fault::KeyFault;
 pub use fingerprints::fingerprint;
@@ -27,4 +28,5 @@ pub use laws::{
     no_addition_begins_another,
 };
 pub use public_key::{Certificate, PublicKey, algorithm_fits, read_public, type_word};
+pub use rows::private_fields_stand_behind_the_public;
 pub use size::bits;

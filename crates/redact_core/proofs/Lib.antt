@@ -1,0 +1,4 @@
+pub mod BlankLemmas
+pub mod StepLemmas
+pub mod FrameLemmas
+pub mod HiddenLemmas

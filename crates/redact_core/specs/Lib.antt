@@ -1,0 +1,3 @@
+pub mod Redaction
+pub mod Blanks
+pub mod Rows

@@ -1,0 +1,26 @@
+//! Bodies of requests to an agent without their secrets, as a record of what happened shows them.
+//!
+//! Each private field of an addition is as many zeros. The passphrase of a lock or an unlock is
+//! the number, in decimal, under which it first came, counted from 1; an empty one stays. An
+//! addition, a lock or an unlock that can't be read is its number byte alone. Every other body
+//! stays as it is.
+//!
+//! Stands on `agent_msg` and `key_blob`, which read bodies, and on `secret_buf`, which keeps
+//! passphrases.
+#![tactic(auto)]
+
+mod addition;
+mod laws;
+mod passphrases;
+mod redact;
+mod rows;
+#[cfg(test)]
+mod tests;
+
+pub use laws::{additions_stay_additions, secrets_are_hidden};
+pub use passphrases::Passphrases;
+pub use redact::redact_body;
+pub use rows::{
+    additions_are_blanked, certified_additions_are_blanked, other_bodies_stay,
+    passphrases_are_numbered,
+};
