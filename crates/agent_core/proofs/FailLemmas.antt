@@ -1,5 +1,7 @@
 -- What the end of a port and a failed start are in the agent's state.
-use Rattle.std.proofs.Common.{◌≡◌, ℕ, List, refl, ap, sym, ◌∙◌, Option, Some, None, IsSome}
+use Rattle.std.proofs.Common.{◌≡◌, ℕ, List, refl, ap, subst, sym, ◌∙◌, Option, Some, None, IsSome}
+use Rattle.std.specs.Option.{option_map}
+use Rattle.wire_text.specs.Frames.{Whole}
 use Rattle.world_ports.specs.declared.Job.{Job}
 use Rattle.world_ports.specs.declared.JobKind.{JobKind}
 use Rattle.world_ports.specs.declared.JobKind.TheVariants as kinds
@@ -11,10 +13,12 @@ use Rattle.agent_model.specs.Children.{failed_by, failed_if, is_started_by, job_
 use Rattle.agent_model.specs.Consents.{over, over_if}
 use Rattle.agent_model.specs.Events.{Ended, Heard, StartFailed, Took}
 use Rattle.agent_model.specs.KeyStates.{KeyState}
+use Rattle.agent_model.specs.Looks.{due_by}
 use Rattle.agent_model.specs.Sound.{IsRising}
-use Rattle.agent_model.specs.State.{Client, Confirmer, Helper, State, UnderWay, Unnamed, find_port, find_to_start}
-use Rattle.agent_model.specs.Step.{ended_at, handle, heard_at, took_at}
-use Rattle.agent_model.proofs.PortsLemmas.{found_number}
+use Rattle.agent_model.specs.State.{Client, Confirmer, Helper, Port, State, UnderWay, Unnamed, change_port, find_port, find_to_start}
+use Rattle.agent_model.specs.Step.{ended_at, handle, heard_at, took_at, took_some}
+use Rattle.agent_model.proofs.PortsLemmas.{find_port-change_port, found_number}
+use Rattle.agent_core.specs.Bound.{HasNoRequest, LeavesNoRequest, WantsNoMemory}
 use Rattle.agent_core.specs.Parts.{state_of}
 use Rattle.agent_core.specs.Roles.{role_by}
 use Rattle.agent_core.specs.Slots.{OpenPorts}
@@ -109,3 +113,25 @@ pub unnamed_takes : (number count : ℕ) (state : State) → role_by (find_port 
 unnamed_takes number count state is =
     let there = port_of_role (find_port number state.ports) state.under_way Unnamed is in
     sym (took-as number count there.0 Unnamed state there.1 there.2)
+
+-- ---- bytes that were sent
+
+-- where that wants no memory, a look at the client takes no request
+pub none_whole : (number count : ℕ) (state : State) (old mid : OpenPorts) → state.ports ≡ old.ports
+    → role_by (find_port number state.ports) state.under_way ≡ Some Client
+    → mid ≡ record old { ports = change_port number (took_some count) old.ports }
+    → WantsNoMemory state (Took number count)
+    → (body_len : ℕ) → due_by (find_port number mid.ports) ≡ Whole body_len → ⊥
+none_whole number count state old mid same is mid_is wants body_len whole =
+    let there = port_of_role (find_port number state.ports) state.under_way Client is in
+    let port : Port = there.0 in
+    let at_port : LeavesNoRequest (Some port) count state.under_way =
+    subst (λ found. LeavesNoRequest found count state.under_way) there.1 wants in
+    let none : HasNoRequest Client (took_some count port) =
+    subst (λ role. HasNoRequest role (took_some count port)) there.2 at_port in
+    let found : find_port number old.ports ≡ Some port = ap (find_port number) (sym same) ∙ there.1 in
+    let left : find_port number mid.ports ≡ Some (took_some count port) =
+    ap (λ (v : OpenPorts). find_port number v.ports) mid_is
+    ∙ find_port-change_port number (took_some count) old.ports (λ p. refl)
+    ∙ ap (option_map (took_some count)) found in
+    none body_len (ap due_by (sym left) ∙ whole)

@@ -1,9 +1,12 @@
 -- What holds between the open ports and the unanswered asks, so that the loss of the helper wants no memory (ours).
-use Rattle.std.specs.Prelude.{◌≡◌, ℕ, ◌-◌, ◌^◌, ◌<◌, List, [], ◌∷◌, Some, IsSome}
+use Rattle.std.specs.Prelude.{◌≡◌, ℕ, ◌-◌, ◌^◌, ◌<◌, List, [], ◌∷◌, Option, Some, None, IsSome}
+use Rattle.wire_text.specs.Frames.{Whole}
 use Rattle.helper_link.specs.Sound.{RiseTo}
+use Rattle.agent_model.specs.Looks.{due}
 use Rattle.agent_model.specs.Events.{Happening, Joined, Heard, Ended, Took, Started, StartFailed, Tick}
 use Rattle.agent_model.specs.Sound.{AreJudged, AreTied, IsJudged, IsTied}
-use Rattle.agent_model.specs.State.{Port, State, UnderWay, change_port, find_port, find_to_start}
+use Rattle.agent_model.specs.State.{Client, Confirmer, Helper, Port, Role, State, UnderWay, Unnamed, change_port, find_port, find_to_start, role_of}
+use Rattle.agent_model.specs.Step.{took_some}
 use Rattle.confirm_desk.specs.Confirmations.{Confirmation, find_job}
 use Rattle.agent_model.specs.Asking.{IsAttended}
 use Rattle.agent_core.specs.Confirmers.{IsHeldFor}
@@ -45,12 +48,28 @@ StillFits (Started job ticket) state = IsSome (find_to_start job state.under_way
 StillFits (StartFailed job) state = IsSome (find_to_start job state.under_way.to_start)
 StillFits Tick state = Unit {0}
 
--- the event wants no memory: a port ends, a child process was started or couldn't be, or nothing but the time
-abbrev pub WantsNoMemory : Happening → Type 0
-WantsNoMemory (Joined door) = ⊥
-WantsNoMemory (Heard port piece) = ⊥
-WantsNoMemory (Ended port) = Unit {0}
-WantsNoMemory (Took port count) = ⊥
-WantsNoMemory (Started job ticket) = Unit {0}
-WantsNoMemory (StartFailed job) = Unit {0}
-WantsNoMemory Tick = Unit {0}
+-- ---- events that want no memory
+
+-- by who is at the port: no request of a client is to be taken, since none is whole, or since it has to wait
+abbrev pub HasNoRequest : Role → Port → Type 0
+HasNoRequest Client port = (body_len : ℕ) → due port ≡ Whole body_len → ⊥
+HasNoRequest Unnamed port = Unit {0}
+HasNoRequest Helper port = Unit {0}
+HasNoRequest (Confirmer confirmation) port = Unit {0}
+
+-- so it is once so many of the bytes that the port is owed are sent; one that isn't open has no request
+abbrev pub LeavesNoRequest : Option Port → ℕ → UnderWay → Type 0
+LeavesNoRequest None count under_way = Unit {0}
+LeavesNoRequest (Some port) count under_way =
+    HasNoRequest (role_of port.door port.number under_way) (took_some count port)
+
+-- the event wants no memory in this state, which its moment left: a port ends, one sent bytes and no request is taken
+-- then, a child process was started or couldn't be, or nothing but the time
+abbrev pub WantsNoMemory : State → Happening → Type 0
+WantsNoMemory state (Joined door) = ⊥
+WantsNoMemory state (Heard port piece) = ⊥
+WantsNoMemory state (Ended port) = Unit {0}
+WantsNoMemory state (Took port count) = LeavesNoRequest (find_port port state.ports) count state.under_way
+WantsNoMemory state (Started job ticket) = Unit {0}
+WantsNoMemory state (StartFailed job) = Unit {0}
+WantsNoMemory state Tick = Unit {0}

@@ -1,5 +1,6 @@
 pub mod Happenings
 pub mod Owing
+pub mod Awaiting
 pub mod Slots
 pub mod Places
 pub mod Roles

@@ -1,11 +1,17 @@
 //! The agent.
 
 ghost use Rattle.std.specs.Prelude.{◌≡◌, ◌↔◌, IsOk, IsSome, IsTrue, OnErr, OnOk, length};
+ghost use Rattle.std.specs.Option.{option_copied, option_map};
 ghost use Rattle.identity_table.specs.Identities.{IsSound};
+ghost use Rattle.confirm_desk.specs.Confirmations.{find_job, find_linked};
+ghost use Rattle.confirm_desk.specs.Sound as desk;
+ghost use Rattle.agent_core.specs.Awaiting.{awaited_of, held_blob};
+ghost use Rattle.agent_core.specs.Slots.{heard_in};
 ghost use Rattle.agent_model.specs.Actions.{stepped};
 ghost use Rattle.agent_model.specs.Sound.{IsSteady};
 ghost use Rattle.agent_model.specs.State.{Fits, client_count, find_port, next_due, next_owed, owed_of, starts, wants};
 ghost use Rattle.agent_model.specs.Step.{step};
+ghost use Rattle.agent_model.specs.Time.{at_moment};
 ghost use Rattle.agent_core.specs.Bound.{WantsNoMemory};
 ghost use Rattle.agent_core.specs.Happenings.{happening};
 ghost use Rattle.agent_core.specs.Owing.{is_client_at, next_child_owed};
@@ -15,7 +21,8 @@ ghost use Rattle.under_way.specs.Times.{limits_of};
 use crate::keys::Keys;
 use crate::parts::Parts;
 use crate::ports::Ports;
-use crate::{CoreMemory, Event, Settings};
+use crate::{Awaited, CoreMemory, Event, Settings};
+use confirm_desk::Pending;
 use std::alloc::Global;
 use std::marker::Model;
 use under_way::{TimeLimits, UnderWay, earlier};
@@ -86,7 +93,7 @@ impl Agent {
         requires { Fits (happening event.now) self.old.state }
         ensures stepped { OnOk result
             (self.new ≡ stepped (step self.old.state moment (happening event.now))) }
-        ensures succeeds { WantsNoMemory (happening event.now) → IsOk result }
+        ensures succeeds { WantsNoMemory (at_moment moment self.old.state) (happening event.now) → IsOk result }
         ensures wiped { OnErr result (self.new ≡ opening (settings_in self.old.state)) }
     {
         let settings = self.settings();
@@ -197,6 +204,45 @@ impl Agent {
         self.parts.under_way.link_faults()
     }
 
+    /// How many asks were put to a helper so far, which is the number of the last one.
+    pub fn asks(&self) -> u64
+        ensures { result ≡ self.now.state.under_way.link.last }
+    {
+        self.parts.under_way.asks()
+    }
+
+    /// What was heard at a port and not taken: nothing where it isn't open, nor of a child process that named itself.
+    pub fn unread(&self, port: u64) -> &[u8]
+        ensures { result.now ≡ heard_in (find_port port self.now.state.ports) }
+    {
+        self.parts.ports.heard(port)
+    }
+
+    /// The signature that waits for the user's consent by this job.
+    pub fn awaited_by(&self, job: u64) -> Option<Awaited>
+        ensures value { result ≡ option_map awaited_of (find_job job self.now.state.under_way.confirmations) }
+        ensures desk { desk.IsSound self.now.state.under_way.confirmations }
+    {
+        self.parts.under_way.find_confirmation(job).map(awaited)
+    }
+
+    /// The signature that waits for the user's consent by the child process at this port.
+    pub fn awaited_at(&self, port: u64) -> Option<Awaited>
+        ensures value { result ≡ option_map awaited_of (find_linked port self.now.state.under_way.confirmations) }
+        ensures desk { desk.IsSound self.now.state.under_way.confirmations }
+    {
+        self.parts.under_way.find_confirmer(port).map(awaited)
+    }
+
+    /// The blob of the key of an addition, where it is held.
+    pub fn blob_of(&self, addition: u64) -> Option<&[u8]>
+        ensures value { option_copied result ≡ held_blob addition self.now.state.held.table.identities }
+        ensures sound { IsSound self.now.state.held.table.identities self.now.state.held.table.last }
+    {
+        let key = self.parts.keys.by_number(addition)?;
+        Some(key.blob())
+    }
+
     /// The number of the last port that joined, 0 where none did.
     pub fn ports_so_far(&self) -> u64
         ensures value { result ≡ self.now.state.last_port }
@@ -217,6 +263,16 @@ impl Agent {
             ask_limit: limits.ask,
             confirm_limit: limits.confirmation,
         }
+    }
+}
+
+// Whom a confirmation is for, and the addition of its key.
+fn awaited(one: &Pending) -> Awaited
+    ensures { result ≡ awaited_of one.now }
+{
+    Awaited {
+        port: one.asker(),
+        addition: one.addition(),
     }
 }
 

@@ -6,6 +6,7 @@
 
 mod agent;
 mod asker;
+mod awaited;
 mod children;
 mod confirmer;
 mod counting;
@@ -25,4 +26,5 @@ mod slot;
 mod waits;
 
 pub use agent::Agent;
+pub use awaited::Awaited;
 pub use event::{CoreMemory, Event, Settings};

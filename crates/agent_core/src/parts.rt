@@ -1,14 +1,16 @@
 //! The agent's state in storage, and what each event does to it.
 
-ghost use Rattle.std.specs.Prelude.{◌≡◌, [], IsOk, IsSome, OnOk};
+ghost use Rattle.std.specs.Prelude.{◌≡◌, ℕ, [], IsOk, IsSome, OnOk};
+ghost use Rattle.wire_text.specs.Frames.{Whole};
 ghost use Rattle.agent_model.specs.Actions.{stepped};
 ghost use Rattle.agent_model.specs.Answers.{lose_where};
 ghost use Rattle.agent_model.specs.Children.{changed, heard_more, is_started_by};
+ghost use Rattle.agent_model.specs.Looks.{due_by};
 ghost use Rattle.agent_model.specs.Events.{Ended, Heard, Joined, StartFailed, Started, Took};
 ghost use Rattle.agent_model.specs.Sound.{IsSteady, IsTied};
 ghost use Rattle.agent_model.specs.State.{Fits, find_port, next_owed, owed_of};
 ghost use Rattle.agent_model.specs.Step.{handle, looked, step};
-ghost use Rattle.agent_model.specs.Time.{end_late, lose_late, taken_in};
+ghost use Rattle.agent_model.specs.Time.{at_moment, end_late, lose_late, taken_in};
 ghost use Rattle.agent_core.specs.Bound.{IsAtRest, IsBound, StillFits, WantsNoMemory};
 ghost use Rattle.agent_core.specs.Happenings.{happening};
 ghost use Rattle.agent_core.specs.Owing.{next_child_owed};
@@ -58,7 +60,7 @@ impl Parts {
 
         ensures stepped { OnOk result
             (self.new ≡ stepped (step self.old.state moment (happening event.now))) }
-        ensures succeeds { WantsNoMemory (happening event.now) → IsOk result }
+        ensures succeeds { WantsNoMemory (at_moment moment self.old.state) (happening event.now) → IsOk result }
     {
         self.take_in(moment);
         self.lose_late();
@@ -143,7 +145,7 @@ impl Parts {
 
         ensures handled { OnOk result
             (self.new ≡ after self.old.closes (handle (happening event.now) self.old.state)) }
-        ensures succeeds { WantsNoMemory (happening event.now) → IsOk result }
+        ensures succeeds { WantsNoMemory self.old.state (happening event.now) → IsOk result }
     {
         match *event {
             Event::Joined(door) => self.join(door),
@@ -225,8 +227,9 @@ impl Parts {
     fn send(&mut self, port: u64, count: usize) -> Result<(), CoreMemory>
         requires rest { IsAtRest self.old.state }
 
-        ensures { OnOk result
+        ensures sent { OnOk result
             (self.new ≡ after self.old.closes (handle (Took port count) self.old.state)) }
+        ensures succeeds { WantsNoMemory self.old.state (Took port count) → IsOk result }
     {
         match role_at(&self.ports, &self.under_way, port) {
             Some(Role::Client) => {
@@ -302,7 +305,9 @@ impl Parts {
     fn look(&mut self, port: u64) -> Result<(), CoreMemory>
         requires tied { IsTied self.old.state }
 
-        ensures { OnOk result (self.new ≡ after self.old.closes (looked port self.old.state)) }
+        ensures looked { OnOk result (self.new ≡ after self.old.closes (looked port self.old.state)) }
+        ensures succeeds { ((body_len : ℕ) → due_by (find_port port self.old.state.ports) ≡ Whole body_len → ⊥)
+            → IsOk result }
     {
         match self.ports.due(port) {
             Look::Whole { body } => self

@@ -83,6 +83,13 @@ impl Pending {
         self.held.asker
     }
 
+    /// The addition of the key.
+    pub fn addition(&self) -> u64
+        ensures { result ≡ self.now.addition }
+    {
+        self.held.addition
+    }
+
     /// The second at which it was raised.
     pub fn raised_at(&self) -> u64
         ensures { result ≡ self.now.raised_at }

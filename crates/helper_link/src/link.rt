@@ -231,6 +231,13 @@ impl Link {
         self.faults
     }
 
+    /// The number of the last ask, 0 where none was put.
+    pub fn last(&self) -> u64
+        ensures { result ≡ self.now.last }
+    {
+        self.last
+    }
+
     /// Whether each number was used, so that no ask can be put any more.
     pub fn spent(&self) -> bool
         ensures { IsTrue result ↔ (self.now.last ≡ 2 ^ 64 - 1) }

@@ -101,6 +101,13 @@ impl UnderWay {
         self.link.faults()
     }
 
+    /// How many asks were put to a helper so far.
+    pub fn asks(&self) -> u64
+        ensures { result ≡ self.now.link.last }
+    {
+        self.link.last()
+    }
+
     /// The child processes that wait to be started.
     pub fn starts(&self) -> &[Job]
         ensures { result.now ≡ self.now.to_start }

@@ -13,7 +13,7 @@ returns c =
     let parts = c.self.inside in
     rw (← c.self.view_is) (after_ok c.look.result (λ is.
     is ∙ ap (λ (v : OpenPorts). after v.closed (looked c.args.port (state_of parts.wall parts.keys parts.under_way v))) c.in_ok-push.ensures.ports)
-    c.look.ensures)
+    c.look.ensures.looked)
 
 pub look-requires : goal.look-requires
 look-requires c =

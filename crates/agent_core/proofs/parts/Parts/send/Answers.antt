@@ -6,7 +6,7 @@ use Rattle.agent_core.specs.Parts.{after, state_of}
 use Rattle.agent_core.specs.Slots.{OpenPorts}
 use Rattle.agent_core.proofs.AgentLemmas.{agent_asked, agent_asks, agent_linked, agent_pays, agent_sends, tied-took}
 use Rattle.agent_core.proofs.ConfirmerLemmas.{found_linked}
-use Rattle.agent_core.proofs.FailLemmas.{absent_takes, unnamed_takes}
+use Rattle.agent_core.proofs.FailLemmas.{absent_takes, none_whole, unnamed_takes}
 use Rattle.agent_core.proofs.HeldLemmas.{after_ok}
 use Rattle.agent_core.proofs.RoleLemmas.{client-kind, confirmer-kind, helper-kind, none-kind, some_of_role, unnamed-kind}
 use Rattle.agent_core.proofs.parts.Parts.send.Goals as goal
@@ -16,16 +16,24 @@ drop_sent-requires c =
     let is = client-kind _ (sym c.role_at.ensures ∙ c.in-Some-Client.is ∙ ap Some c.in-Some-Client.field-0-is) in
     some_of_role c.args.port c.self.inside.ports.ports c.self.inside.under_way Client is
 
-pub returns-in-Some-Client : goal.returns-in-Some-Client
-returns-in-Some-Client c =
+pub returns-in-Some-Client-clause-sent : goal.returns-in-Some-Client-clause-sent
+returns-in-Some-Client-clause-sent c =
     let is = client-kind _ (sym c.role_at.ensures ∙ c.in-Some-Client.is ∙ ap Some c.in-Some-Client.field-0-is) in
     let parts = c.self.inside in
     rw (← c.self.view_is) (after_ok c.look.result (λ looked.
     looked ∙ agent_sends parts.wall parts.keys parts.under_way parts.ports c.drop_sent.new.self c.args.port c.args.count is c.drop_sent.ensures.ports)
-    c.look.ensures)
+    c.look.ensures.looked)
 
-pub returns-in-Some-Helper : goal.returns-in-Some-Helper
-returns-in-Some-Helper c =
+pub returns-in-Some-Client-clause-succeeds : goal.returns-in-Some-Client-clause-succeeds
+returns-in-Some-Client-clause-succeeds c =
+    let is = client-kind _ (sym c.role_at.ensures ∙ c.in-Some-Client.is ∙ ap Some c.in-Some-Client.field-0-is) in
+    let parts = c.self.inside in
+    let state : State = state_of parts.wall parts.keys parts.under_way parts.ports in
+    rw (← c.self.view_is) (λ wants.
+    c.look.ensures.succeeds (none_whole c.args.port c.args.count state parts.ports c.drop_sent.new.self refl is c.drop_sent.ensures.ports wants))
+
+pub returns-in-Some-Helper-clause-sent : goal.returns-in-Some-Helper-clause-sent
+returns-in-Some-Helper-clause-sent c =
     let is = helper-kind _ (sym c.role_at.ensures ∙ c.in-Some-Helper.is ∙ ap Some c.in-Some-Helper.field-0-is) in
     let parts = c.self.inside in
     let linked = agent_linked c.args.port parts.ports.ports parts.under_way is in
@@ -46,8 +54,8 @@ confirmer_took-requires-clause-there c =
     let is = confirmer-kind _ (sym c.role_at.ensures ∙ c.in-Some-Confirmer.is ∙ ap Some c.in-Some-Confirmer.field-0-is) in
     rw (agent_asks c.args.port c.self.inside.ports.ports c.self.inside.under_way is.0 is.1) refl
 
-pub returns-in-Some-Confirmer : goal.returns-in-Some-Confirmer
-returns-in-Some-Confirmer c =
+pub returns-in-Some-Confirmer-clause-sent : goal.returns-in-Some-Confirmer-clause-sent
+returns-in-Some-Confirmer-clause-sent c =
     let is = confirmer-kind _ (sym c.role_at.ensures ∙ c.in-Some-Confirmer.is ∙ ap Some c.in-Some-Confirmer.field-0-is) in
     let parts = c.self.inside in
     let rest = rw (← c.self.view_is) at c.requires.rest in
@@ -57,15 +65,15 @@ returns-in-Some-Confirmer c =
     rw (← c.self.view_is) (
     agent_asked parts.wall parts.keys parts.under_way c.confirmer_took.new.self parts.ports c.args.port c.args.count c.min-count-in-Some-Confirmer.result is.0 is.1 there least c.confirmer_took.ensures)
 
-pub returns-in-Some-Unnamed : goal.returns-in-Some-Unnamed
-returns-in-Some-Unnamed c =
+pub returns-in-Some-Unnamed-clause-sent : goal.returns-in-Some-Unnamed-clause-sent
+returns-in-Some-Unnamed-clause-sent c =
     let is = unnamed-kind _ (sym c.role_at.ensures ∙ c.in-Some-Unnamed.is ∙ ap Some c.in-Some-Unnamed.field-0-is) in
     let parts = c.self.inside in
     let state : State = state_of parts.wall parts.keys parts.under_way parts.ports in
     rw (← c.self.view_is) (ap (after parts.ports.closed) (unnamed_takes c.args.port c.args.count state is))
 
-pub returns-in-None : goal.returns-in-None
-returns-in-None c =
+pub returns-in-None-clause-sent : goal.returns-in-None-clause-sent
+returns-in-None-clause-sent c =
     let parts = c.self.inside in
     let state : State = state_of parts.wall parts.keys parts.under_way parts.ports in
     rw (← c.self.view_is) (ap (after parts.ports.closed) (absent_takes c.args.port c.args.count state (none-kind _ parts.under_way (sym c.role_at.ensures ∙ c.in-None.is))))

@@ -3,7 +3,7 @@ use Rattle.agent_model.specs.Actions.{Stepped}
 use Rattle.agent_model.specs.Sound.{IsTied}
 use Rattle.agent_model.specs.State.{State}
 use Rattle.agent_model.proofs.FatedMakeLemmas.{tied-taken}
-use Rattle.agent_core.specs.Bound.{IsAtRest, IsBound, StillFits}
+use Rattle.agent_core.specs.Bound.{IsAtRest, IsBound, StillFits, WantsNoMemory}
 use Rattle.agent_core.specs.Happenings.{happening}
 use Rattle.agent_core.proofs.AgentLemmas.{agent_opened, agent_steps, bound-taken, tied-lost}
 use Rattle.agent_core.proofs.HeldLemmas.{after_ok}
@@ -39,3 +39,9 @@ returns-clause-stepped c =
     after_ok c.handle.result (λ handled.
     agent_steps c.args.moment (happening c.args.event.now) c.args.self.now.state c.take_in.new.self c.lose_late.new.self c.end_late.new.self c.handle.new.self c.take_in.ensures c.lose_late.ensures c.end_late.ensures handled)
     c.handle.ensures.handled
+
+pub returns-clause-succeeds : goal.returns-clause-succeeds
+returns-clause-succeeds c =
+    let event = happening c.args.event.now in
+    let opened = agent_opened c.args.moment c.args.self.now.state c.take_in.new.self c.lose_late.new.self c.end_late.new.self c.take_in.ensures c.lose_late.ensures c.end_late.ensures in
+    λ wants. c.handle.ensures.succeeds (subst (λ (s : State). WantsNoMemory s event) (sym opened) wants)
