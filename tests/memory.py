@@ -1,14 +1,17 @@
 #!/usr/bin/env python3
 """Refused memory: the built agent where one allocation after another is refused, and under limits of its address space.
 
-    tests/memory.py [rows|serve|limits]..
+    tests/memory.py [rows|serve|limits|played]..
+    tests/memory.py --write
 
 rows: literal schedules in which a key is replaced, a login is bound and signed, and a signature waits for consent.
 serve: one client that adds, lists, signs and leaves. Both are run once for each allocation, which is refused. The end
 is status 5 and what was written a prefix, or all is as without a refusal, or a start that failed is FAILURE. What serve
 frees is searched for the key's private field. limits: the same client and a longer list at 40 sizes of the address
-space, beginning where the agent comes to listen. Both sockets are gone at the end. The last line has the numbers of
-runs; ends with 1 where something failed.
+space, beginning where the agent comes to listen. Both sockets are gone at the end. played: tests of a world in memory
+with one client, of an agent and of a table alone, built by `rt try`, which refuses each allocation in turn: they answer,
+and end no process. The last line has the numbers of runs, and --write, of all parts, writes it into docs/PROOFS.md; ends
+with 1 where something failed.
 
 A library that cc makes here stands before malloc, so the agent must not be linked with AddressSanitizer."""
 
@@ -16,6 +19,7 @@ import collections
 import contextlib
 import os
 import pathlib
+import resource
 import shutil
 import subprocess
 import sys
@@ -186,12 +190,12 @@ def visit(path, bodies):
     return got
 
 
-def serve(program, folder, bodies, before=(), environment=None):
+def serve(program, folder, bodies, environment, limit=None):
     """The replies, the status, whether a socket is left, and the number of the process."""
     path = folder / "s"
-    words = [*before, str(program), "serve", "-a", str(path), "--until-idle", "--helper", str(HELPER)]
+    words = [str(program), "serve", "-a", str(path), "--until-idle", "--helper", str(HELPER)]
     quiet = dict(stdin=subprocess.DEVNULL, stdout=subprocess.DEVNULL, stderr=subprocess.DEVNULL)
-    with subprocess.Popen(words, env=environment, **quiet) as process:
+    with subprocess.Popen(words, env=environment, preexec_fn=limit, **quiet) as process:
         children = pathlib.Path(f"{path}.children")
         rig.until(lambda: children.exists() or process.poll() is not None, 60, what="the sockets")
         got = visit(path, bodies)
@@ -213,12 +217,12 @@ def judge(what, got, whole, status, is_left):
 
 
 def try_serve(program, folder, tally):
-    whole, status, is_left, pid = serve(program, folder, VISIT, environment=refusing(folder, 0, MARK.decode()))
+    whole, status, is_left, pid = serve(program, folder, VISIT, refusing(folder, 0, MARK.decode()))
     total, marks = counted(folder, pid)
     assert status == 0 and not is_left and whole[2][0] == rig.SIGNATURE, (status, whole)
     assert marks == 0, f"{marks} freed blocks hold a secret"
     for number in range(1, total + 1):
-        got, *ended, pid = serve(program, folder, VISIT, environment=refusing(folder, number, MARK.decode()))
+        got, *ended, pid = serve(program, folder, VISIT, refusing(folder, number, MARK.decode()))
         tally["serve: " + judge(number, got, whole, *ended)] += 1
         _, marks = counted(folder, pid)
         assert marks == 0, f"{number}: {marks} freed blocks hold a secret"
@@ -228,19 +232,21 @@ def try_serve(program, folder, tally):
 
 
 def limited(size):
-    return ["prlimit", f"--as={size}"]
+    """What gives a process that is to be the agent an address space of so many bytes."""
+    return lambda: resource.setrlimit(resource.RLIMIT_AS, (size, size))
 
 
 def listens(program, folder, size):
-    """Whether the agent comes to listen: it is loaded, has a stack, and memory for its sockets."""
+    """Whether the agent comes to listen, the library before malloc with it: it has a stack, and memory for its sockets."""
     path = folder / "l"
-    words = [*limited(size), str(program), "serve", "-a", str(path), "--helper", str(HELPER)]
+    words = [str(program), "serve", "-a", str(path), "--helper", str(HELPER)]
+    more = dict(env=refusing(folder, 0, MARK.decode()), preexec_fn=limited(size))
     quiet = dict(stdin=subprocess.DEVNULL, stdout=subprocess.DEVNULL, stderr=subprocess.DEVNULL)
-    with subprocess.Popen(words, **quiet) as process:
+    with subprocess.Popen(words, **more, **quiet) as process:
         children = pathlib.Path(f"{path}.children")
         rig.until(lambda: children.exists() or process.poll() is not None, 60, what="the sockets")
+        is_there = children.exists() and "refuse.so" in pathlib.Path(f"/proc/{process.pid}/maps").read_text()
         process.kill()
-    is_there = children.exists()
     for left in (path, children):
         left.unlink(missing_ok=True)
     return is_there
@@ -259,18 +265,53 @@ def least_size(program, folder):
 def try_limits(program, folder, tally):
     """Where the limit leaves the main thread no stack, the system ends it: no program can tell. So the first size has
     some pages more than the least."""
-    whole, status, is_left, _ = serve(program, folder, LONG_VISIT)
+    environment = refusing(folder, 0, MARK.decode())
+    whole, status, is_left, _ = serve(program, folder, LONG_VISIT, environment)
     assert status == 0 and not is_left, status
     least = least_size(program, folder)
     for place in range(1, 41):
         size = least + 8 * place << 12
-        got, *ended, _ = serve(program, folder, LONG_VISIT, limited(size))
+        got, *ended, pid = serve(program, folder, LONG_VISIT, environment, limited(size))
         tally["limits: " + judge(f"{size} bytes", got, whole, *ended)] += 1
+        _, marks = counted(folder, pid)
+        assert marks == 0, f"{size} bytes: {marks} freed blocks hold a secret"
     assert tally["limits: status 5"], "each size was enough"
     assert tally["limits: as without"], "no size was enough"
 
 
-def main(parts):
+# Worlds, agents and tables in memory.
+
+PLAYED = {
+    "hub_tests": "failing_tests::a_refused_allocation_ends_the_loop_or_nothing",
+    "core_tests": "memory_tests::a_refused_step_leaves_a_new_agent",
+    "part_tests": "identities::a_refused_addition_leaves_the_table_as_it_was",
+}
+
+
+def try_played(crate, test, tally):
+    """Refuses one allocation of each test of a crate after another, until a run has fewer. The others, which have no
+    memory to spare, may fail then."""
+    for number in range(1, 1000):
+        words = [os.environ.get("RT", "rt"), "try", "--test", "--fail-alloc", str(number)]
+        said = rig.run(words, None, cwd=rig.TOP / "crates" / crate, stdin=subprocess.DEVNULL, timeout=600)
+        assert f"{test} ... ok" in said, f"{crate}, {number}: {said[-2000:]}"
+        if "test result: ok" in said:
+            return
+        tally[f"played: {crate}"] += 1
+    raise AssertionError(f"{crate}: no run has few enough allocations")
+
+
+def write(line):
+    """Puts the numbers of runs between their marks in docs/PROOFS.md."""
+    place = rig.TOP / "docs/PROOFS.md"
+    before, begin, rest = place.read_text().partition("<!-- runs, by .ci/memory --write -->")
+    assert begin, "docs/PROOFS.md has no mark for the runs"
+    _, end, after = rest.partition("<!-- end of runs -->")
+    place.write_text(f"{before}{begin} {line} {end}{after}")
+
+
+def main(words):
+    parts = [word for word in words if word != "--write"]
     tally = collections.Counter()
     try:
         program = rig.there(rig.agent_program())
@@ -285,13 +326,19 @@ def main(parts):
                 try_serve(program, folder, tally)
             if not parts or "limits" in parts:
                 try_limits(program, folder, tally)
+        for crate, test in PLAYED.items():
+            if not parts or "played" in parts:
+                try_played(crate, test, tally)
     except rig.Skip as reason:
         print(f"memory: not run: {reason}")
         return 1
     except AssertionError as fault:
         print(f"memory: failed: {fault}")
         return 1
-    print("memory: " + ", ".join(f"{name} {count}" for name, count in tally.items()))
+    line = ", ".join(f"{name} {count}" for name, count in tally.items())
+    if "--write" in words and not parts:
+        write(line)
+    print(f"memory: {line}")
     return 0
 
 

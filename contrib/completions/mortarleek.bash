@@ -9,7 +9,7 @@ _mortarleek_agent() {
     -E:*) _mortarleek_offer -W 'sha256' -- "$2" ;;
     -O:*) _mortarleek_offer -W 'allow-remote-pkcs11 no-restrict-websafe' -- "$2" ;;
     -t:*) _mortarleek_offer -W '30m 1h 8h 1d' -- "$2" ;;
-    *:-*) _mortarleek_offer -W '--stand-in -a -c -D -d -E -k -O -P -s -T -t -U -u' -- "$2" ;;
+    *:-*) _mortarleek_offer -W '--stand-in --record -a -c -D -d -E -k -O -P -s -T -t -U -u' -- "$2" ;;
     *) _mortarleek_offer -c -- "$2" ;;
     esac
 }

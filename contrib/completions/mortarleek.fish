@@ -10,6 +10,7 @@ complete -c mortarleek -f -n __fish_use_subcommand -a serve -d 'Run the agent it
 # `mortarleek agent`, `mortarleek add` and `mortarleek filter` take the same words as the programs of these names.
 function __mortarleek_agent
     complete $argv -l stand-in -d 'Start the helper for tests'
+    complete $argv -l record -r -F -d 'Write what happens to a new file'
     complete $argv -s a -r -F -d 'Listen at this path'
     complete $argv -s c -d 'Print lines for csh'
     complete $argv -s D -d 'Stay in front'

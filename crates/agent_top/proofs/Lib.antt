@@ -1,5 +1,6 @@
 pub mod ProgramLemmas
 pub mod ServeLemmas
+pub mod RecordLemmas
 pub mod ServeLawLemmas
 pub mod ServeFairLemmas
 pub mod DrillProgramLemmas

@@ -12,6 +12,7 @@ use Rattle.ready_loop.specs.Serving.{RunsOut, Serves, Setting, Unbound}
 use Rattle.ready_loop.specs.declared.outcome.ServeEnd.{ServeEnd}
 use Rattle.ready_loop.specs.declared.outcome.ServeEnd.TheVariants as ends
 use Rattle.agent_top.specs.ServeProgram.{ServesExactly, status_of_serving}
+use Rattle.agent_top.specs.declared.status.Status.{Status}
 use Rattle.agent_top.specs.Words.{IsServe, replay_life, served_with, texts_of}
 
 -- a word isn't both
@@ -27,12 +28,12 @@ no_replay (word ∷ option ∷ life ∷ []) is = rw (not_both word is) refl
 no_replay (word ∷ option ∷ life ∷ more ∷ words) is = refl
 
 -- each end says what its status says
-pub serves_by : (end : ServeEnd) (setting : Setting) (old new : Option (List Entry)) → Serves end setting Unbound old new → ServesExactly setting (status_of_serving end) old new
-serves_by ends.Over setting old new serves = inl serves
-serves_by ends.Idle setting old new serves = inr serves
-serves_by ends.BindFault setting old new serves = serves
-serves_by ends.PollFault setting old new serves = serves
-serves_by ends.Memory setting old new serves = serves
+pub serves_by : (is_recorded : Bool) (end : ServeEnd) (setting : Setting) (old new : Option (List Entry)) → Serves end setting Unbound old new → ServesExactly is_recorded setting (status_of_serving end) old new
+serves_by is_recorded ends.Over setting old new serves = inl serves
+serves_by is_recorded ends.Idle setting old new serves = inr serves
+serves_by is_recorded ends.BindFault setting old new serves = serves
+serves_by is_recorded ends.PollFault setting old new serves = serves
+serves_by is_recorded ends.Memory setting old new serves = serves
 
 some_same : {one other : List ℕ} → Some one ≡ Some other → one ≡ other
 some_same same = cc
@@ -43,11 +44,11 @@ said words setting path until_idle life is at idle lives =
     let paths : path ≡ setting.path = some_same (at ∙ is.path) in
     rw (paths, idle, lives, ← is.until_idle, ← is.state) refl
 
--- what the loop's end says is said of the words' setting
-pub serves_words : (words : List (String Global)) (setting : Setting) (path : List ℕ) (until_idle : Bool) (life : Option ℕ) (state : State) (end : ServeEnd) (old new : Option (List Entry)) → IsServe words setting → Some path ≡ value_of (codes "path") (texts_of words) → until_idle ≡ is_set (value_of (codes "until-idle") (texts_of words)) → life ≡ life_in (texts_of words) → state ≡ first_state (served_with life) → Serves end (record { path = path; until_idle = until_idle; state = state }) Unbound old new → ServesExactly setting (status_of_serving end) old new
-serves_words words setting path until_idle life state end old new is at idle lives begun serves =
-    subst (λ (s : Setting). ServesExactly s (status_of_serving end) old new) (said words setting path until_idle life is at idle lives)
-    (serves_by end _ old new (subst (λ (s : State). Serves end (record { path = path; until_idle = until_idle; state = s }) Unbound old new) begun serves))
+-- what is said of the loop's end is said of the words' setting
+pub serves_words : (is_recorded : Bool) (words : List (String Global)) (setting : Setting) (path : List ℕ) (until_idle : Bool) (life : Option ℕ) (state : State) (result : Status) (old new : Option (List Entry)) → IsServe words setting → Some path ≡ value_of (codes "path") (texts_of words) → until_idle ≡ is_set (value_of (codes "until-idle") (texts_of words)) → life ≡ life_in (texts_of words) → state ≡ first_state (served_with life) → ServesExactly is_recorded (record { path = path; until_idle = until_idle; state = state }) result old new → ServesExactly is_recorded setting result old new
+serves_words is_recorded words setting path until_idle life state result old new is at idle lives begun serves =
+    subst (λ (s : Setting). ServesExactly is_recorded s result old new) (said words setting path until_idle life is at idle lives)
+    (subst (λ (s : State). ServesExactly is_recorded (record { path = path; until_idle = until_idle; state = s }) result old new) begun serves)
 
 -- no call was made
 pub no_call : (setting : Setting) (journal : Option (List Entry)) → RunsOut setting Unbound journal journal

@@ -2,5 +2,6 @@ pub mod Words
 pub mod Program
 pub mod DrillProgram
 pub mod ServeProgram
+pub mod RecordProgram
 pub mod ServeLaw
 pub mod ServeFair

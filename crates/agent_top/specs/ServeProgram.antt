@@ -5,7 +5,7 @@
 --   order things are served
 --   agent_model, specs/Step.antt: one step of the abstract agent
 --   agent_model, specs/Dispatch.antt: the table of requests
-use Rattle.std.specs.Prelude.{List, Option, ◌⊎◌, Ok, Err}
+use Rattle.std.specs.Prelude.{◌≡◌, Bool, true, false, List, Option, ◌⊎◌, Ok, Err}
 use Rattle.world_ports.specs.declared.entry.Entry.{Entry}
 use Rattle.world_ports.specs.declared.answers.Polled.TheVariants as polled
 use Rattle.world_ports.specs.declared.answers.WorldFault.TheVariants as fault
@@ -23,22 +23,39 @@ status_of_serving ends.BindFault = status.BindFault
 status_of_serving ends.PollFault = status.PollFault
 status_of_serving ends.Memory = status.Memory
 
--- the calls are those that the abstract agent's loop may make, up to the end that the status names
-abbrev pub ServesExactly : Setting → Status → Option (List Entry) → Option (List Entry) → Type 0
+-- the same of a recorded loop, by whether memory ran out for the record, and whether a write of it failed
+abbrev pub done_by : Bool → Status
+done_by true = status.WriteFault
+done_by false = status.Done
+
+abbrev pub status_of_recorded : Bool → Bool → ServeEnd → Status
+status_of_recorded true failed end = status.Memory
+status_of_recorded false failed ends.Over = done_by failed
+status_of_recorded false failed ends.Idle = done_by failed
+status_of_recorded false failed ends.BindFault = status.BindFault
+status_of_recorded false failed ends.PollFault = status.PollFault
+status_of_recorded false failed ends.Memory = status.Memory
+
 -- the world told that nothing will become ready any more, or the loop was to end as soon as it is idle, and is
-ServesExactly setting status.Done old new =
+abbrev pub RunsToItsEnd : Setting → Option (List Entry) → Option (List Entry) → Type 0
+RunsToItsEnd setting old new =
     RunsUpToPoll setting Unbound old new (Ok polled.Over) ⊎ RunsUntilIdle setting Unbound old new
+
+-- the calls are those that the abstract agent's loop may make, up to the end that the status names; they are recorded
+-- where the words say so
+abbrev pub ServesExactly : Bool → Setting → Status → Option (List Entry) → Option (List Entry) → Type 0
+ServesExactly is_recorded setting status.Done old new = RunsToItsEnd setting old new
 -- there is no schedule
-ServesExactly setting (status.ScheduleRefused line fault) old new = ⊥
+ServesExactly is_recorded setting (status.ScheduleRefused line fault) old new = ⊥
 -- the words were those of `serve`
-ServesExactly setting status.Usage old new = ⊥
+ServesExactly is_recorded setting status.Usage old new = ⊥
 -- the last call was a binding that failed
-ServesExactly setting status.BindFault old new = RunsUpToBind setting Unbound old new
+ServesExactly is_recorded setting status.BindFault old new = RunsUpToBind setting Unbound old new
 -- the last call was a poll that failed
-ServesExactly setting status.PollFault old new = RunsUpToPoll setting Unbound old new (Err fault.Failed)
+ServesExactly is_recorded setting status.PollFault old new = RunsUpToPoll setting Unbound old new (Err fault.Failed)
 -- memory ran out after these calls
-ServesExactly setting status.Memory old new = RunsOut setting Unbound old new
+ServesExactly is_recorded setting status.Memory old new = RunsOut setting Unbound old new
 -- nothing is read
-ServesExactly setting status.ReadFault old new = ⊥
--- nothing is written
-ServesExactly setting status.WriteFault old new = ⊥
+ServesExactly is_recorded setting status.ReadFault old new = ⊥
+-- the record couldn't be written to its end
+ServesExactly is_recorded setting status.WriteFault old new = (is_recorded ≡ true) × RunsToItsEnd setting old new

@@ -5,6 +5,7 @@
 
 mod agent;
 mod drilling;
+mod recording;
 mod serving;
 mod status;
 mod top;

@@ -1,20 +1,23 @@
 // The command `serve`.
-ghost use Rattle.std.specs.Prelude.{◌≡◌, ◌⊎◌, true};
+ghost use Rattle.std.specs.Prelude.{◌≡◌, ◌⊎◌, true, false};
 ghost use Rattle.ready_loop.specs.Serving.{Setting};
+ghost use Rattle.agent_top.specs.RecordProgram.{RecordsExactly};
 ghost use Rattle.agent_top.specs.ServeFair.{ServesFairly};
 ghost use Rattle.agent_top.specs.ServeLaw.{ServesLawfully};
 ghost use Rattle.agent_top.specs.ServeProgram.{ServesExactly, status_of_serving};
 ghost use Rattle.agent_top.specs.Words.{IsServe, texts_of};
-ghost use Rattle.serve_words.specs.Serve.{is_usage, life_in};
+ghost use Rattle.serve_words.specs.Serve.{is_recorded, is_usage, life_in};
 ghost use Rattle.world_ports.specs.Causes.{Rose};
+ghost use Rattle.world_ports.specs.Streams.{OnlyWrites};
 
+use crate::recording::serve_recorded;
 use crate::status::Status;
 use agent_core::{Agent, Settings};
 use ready_loop::{ServeEnd, serve};
 use serve_words::{ServeFault, read_serve};
 use std::alloc::Global;
 use std::sync::Wait;
-use world_ports::World;
+use world_ports::{Sink, World};
 
 // How many seconds a helper may leave an ask unanswered.
 const ASK_LIMIT: u32 = 60;
@@ -23,7 +26,7 @@ const ASK_LIMIT: u32 = 60;
 const CONFIRM_LIMIT: u32 = 300;
 
 // The status of a loop that ended so.
-fn status_of_serving(end: ServeEnd) -> Status
+pub fn status_of_serving(end: ServeEnd) -> Status
     ensures { result ≡ status_of_serving end }
 {
     match end {
@@ -35,11 +38,21 @@ fn status_of_serving(end: ServeEnd) -> Status
     }
 }
 
-// Serves clients over the world, where the words are those of the command.
-pub fn serve_by<R: Wait, W: World>(rt: &R, alloc: Global, words: &[String], world: &mut W) -> Status
+// Serves clients over the world, where the words are those of the command. Writes to the output where they ask for a
+// record.
+pub fn serve_by<R: Wait, W: World, O: Sink>(
+    rt: &R,
+    alloc: Global,
+    words: &[String],
+    world: &mut W,
+    output: &mut O,
+) -> Status
     requires { W.last_port world.old ≡ 0 }
     ensures serves { (setting : Setting) → IsServe words.now setting
-        → ServesExactly setting result (W.journal world.old) (W.journal world.new) }
+        → ServesExactly (is_recorded (texts_of words.now)) setting result (W.journal world.old) (W.journal world.new) }
+    ensures records { (setting : Setting) → IsServe words.now setting → is_recorded (texts_of words.now) ≡ true
+        → RecordsExactly result (W.journal world.old) (W.journal world.new) (O.seen output.old) (O.seen output.new) }
+    ensures unrecorded { is_recorded (texts_of words.now) ≡ false → output.new ≡ output.old }
     ensures serves_lawfully { (setting : Setting) → IsServe words.now setting
         → ServesLawfully (life_in (texts_of words.now)) setting (W.journal world.old) (W.journal world.new) }
     ensures serves_fairly { (setting : Setting) → IsServe words.now setting
@@ -47,9 +60,14 @@ pub fn serve_by<R: Wait, W: World>(rt: &R, alloc: Global, words: &[String], worl
     ensures usage { result ≡ Status.Usage → is_usage (texts_of words.now) ≡ true }
     ensures refused { is_usage (texts_of words.now) ≡ true
         → (result ≡ Status.Usage) ⊎ (result ≡ Status.Memory) }
-    ensures unused { is_usage (texts_of words.now) ≡ true → world.new ≡ world.old }
+    ensures unused { is_usage (texts_of words.now) ≡ true
+        → (world.new ≡ world.old) × (output.new ≡ output.old) }
     ensures bind { result ≡ Status.BindFault → Rose (W.faults world.old) (W.faults world.new) }
     ensures poll { result ≡ Status.PollFault → Rose (W.faults world.old) (W.faults world.new) }
+    ensures write { result ≡ Status.WriteFault
+        → Rose (O.seen output.old).write_faults (O.seen output.new).write_faults }
+    ensures led { W.leads world.old world.new }
+    ensures only { OnlyWrites (O.seen output.old) (O.seen output.new) }
 {
     let served = match read_serve(alloc, words) {
         Ok(served) => served,
@@ -63,5 +81,16 @@ pub fn serve_by<R: Wait, W: World>(rt: &R, alloc: Global, words: &[String], worl
     };
     let mut agent = Agent::new(alloc, settings);
     let path = served.path.as_str();
+    if served.recorded {
+        return serve_recorded(
+            rt,
+            alloc,
+            &mut agent,
+            world,
+            output,
+            path,
+            served.until_idle,
+        );
+    }
     status_of_serving(serve(rt, alloc, &mut agent, world, path, served.until_idle))
 }

@@ -1,14 +1,15 @@
 // The program over any input, output and world.
-ghost use Rattle.std.specs.Prelude.{◌≡◌, ◌⊎◌, ℕ, None, Option};
+ghost use Rattle.std.specs.Prelude.{◌≡◌, ◌⊎◌, ℕ, None, Option, true, false};
 ghost use Rattle.agent_top.specs.DrillProgram.{DrillCompletes, DrillsExactly};
 ghost use Rattle.agent_top.specs.Program.{ReplaysExactly, Completes, RunsLawfully};
+ghost use Rattle.agent_top.specs.RecordProgram.{RecordsExactly};
 ghost use Rattle.agent_top.specs.ServeFair.{ServesFairly};
 ghost use Rattle.agent_top.specs.ServeLaw.{ServesLawfully};
 ghost use Rattle.agent_top.specs.ServeProgram.{ServesExactly};
 ghost use Rattle.agent_top.specs.Words.{BeginsServe, Drilling, IsDrill, IsReplay, IsServe, IsUsage, drill_words, replay_life, texts_of};
 ghost use Rattle.ready_loop.specs.Serving.{Setting};
 ghost use Rattle.replay_run.specs.Claims.{Seen};
-ghost use Rattle.serve_words.specs.Serve.{life_in};
+ghost use Rattle.serve_words.specs.Serve.{is_recorded, life_in};
 ghost use Rattle.world_ports.specs.Causes.{Rose};
 ghost use Rattle.world_ports.specs.Streams.{OnlyReads, OnlyWrites};
 
@@ -27,7 +28,8 @@ use world_ports::{Sink, Source, World};
 /// With the word `replay` it runs the schedule that the input gives, and writes to the output what that
 /// prints. With `replay -t LIFE` identities that are added without a lifetime live so long: parts as in
 /// `1h30m`, or seconds; 0 stands for no lifetime. With `serve` and its options (crate serve_words) it
-/// serves clients over the world until that fails or, where it is asked to, until it is idle. With
+/// serves clients over the world until that fails or, where it is asked to, until it is idle; with `--record`
+/// it writes what happens to the output, as a schedule without secrets: `records`. With
 /// `drill N SEED` it makes N requests that are drawn from a seed, and writes a line that sums up what came
 /// of them. With any other words it touches none of the three.
 ///
@@ -35,8 +37,8 @@ use world_ports::{Sink, Source, World};
 /// neither the numbers of asks nor those of jobs are spent: `lawful` and `serves_lawfully`. With `serve` each thing that is
 /// ready and can be served is served between two services of any other: `serves_fairly`.
 ///
-/// What the clauses say stands in specs/Program.antt, DrillProgram.antt, ServeProgram.antt, ServeLaw.antt and
-/// ServeFair.antt, whose heads name where to read on, down to the table of requests.
+/// What the clauses say stands in specs/Program.antt, DrillProgram.antt, ServeProgram.antt, ServeLaw.antt,
+/// ServeFair.antt and RecordProgram.antt, whose heads name where to read on, down to the table of requests.
 pub fn agent_main<R: Wait, W: World, I: Source, O: Sink>(
     rt: &R,
     alloc: Global,
@@ -56,7 +58,9 @@ pub fn agent_main<R: Wait, W: World, I: Source, O: Sink>(
         (record { input = I.seen input.old; output = O.seen output.old })
         (record { input = I.seen input.new; output = O.seen output.new }) }
     ensures serves { (setting : Setting) → IsServe words.now setting
-        → ServesExactly setting result (W.journal world.old) (W.journal world.new) }
+        → ServesExactly (is_recorded (texts_of words.now)) setting result (W.journal world.old) (W.journal world.new) }
+    ensures records { (setting : Setting) → IsServe words.now setting → is_recorded (texts_of words.now) ≡ true
+        → RecordsExactly result (W.journal world.old) (W.journal world.new) (O.seen output.old) (O.seen output.new) }
     ensures serves_lawfully { (setting : Setting) → IsServe words.now setting
         → ServesLawfully (life_in (texts_of words.now)) setting (W.journal world.old) (W.journal world.new) }
     ensures serves_fairly { (setting : Setting) → IsServe words.now setting
@@ -74,14 +78,17 @@ pub fn agent_main<R: Wait, W: World, I: Source, O: Sink>(
     ensures drill_alone { (asked : Drilling) → IsDrill words.now asked
         → (input.new ≡ input.old) × (world.new ≡ world.old) }
     ensures serve_alone { replay_life (texts_of words.now) ≡ None
-        → (input.new ≡ input.old) × (drill_words (texts_of words.now) ≡ None → output.new ≡ output.old) }
+        → (input.new ≡ input.old) × (drill_words (texts_of words.now) ≡ None
+        → is_recorded (texts_of words.now) ≡ false → output.new ≡ output.old) }
     ensures bind { result ≡ Status.BindFault → Rose (W.faults world.old) (W.faults world.new) }
     ensures poll { result ≡ Status.PollFault → Rose (W.faults world.old) (W.faults world.new) }
+    ensures write { (setting : Setting) → IsServe words.now setting → result ≡ Status.WriteFault
+        → Rose (O.seen output.old).write_faults (O.seen output.new).write_faults }
     ensures input_only { OnlyReads (I.seen input.old) (I.seen input.new) }
     ensures output_only { OnlyWrites (O.seen output.old) (O.seen output.new) }
 {
     if begins_with_serve(words) {
-        return serve_by(rt, alloc, words, world);
+        return serve_by(rt, alloc, words, world, output);
     }
     if let Some(words) = read_drill(words) {
         return drill_by(alloc, words, output);

@@ -21,5 +21,5 @@ pub use crate::numbers::number as read_number;
 pub use crate::read::read_line;
 pub use crate::step::Step;
 pub use crate::step_line::put_step;
-pub use crate::texts::put_number;
+pub use crate::texts::{put_hex, put_number};
 pub use crate::write::put_deed;

@@ -1,7 +1,7 @@
 -- The definitions at words that are written out.
 use Rattle.std.proofs.Common.{◌≡◌, true, false, [], ◌∷◌, Some, None, codes, refl}
 use Rattle.clap.proofs.OnLiterals.{clap_on_literals}
-use Rattle.serve_words.specs.Serve.{is_taken, is_usage, life_in, serve_app, value_of}
+use Rattle.serve_words.specs.Serve.{is_recorded, is_taken, is_usage, life_in, serve_app, value_of}
 
 -- the least words
 pub is_usage-least : is_usage (codes "serve" ∷ codes "-a" ∷ codes "s" ∷ codes "--helper" ∷ codes "h" ∷ []) ≡ false
@@ -46,3 +46,12 @@ life_in-hour = refl
 pub life_in-none : life_in (codes "serve" ∷ codes "-a" ∷ codes "s" ∷ codes "-t" ∷ codes "0" ∷ codes "--helper" ∷ codes "h" ∷ []) ≡ None
 unfolding clap_on_literals value_of is_taken serve_app
 life_in-none = refl
+
+-- a record is made where it is asked for
+pub is_recorded-asked : is_recorded (codes "serve" ∷ codes "-a" ∷ codes "s" ∷ codes "--record" ∷ codes "--helper" ∷ codes "h" ∷ []) ≡ true
+unfolding clap_on_literals value_of is_taken serve_app
+is_recorded-asked = refl
+
+pub is_recorded-least : is_recorded (codes "serve" ∷ codes "-a" ∷ codes "s" ∷ codes "--helper" ∷ codes "h" ∷ []) ≡ false
+unfolding clap_on_literals value_of is_taken serve_app
+is_recorded-least = refl

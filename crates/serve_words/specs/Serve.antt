@@ -10,14 +10,15 @@ use Rattle.world_ports.specs.Life.{life_of}
 -- the command line: -a PATH and --helper PROGRAM have to be there, and the other options may be
 unfoldable pub serve_app : App
 serve_app =
-    with_rule (with_rule (with_rule (with_rule (with_rule (with_rule (with_rule (new_app (codes "serve"))
+    with_rule (with_rule (with_rule (with_rule (with_rule (with_rule (with_rule (with_rule (new_app (codes "serve"))
     (short_rule (codes "path") 97 true))
     (long_rule (codes "helper") true))
     (long_rule (codes "helper-data") false))
     (long_rule (codes "relay") false))
     (long_rule (codes "askpass") false))
     (short_rule (codes "lifetime") 116 false))
-    (flag_rule (codes "until-idle"))
+    (flag_rule (codes "until-idle")))
+    (flag_rule (codes "record"))
 
 -- clap takes the words, of which the first is the command's own
 unfoldable pub is_taken : List (List ℕ) → Bool
@@ -66,3 +67,7 @@ life_in words = default_life (value_of (codes "lifetime") words)
 abbrev pub is_set : Option (List ℕ) → Bool
 is_set None = false
 is_set (Some value) = bytes_eq value (codes "true")
+
+-- the output is to be a record of what happens
+abbrev pub is_recorded : List (List ℕ) → Bool
+is_recorded words = is_set (value_of (codes "record") words)

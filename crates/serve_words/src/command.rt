@@ -20,7 +20,8 @@ pub fn serve_command<'a>(alloc: Global) -> Result<Command<'a>, AllocError>
     let with_relay = with_data.arg(long_arg(alloc, "relay", false))?;
     let with_askpass = with_relay.arg(long_arg(alloc, "askpass", false))?;
     let with_life = with_askpass.arg(short_arg(alloc, "lifetime", 't', false))?;
-    let whole = with_life.arg(flag_arg(alloc, "until-idle"))?;
+    let with_idle = with_life.arg(flag_arg(alloc, "until-idle"))?;
+    let whole = with_idle.arg(flag_arg(alloc, "record"))?;
     Ok(whole)
 }
 

@@ -1,6 +1,6 @@
 // What the words of `serve` say.
 ghost use Rattle.std.specs.Prelude.{◌≡◌, IfOk, MatchResult, Some, codes, map, option_map, string_bytes, true, false};
-ghost use Rattle.serve_words.specs.Serve.{begins, default_life, is_no_life, is_set, is_usage, life_in, value_of};
+ghost use Rattle.serve_words.specs.Serve.{begins, default_life, is_no_life, is_recorded, is_set, is_usage, life_in, value_of};
 ghost use Rattle.serve_words.specs.declared.words.ServeFault.TheVariants.{Memory};
 
 use crate::command::serve_matches;
@@ -23,6 +23,8 @@ pub struct ServeWords {
     pub life: Option<u32>,
     /// Whether to end once a client has come and none is left.
     pub until_idle: bool,
+    /// Whether the output is to hold a record of what happens.
+    pub recorded: bool,
 }
 
 /// Why words are no command `serve`.
@@ -60,6 +62,7 @@ pub fn read_serve(alloc: Global, words: &[String]) -> Result<ServeWords, ServeFa
     ensures life { IfOk result (λ w. w.life ≡ life_in (map string_bytes words.now)) }
     ensures until_idle { IfOk result (λ w. w.until_idle
         ≡ is_set (value_of (codes "until-idle") (map string_bytes words.now))) }
+    ensures recorded { IfOk result (λ w. w.recorded ≡ is_recorded (map string_bytes words.now)) }
 {
     if !begins_with_serve(words) {
         return Err(ServeFault::Usage);
@@ -72,6 +75,7 @@ pub fn read_serve(alloc: Global, words: &[String]) -> Result<ServeWords, ServeFa
     let askpass = matches.get_str("askpass");
     let lifetime = matches.get_str("lifetime");
     let until_idle = matches.get_str("until-idle");
+    let recorded = matches.get_str("record");
     let (Some(path), Some(helper)) = (path, helper) else {
         return Err(ServeFault::Usage);
     };
@@ -87,6 +91,7 @@ pub fn read_serve(alloc: Global, words: &[String]) -> Result<ServeWords, ServeFa
         askpass: owned(alloc, askpass)?,
         life,
         until_idle: says_true(until_idle),
+        recorded: says_true(recorded),
     })
 }
 

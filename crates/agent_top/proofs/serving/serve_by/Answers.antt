@@ -1,11 +1,12 @@
-use Rattle.std.proofs.Common.{ap, arith, subst, sym, ◌∙◌, ◌≤◌, Some}
+use Rattle.std.proofs.Common.{ap, arith, subst, sym, true, ◌∙◌, ◌≤◌, Bool, Some}
+use Rattle.agent_top.specs.ServeProgram.{ServesExactly}
 use Rattle.agent_model.specs.State.{State}
 use Rattle.loop_model.specs.Orderly.{IsOrderly}
 use Rattle.loop_model.proofs.OwedLemmas.{orderly_first}
 use Rattle.agent_model.specs.Actions.{Stepped}
 use Rattle.agent_top.proofs.ServeFairLemmas.{serves_fairly}
 use Rattle.agent_top.proofs.ServeLawLemmas.{serves_lawfully}
-use Rattle.agent_top.proofs.ServeLemmas.{serves_words}
+use Rattle.agent_top.proofs.ServeLemmas.{serves_by, serves_words}
 use Rattle.agent_top.proofs.serving.serve_by.Goals as goal
 
 pub serve-requires-clause-orderly : goal.serve-requires-clause-orderly
@@ -19,11 +20,11 @@ serve-requires-clause-second g c =
 
 pub returns-clause-serves : goal.returns-clause-serves
 returns-clause-serves g c setting is =
-    rw c.status_of_serving.ensures
-    (serves_words c.args.words.now setting c.as_str-path.result.now c.in-Ok.served.until_idle c.in-Ok.served.life c.new-agent.result.state c.serve.result
+    serves_words _ c.args.words.now setting c.as_str-path.result.now c.in-Ok.served.until_idle c.in-Ok.served.life c.new-agent.result.state _
     (g.W.World.journal c.args.world.now) (g.W.World.journal c.serve.new.world) is
     (ap Some c.as_str-path.ensures.value ∙ c.in-Ok.ensures.path) c.in-Ok.ensures.until_idle c.in-Ok.ensures.life
-    (ap (λ (seen : Stepped). seen.state) c.new-agent.ensures) c.serve.ensures.serves)
+    (ap (λ (seen : Stepped). seen.state) c.new-agent.ensures)
+    (rw c.status_of_serving.ensures (serves_by _ c.serve.result _ _ _ c.serve.ensures.serves))
 
 pub returns-clause-serves_lawfully : goal.returns-clause-serves_lawfully
 returns-clause-serves_lawfully g c setting is = serves_lawfully _ setting _ _ is.state
@@ -36,3 +37,18 @@ returns-clause-serves_fairly g c setting is = serves_fairly setting _ _
 
 pub returns-in-Err-Memory-clause-serves_fairly : goal.returns-in-Err-Memory-clause-serves_fairly
 returns-in-Err-Memory-clause-serves_fairly g c setting is = serves_fairly setting _ _
+
+pub returns-then-served-clause-serves : goal.returns-then-served-clause-serves
+returns-then-served-clause-serves g c setting is =
+    subst (λ (recorded : Bool). ServesExactly recorded setting c.serve_recorded.result (g.W.World.journal c.args.world.now) (g.W.World.journal c.serve_recorded.new.world))
+    (sym c.if-served.true ∙ c.in-Ok.ensures.recorded)
+    (serves_words true c.args.words.now setting c.as_str-path.result.now c.in-Ok.served.until_idle c.in-Ok.served.life c.new-agent.result.state c.serve_recorded.result
+    (g.W.World.journal c.args.world.now) (g.W.World.journal c.serve_recorded.new.world) is
+    (ap Some c.as_str-path.ensures.value ∙ c.in-Ok.ensures.path) c.in-Ok.ensures.until_idle c.in-Ok.ensures.life
+    (ap (λ (seen : Stepped). seen.state) c.new-agent.ensures) c.serve_recorded.ensures.serves)
+
+pub returns-then-served-clause-serves_lawfully : goal.returns-then-served-clause-serves_lawfully
+returns-then-served-clause-serves_lawfully g c setting is = serves_lawfully _ setting _ _ is.state
+
+pub returns-then-served-clause-serves_fairly : goal.returns-then-served-clause-serves_fairly
+returns-then-served-clause-serves_fairly g c setting is = serves_fairly setting _ _

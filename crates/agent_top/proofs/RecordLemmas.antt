@@ -1,0 +1,113 @@
+-- The end of a loop whose calls are recorded.
+use Rattle.std.proofs.Common.{◌≡◌, ◌∙◌, ◌++◌, ◌∷◌, [], ℕ, Bool, true, false, ◌||◌, List, Option, Some, None, append-nil, refl, subst, sym, ap, inl, inr}
+use Rattle.std.proofs.lemmas.List.{append_cancel_left}
+use Rattle.world_ports.specs.Causes.{Rose}
+use Rattle.world_ports.specs.Journal.{Grows}
+use Rattle.world_ports.specs.Streams.{OnlyWrites, StreamView}
+use Rattle.world_ports.specs.declared.entry.Entry.{Entry}
+use Rattle.record_world.specs.Leads.{BreaksFor, IsFront, IsWhole, IsWritten, Leads, Taped, Writes, taped}
+use Rattle.record_world.specs.Recording.{Recording, first_recording, record_of}
+use Rattle.ready_loop.specs.Serving.{RunsOut, RunsUpTo, Running, Serves, Setting, Unbound}
+use Rattle.ready_loop.specs.declared.outcome.ServeEnd.{ServeEnd}
+use Rattle.ready_loop.specs.declared.outcome.ServeEnd.TheVariants as ends
+use Rattle.agent_top.specs.RecordProgram.{Records, RecordsExactly}
+use Rattle.agent_top.specs.ServeProgram.{ServesExactly, status_of_recorded, status_of_serving}
+use Rattle.agent_top.specs.declared.status.Status.{Status}
+use Rattle.agent_top.specs.declared.status.Status.TheVariants as status
+
+-- what came before an end may come where memory runs out
+out_of : (setting : Setting) (old new : Option (List Entry)) (last : Entry) → RunsUpTo setting Unbound old new last → RunsOut setting Unbound old new
+out_of setting old new last calls = record {
+  to = calls.to;
+  calls = record { added = calls.before ++ last ∷ []; told = calls.told; legal = calls.legal };
+}
+
+runs_out : (end : ServeEnd) (setting : Setting) (old new : Option (List Entry)) → Serves end setting Unbound old new → RunsOut setting Unbound old new
+runs_out ends.Over setting old new serves = out_of setting old new _ serves.calls
+runs_out ends.Idle setting old new serves = record { to = Running serves.turning; calls = serves.calls }
+runs_out ends.BindFault setting old new serves = out_of setting old new _ serves.calls
+runs_out ends.PollFault setting old new serves = out_of setting old new _ serves.calls
+runs_out ends.Memory setting old new serves = serves
+
+-- each end says what its status says
+pub recorded_by : (short failed : Bool) (end : ServeEnd) (setting : Setting) (old new : Option (List Entry)) → Serves end setting Unbound old new → ServesExactly true setting (status_of_recorded short failed end) old new
+recorded_by true failed end setting old new serves = runs_out end setting old new serves
+recorded_by false true ends.Over setting old new serves = (refl, inl serves)
+recorded_by false true ends.Idle setting old new serves = (refl, inr serves)
+recorded_by false false ends.Over setting old new serves = inl serves
+recorded_by false false ends.Idle setting old new serves = inr serves
+recorded_by false failed ends.BindFault setting old new serves = serves
+recorded_by false failed ends.PollFault setting old new serves = serves
+recorded_by false failed ends.Memory setting old new serves = serves
+
+-- the calls are those that the journal has more
+same_calls : (before : List Entry) (journal : Option (List Entry)) (one other : List Entry) → Grows (Some before) journal one → Grows (Some before) journal other → one ≡ other
+same_calls before None one other first second = absurd first
+same_calls before (Some now) one other first second = append_cancel_left before one other (sym first ∙ second)
+
+-- what a recorder wrote of them, by how it stands at the end
+records_as : (short failed : Bool) (end : ServeEnd) (after : Recording) (calls : List Entry) (old new : StreamView) (text : List ℕ)
+    → (BreaksFor false failed old.write_faults new.write_faults) → IsWritten false (failed || short) first_recording after calls text
+    → IsFront text (record_of calls) × (¬ (Rose old.write_faults new.write_faults) → ¬ (status_of_recorded short failed end ≡ status.Memory) → text ≡ record_of calls)
+records_as short true end after calls old new text cause front = (front, λ none memory. absurd (none cause))
+records_as true false end after calls old new text cause front = (front, λ none memory. absurd (memory refl))
+records_as false false end after calls old new text cause whole =
+    (record { more = []; is = append-nil text ∙ whole.lines }, λ none memory. whole.lines)
+
+-- a recorder's end says what the status says
+pub records_by : (short failed : Bool) (end : ServeEnd) (after : Recording) (journal later : Option (List Entry)) (old new : StreamView)
+    → Leads journal later (taped old false false first_recording) (taped new failed short after)
+    → RecordsExactly (status_of_recorded short failed end) journal later old new
+records_by short failed end after None later old new leads = tt
+records_by short failed end after (Some before) later old new leads = λ calls grows.
+    let same : leads.entries ≡ calls = same_calls before later leads.entries calls leads.grows grows in
+    let parts = records_as short failed end after calls old new leads.writes.text leads.writes.cause
+    (subst (λ (c : List Entry). IsWritten false (failed || short) first_recording after c leads.writes.text) same leads.writes.lines) in
+    record { text = leads.writes.text; written = leads.writes.written; front = parts.0; whole = parts.1 }
+
+-- what a recorder wrote since it was made
+pub since_made : (journal begun later : Option (List Entry)) (old : StreamView) (first last : Taped) → begun ≡ journal → first ≡ taped old false false first_recording
+    → Leads begun later first last → Leads journal later (taped old false false first_recording) last
+since_made journal begun later old first last same made led =
+    subst (λ (tape : Taped). Leads journal later tape last) made (subst (λ (calls : Option (List Entry)). Leads calls later first last) same led)
+
+tells_write : Status → Bool
+tells_write status.Done = false
+tells_write (status.ScheduleRefused line fault) = false
+tells_write status.Usage = false
+tells_write status.BindFault = false
+tells_write status.PollFault = false
+tells_write status.Memory = false
+tells_write status.ReadFault = false
+tells_write status.WriteFault = true
+
+-- the status tells a failed write only where one failed
+pub failed_by : (short failed : Bool) (end : ServeEnd) → status_of_recorded short failed end ≡ status.WriteFault → failed ≡ true
+unfolding tells_write
+failed_by short true end is = refl
+failed_by true false end is = ap tells_write is
+failed_by false false ends.Over is = ap tells_write is
+failed_by false false ends.Idle is = ap tells_write is
+failed_by false false ends.BindFault is = ap tells_write is
+failed_by false false ends.PollFault is = ap tells_write is
+failed_by false false ends.Memory is = ap tells_write is
+
+-- all that a recorder says to its caller at the end
+pub record Told (result : Status) (journal later : Option (List Entry)) (old new : StreamView) : Type 0 where
+  pub records : RecordsExactly result journal later old new
+  pub write : result ≡ status.WriteFault → Rose old.write_faults new.write_faults
+  pub only : OnlyWrites old new
+
+pub told_by : (result : Status) (seen_short seen_failed short failed : Bool) (end : ServeEnd) (journal begun later : Option (List Entry)) (old new : StreamView) (first : Taped) (after : Recording)
+    → result ≡ status_of_recorded seen_short seen_failed end → seen_short ≡ short → seen_failed ≡ failed
+    → begun ≡ journal → first ≡ taped old false false first_recording → Leads begun later first (taped new failed short after)
+    → Told result journal later old new
+told_by result seen_short seen_failed short failed end journal begun later old new first after is same_short same_failed same made began =
+    let led : Leads journal later (taped old false false first_recording) (taped new failed short after) =
+    since_made journal begun later old first (taped new failed short after) same made began in
+    let ends : result ≡ status_of_recorded short failed end = is ∙ ap (λ (s : Bool). status_of_recorded s seen_failed end) same_short ∙ ap (λ (f : Bool). status_of_recorded short f end) same_failed in
+    record {
+      records = subst (λ (r : Status). RecordsExactly r journal later old new) (sym ends) (records_by short failed end after journal later old new led);
+      write = λ wrote. subst (λ (broken : Bool). BreaksFor false broken old.write_faults new.write_faults) (failed_by short failed end (sym ends ∙ wrote)) led.writes.cause;
+      only = led.writes.only;
+    }

@@ -1,0 +1,27 @@
+-- What the end of `serve --record` says of its output (ours): `RecordsExactly`. From here on down, each file read from its
+-- end:
+--   record_world, specs/Recording.antt: the lines of each call, and when they are written
+--   redact_core, specs/Redaction.antt: a message without its secrets
+use Rattle.std.specs.Prelude.{◌≡◌, Bool, true, false, ℕ, List, Option, Some, None}
+use Rattle.std.specs.Io.KnownBytes.{Appends}
+use Rattle.world_ports.specs.Causes.{Rose}
+use Rattle.world_ports.specs.Journal.{Grows}
+use Rattle.world_ports.specs.Streams.{StreamView}
+use Rattle.world_ports.specs.declared.entry.Entry.{Entry}
+use Rattle.record_world.specs.Leads.{IsFront}
+use Rattle.record_world.specs.Recording.{record_of}
+use Rattle.agent_top.specs.declared.status.Status.{Status}
+use Rattle.agent_top.specs.declared.status.Status.TheVariants as status
+
+-- the record of the calls was written: all of it, or a front where a write failed or memory ran out
+pub record Records (result : Status) (calls : List Entry) (old new : StreamView) : Type 0 where
+  pub text : List ℕ
+  pub written : Appends old.written new.written text
+  pub front : IsFront text (record_of calls)
+  pub whole : ¬ (Rose old.write_faults new.write_faults) → ¬ (result ≡ status.Memory) → text ≡ record_of calls
+
+-- the calls that were added are recorded, where the journal is told
+abbrev pub RecordsExactly : Status → Option (List Entry) → Option (List Entry) → StreamView → StreamView → Type 0
+RecordsExactly result None journal old new = Unit {0}
+RecordsExactly result (Some before) journal old new =
+    (calls : List Entry) → Grows (Some before) journal calls → Records result calls old new

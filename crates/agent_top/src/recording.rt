@@ -1,0 +1,60 @@
+// The command `serve` with a record of its calls.
+ghost use Rattle.std.specs.Prelude.{◌≡◌, ◌≤◌, true};
+ghost use Rattle.agent_top.specs.RecordProgram.{RecordsExactly};
+ghost use Rattle.agent_top.specs.ServeProgram.{ServesExactly, status_of_recorded};
+ghost use Rattle.loop_model.specs.Orderly.{IsOrderly};
+ghost use Rattle.world_ports.specs.Causes.{Rose};
+ghost use Rattle.world_ports.specs.Streams.{OnlyWrites};
+
+use crate::serving::status_of_serving;
+use crate::status::Status;
+use ready_loop::{Core, ServeEnd, serve};
+use record_world::{Recorder, Tape};
+use std::alloc::Global;
+use std::sync::Wait;
+use world_ports::{Sink, World};
+
+// The status of a recorded loop that ended so. Where memory ran out for the record, it may lack what the loop did.
+fn status_of_recorded(short: bool, failed: bool, end: ServeEnd) -> Status
+    ensures { result ≡ status_of_recorded short failed end }
+{
+    if short {
+        return Status::Memory;
+    }
+    match status_of_serving(end) {
+        Status::Done if failed => Status::WriteFault,
+        status => status,
+    }
+}
+
+// Serves clients over the world, and writes a record of its calls to the output.
+pub fn serve_recorded<R: Wait, A: Core, W: World, O: Sink>(
+    rt: &R,
+    alloc: Global,
+    agent: &mut A,
+    world: &mut W,
+    output: &mut O,
+    path: &str,
+    until_idle: bool,
+) -> Status
+    requires orderly { IsOrderly (A.state agent.old) }
+    requires first { W.last_port world.old ≡ 0 }
+    requires ports { W.last_port world.old ≡ (A.state agent.old).last_port }
+    requires second { (A.state agent.old).moment.mono ≤ W.greatest world.old }
+    ensures serves { ServesExactly true
+        (record { path = path.now; until_idle = until_idle; state = A.state agent.old }) result
+        (W.journal world.old) (W.journal world.new) }
+    ensures records { RecordsExactly result (W.journal world.old) (W.journal world.new)
+        (O.seen output.old) (O.seen output.new) }
+    ensures bind { result ≡ Status.BindFault → Rose (W.faults world.old) (W.faults world.new) }
+    ensures poll { result ≡ Status.PollFault → Rose (W.faults world.old) (W.faults world.new) }
+    ensures write { result ≡ Status.WriteFault
+        → Rose (O.seen output.old).write_faults (O.seen output.new).write_faults }
+    ensures led { W.leads world.old world.new }
+    ensures only { OnlyWrites (O.seen output.old) (O.seen output.new) }
+{
+    let mut tape = Tape::new(alloc);
+    let mut recorder = Recorder::new(world, output, &mut tape);
+    let end = serve(rt, alloc, agent, &mut recorder, path, until_idle);
+    status_of_recorded(recorder.short(), recorder.broken(), end)
+}

@@ -1,0 +1,190 @@
+-- What a recorder wrote of one call.
+use Rattle.std.proofs.Common.{codes, ◌≡◌, ◌++◌, ◌||◌, Bool, true, false, not, ℕ, List, [], ◌∷◌, Option, refl, sym, ap, subst, ◌∙◌, append_assoc, append-nil, Result, Ok, Err, OnErr, ◌⊎◌, inl, inr}
+use Rattle.std.specs.Io.KnownBytes.{Appends}
+use Rattle.std.proofs.KnownBytes.{Appends-nil, Appends-trans}
+use Rattle.world_ports.specs.Journal.{Tells}
+use Rattle.world_ports.specs.Streams.{StreamView, WritesPart}
+use Rattle.world_ports.specs.declared.Door.{Door}
+use Rattle.world_ports.specs.declared.answers.WorldFault.{WorldFault}
+use Rattle.world_ports.specs.declared.entry.Entry.{Entry}
+use Rattle.world_ports.specs.declared.entry.Entry.TheVariants as entry
+use Rattle.record_world.specs.Recording.{Recording, after, bind_text, record_from, text_of}
+use Rattle.record_world.specs.Leads.{BreaksFor, IsOrder, IsWritten, Leads, Puts, Stays, Taped, Writes, WritesOf, taped}
+use Rattle.record_world.specs.Orders.{cause-same, grows-none, only-none, stays-same, writes-none, writes-twice}
+
+pub is_order : IsOrder
+is_order = record { stays = writes-none; goes_on = writes-twice }
+
+-- what a call told the journal, and what was written of its entry
+pub leads-call : (is_short : Bool) (one : Entry) (i j : Option (List Entry)) (x y : Taped) → Tells i j is_short one → WritesOf is_short one x y → Leads i j x y
+leads-call false one i j x y told wrote = record { entries = one ∷ []; grows = told; writes = wrote }
+leads-call true one i j x y (inl told) wrote = record { entries = one ∷ []; grows = told; writes = wrote (one ∷ []) }
+leads-call true one i j x y (inr told) wrote = record { entries = []; grows = told; writes = wrote [] }
+
+-- ---- nothing is written
+
+-- a recorder that is stopped afterwards, of any entries
+stopped-lines : (before after : Bool) (kept left : Recording) (entries : List Entry) → after ≡ true → IsWritten before after kept left entries []
+stopped-lines true after kept left entries is = refl
+stopped-lines false true kept left entries is = record { more = record_from kept entries; is = refl }
+stopped-lines false false kept left entries is = absurd cc
+
+stays-or : (short more : Bool) → Stays short (short || more)
+stays-or true more = refl
+stays-or false more = tt
+
+pub writes-stopped : (entries : List Entry) (sink : StreamView) (broken short more : Bool) (kept left : Recording) → broken || (short || more) ≡ true
+    → Writes entries (taped sink broken short kept) (taped sink broken (short || more) left)
+writes-stopped entries sink broken short more kept left is = record {
+  text = [];
+  written = Appends-nil sink.written;
+  only = only-none sink;
+  broken = stays-same broken;
+  short = stays-or short more;
+  cause = cause-same broken sink.write_faults;
+  lines = stopped-lines (broken || short) (broken || (short || more)) kept left entries is;
+}
+
+not_false : (b : Bool) → not b ≡ false → b ≡ true
+not_false true is = refl
+not_false false is = absurd cc
+
+not_true : (b : Bool) → not b ≡ true → b ≡ false
+not_true true is = absurd cc
+not_true false is = refl
+
+-- it was stopped before, or this call wanted memory
+pub passed_by : (is_short : Bool) (one : Entry) (sink : StreamView) (broken short : Bool) (kept : Recording) → not (broken || (short || is_short)) ≡ false
+    → WritesOf is_short one (taped sink broken short kept) (taped sink broken (short || is_short) kept)
+passed_by true one sink broken short kept stopped = λ entries. writes-stopped entries sink broken short true kept kept (not_false _ stopped)
+passed_by false one sink broken short kept stopped = writes-stopped (one ∷ []) sink broken short false kept kept (not_false _ stopped)
+
+-- ---- its lines are written
+
+-- the lines of one entry
+of_one : (one : Entry) (kept : Recording) (text : List ℕ) → text ≡ text_of one kept → text ≡ record_from kept (one ∷ [])
+of_one one kept text is = is ∙ sym (append-nil (text_of one kept))
+
+-- a call without lines
+pub silent : (is_short : Bool) (one : Entry) (sink : StreamView) (broken short : Bool) (kept : Recording) → not (broken || (short || is_short)) ≡ true → text_of one kept ≡ []
+    → WritesOf is_short one (taped sink broken short kept) (taped sink broken (short || is_short) (after one kept))
+silent is_short one sink true short kept goes none = absurd cc
+silent is_short one sink false true kept goes none = absurd cc
+silent true one sink false false kept goes none = absurd cc
+silent false one sink false false kept goes none = record {
+  text = [];
+  written = Appends-nil sink.written;
+  only = only-none sink;
+  broken = tt;
+  short = tt;
+  cause = tt;
+  lines = record { lines = of_one one kept [] (sym none); left = refl };
+}
+
+-- its text is put
+put_one : (failed : Bool) (one : Entry) (sink later : StreamView) (kept : Recording) (text : List ℕ) → Puts text sink later failed → text ≡ text_of one kept
+    → Writes (one ∷ []) (taped sink false false kept) (taped later failed false (after one kept))
+put_one false one sink later kept text puts is = record {
+  text = text;
+  written = puts.written;
+  only = puts.only;
+  broken = tt;
+  short = tt;
+  cause = puts.cause;
+  lines = record { lines = of_one one kept text is; left = refl };
+}
+put_one true one sink later kept text puts is = record {
+  text = puts.written.1.front;
+  written = puts.written.1.written;
+  only = puts.only;
+  broken = tt;
+  short = tt;
+  cause = puts.cause;
+  lines = record { more = puts.written.0; is = puts.written.1.whole ∙ of_one one kept text is };
+}
+
+pub written_by : (is_short : Bool) (one : Entry) (sink later : StreamView) (broken short failed : Bool) (kept : Recording) (text : List ℕ) → not (broken || (short || is_short)) ≡ true
+    → Puts text sink later failed → text ≡ text_of one kept
+    → WritesOf is_short one (taped sink broken short kept) (taped later failed (short || is_short) (after one kept))
+written_by is_short one sink later true short failed kept text goes puts is = absurd cc
+written_by is_short one sink later false true failed kept text goes puts is = absurd cc
+written_by true one sink later false false failed kept text goes puts is = absurd cc
+written_by false one sink later false false failed kept text goes puts is = put_one failed one sink later kept text puts is
+
+-- memory ran out behind the call
+pub ran_out : (is_short : Bool) (one : Entry) (sink : StreamView) (broken short : Bool) (kept left : Recording) → not (broken || (short || is_short)) ≡ true
+    → WritesOf is_short one (taped sink broken short kept) (taped sink broken true left)
+ran_out is_short one sink true short kept left goes = absurd cc
+ran_out is_short one sink false true kept left goes = absurd cc
+ran_out true one sink false false kept left goes = absurd cc
+ran_out false one sink false false kept left goes = writes-stopped (one ∷ []) sink false false true kept left refl
+
+-- ---- no call on the inner world, since memory was wanted for it
+
+pub leads-lacking : (lacks : Bool) (journal : Option (List Entry)) (sink : StreamView) (broken short : Bool) (kept : Recording) → lacks ≡ true
+    → Leads journal journal (taped sink broken short kept) (taped sink broken (short || lacks) kept)
+leads-lacking false journal sink broken short kept is = absurd cc
+leads-lacking true journal sink broken short kept is = record {
+  entries = [];
+  grows = grows-none journal;
+  writes = writes-stopped [] sink broken short true kept kept (stopped broken short);
+}
+  where
+    stopped : (a b : Bool) → a || (b || true) ≡ true
+    stopped true b = refl
+    stopped false true = refl
+    stopped false false = refl
+
+-- ---- two texts, one after the other
+
+-- a part of the first is a part of both
+pub part_longer : (first second : List ℕ) (x y : StreamView) → WritesPart first x y → WritesPart (first ++ second) x y
+part_longer first second x y part = (
+  part.0 ++ second,
+  record {
+    front = part.1.front;
+    whole = sym (append_assoc part.1.front part.0 second) ∙ ap (λ (l : List ℕ). l ++ second) part.1.whole;
+    written = part.1.written;
+  },
+)
+
+-- and so is the first with a part of the second
+part-behind : (first second : List ℕ) (x y z : StreamView) → Appends x.written y.written first → WritesPart second y z → WritesPart (first ++ second) x z
+part-behind first second x y z early part = (
+  part.0,
+  record {
+    front = first ++ part.1.front;
+    whole = append_assoc first part.1.front part.0 ∙ ap (λ (l : List ℕ). first ++ l) part.1.whole;
+    written = Appends-trans x.written y.written z.written first part.1.front early part.1.written;
+  },
+)
+
+pub part_behind_err : {T E : Type 0} (result : Result T E) (first second : List ℕ) (x y z : StreamView) → Appends x.written y.written first
+    → OnErr result (WritesPart second y z) → OnErr result (WritesPart (first ++ second) x z)
+part_behind_err (Ok value) first second x y z early part = tt
+part_behind_err (Err fault) first second x y z early part = part-behind first second x y z early part
+
+-- what an error leaves
+pub on_err : {T E : Type 0} (result : Result T E) (fact : Type 0) → fact → OnErr result fact
+on_err (Ok value) fact holds = tt
+on_err (Err fault) fact holds = holds
+
+-- ---- the first bind
+
+pub bind_wrote : (is_short : Bool) (door : Door) (path : List ℕ) (answer : Result (Unit {0}) WorldFault) (sink later : StreamView) (broken short failed said first shortened : Bool) (kept left : Recording)
+    → shortened ≡ (short || is_short) → said ≡ not (broken || (short || is_short)) → said ≡ true → first ≡ not kept.is_bound → first ≡ true
+    → left ≡ after (entry.Bind door path answer) kept → Puts (codes "schedule 2\n" ++ []) sink later failed
+    → WritesOf is_short (entry.Bind door path answer) (taped sink broken short kept) (taped later failed shortened left)
+bind_wrote is_short door path answer sink later broken short failed said first shortened kept left is_shortened says goes is_first is_one is_left puts =
+    subst (λ (b : Bool). WritesOf is_short (entry.Bind door path answer) (taped sink broken short kept) (taped later failed b left)) (sym is_shortened)
+    (subst (λ (r : Recording). WritesOf is_short (entry.Bind door path answer) (taped sink broken short kept) (taped later failed (short || is_short) r)) (sym is_left)
+    (written_by is_short (entry.Bind door path answer) sink later broken short failed kept (codes "schedule 2\n" ++ []) (sym says ∙ goes) puts
+    (sym (ap bind_text (not_true kept.is_bound (sym is_first ∙ is_one))))))
+
+-- ---- no memory was wanted before
+
+pub not_lacking : (lacks is_short : Bool) (one : Entry) (sink : StreamView) (broken short : Bool) (kept : Recording) (later : Taped) → lacks ≡ false
+    → WritesOf is_short one (taped sink broken (short || lacks) kept) later → WritesOf is_short one (taped sink broken short kept) later
+not_lacking true is_short one sink broken short kept later is wrote = absurd cc
+not_lacking false is_short one sink broken true kept later is wrote = wrote
+not_lacking false is_short one sink broken false kept later is wrote = wrote

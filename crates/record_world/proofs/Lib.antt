@@ -1,0 +1,4 @@
+mod FrameLemmas
+mod HearLemmas
+mod LeadsLemmas
+mod NoteLemmas

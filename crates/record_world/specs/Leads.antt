@@ -1,0 +1,90 @@
+-- An earlier and a later state of one recorder (ours).
+use Rattle.std.specs.Prelude.{◌≡◌, ◌++◌, ◌||◌, Bool, true, false, ℕ, List, [], ◌∷◌, Option}
+use Rattle.std.specs.Io.KnownBytes.{Appends}
+use Rattle.world_ports.specs.Causes.{Rose}
+use Rattle.world_ports.specs.Journal.{Grows}
+use Rattle.world_ports.specs.Streams.{OnlyWrites, StreamView, WritesPart}
+use Rattle.world_ports.specs.declared.entry.Entry.{Entry}
+use Rattle.record_world.specs.Recording.{Recording, record_from, recording_after}
+
+-- the side of a recorder that writes: what its sink tells, whether that failed, whether memory ran out, and what is kept
+-- between two entries
+pub record Taped : Type 0 where
+  pub sink : StreamView
+  pub is_broken : Bool
+  pub is_short : Bool
+  pub recording : Recording
+
+abbrev pub taped : StreamView → Bool → Bool → Recording → Taped
+taped sink is_broken is_short recording =
+    record { sink = sink; is_broken = is_broken; is_short = is_short; recording = recording }
+
+-- it writes nothing more
+abbrev pub is_stopped : Taped → Bool
+is_stopped tape = tape.is_broken || tape.is_short
+
+-- a text stands at the front of another
+pub record IsFront (text all : List ℕ) : Type 0 where
+  pub more : List ℕ
+  pub is : text ++ more ≡ all
+
+-- all lines of these entries, and what they leave
+pub record IsWhole (before after : Recording) (entries : List Entry) (text : List ℕ) : Type 0 where
+  pub lines : text ≡ record_from before entries
+  pub left : after ≡ recording_after before entries
+
+-- what was written of these entries, by whether it was stopped before, and is since
+abbrev pub IsWritten : Bool → Bool → Recording → Recording → List Entry → List ℕ → Type 0
+IsWritten true stopped before after entries text = text ≡ []
+IsWritten false true before after entries text = IsFront text (record_from before entries)
+IsWritten false false before after entries text = IsWhole before after entries text
+
+-- one that is broken or short stays so
+abbrev pub Stays : Bool → Bool → Type 0
+Stays true now = now ≡ true
+Stays false now = Unit {0}
+
+-- broken later only where it was before, or the sink's count rose
+abbrev pub BreaksFor : Bool → Bool → ℕ → ℕ → Type 0
+BreaksFor true now before after = Unit {0}
+BreaksFor false true before after = Rose before after
+BreaksFor false false before after = Unit {0}
+
+-- since then it wrote the lines of these entries: all, or where it is stopped since a front of them, and nothing where it
+-- was stopped before
+pub record Writes (entries : List Entry) (before after : Taped) : Type 0 where
+  pub text : List ℕ
+  pub written : Appends before.sink.written after.sink.written text
+  pub only : OnlyWrites before.sink after.sink
+  pub broken : Stays before.is_broken after.is_broken
+  pub short : Stays before.is_short after.is_short
+  pub cause : BreaksFor before.is_broken after.is_broken before.sink.write_faults after.sink.write_faults
+  pub lines : IsWritten (is_stopped before) (is_stopped after) before.recording after.recording entries text
+
+-- the same for one entry: where its call wanted memory, nothing, as of any entries
+abbrev pub WritesOf : Bool → Entry → Taped → Taped → Type 0
+WritesOf true one before after = (entries : List Entry) → Writes entries before after
+WritesOf false one before after = Writes (one ∷ []) before after
+
+-- what was written of a text: all, or a front of it where the sink failed
+abbrev pub PutsText : Bool → List ℕ → StreamView → StreamView → Type 0
+PutsText false text before after = Appends before.written after.written text
+PutsText true text before after = WritesPart text before after
+
+-- a text was put, or the sink failed and counted that
+pub record Puts (text : List ℕ) (before after : StreamView) (failed : Bool) : Type 0 where
+  pub only : OnlyWrites before after
+  pub cause : BreaksFor false failed before.write_faults after.write_faults
+  pub written : PutsText failed text before after
+
+-- the entries that the journal has since then are those whose lines were written
+pub record Leads (journal later : Option (List Entry)) (before after : Taped) : Type 0 where
+  pub entries : List Entry
+  pub grows : Grows journal later entries
+  pub writes : Writes entries before after
+
+-- what is written of lists of entries is an order
+pub record IsOrder : Type 0 where
+  pub stays : (tape : Taped) → Writes [] tape tape
+  pub goes_on : (first then last : Taped) (early late : List Entry) → Writes early first then → Writes late then last
+      → Writes (early ++ late) first last

@@ -1,0 +1,249 @@
+// The side of a recorder that writes.
+ghost use Rattle.std.specs.Prelude.{◌≡◌, ◌++◌, ◌||◌, ℕ, List, Option, OnErr, OnOk, false, true, is_err, not, []};
+ghost use Rattle.std.specs.Io.KnownBytes.{Appends};
+ghost use Rattle.world_ports.specs.Causes.{HasCause};
+ghost use Rattle.world_ports.specs.Streams.{OnlyWrites, StreamView, WritesPart};
+ghost use Rattle.world_ports.specs.declared.Door.{Door};
+ghost use Rattle.world_ports.specs.declared.answers.Ready.{Ready};
+ghost use Rattle.world_ports.specs.declared.entry.Entry.TheVariants as entry;
+ghost use Rattle.world_ports.specs.Journal.{is_short};
+ghost use Rattle.record_world.specs.Leads.{Puts, WritesOf, taped};
+ghost use Rattle.schedule_text.specs.declared.step.Step.TheVariants as steps;
+ghost use Rattle.schedule_text.specs.Steps.{step_line};
+ghost use Rattle.record_world.specs.Recording.{first_recording, only, with_due};
+
+use crate::line::{Line, put_at, put_due};
+use crate::notes::Notes;
+use std::alloc::{AllocError, Global};
+use std::mem;
+use world_ports::{
+    Accepted, Door, Fault, Got, Job, Moment, Polled, Sink, WorldFault, Wrote, write_all,
+};
+
+/// The first line of a record.
+const FORMAT: &[u8] = b"schedule 2\n";
+
+/// What a recorder keeps between two calls: whether its sink failed, whether memory ran out, and notes. After either it
+/// writes nothing more.
+#[derive(Drop)]
+pub struct Tape {
+    pub(crate) is_broken: bool,
+    pub(crate) is_short: bool,
+    // Memory ran out behind the last call on the inner world: the next call answers so.
+    owes: bool,
+    pub(crate) notes: Notes,
+}
+
+// Whether the call wanted memory.
+fn is_short<T>(answer: &Result<T, WorldFault>) -> bool
+    ensures { result ≡ is_short answer.now }
+{
+    matches!(answer, Err(WorldFault::Memory))
+}
+
+// Writes one text and then another.
+#[tactic(auto, using(crate::proofs::LeadsLemmas::part_longer, crate::proofs::LeadsLemmas::part_behind_err))]
+fn write_both<O: Sink>(out: &mut O, first: &[u8], second: &[u8]) -> Result<(), Fault>
+    ensures ok { OnOk result
+        (Appends (O.seen out.old).written (O.seen out.new).written (first.now ++ second.now)) }
+    ensures err { OnErr result
+        (WritesPart (first.now ++ second.now) (O.seen out.old) (O.seen out.new)) }
+    ensures cause { HasCause (O.seen out.old).write_faults (O.seen out.new).write_faults result }
+    ensures only { OnlyWrites (O.seen out.old) (O.seen out.new) }
+{
+    write_all(out, first)?;
+    write_all(out, second)
+}
+
+// Writes one text and then another; tells whether the sink failed.
+fn put<O: Sink>(out: &mut O, first: &[u8], second: &[u8]) -> bool
+    ensures { Puts (first.now ++ second.now) (O.seen out.old) (O.seen out.new) result }
+{
+    write_both(out, first, second).is_err()
+}
+
+impl Tape {
+    /// An empty one. Takes no memory.
+    pub fn new(alloc: Global) -> Tape
+        ensures broken { result.is_broken ≡ false }
+        ensures short { result.is_short ≡ false }
+        ensures notes { result.notes ≡ first_recording }
+    {
+        Tape {
+            is_broken: false,
+            is_short: false,
+            owes: false,
+            notes: Notes::new(alloc),
+        }
+    }
+
+    /// Whether the call is to answer that memory ran out.
+    pub(crate) fn owes_memory(&mut self) -> bool
+        ensures kept { self.new ≡ record self.old { owes = false } }
+    {
+        mem::take(&mut self.owes)
+    }
+
+    // Whether a call is to be recorded, by whether it wanted memory: then nothing is any more.
+    fn records(&mut self, wants_memory: bool) -> bool
+        ensures kept { self.new ≡ record self.old { is_short = self.old.is_short || wants_memory } }
+        ensures value { result ≡ not (self.old.is_broken || (self.old.is_short || wants_memory)) }
+    {
+        self.is_short = self.is_short || wants_memory;
+        !(self.is_broken || self.is_short)
+    }
+
+    // Memory ran out behind a call on the inner world.
+    fn run_out(&mut self)
+        ensures { self.new ≡ record self.old { is_short = true; owes = true } }
+    {
+        self.is_short = true;
+        self.owes = true;
+    }
+
+    /// Whether memory for one connection more is missing: then nothing is recorded any more.
+    pub(crate) fn lacks_place(&mut self) -> bool
+        ensures { self.new ≡ record self.old { is_short = self.old.is_short || result } }
+    {
+        let lacks = !self.is_broken && !self.is_short && self.notes.make_place().is_err();
+        self.is_short = self.is_short || lacks;
+        lacks
+    }
+
+    /// The same for so many bytes of a connection.
+    pub(crate) fn lacks_room(&mut self, port: u64, room: usize) -> bool
+        ensures { self.new ≡ record self.old { is_short = self.old.is_short || result } }
+    {
+        let lacks = !self.is_broken && !self.is_short && self.notes.make_room(port, room).is_err();
+        self.is_short = self.is_short || lacks;
+        lacks
+    }
+
+    /// A bind was answered so.
+    #[tactic(auto, using(crate::proofs::LeadsLemmas::written_by))]
+    pub(crate) fn bind<O: Sink>(&mut self, out: &mut O, answer: &Result<(), WorldFault>)
+        ensures wrote { (door : Door) (path : List ℕ) → WritesOf (is_short answer.now) (entry.Bind door path answer.now)
+            (taped (O.seen out.old) self.old.is_broken self.old.is_short self.old.notes)
+            (taped (O.seen out.new) self.new.is_broken self.new.is_short self.new.notes) }
+    {
+        if self.records(is_short(answer)) && self.notes.bind() {
+            self.is_broken = put(out, FORMAT, &[]);
+        }
+    }
+
+    /// A poll was answered so.
+    pub(crate) fn poll(&mut self, answer: &Result<Polled, WorldFault>)
+        ensures wrote { (sink : StreamView) (wait : Option ℕ) (items : List Ready) → WritesOf (is_short answer.now) (entry.Poll wait items answer.now)
+            (taped sink self.old.is_broken self.old.is_short self.old.notes)
+            (taped sink self.new.is_broken self.new.is_short self.new.notes) }
+    {
+        if self.records(is_short(answer)) {
+            self.notes.pass();
+        }
+    }
+
+    /// An accept at this door was answered so.
+    pub(crate) fn accept(&mut self, door: Door, answer: &Result<Accepted, WorldFault>)
+        ensures wrote { (sink : StreamView) → WritesOf (is_short answer.now) (entry.Accept door answer.now)
+            (taped sink self.old.is_broken self.old.is_short self.old.notes)
+            (taped sink self.new.is_broken self.new.is_short self.new.notes) }
+    {
+        if self.records(is_short(answer)) {
+            match *answer {
+                Ok(Accepted::Port(number)) => {
+                    if self.notes.join(door, number).is_err() {
+                        self.run_out();
+                    }
+                }
+                _ => self.notes.pass(),
+            }
+        }
+    }
+
+    /// A read of a port brought these bytes, or was answered so.
+    pub(crate) fn read(&mut self, port: u64, bytes: &[u8], answer: &Result<Got, WorldFault>)
+        ensures wrote { (sink : StreamView) (room : ℕ) → WritesOf (is_short answer.now) (entry.Read port room bytes.now answer.now)
+            (taped sink self.old.is_broken self.old.is_short self.old.notes)
+            (taped sink self.new.is_broken self.new.is_short self.new.notes) }
+    {
+        if self.records(is_short(answer)) {
+            match *answer {
+                Ok(Got::Bytes(_)) => {
+                    if self.notes.hear(port, bytes).is_err() {
+                        self.run_out();
+                    }
+                }
+                Ok(Got::End) | Err(_) => self.notes.end(port),
+                Ok(Got::NotNow) => self.notes.pass(),
+            }
+        }
+    }
+
+    /// A write to a port was answered so.
+    pub(crate) fn write(&mut self, port: u64, answer: &Result<Wrote, WorldFault>)
+        ensures wrote { (sink : StreamView) (offered : List ℕ) → WritesOf (is_short answer.now) (entry.Write port offered answer.now)
+            (taped sink self.old.is_broken self.old.is_short self.old.notes)
+            (taped sink self.new.is_broken self.new.is_short self.new.notes) }
+    {
+        if self.records(is_short(answer)) {
+            match *answer {
+                Ok(Wrote::Took(count)) => self.notes.take(port, count),
+                Ok(Wrote::NotNow) => self.notes.pass(),
+                Err(_) => self.notes.end(port),
+            }
+        }
+    }
+
+    /// A close of a port was answered so.
+    pub(crate) fn close(&mut self, port: u64, answer: &Result<(), AllocError>)
+        ensures wrote { (sink : StreamView) → WritesOf (is_err answer.now) (entry.Close port answer.now)
+            (taped sink self.old.is_broken self.old.is_short self.old.notes)
+            (taped sink self.new.is_broken self.new.is_short self.new.notes) }
+    {
+        if self.records(answer.is_err()) {
+            self.notes.close(port);
+        }
+    }
+
+    /// A start of a child process was answered so.
+    pub(crate) fn start(&mut self, job: Job, answer: &Result<[u8; 16], WorldFault>)
+        ensures wrote { (sink : StreamView) → WritesOf (is_short answer.now) (entry.Start job answer.now)
+            (taped sink self.old.is_broken self.old.is_short self.old.notes)
+            (taped sink self.new.is_broken self.new.is_short self.new.notes) }
+    {
+        if self.records(is_short(answer)) {
+            match *answer {
+                Ok(ticket) => self.notes.start(job.number, ticket),
+                Err(_) => self.notes.fail(job.number),
+            }
+        }
+    }
+
+    /// A reading of the clocks was answered so.
+    pub(crate) fn now<O: Sink>(&mut self, out: &mut O, answer: &Result<Moment, AllocError>)
+        ensures wrote { WritesOf (is_err answer.now) (entry.Now answer.now)
+            (taped (O.seen out.old) self.old.is_broken self.old.is_short self.old.notes)
+            (taped (O.seen out.new) self.new.is_broken self.new.is_short self.new.notes) }
+    {
+        if self.records(answer.is_err())
+            && let Ok(moment) = *answer
+        {
+            self.tell(out, moment);
+        }
+    }
+
+    // Writes the line of a moment, and what waited for it.
+    fn tell<O: Sink>(&mut self, out: &mut O, moment: Moment)
+        ensures short { self.new.is_short ≡ self.old.is_short }
+        ensures notes { self.new.notes ≡ with_due (only [] self.old.notes) }
+        ensures puts { Puts (step_line (steps.At moment) ++ self.old.notes.due)
+            (O.seen out.old) (O.seen out.new) self.new.is_broken }
+    {
+        let mut line = Line::new();
+        put_at(&mut line, moment);
+        let (due, hearing) = self.notes.due();
+        put_due(&mut line, due);
+        self.is_broken = put(out, line.as_slice(), hearing);
+        self.notes.pass();
+    }
+}

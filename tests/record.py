@@ -1,0 +1,217 @@
+#!/usr/bin/env python3
+"""`agent_prog serve --record` under OpenSSH's clients: its record, replayed, gives each client the bytes that it got, and has
+no private key and no passphrase in it; a full disk disturbs nobody; `mortarleek-agent --record` makes a new file of mode
+0600."""
+
+import base64
+import contextlib
+import os
+import pathlib
+import select
+import shutil
+import socket
+import subprocess
+import sys
+import threading
+
+sys.dont_write_bytecode = True
+
+import rig
+from frames import string
+from rig import ADD, FAILURE, IDENTITIES, LIST, LOCK, SUCCESS, our_agent, run, until
+
+check = rig.Checks("record")
+PROGRAM = rig.agent_program()
+PASSPHRASE = "correct horse battery"
+
+
+class Tap:
+    """A socket before an agent's, which keeps what each of its clients got, in the order of their connections."""
+
+    def __init__(self, folder, behind):
+        self.path, self.behind, self.got = f"{folder}/tap.sock", behind, []
+        self.listener = socket.socket(socket.AF_UNIX)
+        self.listener.bind(self.path)
+        self.listener.listen()
+        threading.Thread(target=self.serve, daemon=True).start()
+
+    def serve(self):
+        with contextlib.suppress(OSError):
+            while True:
+                self.pass_on(self.listener.accept()[0])
+
+    def pass_on(self, client):
+        got = bytearray()
+        self.got.append(got)
+        with client, rig.connected(self.behind) as agent:
+            while True:
+                for ready in select.select([client, agent], [], [])[0]:
+                    data = ready.recv(65536)
+                    if not data:
+                        return
+                    if ready is agent:
+                        got += data
+                    (agent if ready is client else client).sendall(data)
+
+
+def recorded(folder, *words, helper=None):
+    """An agent whose record is a file of the folder."""
+    with open(f"{folder}/record", "wb") as file:
+        return our_agent(PROGRAM, folder, "--record", *words, helper=helper, stdout=file)
+
+
+def replayed(record, *words):
+    """What each port gets when a record is replayed."""
+    done = subprocess.run([str(PROGRAM), "replay", *words], input=record, stdout=subprocess.PIPE, timeout=60, check=True)
+    ports = {}
+    for line in done.stdout.decode().splitlines():
+        match line.split(" "):
+            case ["to", port, digits]:
+                ports.setdefault(int(port), bytearray()).extend(bytes.fromhex(digits))
+            case ["refused", *rest]:
+                raise AssertionError(f"refused {rest}")
+    return ports
+
+
+def clients_of(record):
+    """The numbers of the clients' ports."""
+    joins = [line for line in record.decode().splitlines() if line.startswith("join ")]
+    return [number for number, line in enumerate(joins, 1) if line == "join client"]
+
+
+def is_in(secret, record):
+    """A secret stands in a record as it is, in hexadecimal, or in base64 at any of its three places."""
+    forms = [secret, secret.hex().encode(), secret.hex().upper().encode()]
+    for lead in range(3):
+        text = base64.b64encode(bytes(lead) + secret)
+        forms.append(text[lead + 1 : len(text) - 4])
+    heard = b"".join(bytes.fromhex(line.split(" ")[2]) for line in record.decode().splitlines() if line.startswith("hear "))
+    return any(form in text for form in forms for text in (record, heard))
+
+
+# Of a key's fields, how many stand before the private ones, and how many are private.
+FIELDS = {b"ssh-ed25519": (1, 1), b"ssh-rsa": (2, 4), b"ecdsa-sha2-nistp256": (2, 1)}
+
+
+def taken(text):
+    """The string in front of a text, and what is behind it."""
+    size = int.from_bytes(text[:4], "big")
+    return text[4 : 4 + size], text[4 + size :]
+
+
+def secrets_of(key):
+    """The private fields of a key file without a passphrase (OpenSSH's PROTOCOL.key), without the zeros in front."""
+    lines = key.read_text().splitlines()
+    rest = base64.b64decode("".join(lines[1:-1]))[len(b"openssh-key-v1\0") :]
+    for _ in range(3):
+        rest = taken(rest)[1]
+    rest = taken(taken(rest[4:])[1])[0][8:]
+    kind, rest = taken(rest)
+    before, private = FIELDS[kind]
+    fields = []
+    for _ in range(before + private):
+        field, rest = taken(rest)
+        fields.append(field.lstrip(b"\0"))
+    return [field[:32] if kind == b"ssh-ed25519" else field for field in fields[before:]]
+
+
+@check
+def replayed_each_client_gets_its_bytes(folder):
+    rig.built("mortarleek-helper")
+    keys = [folder / "ed25519", folder / "rsa", folder / "ecdsa"]
+    for key in keys:
+        bits = {"rsa": ["-b", "2048"], "ecdsa": ["-b", "256"]}.get(key.name, [])
+        run(["ssh-keygen", "-q", "-t", key.name, *bits, "-N", "", "-C", f"comment {key.name}", "-f", key])
+    secrets = [secret for key in keys for secret in secrets_of(key)]
+    assert len(secrets) >= 5 and all(len(secret) >= 30 for secret in secrets), [len(secret) for secret in secrets]
+    askpass = rig.script(folder / "askpass", f"echo '{PASSPHRASE}'")
+    (folder / "text").write_text("a text to be signed\n")
+    agent = recorded(folder)
+    tap = Tap(folder, agent.path)
+    words = dict(SSH_AUTH_SOCK=tap.path, SSH_ASKPASS=str(askpass), SSH_ASKPASS_REQUIRE="force", DISPLAY=":0")
+    do = lambda *command, status=0: run(command, status, env=dict(os.environ, **words), stdin=subprocess.DEVNULL)
+    do("ssh-add", *keys)
+    do("ssh-add", "-l")
+    for key in keys:
+        do("ssh-keygen", "-q", "-Y", "sign", "-n", "file", "-f", f"{key}.pub", folder / "text")
+        (folder / "text.sig").unlink()
+    do("ssh-add", "-x")
+    do("ssh-add", "-l", status=1)
+    do("ssh-add", "-X")
+    do("ssh-add", "-d", keys[0])
+    do("ssh-add", "-t", "1h", keys[0])
+    do("ssh-add", "-D")
+    agent.end()
+    record = (folder / "record").read_bytes()
+    ports, clients = replayed(record), clients_of(record)
+    assert len(clients) == len(tap.got), (clients, len(tap.got))
+    for port, got in zip(clients, tap.got):
+        assert ports.get(port, b"") == got, f"port {port}: {bytes(got).hex()} came, {bytes(ports.get(port, b'')).hex()} replayed"
+    assert b"comment rsa".hex().encode() in record
+    for secret in [*secrets, PASSPHRASE.encode()]:
+        assert not is_in(secret, record), f"{secret.hex()} stands in the record"
+
+
+@check
+def a_full_disk_disturbs_nobody(folder):
+    with open("/dev/full", "wb") as full:
+        agent = our_agent(PROGRAM, folder, "--record", "--until-idle", helper=rig.BUILT / "standin_helper", stdout=full)
+    fields, comment, blob = rig.plain_key(b"t" * 32)
+    with agent.peer() as peer:
+        assert peer.ask(ADD, fields, comment)[0] == SUCCESS
+        assert [found for found, _ in peer.blobs()] == [blob]
+        assert peer.ask(LOCK, string(b"pw"))[0] == SUCCESS
+        assert peer.ask(LIST)[0] == IDENTITIES
+    assert agent.process.wait(20) == 7
+
+
+@check
+def without_the_word_nothing_is_written(folder):
+    with open(folder / "output", "wb") as file:
+        agent = our_agent(PROGRAM, folder, "--until-idle", helper=rig.BUILT / "standin_helper", stdout=file)
+    with agent.peer() as peer:
+        assert peer.ask(LIST)[0] == IDENTITIES
+    assert agent.process.wait(20) == 0
+    assert (folder / "output").read_bytes() == b""
+
+
+@check
+def the_front_end_makes_a_new_file(folder):
+    place = folder / "place"
+    place.mkdir()
+    rig.lay_scripts(place)
+    for name in ("agent_prog", "standin_helper"):
+        shutil.copy(rig.built(name), place)
+    words = [place / "mortarleek-agent", "--stand-in", "--record", "new", "-T"]
+    environment = dict(os.environ, TMPDIR=str(folder))
+    listed = run([*words, "ssh-add", "-l"], 1, env=environment, cwd=folder)
+    assert "no identities" in listed, listed
+    record = folder / "new"
+    assert record.stat().st_mode & 0o777 == 0o600
+    until(lambda: not list(folder.glob("mortarleek-*")), what="the end of the agent")
+    lines = record.read_text().splitlines()
+    assert lines[0] == "schedule 2" and "join client" in lines, lines
+    assert IDENTITIES in [got[4] for got in replayed(record.read_bytes()).values()], lines
+    before = record.read_bytes()
+    said = run([*words, "ssh-add", "-l"], 1, env=environment, cwd=folder)
+    assert "new file" in said, said
+    assert record.read_bytes() == before
+    run([place / "mortarleek-agent", "--record", "other", "-k"], 1, env=environment, cwd=folder)
+    assert not pathlib.Path(folder / "other").exists()
+
+
+@check
+def a_refusal_is_recorded_too(folder):
+    agent = recorded(folder, helper=rig.BUILT / "standin_helper")
+    with agent.peer() as peer:
+        assert peer.ask(200)[0] == FAILURE
+    with agent.peer() as peer:
+        peer.socket.sendall(bytes.fromhex("00040001"))
+        assert peer.has_ended()
+    agent.end()
+    lines = (folder / "record").read_text().splitlines()
+    assert "hear 1 00000001c8" in lines and "take 1 5" in lines and "hear 2 00040001" in lines, lines
+
+
+if __name__ == "__main__":
+    check.main(PROGRAM, "openssh-client")
