@@ -15,6 +15,7 @@ import time
 from collections import Counter
 from collections.abc import Callable
 from pathlib import Path
+from types import ModuleType
 
 from .drill import drill
 from .generate import GOALS, Case, Schedule
@@ -243,10 +244,10 @@ def report(count: int, lines: int, seen: Counter, seconds: float) -> bool:
 # Wrong models
 
 
-def read_wrong() -> list[dict[str, str]]:
+def read_wrong(name: str = "wrong.txt") -> list[dict[str, str]]:
     """Edits of one line each: what is wrong, the file, the old text and the new."""
     edits = []
-    for block in (HERE / "wrong.txt").read_text().split("\n\n"):
+    for block in (HERE / name).read_text().split("\n\n"):
         lines = [line for line in block.split("\n") if line and not line.startswith("#")]
         edit = dict(line.split(": ", 1) for line in lines)
         if not edit:
@@ -264,23 +265,31 @@ def write_case(seed: str) -> Case:
     return Schedule(seed).case()
 
 
-def first_found(edit: dict[str, str]) -> int | None:
-    """The number of the first schedule that tells this wrong model from the right one."""
+MODELS = ("wire", "formats", "rules", "agent", "replay", "add_tool", "record", "audit")
+
+
+def wrong_module(edit: dict[str, str], wanted: str) -> ModuleType:
+    """A module of the models of which one line is changed. A process may import one such edit."""
     with tempfile.TemporaryDirectory() as folder:
         Path(folder, "wrong_model").mkdir()
-        for name in ("wire", "formats", "rules", "agent", "replay"):
+        for name in MODELS:
             text = (HERE / f"{name}.py").read_text()
             if edit["file"] == f"{name}.py":
                 text = text.replace(edit["old"], edit["new"])
             Path(folder, "wrong_model", f"{name}.py").write_text(text)
         sys.path.insert(0, folder)
-        wrong = importlib.import_module("wrong_model.replay")
-        for place, (text, life, wanted) in enumerate(CASES, 1):
-            try:
-                if wrong.replay(text, life) != wanted:
-                    return place
-            except Exception:
+        return importlib.import_module(f"wrong_model.{wanted}")
+
+
+def first_found(edit: dict[str, str]) -> int | None:
+    """The number of the first schedule that tells this wrong model from the right one."""
+    wrong = wrong_module(edit, "replay")
+    for place, (text, life, wanted) in enumerate(CASES, 1):
+        try:
+            if wrong.replay(text, life) != wanted:
                 return place
+        except Exception:
+            return place
     return None
 
 

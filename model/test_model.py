@@ -4,10 +4,16 @@ import importlib
 import unittest
 from pathlib import Path
 
+from . import rows_audit, rows_record
 from .agent import WAITS
+from .audit import audit, first_difference
 from .differential import read_wrong
+from .differential_audit import Case
 from .generate import Schedule
+from .played import Played
+from .record import Entry, Recorder, record
 from .replay import Run, replay
+from .replays import fault
 from .rows_deadlines import RAISED
 from .rows_format2 import EVERY_ROW
 from .wire import Fault, matches, string, take_frame, uint32, uint64
@@ -58,12 +64,71 @@ class Schedules(unittest.TestCase):
             self.assertEqual(replay(text, life), wanted)
 
 
+class Records(unittest.TestCase):
+    def test_each_row(self):
+        names = [row.name for row in rows_record.ROWS]
+        self.assertEqual(len(names), len(set(names)))
+        for row in rows_record.ROWS:
+            with self.subTest(row.name):
+                self.assertEqual(record(row.journal), row.record)
+                if row.printed is not None:
+                    self.assertEqual(replay(row.record), (row.printed, 0))
+
+    def test_random_runs_are_those_of_their_records(self):
+        for seed in map(str, range(20)):
+            with self.subTest(seed):
+                self.assertIsNone(fault(Played(seed)))
+
+    def test_a_seed_gives_the_same_journal_again(self):
+        for seed in map(str, range(5)):
+            self.assertEqual(Played(seed).journal(), Played(seed).journal())
+
+    def test_nothing_is_written_behind_a_write_that_failed(self):
+        journal = [*rows_record.BOUND, *rows_record.JOIN, *rows_record.JOIN]
+        whole = record(journal).splitlines(keepends=True)
+        for fails in range(len(whole)):
+            written: list[bytes] = []
+            recorder = Recorder(lambda line: written.append(line) or len(written) != fails + 1)
+            for entry in journal:
+                recorder.record(entry)
+            self.assertEqual(written, whole[: fails + 1])
+            self.assertTrue(recorder.broken)
+        self.assertEqual(record([Entry("poll", None)]), b"")
+
+
+class Audits(unittest.TestCase):
+    def test_each_row(self):
+        names = [row.name for row in rows_audit.ROWS]
+        self.assertEqual(len(names), len(set(names)))
+        for row in rows_audit.ROWS:
+            with self.subTest(row.name):
+                self.assertEqual(audit(row.words, row.files.get), (row.printed, row.status))
+
+    def test_what_differs(self):
+        for one, other, line in [
+            (b"", b"", None),
+            (b"a\n", b"a\n", None),
+            (b"a\n", b"a", 1),
+            (b"a\nb\n", b"a\nb", 2),
+            (b"a\n", b"", 1),
+            (b"a\n", b"a\n\n", 2),
+            (b"a\rb\n", b"a\nb\n", 1),
+        ]:
+            self.assertEqual(first_difference(one, other), line)
+            self.assertEqual(first_difference(other, one), line)
+
+    def test_a_seed_gives_the_same_pair_again(self):
+        for seed in map(str, range(5)):
+            self.assertEqual(vars(Case(seed)), vars(Case(seed)))
+
+
 class WrongModels(unittest.TestCase):
     def test_each_changes_a_line_that_stands_once(self):
-        edits = read_wrong()
-        self.assertTrue(edits)
-        for edit in edits:
-            self.assertNotEqual(edit["old"], edit["new"], edit["wrong"])
+        for name in ("wrong.txt", "wrong_records.txt", "wrong_audits.txt"):
+            edits = read_wrong(name)
+            self.assertTrue(edits)
+            for edit in edits:
+                self.assertNotEqual(edit["old"], edit["new"], edit["wrong"])
 
 
 class Wire(unittest.TestCase):
