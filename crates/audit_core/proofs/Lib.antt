@@ -1,0 +1,11 @@
+pub mod TakingsLemmas
+pub mod PutsLemmas
+pub mod AdvanceLemmas
+pub mod SeenLemmas
+pub mod SinceLemmas
+pub mod ForesightLemmas
+pub mod MismatchLemmas
+pub mod CompareLemmas
+pub mod ClaimLemmas
+pub mod NotedLemmas
+pub mod HistoryLemmas

@@ -1,0 +1,26 @@
+//! What an audit of a record is made of: the schedule that an agent's run was recorded as is run again line by line, what
+//! it prints is compared, and each signing request that was put to a helper is noted.
+//! docs/PROTOCOL.md, "An audit". Stands on agent_core, replay_run, agent_msg, child_msg, schedule_text and
+//! world_ports.
+#![tactic(auto)]
+
+mod claim;
+mod comparison;
+mod event;
+mod held;
+mod laws;
+mod limits;
+mod lines;
+mod put;
+mod report;
+mod rerun;
+mod rows;
+
+pub use comparison::{Finding, compare};
+pub use event::Log;
+pub use laws::{all_that_is_put_is_listed, an_event_puts_what_was_foreseen};
+pub use lines::run_next;
+pub use put::Put;
+pub use report::{put_sign, put_total};
+pub use rerun::Rerun;
+pub use rows::{audits_are_reported, texts_differ_at_a_line};

@@ -1,0 +1,236 @@
+// A record that is run again, a line at a time.
+ghost use Rattle.std.specs.Prelude.{◌≡◌, ◌≢◌, ◌+◌, ◌<◌, ◌≤◌, ◌++◌, ◌^◌, OnOk, []};
+ghost use Rattle.agent_core.specs.Happenings.{happening};
+ghost use Rattle.agent_model.specs.State.{Fits};
+ghost use Rattle.schedule_text.specs.Steps.{SaysSome};
+ghost use Rattle.replay_run.specs.Counts.{IsCounted};
+ghost use Rattle.replay_run.specs.Replay.{start_run, longest_schedule, turned, step_turned};
+ghost use Rattle.replay_run.specs.Replay.{counted, refuse, happened, settling_turn};
+ghost use Rattle.replay_run.specs.Brought.{brought, events_by, step_events, takings};
+ghost use Rattle.audit_core.specs.Puts.{puts_of};
+
+mod steps;
+
+use crate::event::{Log, run_event, settle};
+use crate::held::Held;
+use crate::limits::LONGEST_SCHEDULE;
+use agent_core::{Agent, CoreMemory, Event, Settings};
+use schedule_text::{Deed, LineFault, Step, put_deed, read_line};
+use std::alloc::Global;
+use std::marker::Model;
+use world_ports::Moment;
+
+/// The agent, the moment of its events, the ports that the last line closed by its moment, the held ports, and how far the
+/// schedule was run.
+#[derive(Drop)]
+pub struct Rerun {
+    alloc: Global,
+    life: Option<u32>,
+    agent: Agent,
+    moment: Moment,
+    closed: Vec<u64>,
+    held: Held,
+    line: u64,
+    read: u64,
+    refused: Option<LineFault>,
+}
+
+impl Model for Rerun {
+    ghost use Rattle.replay_run.specs.Replay.{Run};
+
+    ghost Value = { Run };
+
+    ghost view = { λ r. record {
+      life = r.life;
+      agent = r.agent.state;
+      moment = r.moment;
+      closed = r.closed.items;
+      held = r.held;
+      line = r.line;
+      read = r.read;
+      refused = r.refused;
+    } };
+}
+
+impl Rerun {
+    pub fn new(alloc: Global, default_life: Option<u32>) -> Self
+        ensures { result ≡ start_run default_life }
+    {
+        let settings = Settings {
+            default_life,
+            ask_limit: None,
+            confirm_limit: None,
+        };
+        Rerun {
+            alloc,
+            life: default_life,
+            agent: Agent::new(alloc, settings),
+            moment: Moment { mono: 0, wall: 0 },
+            closed: Vec::new(alloc),
+            held: Held::new(alloc),
+            line: 0,
+            read: 0,
+            refused: None,
+        }
+    }
+
+    /// How many lines were run, the refused one among them.
+    pub fn line(&self) -> u64
+        ensures { result ≡ self.now.line }
+    {
+        self.line
+    }
+
+    /// Why the last line was refused.
+    pub fn refused(&self) -> Option<LineFault>
+        ensures { result ≡ self.now.refused }
+    {
+        self.refused
+    }
+
+    // Runs one line, which takes `size` bytes of the schedule, its LF among them.
+    pub(crate) fn turn(&mut self, line: &[u8], size: u64, log: &mut Log) -> Result<(), CoreMemory>
+        requires counted { IsCounted self.old }
+        requires some { 0 < size }
+        requires fits { size + self.old.read < 2 ^ 64 }
+        ensures run { OnOk result (self.new ≡ (turned line.now size self.old).run) }
+        ensures out { OnOk result
+            (log.new.out.items ≡ log.old.out.items ++ (turned line.now size self.old).output) }
+        ensures puts { OnOk result (log.new.puts.items ≡ log.old.puts.items
+            ++ puts_of self.old (events_by self.old.refused line.now size self.old)) }
+    {
+        if self.read + size > LONGEST_SCHEDULE {
+            return self.refuse(LineFault::TooLong, log);
+        }
+        match read_line(self.alloc, line) {
+            Ok(step) => self.take_step(&step, size, log),
+            Err(fault) => self.refuse_for(fault, log),
+        }
+    }
+
+    // Does what a line asks for.
+    fn take_step(&mut self, step: &Step, size: u64, log: &mut Log) -> Result<(), CoreMemory>
+        requires counted { IsCounted self.old }
+        requires some { 0 < size }
+        requires within { self.old.read + size ≤ longest_schedule }
+        requires says { SaysSome step.now }
+        ensures run { OnOk result (self.new ≡ (step_turned step.now size self.old).run) }
+        ensures out { OnOk result (log.new.out.items ≡ log.old.out.items
+            ++ (step_turned step.now size self.old).output) }
+        ensures puts { OnOk result (log.new.puts.items ≡ log.old.puts.items
+            ++ puts_of self.old (step_events step.now self.old)) }
+    {
+        match step {
+            Step::Skip => {
+                self.skip(size);
+                Ok(())
+            }
+            Step::Format2 => self.set_format(size, log),
+            Step::At(moment) => self.set_moment(*moment, size, log),
+            Step::Join(door) => self.happen(&Event::Joined(*door), size, log),
+            Step::Hear { port, bytes } => {
+                let piece = bytes.as_slice();
+                self.happen_at(*port, &Event::Heard { port: *port, piece }, size, log)
+            }
+            Step::End(port) => self.happen_at(*port, &Event::Ended { port: *port }, size, log),
+            Step::Hold(port) => self.hold(*port, size, log),
+            Step::Free(port) => self.free(*port, size, log),
+            Step::Take { port, count } => self.take(*port, *count, size, log),
+            Step::Started { job, ticket } => {
+                let event = Event::Started {
+                    job: *job,
+                    ticket: *ticket,
+                };
+                self.happen_to(*job, &event, size, log)
+            }
+            Step::Failed(job) => self.happen_to(*job, &Event::StartFailed { job: *job }, size, log),
+        }
+    }
+
+    // The event, and the settling after it.
+    fn happen(&mut self, event: &Event<'_>, size: u64, log: &mut Log) -> Result<(), CoreMemory>
+        requires counted { IsCounted self.old }
+        requires some { 0 < size }
+        requires within { self.old.read + size ≤ longest_schedule }
+        requires fits { Fits (happening event.now) self.old.agent }
+        ensures run { OnOk result (self.new ≡ (happened (happening event.now) size self.old).run) }
+        ensures out { OnOk result (log.new.out.items ≡ log.old.out.items
+            ++ (happened (happening event.now) size self.old).output) }
+        ensures puts { OnOk result (log.new.puts.items ≡ log.old.puts.items
+            ++ puts_of self.old (brought (happening event.now) self.old)) }
+    {
+        let line = self.line + 1;
+        run_event(self.alloc, &mut self.agent, self.moment, event, line, log)?;
+        self.end_turn(size, log)
+    }
+
+    // Settles, and counts the line.
+    fn end_turn(&mut self, size: u64, log: &mut Log) -> Result<(), CoreMemory>
+        requires lines { self.old.line ≤ longest_schedule }
+        requires within { self.old.read + size ≤ longest_schedule }
+        ensures run { OnOk result (self.new ≡ (settling_turn [] size self.old).run) }
+        ensures out { OnOk result (log.new.out.items ≡ log.old.out.items
+            ++ (settling_turn [] size self.old).output) }
+        ensures puts { OnOk result (log.new.puts.items ≡ log.old.puts.items
+            ++ puts_of self.old (takings self.old.moment self.old.held self.old.agent)) }
+    {
+        let line = self.line + 1;
+        settle(
+            self.alloc,
+            &mut self.agent,
+            self.moment,
+            &self.held,
+            line,
+            log,
+        )?;
+        self.skip(size);
+        Ok(())
+    }
+
+    // Counts the line.
+    fn skip(&mut self, size: u64)
+        requires lines { self.old.line ≤ longest_schedule }
+        requires within { self.old.read + size ≤ longest_schedule }
+        ensures { self.new ≡ counted size self.old }
+    {
+        self.closed.clear();
+        self.line += 1;
+        self.read += size;
+    }
+
+    // Refuses the next line, unless its fault only says that memory ran out.
+    fn refuse_for(&mut self, fault: LineFault, log: &mut Log) -> Result<(), CoreMemory>
+        requires counted { IsCounted self.old }
+        ensures fault { OnOk result (fault ≢ LineFault.Memory) }
+        ensures run { OnOk result (self.new ≡ (refuse fault self.old).run) }
+        ensures out { OnOk result
+            (log.new.out.items ≡ log.old.out.items ++ (refuse fault self.old).output) }
+        ensures puts { OnOk result (log.new.puts.items ≡ log.old.puts.items) }
+    {
+        match fault {
+            LineFault::Memory => Err(CoreMemory),
+            _ => self.refuse(fault, log),
+        }
+    }
+
+    // Refuses the next line.
+    pub(crate) fn refuse(&mut self, fault: LineFault, log: &mut Log) -> Result<(), CoreMemory>
+        requires counted { IsCounted self.old }
+        requires printable { fault ≢ LineFault.Memory }
+        ensures run { OnOk result (self.new ≡ (refuse fault self.old).run) }
+        ensures out { OnOk result
+            (log.new.out.items ≡ log.old.out.items ++ (refuse fault self.old).output) }
+        ensures puts { OnOk result (log.new.puts.items ≡ log.old.puts.items) }
+    {
+        self.line += 1;
+        self.refused = Some(fault);
+        put_deed(
+            &mut log.out,
+            &Deed::Refused {
+                line: self.line,
+                fault,
+            },
+        )?;
+        Ok(())
+    }
+}
