@@ -6,9 +6,7 @@
 set -u
 cd "$(dirname "$0")/.." || exit 2
 if ! command -v ssh-agent > /dev/null || ! command -v ssh-keygen > /dev/null; then
-    [ "$(id -u)" = 0 ] || { echo 'add_tool: run as root, or first: apt-get install openssh-client' >&2; exit 1; }
-    export DEBIAN_FRONTEND=noninteractive
-    { apt-get -q update && apt-get -qy install --no-install-recommends openssh-client; } > /dev/null || exit 1
+    tests/packages.sh add_tool openssh-client || exit 1
 fi
 make --no-print-directory bin/add_tool > /dev/null || exit 1
 top=$PWD tool=$PWD/bin/add_tool

@@ -7,23 +7,8 @@ export PATH=/usr/bin:$PATH
 export CARGO_BUILD_JOBS=${CARGO_BUILD_JOBS:-2}
 passed=0 failed=0 skipped=0
 
-missing=()
-for package in rustc cargo rustfmt rust-clippy librust-openssl-dev librust-zeroize-dev librust-libc-dev \
-    openssh-client openssl python3; do
-    dpkg-query -W -f '${Status}\n' "$package" 2> /dev/null | grep -q ' installed$' || missing+=("$package")
-done
-if [ ${#missing[@]} -gt 0 ]; then
-    if [ "$(id -u)" != 0 ]; then
-        echo "helper: run as root, or first: apt-get install --no-install-recommends ${missing[*]}" >&2
-        exit 1
-    fi
-    echo "helper: installing ${missing[*]}"
-    export DEBIAN_FRONTEND=noninteractive
-    { apt-get -q update && apt-get -qy install --no-install-recommends "${missing[@]}"; } > /dev/null || {
-        echo "helper: apt-get failed" >&2
-        exit 1
-    }
-fi
+../tests/packages.sh helper rustc cargo rustfmt rust-clippy librust-openssl-dev librust-zeroize-dev librust-libc-dev \
+    openssh-client openssl python3 || exit 1
 
 # WHAT and a command: one check, which shows what the command said where it failed.
 check() {

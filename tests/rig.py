@@ -27,24 +27,10 @@ class Skip(Exception):
 
 
 def install(name, *packages):
-    """Debian's packages, those that are missing; a `Skip` names them where they can't be had."""
-    asked = subprocess.run(
-        ["dpkg-query", "-W", "-f", "${Package} ${Status}\n", *packages], capture_output=True, text=True
-    )
-    there = {line.split()[0] for line in asked.stdout.splitlines() if line.endswith(" installed")}
-    missing = [package for package in packages if package not in there]
-    if not missing:
-        return
-    command = ["apt-get", "-qy", "install", "--no-install-recommends", *missing]
-    if os.geteuid() != 0:
-        raise Skip(f"first, as root: {' '.join(command)}")
-    print(f"{name}: installing {' '.join(missing)}", flush=True)
-    quiet = dict(
-        stdout=subprocess.DEVNULL, stderr=subprocess.DEVNULL, env=dict(os.environ, DEBIAN_FRONTEND="noninteractive")
-    )
-    subprocess.run(["apt-get", "-q", "update"], **quiet)
-    if subprocess.run(command, **quiet).returncode:
-        raise Skip(f"apt-get couldn't install {' '.join(missing)}")
+    """Debian's packages, those that are missing; a `Skip` says why where they can't be had."""
+    done = subprocess.run([TOP / "tests/packages.sh", name, *packages], stderr=subprocess.PIPE, text=True)
+    if done.returncode:
+        raise Skip(done.stderr.strip().splitlines()[-1])
 
 
 def run(words, status=0, **more):
