@@ -9,3 +9,5 @@ pub mod CompareLemmas
 pub mod ClaimLemmas
 pub mod NotedLemmas
 pub mod HistoryLemmas
+pub mod WritingLemmas
+pub mod ReportLemmas

@@ -1,7 +1,11 @@
--- what public contracts say: the signing requests of a run, verdicts and reports, and a record line by line
+-- what public contracts say: the signing requests of a run, verdicts and reports, a record line by line, and the
+-- program with its words and what it writes
 pub mod Reports
 pub mod Puts
 pub mod Passes
+pub mod Writing
+pub mod Words
+pub mod Program
 -- of private functions: what an event may put
 pub mod Claims
 -- of the laws

@@ -1,6 +1,6 @@
-//! What an audit of a record is made of: the schedule that an agent's run was recorded as is run again line by line, what
-//! it prints is compared, and each signing request that was put to a helper is noted.
-//! docs/PROTOCOL.md, "An audit". Stands on agent_core, replay_run, agent_msg, child_msg, schedule_text and
+//! An audit of a record, over any files and any output: the schedule that an agent's run was recorded as is run again
+//! line by line, what it prints is compared, and each signing request that was put to a helper is reported.
+//! docs/PROTOCOL.md, "An audit". Stands on agent_core, agent_laws, replay_run, agent_msg, child_msg, schedule_text and
 //! world_ports.
 #![tactic(auto)]
 
@@ -15,6 +15,11 @@ mod put;
 mod report;
 mod rerun;
 mod rows;
+mod status;
+mod texts;
+mod top;
+mod words;
+mod writing;
 
 pub use comparison::{Finding, compare};
 pub use event::Log;
@@ -24,3 +29,6 @@ pub use put::Put;
 pub use report::{put_sign, put_total};
 pub use rerun::Rerun;
 pub use rows::{audits_are_reported, texts_differ_at_a_line};
+pub use status::AuditStatus;
+pub use top::{audit, audit_main};
+pub use writing::{Stop, write_report};

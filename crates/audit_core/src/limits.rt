@@ -1,4 +1,4 @@
-// The limits of a schedule (ours).
+// The limits of a schedule (ours): those of replay_run, which keeps its constants to itself.
 
 /// The most bytes of a schedule.
 pub const LONGEST_SCHEDULE: u64 = 268_435_456;

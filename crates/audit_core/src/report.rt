@@ -1,29 +1,10 @@
 // The lines of a report.
 ghost use Rattle.std.specs.Prelude.{◌≡◌, ◌++◌, OnOk};
-ghost use Rattle.hex.specs.Hex.{encode_lower};
 ghost use Rattle.audit_core.specs.Reports.{ask_part, key_part, number_line, port_part, put_line};
 
 use crate::Put;
-use schedule_text::put_number;
+use schedule_text::{put_hex, put_number};
 use std::alloc::AllocError;
-
-// Appends bytes in hexadecimal, in lower case.
-fn put_hex(out: &mut Vec<u8>, bytes: &[u8]) -> Result<(), AllocError>
-    ensures { OnOk result (out.new.items ≡ out.old.items ++ encode_lower bytes.now) }
-{
-    let start = out.len();
-    let Some(digits) = bytes.len().checked_mul(2) else {
-        return Err(AllocError);
-    };
-    let Some(end) = start.checked_add(digits) else {
-        return Err(AllocError);
-    };
-    out.resize(end, 0)?;
-    let Ok(()) = hex::encode_to_slice(bytes, &mut out.as_mut_slice()[start..]) else {
-        unreachable!()
-    };
-    Ok(())
-}
 
 // Appends the line of a signing request from the word of its key on, of its port, and of its ask.
 fn put_key(out: &mut Vec<u8>, put: &Put) -> Result<(), AllocError>

@@ -1,0 +1,57 @@
+// How the program ends.
+ghost use Rattle.std.specs.Prelude.{◌≡◌};
+ghost use Rattle.audit_core.specs.Program.{code_of, status_by};
+
+use crate::comparison::Finding;
+use crate::writing::Stop;
+
+/// How an audit ended. The exit statuses are 0 to 6 in this order.
+#[derive(Clone, Copy, Debug, PartialEq, Eq)]
+pub enum AuditStatus {
+    /// The deeds are what the record prints, and all signatures that were asked for in it are listed.
+    Yes,
+    /// They differ, first at this line, counted from 1.
+    Differs { line: u64 },
+    /// The words are none that the program takes.
+    Usage,
+    /// A file could not be read, or it is too long.
+    FileFault,
+    /// This line of the record, counted from 1, is refused.
+    BadRecord { line: u64 },
+    /// Memory ran out. Says nothing of the files.
+    Memory,
+    /// The output could not be written.
+    WriteFault,
+}
+
+impl AuditStatus {
+    /// The exit status.
+    pub fn code(self) -> u8
+        ensures { result ≡ code_of self }
+    {
+        match self {
+            AuditStatus::Yes => 0,
+            AuditStatus::Differs { .. } => 1,
+            AuditStatus::Usage => 2,
+            AuditStatus::FileFault => 3,
+            AuditStatus::BadRecord { .. } => 4,
+            AuditStatus::Memory => 5,
+            AuditStatus::WriteFault => 6,
+        }
+    }
+}
+
+// By what was found, and whether it was written.
+pub fn status_for(finding: Finding, written: Result<(), Stop>) -> AuditStatus
+    ensures { result ≡ status_by finding written }
+{
+    match written {
+        Ok(()) => match finding {
+            Finding::Agrees => AuditStatus::Yes,
+            Finding::Differs { line } => AuditStatus::Differs { line },
+            Finding::IsBad { line } => AuditStatus::BadRecord { line },
+        },
+        Err(Stop::Memory) => AuditStatus::Memory,
+        Err(Stop::Write) => AuditStatus::WriteFault,
+    }
+}

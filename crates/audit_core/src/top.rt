@@ -1,0 +1,78 @@
+// The program over any files and any output.
+ghost use Rattle.std.specs.Prelude.{◌≡◌, ◌⊎◌, ℕ, List, Option, Some};
+ghost use Rattle.audit_core.specs.Program.{Audits, EndsAudit, longest_file};
+ghost use Rattle.audit_core.specs.Words.{Asked, IsAsked, IsUsage};
+ghost use Rattle.audit_core.specs.declared.status.AuditStatus.TheVariants as status;
+ghost use Rattle.world_ports.specs.Causes.{Rose};
+ghost use Rattle.world_ports.specs.Files.{HoldsMore, OnlyReadsFiles};
+ghost use Rattle.world_ports.specs.Streams.{OnlyWrites};
+
+use crate::comparison::compare;
+use crate::status::{AuditStatus, status_for};
+use crate::texts::read_texts;
+use crate::words::read_words;
+use crate::writing::write_report;
+use std::alloc::Global;
+use world_ports::{Files, Sink};
+
+/// Audits the text of a record and of its deeds, where identities that come without a lifetime live for `life` seconds.
+/// The record is run twice: nothing is written before the first run was compared to its end, and no report is kept.
+pub fn audit<O: Sink>(
+    alloc: Global,
+    life: Option<u32>,
+    recording: &[u8],
+    deeds: &[u8],
+    output: &mut O,
+) -> AuditStatus
+    ensures ends { EndsAudit life recording.now deeds.now result
+        (O.seen output.old) (O.seen output.new) }
+    ensures only { OnlyWrites (O.seen output.old) (O.seen output.new) }
+{
+    match compare(alloc, life, recording, deeds) {
+        Ok(finding) => {
+            let written = write_report(alloc, life, recording, finding, output);
+            status_for(finding, written)
+        }
+        Err(_) => AuditStatus::Memory,
+    }
+}
+
+/// The program: `words` are those of the command line after the program's name, `RECORD DEEDS` or `RECORD DEEDS LIFE`.
+///
+/// Runs the schedule of the file RECORD again, compares what it prints with the file DEEDS, and reports each request for
+/// a signature that was put to the helper in it: or the first line that is refused, or else the first that differs. With
+/// LIFE identities that are added without a lifetime live so long: parts as in `1h30m`, or seconds; 0 stands for no
+/// lifetime. RECORD is read first, each of both once and whole. With any other words it touches nothing.
+///
+/// Where the files tell what they hold, `audits` says of each end what was found and written. Where it is yes, the run
+/// that RECORD and DEEDS describe meets the law of history of agent_laws, and all signing requests that were put in it
+/// are listed.
+pub fn audit_main<F: Files, O: Sink>(
+    alloc: Global,
+    words: &[String],
+    files: &mut F,
+    output: &mut O,
+) -> AuditStatus
+    ensures audits { (held : List ℕ → Option (List ℕ)) (asked : Asked) → IsAsked words.now asked
+        → (F.seen files.old).held ≡ Some held
+        → Audits held asked result (O.seen output.old) (O.seen output.new) }
+    ensures usage { result ≡ status.Usage → IsUsage words.now }
+    ensures refused { IsUsage words.now
+        → (result ≡ status.Usage) × ((output.new ≡ output.old) × (files.new ≡ files.old)) }
+    ensures file { (asked : Asked) → IsAsked words.now asked → result ≡ status.FileFault
+        → Rose (F.seen files.old).faults (F.seen files.new).faults
+        ⊎ (HoldsMore (F.seen files.old) asked.recording longest_file
+        ⊎ HoldsMore (F.seen files.old) asked.deeds longest_file) }
+    ensures write { result ≡ status.WriteFault
+        → Rose (O.seen output.old).write_faults (O.seen output.new).write_faults }
+    ensures files_only { OnlyReadsFiles (F.seen files.old) (F.seen files.new) }
+    ensures output_only { OnlyWrites (O.seen output.old) (O.seen output.new) }
+{
+    let Some(asked) = read_words(words) else {
+        return AuditStatus::Usage;
+    };
+    match read_texts(alloc, files, asked.recording, asked.deeds) {
+        Ok(texts) => audit(alloc, asked.life, &texts.recording, &texts.deeds, output),
+        Err(status) => status,
+    }
+}
