@@ -1,0 +1,10 @@
+//! Tests of an audit over files and an output in memory: what it says of records and deeds, and how it ends where a file
+//! or a write fails. They are a crate of their own since each is proved too. Stands on audit_core and world_ports.
+#![tactic(auto)]
+
+#[cfg(test)]
+mod fixtures;
+#[cfg(test)]
+mod play;
+#[cfg(test)]
+mod runs;
