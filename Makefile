@@ -57,7 +57,7 @@ LIBEXEC := $(DESTDIR)$(PREFIX)/libexec/mortarleek
 SHARE := $(DESTDIR)$(PREFIX)/share
 UNITS := $(DESTDIR)$(PREFIX)/lib/systemd/user
 COMPLETIONS := $(SHARE)/bash-completion/completions $(SHARE)/zsh/site-functions $(SHARE)/fish/vendor_completions.d
-HELPERS := mortarleek-helper standin_helper confirm_relay add_tool filter_proxy
+HELPERS := mortarleek-helper standin_helper confirm_relay add_tool filter_proxy audit_prog
 SCRIPTS := $(notdir $(wildcard scripts/mortarleek scripts/mortarleek-*))
 # What these start and source beside the programs.
 PARTS := agent_guard front_end.sh

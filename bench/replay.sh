@@ -1,12 +1,16 @@
 #!/usr/bin/env bash
 # Lines and bytes per second of `agent_prog replay` for schedules of several shapes, beside what sha256sum and wc -l
-# take for the same file in the same run, the most memory that each held, and how much replay wrote. Needs python3,
-# GNU time, and bin/agent_prog, which `make` builds. The shapes may be named as words: bench/replay.sh keys
+# take for the same file in the same run, the most memory that each held, and how much replay wrote; and what
+# `audit_prog` takes for the file and what replay wrote, beside replay. Needs python3, GNU time, and bin/agent_prog and
+# bin/audit_prog, which `make` builds. The shapes may be named as words: bench/replay.sh keys
 set -eu
 cd "$(dirname "$0")/.."
 agent=$PWD/bin/agent_prog
+audit=$PWD/bin/audit_prog
 shapes=${*:-cut long many keys aged ends signs}
-[ -x "$agent" ] || { echo "bench: run make first" >&2; exit 1; }
+for program in "$agent" "$audit"; do
+    [ -x "$program" ] || { echo "bench: run make first" >&2; exit 1; }
+done
 work=$(mktemp -d)
 trap 'rm -rf "$work"' EXIT
 
@@ -154,4 +158,10 @@ for shape in $shapes; do
             shape, lines, bytes, lines / ours, bytes / ours / 1e6, ours / hash, ours / count }'
     echo "$shape: $(resident "$file" "$agent" replay) kB resident, sha256sum $(resident "$file" sha256sum) kB;" \
         "$("$agent" replay < "$file" | wc -c) bytes written"
+    "$agent" replay < "$file" > "$work/deeds"
+    audited=$(least "$file" "$audit" "$file" "$work/deeds")
+    awk -v shape="$shape" -v ours="$ours" -v audited="$audited" -v kept="$(resident "$file" "$audit" "$file" "$work/deeds")" \
+        -v files="$(cat "$file" "$work/deeds" | wc -c)" 'BEGIN {
+        printf "%s: audited in %.1f times the time of replay; %d kB resident, of which both files are %d kB\n",
+            shape, audited / ours, kept, files / 1024 }'
 done

@@ -2,7 +2,7 @@
 # The commands of each transcript of examples/ print what stands there.
 set -u
 cd "$(dirname "$0")/.." || exit 2
-make -s bin/agent_prog bin/filter_proxy > /dev/null || exit 1
+make -s bin/agent_prog bin/audit_prog bin/filter_proxy > /dev/null || exit 1
 for page in examples/*.md; do
     name=$(basename "$page" .md)
     wanted=$(sed -n '/^```console$/,/^```$/p' "$page" | grep -v '^```')

@@ -36,7 +36,7 @@ _mortarleek_filter() {
 
 _mortarleek() {
     if [ "$COMP_CWORD" = 1 ]; then
-        _mortarleek_offer -W 'add agent drill filter replay serve' -- "$2"
+        _mortarleek_offer -W 'add agent audit drill filter replay serve' -- "$2"
         return
     fi
     case ${COMP_WORDS[1]} in

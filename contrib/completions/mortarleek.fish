@@ -2,6 +2,7 @@
 
 complete -c mortarleek -f -n __fish_use_subcommand -a add -d 'Add, list and remove keys'
 complete -c mortarleek -f -n __fish_use_subcommand -a agent -d 'Start or end an agent'
+complete -c mortarleek -f -n __fish_use_subcommand -a audit -d 'List the signatures of a recorded run'
 complete -c mortarleek -f -n __fish_use_subcommand -a drill -d 'Try the agent, and time it'
 complete -c mortarleek -f -n __fish_use_subcommand -a filter -d 'Run a command that uses some keys'
 complete -c mortarleek -f -n __fish_use_subcommand -a replay -d 'Run the agent over a schedule'
