@@ -1,0 +1,3 @@
+mod TickLemmas
+mod RelockLemmas
+mod RelockedLemmas

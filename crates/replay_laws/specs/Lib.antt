@@ -1,0 +1,5 @@
+pub mod Ticks
+pub mod Lines
+pub mod Replaying
+pub mod Redacting
+pub mod Rows

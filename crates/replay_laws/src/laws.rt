@@ -1,0 +1,3 @@
+//! The law.
+
+ghost use Rattle.replay_laws.specs.Replaying.{EachReplays};
