@@ -1,3 +1,8 @@
 mod TickLemmas
 mod RelockLemmas
 mod RelockedLemmas
+mod ReadLemmas
+mod LookLemmas
+mod EventLemmas
+mod TellLemmas
+mod SightLemmas

@@ -1,5 +1,6 @@
 pub mod Ticks
 pub mod Lines
-pub mod Replaying
 pub mod Redacting
+pub mod Replaying
+pub mod Telling
 pub mod Rows
