@@ -6,3 +6,5 @@ mod LookLemmas
 mod EventLemmas
 mod TellLemmas
 mod SightLemmas
+mod NameLemmas
+mod KeepLemmas

@@ -3,4 +3,5 @@ pub mod Lines
 pub mod Redacting
 pub mod Replaying
 pub mod Telling
+pub mod Naming
 pub mod Rows
