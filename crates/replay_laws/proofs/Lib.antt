@@ -8,3 +8,8 @@ mod TellLemmas
 mod SightLemmas
 mod NameLemmas
 mod KeepLemmas
+mod OwedLemmas
+mod FitLemmas
+mod KeptLemmas
+mod LaterLemmas
+mod PieceLemmas
