@@ -27,6 +27,19 @@ use Rattle.replay_laws.specs.Redacting.{IsRenaming, as_is, blanked_seen, blanked
 use Rattle.replay_laws.proofs.LookLemmas.{AreToldFronts, looked-told}
 use Rattle.replay_laws.proofs.RelockLemmas.{at_moment-relocked, confirmer_heard-relocked, ended_at-relocked, failed_if-relocked, helper_heard-relocked, unnamed_heard-relocked}
 
+-- a child process isn't a client
+pub no_client : (door : Door) (number : ℕ) (state : State) → door ≡ Children → role_of door number state.under_way ≡ Client → ⊥
+no_client Clients number state is same = cc
+no_client Children number state is same = by_helper (is_linked_to number state.under_way.link.state) same
+  where
+    by_link : (found : Option Confirmation) → role_by_link found ≡ Client → ⊥
+    by_link None there = cc
+    by_link (Some confirmation) there = cc
+
+    by_helper : (helper : Bool) → role_by_helper helper number state.under_way.confirmations ≡ Client → ⊥
+    by_helper true there = cc
+    by_helper false there = by_link (find_linked number state.under_way.confirmations) there
+
 -- ---- a name for the passphrase that locks
 
 module _ (rename : List ℕ → List ℕ) where
@@ -42,19 +55,6 @@ module _ (rename : List ℕ → List ℕ) where
   role_took Unnamed number count state other = refl
   role_took Helper number count state other = refl
   role_took (Confirmer confirmation) number count state other = refl
-
-  -- a child process isn't a client
-  no_client : (door : Door) (number : ℕ) (state : State) → door ≡ Children → role_of door number state.under_way ≡ Client → ⊥
-  no_client Clients number state is same = cc
-  no_client Children number state is same = by_helper (is_linked_to number state.under_way.link.state) same
-    where
-      by_link : (found : Option Confirmation) → role_by_link found ≡ Client → ⊥
-      by_link None there = cc
-      by_link (Some confirmation) there = cc
-
-      by_helper : (helper : Bool) → role_by_helper helper number state.under_way.confirmations ≡ Client → ⊥
-      by_helper true there = cc
-      by_helper false there = by_link (find_linked number state.under_way.confirmations) there
 
   heard_found : (found : Option Port) (number : ℕ) (piece : List ℕ) (state : State) → find_port number state.ports ≡ found → IsChild number state → heard_at found piece (relocked_state rename state) ≡ relocked_outcome rename (heard_at found piece state)
   heard_found None number piece state is child = refl
@@ -155,11 +155,11 @@ module _ (rename : List ℕ → List ℕ) (renaming : IsRenaming rename) (told :
       client (ap (λ n. find_port n (change_port number f s.ports)) (f_keeps p ∙ is) ∙ found_f)
       number found_f found_g fronts
 
-  told_heard : (door : Door) (number : ℕ) (bytes : List ℕ) → door ≡ Clients → hide_heard (told_at told) door number bytes ≡ told bytes
+  pub told_heard : (door : Door) (number : ℕ) (bytes : List ℕ) → door ≡ Clients → hide_heard (told_at told) door number bytes ≡ told bytes
   told_heard Clients number bytes is = refl
   told_heard Children number bytes is = absurd (cc)
 
-  heard_as_is : (door : Door) (number : ℕ) (bytes : List ℕ) → hide_heard as_is door number bytes ≡ bytes
+  pub heard_as_is : (door : Door) (number : ℕ) (bytes : List ℕ) → hide_heard as_is door number bytes ≡ bytes
   heard_as_is Clients number bytes = refl
   heard_as_is Children number bytes = refl
 

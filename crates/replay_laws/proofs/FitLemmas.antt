@@ -60,7 +60,7 @@ taken_out number (one ∷ others) kept out = by_kept (is_among one kept) refl ou
 
 -- ---- the tick
 
-closes_are : (moment : Moment) (state : State) → IsSteady state → (ticked moment state).closes ≡ without (numbers state.ports) (numbers (at_moment moment state).ports)
+pub closes_are : (moment : Moment) (state : State) → IsSteady state → (ticked moment state).closes ≡ without (numbers state.ports) (numbers (at_moment moment state).ports)
 closes_are moment state steady =
     let last = (at_moment-follows moment state).last in
     let not_above : nat_lt state.last_port state.last_port ≡ false = grind (arith, nat_tests) in

@@ -113,7 +113,7 @@ behind_told rename heard piece fine =
     by_front (Bad announced) is = absurd (cc)
     by_front More is = refl
 
-bad_starts : (rest : List ℕ) (what : Front) → front longest_body rest ≡ what → ends_badly what ≡ true → (announced : ℕ) × (front longest_body rest ≡ Bad announced)
+pub bad_starts : (rest : List ℕ) (what : Front) → front longest_body rest ≡ what → ends_badly what ≡ true → (announced : ℕ) × (front longest_body rest ≡ Bad announced)
 bad_starts rest (Whole body_len) is bad = absurd (cc)
 bad_starts rest (Bad announced) is bad = (announced, is)
 bad_starts rest More is bad = absurd (cc)
@@ -154,6 +154,9 @@ module _ (all : List (List ℕ)) where
   passphrases_by (Whole body_len) port got rest = refl
   passphrases_by (Bad announced) port got rest = refl
   passphrases_by More port got rest = refl
+
+  pub passphrases_of : (cut : Split) (port : Port) (early : List (List ℕ)) → (split_taken cut port early).passphrases ≡ (redacted_all cut.bodies early).passphrases
+  passphrases_of cut port early = passphrases_by (front longest_body cut.rest) port (redacted_all cut.bodies early) cut.rest
 
   leaves : (cut : Split) (port : Port) (early : List (List ℕ)) → IsFrontOf (split_taken cut port early).passphrases all → (split_taken cut port early).bytes ≡ told_split (name_in all) cut
   leaves cut port early front_is =

@@ -13,3 +13,11 @@ mod FitLemmas
 mod KeptLemmas
 mod LaterLemmas
 mod PieceLemmas
+mod BusyLemmas
+mod RecordedLemmas
+mod ShortLemmas
+mod FollowLemmas
+mod SpokenLemmas
+mod ReplayLemmas
+mod HeardLemmas
+mod RunLemmas

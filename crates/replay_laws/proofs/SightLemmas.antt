@@ -24,7 +24,7 @@ quiet_is (StartFailed job) state quiet = quiet
 quiet_is Tick state quiet = quiet
 
 -- what a client is owed stands at its port
-client_owed : (port : Port) (under_way : UnderWay) → port.door ≡ Clients → owed_by (Some port) under_way ≡ port.owed
+pub client_owed : (port : Port) (under_way : UnderWay) → port.door ≡ Clients → owed_by (Some port) under_way ≡ port.owed
 client_owed port under_way is = ap (λ door. owed_as (role_of door port.number under_way) port under_way) is
 
 module _ (rename : List ℕ → List ℕ) (renaming : IsRenaming rename) where

@@ -1,11 +1,10 @@
-//! The law.
+//! The law of records.
 
-ghost use Rattle.std.specs.Prelude.{◌≡◌, ℕ, List, ◌++◌, ◌≤◌, ◌<◌, length};
-ghost use Rattle.world_ports.specs.declared.Moment.{Moment};
-ghost use Rattle.agent_model.specs.State.{State};
-ghost use Rattle.agent_model.specs.Time.{IsOnTime, at_moment};
+ghost use Rattle.replay_laws.specs.Replaying.{EachReplays};
 
-/// temporary
-pub fn later_tmp()
-    ensures { (moment later : Moment) (one other : State) → IsOnTime moment one → IsOnTime moment other → moment.mono ≤ one.moment.mono → moment.mono ≤ other.moment.mono → at_moment moment one ≡ at_moment moment other → at_moment later one ≡ at_moment later other }
+/// The record of a run is the same run again: its events fit, and after each event of the run both
+/// have the same open ports, the same bytes owed to every client, the same jobs to be started and
+/// the same count of lost helpers.
+pub fn replays()
+    ensures replays { EachReplays }
 {}
