@@ -7,15 +7,14 @@ use Rattle.world_ports.specs.declared.Moment.{Moment}
 use Rattle.wire_text.specs.Bounds.{longest_body}
 use Rattle.wire_text.specs.Frames.{front}
 use Rattle.confirm_desk.specs.Confirmations.{Confirmation, find_linked}
-use Rattle.agent_model.specs.Actions.{Outcome, stay}
-use Rattle.agent_model.specs.Children.{changed, heard_more, job_started}
+use Rattle.agent_model.specs.Children.{changed, heard_more}
 use Rattle.agent_model.specs.Events.{Happening, Joined, Heard, Ended, Took, Started, StartFailed, Tick}
 use Rattle.agent_model.specs.State.{Client, Confirmer, Helper, Port, Role, State, Unnamed, change_port, find_port, find_to_start, is_linked_to, role_by_helper, role_by_link, role_of}
 use Rattle.agent_model.specs.Step.{handle, heard_at, heard_by_role, join, looked, took_at, took_by_role, took_some}
 use Rattle.agent_model.specs.Time.{at_moment}
 use Rattle.agent_model.proofs.ClientLemmas.{handle-heard, handle-took}
 use Rattle.agent_model.proofs.PortsLemmas.{find_port-change_port, found_number}
-use Rattle.agent_secrecy.specs.Hiding.{Seen, bare, hide_heard, hide_port, hide_state, seen}
+use Rattle.agent_secrecy.specs.Hiding.{bare, hide_heard, hide_port, hide_state, seen}
 use Rattle.agent_secrecy.specs.Secrets.{hidden}
 use Rattle.agent_secrecy.proofs.EventLemmas.{IsChild, join-hidden}
 use Rattle.agent_secrecy.proofs.LengthLemmas.{length-hidden_bytes}

@@ -1,6 +1,6 @@
 -- An event that fits, fits behind the tick of its moment, unless that tick closed its port.
-use Rattle.std.proofs.Common.{◌≡◌, ℕ, ◌<◌, ◌≤◌, ◌-◌, ◌^◌, List, [], ◌∷◌, ◌++◌, length, refl, sym, ap, subst, ◌∙◌, arith, inl, inr, Bool, true, false, cond, ◌||◌, append-nil, Option, Some, None}
-use Rattle.std.specs.Prelude.{IsSome, is_some, nat_lt, ◌==◌}
+use Rattle.std.proofs.Common.{◌≡◌, ℕ, ◌<◌, ◌≤◌, ◌-◌, ◌^◌, List, [], ◌∷◌, ◌++◌, length, refl, sym, ap, subst, ◌∙◌, arith, inl, inr, Bool, true, false, cond, append-nil, Option, Some, None}
+use Rattle.std.specs.Prelude.{IsSome, is_some, nat_lt}
 use Rattle.std.proofs.lemmas.Bool.{cases_eq}
 use Rattle.std.proofs.lemmas.Bool.Decides.{nat_tests}
 use Rattle.lists.specs.Rising.{is_among}
@@ -9,7 +9,7 @@ use Rattle.agent_model.specs.Closings.{joined_between}
 use Rattle.agent_model.specs.Events.{Happening, Joined, Heard, Ended, Took, Started, StartFailed, Tick}
 use Rattle.agent_model.specs.NumberLists.{without}
 use Rattle.agent_model.specs.Sound.{IsSteady}
-use Rattle.agent_model.specs.State.{Fits, Port, State, UnderWay, find_port, find_to_start, numbers, owed_by, owed_by_port}
+use Rattle.agent_model.specs.State.{Fits, Port, State, UnderWay, find_port, find_to_start, numbers, owed_by}
 use Rattle.agent_model.specs.Time.{at_moment}
 use Rattle.agent_model.proofs.ClosesLemmas.{closes-closed}
 use Rattle.agent_model.proofs.RunLemmas.{at_moment-follows}

@@ -1,7 +1,6 @@
 -- A run and the run of its record, event by event: what holds between two events.
-use Rattle.std.proofs.Common.{◌≡◌, ◌≢◌, ℕ, suc, ◌+◌, ◌<◌, ◌≤◌, ◌-◌, ◌^◌, List, [], ◌∷◌, ◌++◌, length, refl, sym, ap, subst, ◌∙◌, arith, inl, inr, Bool, true, false, Option, Some, None}
+use Rattle.std.proofs.Common.{◌≡◌, ℕ, ◌<◌, ◌≤◌, ◌-◌, ◌^◌, List, [], ◌∷◌, length, refl, sym, ap, subst, ◌∙◌, arith, Bool, true, false, Option, Some, None}
 use Rattle.std.specs.Prelude.{IsSome, is_some}
-use Rattle.lists.specs.Rising.{is_among}
 use Rattle.world_ports.specs.declared.Door.{Door}
 use Rattle.world_ports.specs.declared.Door.TheVariants.{Clients, Children}
 use Rattle.world_ports.specs.declared.Moment.{Moment}
@@ -9,25 +8,25 @@ use Rattle.helper_link.specs.HelperLink.{sendable}
 use Rattle.helper_link.specs.declared.state.LinkState.{LinkState}
 use Rattle.helper_link.specs.declared.state.LinkState.TheVariants as states
 use Rattle.confirm_desk.specs.Confirmations.{Confirmation, find_linked}
-use Rattle.agent_model.specs.Events.{Happening, Timed, Joined, Heard, Ended, Took, Started, StartFailed, Tick}
+use Rattle.agent_model.specs.Events.{Happening, Joined, Heard, Ended, Took, Started, StartFailed, Tick}
 use Rattle.agent_model.specs.NumberLists.{without}
 use Rattle.agent_model.specs.Sound.{IsSound, IsSteady}
-use Rattle.agent_model.specs.State.{Fits, Port, State, UnderWay, find_port, find_to_start, is_linked_to, numbers, owed_as, owed_by, owed_by_port, owed_of, role_by_helper, role_by_link, role_of, starts}
+use Rattle.agent_model.specs.State.{Fits, Port, State, UnderWay, find_port, find_to_start, is_linked_to, numbers, owed_as, owed_by, owed_by_port, role_by_helper, role_by_link, role_of}
 use Rattle.agent_model.specs.Step.{handle, step}
-use Rattle.agent_model.specs.Time.{GiveTime, IsOnTime, at_moment, taken_in}
+use Rattle.agent_model.specs.Time.{GiveTime, at_moment}
 use Rattle.agent_model.proofs.BudgetLemmas.{step_keeps-steady}
 use Rattle.agent_model.proofs.RunLemmas.{at_moment-twice, step_keeps-sound}
 use Rattle.agent_secrecy.specs.Hiding.{Seen, hide_under_way}
 use Rattle.agent_secrecy.proofs.BlankLemmas.{length-blank}
-use Rattle.record_world.specs.Recording.{Left as Told, Recording, find_port as find_kept}
+use Rattle.record_world.specs.Recording.{Left as Told, find_port as find_kept}
 use Rattle.replay_laws.specs.Lines.{events_of}
 use Rattle.replay_laws.specs.Naming.{IsFrontOf, name_in}
-use Rattle.replay_laws.specs.Redacting.{IsRenaming, told_at, as_is}
+use Rattle.replay_laws.specs.Redacting.{IsRenaming}
 use Rattle.replay_laws.specs.Replaying.{AllFitUnless, FitsUnless, LooksAlike, Replay, last_after, stepped_all, stepped_unless}
 use Rattle.replay_laws.specs.Telling.{AreToldAlike, BringsAlike, told_bytes}
 use Rattle.replay_laws.specs.Ticks.{is_at_one, ticked}
 use Rattle.replay_laws.proofs.BusyLemmas.{NothingIsDue, moment_due}
-use Rattle.replay_laws.proofs.EventLemmas.{Pair, moment-told, pair_of}
+use Rattle.replay_laws.proofs.EventLemmas.{moment-told, pair_of}
 use Rattle.replay_laws.proofs.FitLemmas.{closes_are, fits_behind}
 use Rattle.replay_laws.proofs.KeptLemmas.{moment-time, step-time}
 use Rattle.replay_laws.proofs.LaterLemmas.{later_same, taken_same}

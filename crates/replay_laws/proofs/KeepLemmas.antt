@@ -1,22 +1,21 @@
 -- What a recorder tells of a piece is what is told of the client's bytes with it, behind what was told of them before.
-use Rattle.std.proofs.Common.{◌≡◌, ℕ, suc, ◌+◌, ◌<◌, ◌≤◌, ◌^◌, List, [], ◌∷◌, ◌++◌, length, take, drop, map, refl, sym, ap, subst, ◌∙◌, arith, append_assoc, append-nil, Bool, true, false, Option, Some, None, Result, Ok, Err}
-use Rattle.std.specs.Prelude.{◌⊎◌}
+use Rattle.std.proofs.Common.{◌≡◌, ℕ, ◌≤◌, List, [], ◌∷◌, ◌++◌, length, take, map, refl, sym, ap, subst, ◌∙◌, append_assoc, append-nil, Bool, true, false, Option, Some, None, Result, Ok, Err}
 use Rattle.std.specs.List.{position}
 use Rattle.std.specs.Str.{bytes_eq}
-use Rattle.std.proofs.lemmas.List.{length-append, take-append-le}
+use Rattle.std.proofs.lemmas.List.{take-append-le}
 use Rattle.world_ports.specs.declared.Door.{Door}
 use Rattle.world_ports.specs.declared.Door.TheVariants.{Clients, Children}
 use Rattle.wire_text.specs.Bounds.{longest_body}
-use Rattle.wire_text.specs.Frames.{Bad, Front, More, Split, StartsBadly, Whole, frames, front, split, then_split, unsplit}
+use Rattle.wire_text.specs.Frames.{Bad, Front, More, Split, Whole, frames, front, split, unsplit}
 use Rattle.wire_text.specs.Wire.{string}
 use Rattle.wire_text.proofs.FrontLemmas.{front_says, front-append_bad}
-use Rattle.wire_text.proofs.SplitLemmas.{split-append, split-append_bad, split-rest}
+use Rattle.wire_text.proofs.SplitLemmas.{split-append, split-append_bad}
 use Rattle.agent_msg.specs.Reading.{request_of}
 use Rattle.agent_msg.specs.Requests.{ClientRequest, ListIdentities, Sign, Add, Remove, RemoveAll, Lock, Unlock, Bind, OtherExtension, Unsupported}
 use Rattle.agent_msg.specs.declared.fault.MsgFault.{MsgFault}
-use Rattle.redact_core.specs.Redaction.{Redacted, holds_secrets, noted, noted_by, numbered, redacted, redacted_all, redacted_as}
+use Rattle.redact_core.specs.Redaction.{Redacted, noted_by, numbered, redacted, redacted_all, redacted_as}
 use Rattle.record_world.specs.Frames.{ends_badly, rest_bytes}
-use Rattle.record_world.specs.Recording.{Port, Taken, client_taken, rest_taken, split_taken, taken, taken_by}
+use Rattle.record_world.specs.Recording.{Port, client_taken, rest_taken, split_taken, taken, taken_by}
 use Rattle.replay_laws.specs.Naming.{IsFrontOf, Keeps, kept_of, name_in}
 use Rattle.replay_laws.specs.Redacting.{renamed, renamed_as}
 use Rattle.replay_laws.specs.Telling.{told_bytes, told_split}

@@ -12,7 +12,7 @@ use Rattle.agent_model.specs.Answers.{answers_in, lose_if, with_answers}
 use Rattle.agent_model.specs.Dispatch.{Asker, Served}
 use Rattle.agent_model.specs.Events.{Happening}
 use Rattle.agent_model.specs.KeyStates.{KeyState}
-use Rattle.agent_model.specs.State.{State, TimeLimits, UnderWay}
+use Rattle.agent_model.specs.State.{State, UnderWay}
 use Rattle.agent_model.specs.Step.{asker_at, handle, step}
 use Rattle.agent_model.specs.Time.{GiveTime, at_moment}
 use Rattle.agent_model.proofs.GrantLemmas.{IsGranted, allowed, disallowed, grant-ends, unasked}

@@ -1,5 +1,5 @@
 -- A client that is looked at, in a run and in that of what is told of it.
-use Rattle.std.proofs.Common.{◌≡◌, ℕ, List, [], ◌∷◌, ◌++◌, length, drop, map, refl, sym, ap, subst, ◌∙◌, Bool, ◌||◌, Option, Some, None, Result, Ok, Err}
+use Rattle.std.proofs.Common.{◌≡◌, ℕ, List, [], ◌∷◌, refl, sym, ap, subst, ◌∙◌, Bool, ◌||◌, Option, Some, None, Result}
 use Rattle.std.specs.Option.{option_map}
 use Rattle.world_ports.specs.declared.Door.{Door}
 use Rattle.world_ports.specs.declared.Door.TheVariants.{Clients, Children}
@@ -7,7 +7,6 @@ use Rattle.wire_text.specs.Bounds.{longest_body}
 use Rattle.wire_text.specs.Frames.{Bad, Front, More, Whole, after_front, front, front_body}
 use Rattle.agent_msg.specs.declared.fault.MsgFault.{MsgFault}
 use Rattle.agent_msg.specs.Requests.{ClientRequest, names_bind}
-use Rattle.agent_model.specs.Actions.{Outcome, stay}
 use Rattle.agent_model.specs.Binds.{agent_request_of}
 use Rattle.agent_model.specs.Children.{changed, shut}
 use Rattle.agent_model.specs.Dispatch.{Served, refuses, serve, unread}
@@ -22,7 +21,7 @@ use Rattle.agent_secrecy.proofs.LengthLemmas.{length-hidden_bytes}
 use Rattle.agent_secrecy.proofs.PortLemmas.{tell-hidden}
 use Rattle.agent_secrecy.proofs.ServeLemmas.{serve-hidden}
 use Rattle.agent_secrecy.proofs.StateLemmas.{changed-hidden, exactly, shut-hidden}
-use Rattle.replay_laws.specs.Redacting.{IsRenaming, as_is, blanked_seen, blanked_state, redacted_seen, redacted_state, relocked, relocked_outcome, relocked_state, renamed_read, served_as, told_at}
+use Rattle.replay_laws.specs.Redacting.{IsRenaming, as_is, blanked_seen, blanked_state, redacted_seen, redacted_state, relocked_outcome, relocked_state, renamed_read, told_at}
 use Rattle.replay_laws.proofs.ReadLemmas.{Reads, as_read, unread_both}
 use Rattle.replay_laws.proofs.RelockedLemmas.{serve-relocked}
 

@@ -1,5 +1,5 @@
 -- Names of passphrases are theirs alone, and those that a recorder gives.
-use Rattle.std.proofs.Common.{◌≡◌, ℕ, zero, suc, ◌+◌, ◌<◌, ◌≤◌, ◌^◌, List, [], ◌∷◌, ◌++◌, length, drop, map, replicate, refl, sym, ap, subst, ◌∙◌, arith, append_assoc, append-nil, Bool, true, false, cond, Option, Some, None, get_or}
+use Rattle.std.proofs.Common.{◌≡◌, ℕ, suc, ◌+◌, ◌<◌, ◌≤◌, ◌^◌, List, [], ◌∷◌, ◌++◌, length, drop, replicate, refl, sym, ap, ◌∙◌, arith, append_assoc, Bool, true, false, cond, Option, Some, None, get_or}
 use Rattle.std.specs.Fmt.{decimal}
 use Rattle.std.specs.List.{position, position_from}
 use Rattle.std.specs.Str.{bytes_eq}

@@ -1,7 +1,6 @@
 -- What a port is owed is no less as time passes, while it is open.
-use Rattle.std.proofs.Common.{◌≡◌, ◌≢◌, ℕ, ◌+◌, ◌<◌, ◌≤◌, List, [], ◌∷◌, ◌++◌, length, refl, sym, ap, subst, ◌∙◌, arith, inl, inr, Bool, true, false, cond, Option, Some, None}
+use Rattle.std.proofs.Common.{◌≡◌, ◌≢◌, ℕ, ◌<◌, ◌≤◌, List, [], ◌∷◌, length, refl, sym, ap, subst, ◌∙◌, arith, Bool, true, false, cond, Option, Some, None}
 use Rattle.std.specs.Prelude.{◌==◌}
-use Rattle.std.proofs.lemmas.Bool.{cases_eq}
 use Rattle.std.proofs.lemmas.Bool.Decides.{nat_tests}
 use Rattle.std.proofs.lemmas.List.{length-append}
 use Rattle.world_ports.specs.declared.Door.{Door}
@@ -11,14 +10,13 @@ use Rattle.helper_link.specs.HelperLink.{HelperLink, askers, sendable}
 use Rattle.helper_link.specs.declared.state.LinkState.{LinkState}
 use Rattle.helper_link.specs.declared.state.LinkState.TheVariants as states
 use Rattle.confirm_desk.specs.Confirmations.{Confirmation, came_to, find_linked, is_at, remove_job}
-use Rattle.agent_model.specs.Actions.{Outcome, behind, stay}
 use Rattle.agent_model.specs.Answers.{close_helper, lose, tell_each}
 use Rattle.agent_model.specs.Asking.{JobsRise}
 use Rattle.agent_model.specs.Consents.{close_confirmer, over}
 use Rattle.agent_model.specs.Events.{Tick}
 use Rattle.agent_model.specs.Sound.{IsRising, IsSteady}
-use Rattle.agent_model.specs.State.{Port, Role, State, UnderWay, change_port, find_port, is_linked_to, owed_as, owed_by_port, remove_port, role_by_helper, role_by_link, role_of}
-use Rattle.agent_model.specs.Time.{at_moment, taken_in, time_passes}
+use Rattle.agent_model.specs.State.{Port, State, UnderWay, change_port, find_port, is_linked_to, owed_as, owed_by_port, remove_port, role_by_helper, role_by_link, role_of}
+use Rattle.agent_model.specs.Time.{at_moment, taken_in}
 use Rattle.agent_model.specs.Verdicts.{HelperLost, NotConfirmed, Refuses, Verdict, tell, verdict_text}
 use Rattle.agent_model.proofs.JobLemmas.{IsIn, behind as further, here, in-above, jobs-remove}
 use Rattle.agent_model.proofs.LeadLemmas.{Follows, follows-makes, same}
@@ -173,12 +171,15 @@ lose_grows number state = record {
       let was = told_all (Refuses HelperLost) (askers old.link.asks) number (close_helper old.link.state state.ports) port found in
       let left = left_apart (helper_at old.link.state) number state.last_port state.ports was.was steady.rising (ap (find_port number) (sym (helper-closed old.link.state state.ports)) ∙ was.found) in
       let own : was.was.number ≡ number = found_number number state.ports was.was left.0 in
-      let no_helper : is_linked_to was.was.number old.link.state ≡ false = not_helper old.link.state was.was.number (λ is. left.1 (is ∙ ap Some own)) in
-      (was.was, left.0, owed_more was.was port old new was.told record {
-        helper = sym no_helper;
-        link = λ linked. let no : true ≡ false = sym linked ∙ no_helper in absurd (cc);
-        confirmer = refl;
-      });
+      let no_helper : is_linked_to was.was.number old.link.state ≡ false = not_helper old.link.state was.was.number (λ is. left.1 (is ∙ ap Some own)) in (
+        was.was,
+        left.0,
+        owed_more was.was port old new was.told record {
+          helper = sym no_helper;
+          link = λ linked. let no : true ≡ false = sym linked ∙ no_helper in absurd (cc);
+          confirmer = refl;
+        },
+      );
 }
   where
     old : UnderWay
@@ -196,12 +197,15 @@ over_grows number one state there = record {
   owed = λ steady port found.
       let was = told_one (Refuses NotConfirmed) one.asker number (close_confirmer one.port state.ports) port found in
       let left = left_apart one.port number state.last_port state.ports was.was steady.rising was.found in
-      let own : was.was.number ≡ number = found_number number state.ports was.was left.0 in
-      (was.was, left.0, owed_more was.was port old new was.told record {
-        helper = refl;
-        link = λ linked. refl;
-        confirmer = linked-removed was.was.number one 0 old.last_job old.confirmations steady.order there (elsewhere one.port was.was.number (λ is. left.1 (is ∙ ap Some own)));
-      });
+      let own : was.was.number ≡ number = found_number number state.ports was.was left.0 in (
+        was.was,
+        left.0,
+        owed_more was.was port old new was.told record {
+          helper = refl;
+          link = λ linked. refl;
+          confirmer = linked-removed was.was.number one 0 old.last_job old.confirmations steady.order there (elsewhere one.port was.was.number (λ is. left.1 (is ∙ ap Some own)));
+        },
+      );
 }
   where
     old : UnderWay

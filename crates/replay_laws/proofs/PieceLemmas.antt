@@ -1,5 +1,5 @@
 -- What is told of a client, in lines of bounded lengths.
-use Rattle.std.proofs.Common.{◌≡◌, ℕ, zero, suc, ◌+◌, ◌<◌, ◌≤◌, List, [], ◌∷◌, ◌++◌, length, take, drop, map, refl, sym, ap, subst, ◌∙◌, arith, append_assoc, append-nil, Bool, true, false, Option, Some, None, IfSome, is_some}
+use Rattle.std.proofs.Common.{◌≡◌, ℕ, zero, suc, ◌<◌, ◌≤◌, List, [], ◌∷◌, ◌++◌, length, take, drop, map, refl, sym, ap, subst, ◌∙◌, arith, append_assoc, append-nil, Bool, true, false, Some, IfSome, is_some}
 use Rattle.std.specs.Prelude.{IsSome}
 use Rattle.std.specs.Option.{option_map}
 use Rattle.std.proofs.lemmas.List.{length-append, length-drop, length-take, length-take-le, take-append-drop}
@@ -7,14 +7,13 @@ use Rattle.lists.specs.Rising.{is_among}
 use Rattle.world_ports.specs.declared.Door.TheVariants.{Clients}
 use Rattle.world_ports.specs.declared.Moment.{Moment}
 use Rattle.wire_text.specs.Bounds.{longest_body}
-use Rattle.wire_text.specs.Frames.{Bad, Front, More, Whole, front, front_body, split}
+use Rattle.wire_text.specs.Frames.{Bad, Front, More, Whole, front, front_body}
 use Rattle.wire_text.specs.Wire.{IsBytes}
 use Rattle.wire_text.proofs.FrontLemmas.{front-append_bad, front_says}
 use Rattle.wire_text.proofs.SplitLemmas.{split-bad}
-use Rattle.schedule_text.specs.declared.step.Step.{Step}
 use Rattle.schedule_text.specs.declared.step.Step.TheVariants as steps
 use Rattle.record_world.specs.Frames.{rest_bytes}
-use Rattle.record_world.specs.Recording.{hear_steps, hold_steps, longest_piece, pieces, pieces_up_to}
+use Rattle.record_world.specs.Recording.{hear_steps, hold_steps, longest_piece, pieces_up_to}
 use Rattle.agent_model.specs.Actions.{Outcome}
 use Rattle.agent_model.specs.Binds.{agent_request_of}
 use Rattle.agent_model.specs.Children.{changed, heard_more}
@@ -23,16 +22,15 @@ use Rattle.agent_model.specs.Events.{Happening, Heard}
 use Rattle.agent_model.specs.Looks.{due, due_at}
 use Rattle.agent_model.specs.Sound.{IsSound}
 use Rattle.agent_model.specs.State.{Nothing, OnAsk, OnConfirmation, Port, State, Waits, change_port, find_port}
-use Rattle.agent_model.specs.Step.{asker_at, attempts, handle, look_front, looked, step, take_frame}
+use Rattle.agent_model.specs.Step.{asker_at, attempts, handle, look_front, step, take_frame}
 use Rattle.agent_model.specs.Time.{GiveTime, IsOnTime, at_moment}
 use Rattle.agent_model.specs.Verdicts.{tell}
 use Rattle.agent_model.proofs.ClientLemmas.{handle-heard, looked-found}
-use Rattle.agent_model.proofs.OnTimeLemmas.{at_moment-on_time}
 use Rattle.agent_model.proofs.PartsLemmas.{parts_agree}
 use Rattle.agent_model.proofs.PortsLemmas.{find_port-change_port, found_number}
 use Rattle.agent_model.proofs.PromptLemmas.{step-on_time}
 use Rattle.agent_model.proofs.RunLemmas.{step_keeps-sound}
-use Rattle.replay_laws.specs.Lines.{event_of, events_of}
+use Rattle.replay_laws.specs.Lines.{events_of}
 use Rattle.replay_laws.specs.Redacting.{IsRenaming}
 use Rattle.replay_laws.specs.Replaying.{AllFitUnless, FitsUnless, stepped_all, stepped_unless}
 use Rattle.replay_laws.specs.Telling.{IsShort, told_bytes, told_split}

@@ -1,5 +1,5 @@
 -- A body that is told is read as the body itself, but for its secrets.
-use Rattle.std.proofs.Common.{◌≡◌, ◌≢◌, ℕ, ◌<◌, ◌≤◌, ◌^◌, List, [], ◌∷◌, ◌++◌, length, drop, map, replicate, refl, sym, ap, subst, ◌∙◌, arith, inl, inr, Bool, true, false, Result, Ok, Err}
+use Rattle.std.proofs.Common.{◌≡◌, ℕ, ◌<◌, ◌≤◌, ◌^◌, List, [], ◌∷◌, ◌++◌, length, drop, map, refl, sym, ap, subst, ◌∙◌, arith, inl, inr, Bool, true, false, Result, Ok, Err}
 use Rattle.std.specs.Prelude.{◌⊎◌}
 use Rattle.std.proofs.lemmas.Bool.{cases_eq}
 use Rattle.std.proofs.lemmas.Bool.Decides.{nat_tests}
@@ -133,15 +133,15 @@ secret_is : (number : ℕ) → holds_secrets number ≡ true → IsSecret number
 secret_is number is = elim (cases_eq number 17) [
   | inl same ↦ inl same
   | inr a ↦ elim (cases_eq number 22) [
-      | inl same ↦ inr (inl same)
-      | inr b ↦ elim (cases_eq number 23) [
-          | inl same ↦ inr (inr (inl same))
-          | inr c ↦ elim (cases_eq number 25) [
-              | inl same ↦ inr (inr (inr same))
-              | inr d ↦ absurd (let none : holds_secrets number ≡ false = grind (arith, nat_tests) in let both : true ≡ false = sym is ∙ none in cc)
-            ]
-        ]
+    | inl same ↦ inr (inl same)
+    | inr b ↦ elim (cases_eq number 23) [
+      | inl same ↦ inr (inr (inl same))
+      | inr c ↦ elim (cases_eq number 25) [
+        | inl same ↦ inr (inr (inr same))
+        | inr d ↦ absurd (let none : holds_secrets number ≡ false = grind (arith, nat_tests) in let both : true ≡ false = sym is ∙ none in cc)
+      ]
     ]
+  ]
 ]
 
 short_17 : request_of (17 ∷ []) ≡ Err (fault.Key key_faults.Short)

@@ -1,10 +1,10 @@
 -- The ports of a recorder beside those of the run that it records.
-use Rattle.std.proofs.Common.{◌≡◌, ◌≢◌, ℕ, suc, ◌+◌, ◌<◌, ◌≤◌, ◌^◌, List, [], ◌∷◌, ◌++◌, length, drop, refl, sym, ap, subst, ◌∙◌, arith, inl, inr, Bool, true, false, cond, Option, Some, None}
-use Rattle.std.specs.Prelude.{◌⊎◌, ◌==◌, is_some}
+use Rattle.std.proofs.Common.{◌≡◌, ◌≢◌, ℕ, suc, ◌+◌, ◌<◌, List, [], ◌∷◌, ◌++◌, refl, sym, ap, subst, ◌∙◌, arith, inl, inr, Bool, true, false, cond, Option, Some, None}
+use Rattle.std.specs.Prelude.{◌==◌, is_some}
 use Rattle.std.specs.Option.{option_map}
 use Rattle.std.proofs.lemmas.Bool.{cases_eq}
 use Rattle.std.proofs.lemmas.Bool.Decides.{nat_tests}
-use Rattle.std.proofs.lemmas.List.Elements.{All-append, All-drop, All-nil}
+use Rattle.std.proofs.lemmas.List.Elements.{All-drop, All-nil}
 use Rattle.lists.proofs.FirstLemmas.{find-before}
 use Rattle.lists.specs.Keyed.{change_by, has_key}
 use Rattle.world_ports.specs.declared.Door.{Door}
@@ -18,14 +18,12 @@ use Rattle.wire_text.proofs.SplitLemmas.{split-more, split-whole}
 use Rattle.record_world.specs.Frames.{ends_badly}
 use Rattle.record_world.specs.Recording.{Port as Kept, find_port as find_kept, new_port as new_kept, number_of as kept_number}
 use Rattle.agent_model.specs.Actions.{Outcome}
-use Rattle.agent_model.specs.Binds.{agent_request_of}
 use Rattle.agent_model.specs.Children.{changed, heard_more}
-use Rattle.agent_model.specs.Dispatch.{serve}
 use Rattle.agent_model.specs.Events.{Happening, Joined, Heard, Took}
 use Rattle.agent_model.specs.Looks.{due, due_at}
 use Rattle.agent_model.specs.Sound.{IsRising, IsSound}
-use Rattle.agent_model.specs.State.{Nothing, OnAsk, OnConfirmation, Port, State, Waits, change_port, find_port, new_port}
-use Rattle.agent_model.specs.Step.{asker_at, attempts, handle, has_room, look_front, looked, take_frame, took_some}
+use Rattle.agent_model.specs.State.{Nothing, OnAsk, OnConfirmation, Port, State, Waits, change_port, find_port}
+use Rattle.agent_model.specs.Step.{attempts, handle, has_room, look_front, looked, take_frame, took_some}
 use Rattle.agent_model.specs.Time.{at_moment}
 use Rattle.agent_model.specs.Verdicts.{Verdict, tell}
 use Rattle.agent_model.proofs.ClientLemmas.{handle-heard, handle-took, looked-found}
@@ -214,8 +212,7 @@ module _ (all : List (List ℕ)) where
   new_tracked number Clients =
       let more : front longest_body [] ≡ More = front-short longest_body [] (omega arith) in
       let none : (split longest_body []).rest ≡ [] = ap (λ (cut : Split). cut.rest) (split-more longest_body [] more) in
-      let empty : (split longest_body []).bodies ≡ [] = ap (λ (cut : Split). cut.bodies) (split-more longest_body [] more) in
-      (
+      let empty : (split longest_body []).bodies ≡ [] = ap (λ (cut : Split). cut.bodies) (split-more longest_body [] more) in (
         record { door = refl; bad = sym (ap (λ (rest : List ℕ). ends_badly (front longest_body rest)) none ∙ ap ends_badly more); unrecorded = sym none },
         All-nil (λ byte. byte < 256),
         subst (AreShort (name_in all)) (sym empty) tt,

@@ -2,7 +2,6 @@
 use Rattle.std.proofs.Common.{◌≡◌, ℕ, List, [], ◌∷◌, ◌++◌, refl, ap, ◌∙◌, Bool, true, false, Option, Some, None, Result, Ok, Err}
 use Rattle.std.specs.Option.{option_map}
 use Rattle.std.specs.Str.{bytes_eq}
-use Rattle.world_ports.specs.declared.Door.{Door}
 use Rattle.world_ports.specs.declared.Job.{Job}
 use Rattle.world_ports.specs.declared.JobKind.{JobKind}
 use Rattle.world_ports.specs.declared.JobKind.TheVariants as kinds
@@ -15,13 +14,13 @@ use Rattle.helper_link.specs.Telling.{telling}
 use Rattle.helper_link.specs.declared.fault.LinkFault.{LinkFault}
 use Rattle.dest_rule.specs.declared.binding.Binding.{Binding}
 use Rattle.confirm_desk.specs.Confirmations.{Confirmation, Consent, No, NotYet, Yes, consent, find_asker, find_job}
-use Rattle.agent_model.specs.Actions.{Outcome, Work, acted, and_then, behind, closing, stay}
-use Rattle.agent_model.specs.Answers.{answers_in, helper_heard, lose, lose_if, lose_where, with_answers}
-use Rattle.agent_model.specs.Children.{changed, closed, confirmer_goes_on, confirmer_hears, confirmer_named, failed_by, failed_if, first_frame, first_message, heard_more, hello_by, helper_named, is_started_by, job_failed, job_left, named_by, shut, shut_then, ticket_by, unnamed_heard}
-use Rattle.agent_model.specs.Consents.{confirmer_heard, consent_by, find_started, grant, grant_by, grant_concluded, grant_to, grant_work, over, over_if, without_confirmation}
+use Rattle.agent_model.specs.Actions.{Outcome, Work, acted, and_then, behind, closing}
+use Rattle.agent_model.specs.Answers.{answers_in, helper_heard, lose_if, lose_where, with_answers}
+use Rattle.agent_model.specs.Children.{changed, closed, confirmer_goes_on, confirmer_named, failed_by, failed_if, first_frame, first_message, heard_more, hello_by, helper_named, is_started_by, job_left, named_by, shut_then, ticket_by, unnamed_heard}
+use Rattle.agent_model.specs.Consents.{confirmer_heard, consent_by, find_started, grant_by, grant_concluded, grant_to, grant_work, over_if, without_confirmation}
 use Rattle.agent_model.specs.KeyStates.{KeyState, after_use}
-use Rattle.agent_model.specs.State.{Client, Confirmer, Helper, Port, Role, StartedJob, State, UnderWay, Unnamed, find_port, find_to_start, role_of}
-use Rattle.agent_model.specs.Step.{ended_at, ended_by_role, took_by_role}
+use Rattle.agent_model.specs.State.{Client, Confirmer, Helper, Port, Role, StartedJob, State, UnderWay, Unnamed, find_port, role_of}
+use Rattle.agent_model.specs.Step.{ended_at, ended_by_role}
 use Rattle.agent_model.specs.Time.{all_over, at_moment, end_late, first_late, is_helper_late, lose_late, taken_in, time_passes}
 use Rattle.replay_laws.specs.Redacting.{relocked, relocked_outcome, relocked_state}
 

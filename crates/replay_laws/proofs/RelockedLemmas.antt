@@ -7,7 +7,7 @@ use Rattle.std.proofs.lemmas.Slice.Eq.{bytes_eq-Decides}
 use Rattle.identity_table.specs.Identities.{HeldKey, find_identity, max_answer}
 use Rattle.agent_msg.specs.declared.fault.MsgFault.{MsgFault}
 use Rattle.agent_msg.specs.declared.fault.MsgFault.TheVariants as fault
-use Rattle.agent_msg.specs.Requests.{Addition, ClientRequest, Signing, ListIdentities, Sign, Add, Remove, RemoveAll, Lock, Unlock, Bind, OtherExtension, Unsupported}
+use Rattle.agent_msg.specs.Requests.{Addition, ClientRequest, ListIdentities, Sign, Add, Remove, RemoveAll, Lock, Unlock, Bind, OtherExtension, Unsupported}
 use Rattle.agent_model.specs.Actions.{Work}
 use Rattle.agent_model.specs.Dispatch.{Asker, Served, add_by, add_fault, add_seen, add_unless, answers, length_with, lock_by, refuses, remove_by, remove_seen, sees, serve, serve_by, serve_locked, serve_unlocked, sign_by, unlock_by, unread, uses}
 use Rattle.agent_model.specs.KeyStates.{KeyState}

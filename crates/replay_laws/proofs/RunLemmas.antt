@@ -1,11 +1,10 @@
 -- The run of a record, from the first event to the last.
-use Rattle.std.proofs.Common.{◌≡◌, ℕ, ◌<◌, ◌≤◌, ◌^◌, List, [], ◌∷◌, ◌++◌, length, refl, sym, subst, arith, Bool, true, false, Option, Some, None}
+use Rattle.std.proofs.Common.{◌≡◌, ℕ, ◌<◌, ◌^◌, List, [], ◌∷◌, ◌++◌, length, refl, sym, subst, arith, Bool, true, false, Option, Some, None}
 use Rattle.world_ports.specs.declared.Door.{Door}
 use Rattle.world_ports.specs.declared.Door.TheVariants.{Clients, Children}
-use Rattle.world_ports.specs.declared.Moment.{Moment}
 use Rattle.wire_text.specs.Bounds.{longest_body}
 use Rattle.wire_text.specs.Frames.{split}
-use Rattle.record_world.specs.Recording.{Port as Kept, Recording, client_taken, find_port as find_kept, heard as kept_heard, taken, taken_by}
+use Rattle.record_world.specs.Recording.{Port as Kept, Recording, client_taken, find_port as find_kept, heard as kept_heard, taken_by}
 use Rattle.agent_model.specs.Events.{Happening, Timed, Joined, Heard, Ended, Took, Started, StartFailed, Tick}
 use Rattle.agent_model.specs.Runs.{AllFit, AreInRange}
 use Rattle.agent_model.specs.State.{Settings, State, first_state}

@@ -1,13 +1,12 @@
 -- What is told of a body that a reader takes is no longer than one.
-use Rattle.std.proofs.Common.{◌≡◌, ℕ, zero, suc, ◌+◌, ◌<◌, ◌≤◌, ◌^◌, List, [], ◌∷◌, ◌++◌, length, drop, refl, sym, ap, subst, ◌∙◌, arith, append-nil, inl, inr, Bool, true, false, Result, Ok, Err}
+use Rattle.std.proofs.Common.{◌≡◌, ℕ, zero, suc, ◌+◌, ◌<◌, ◌≤◌, ◌^◌, List, [], ◌∷◌, ◌++◌, length, drop, refl, sym, ap, subst, ◌∙◌, arith, inl, inr, Bool, true, false, Result, Ok, Err}
 use Rattle.std.specs.Prelude.{◌⊎◌}
-use Rattle.std.specs.Fmt.{decimal}
 use Rattle.std.proofs.lemmas.List.{length-append, length-drop}
-use Rattle.std.proofs.lemmas.List.Elements.{All-append, All-drop, All-nil, All-take}
+use Rattle.std.proofs.lemmas.List.Elements.{All-append, All-drop, All-take}
 use Rattle.world_ports.specs.declared.Door.{Door}
 use Rattle.world_ports.specs.declared.Door.TheVariants.{Clients, Children}
 use Rattle.wire_text.specs.Bounds.{longest_body}
-use Rattle.wire_text.specs.Frames.{Bad, Front, More, Split, Whole, after_front, front, front_body, split, then_split, unsplit}
+use Rattle.wire_text.specs.Frames.{Bad, Front, More, Split, Whole, after_front, front, front_body, split, then_split}
 use Rattle.wire_text.specs.Wire.{IsBytes, string}
 use Rattle.wire_text.proofs.FrontLemmas.{IsBody-front_body, front_says}
 use Rattle.wire_text.proofs.SplitLemmas.{length-after_front, split-append, split-append_bad, split-bad, split-more, split-whole}
@@ -17,10 +16,9 @@ use Rattle.agent_msg.specs.Reading.{request_of}
 use Rattle.agent_msg.specs.Requests.{Addition, ClientRequest, IsConstrainedAddition, IsPlainAddition, ListIdentities, Sign, Add, Remove, RemoveAll, Lock, Unlock, Bind, OtherExtension, Unsupported}
 use Rattle.agent_msg.specs.declared.fault.MsgFault.{MsgFault}
 use Rattle.agent_msg.proofs.FoundLemmas.{request_is_found}
-use Rattle.redact_core.specs.Redaction.{holds_secrets, number_of, numbered, redacted, redacted_all, redacted_as, unread, without_secrets}
+use Rattle.redact_core.specs.Redaction.{holds_secrets, numbered, redacted, redacted_all, redacted_as, unread, without_secrets}
 use Rattle.redact_core.proofs.BlankLemmas.{each_stays}
-use Rattle.record_world.specs.Frames.{ends_badly}
-use Rattle.record_world.specs.Recording.{Port, client_taken, split_taken, taken, taken_by}
+use Rattle.record_world.specs.Recording.{Port, client_taken, taken, taken_by}
 use Rattle.replay_laws.specs.Naming.{IsFrontOf, Keeps, kept_of, name_in}
 use Rattle.replay_laws.specs.Redacting.{renamed, renamed_as}
 use Rattle.replay_laws.specs.Telling.{AreShort, IsShort}
@@ -100,8 +98,11 @@ module _ (all : List (List ℕ)) (few : length all < 2 ^ 64) where
       let grown_all : IsFrontOf (redacted_all behind.bodies first.passphrases).passphrases all = subst (λ (s : Split). IsFrontOf (redacted_all s.bodies early).passphrases all) cut grown in
       let after = later (after_front body_len bytes) first.passphrases (omega (arith, few, length-after_front longest_body bytes body_len is)) (small_after bytes body_len each) grown_all in
       subst IsTakenWell (sym cut) record {
-        short = (body_length body early (small_body bytes body_len each) (IsBody-front_body longest_body bytes body_len is).within
-            (front_then first.passphrases (redacted_all behind.bodies first.passphrases).passphrases all (all_grow behind.bodies first.passphrases) grown_all), after.short);
+        short = (
+          body_length body early (small_body bytes body_len each) (IsBody-front_body longest_body bytes body_len is).within
+              (front_then first.passphrases (redacted_all behind.bodies first.passphrases).passphrases all (all_grow behind.bodies first.passphrases) grown_all),
+          after.short,
+        );
         rest = after.rest;
       }
   well_by count bytes early (Bad announced) is few each grown later = subst IsTakenWell (sym (split-bad longest_body bytes announced is)) record { short = tt; rest = each }

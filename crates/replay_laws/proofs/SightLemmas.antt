@@ -1,17 +1,17 @@
 -- Runs that are alike but for what isn't told, and what an onlooker sees of them.
-use Rattle.std.proofs.Common.{◌≡◌, ℕ, List, [], ◌++◌, refl, sym, ap, ◌∙◌, Some}
+use Rattle.std.proofs.Common.{◌≡◌, ℕ, List, ◌++◌, sym, ap, ◌∙◌, Some}
 use Rattle.world_ports.specs.declared.Door.{Door}
-use Rattle.world_ports.specs.declared.Door.TheVariants.{Clients, Children}
+use Rattle.world_ports.specs.declared.Door.TheVariants.{Clients}
 use Rattle.wire_text.specs.Wire.{IsBytes}
 use Rattle.agent_model.specs.Events.{Happening, Joined, Heard, Ended, Took, Started, StartFailed, Tick}
-use Rattle.agent_model.specs.State.{Port, State, UnderWay, find_port, numbers, owed_as, owed_by, owed_of, role_of}
+use Rattle.agent_model.specs.State.{Port, State, UnderWay, find_port, numbers, owed_as, owed_by, role_of}
 use Rattle.agent_model.specs.Step.{handle}
 use Rattle.agent_secrecy.proofs.PortLemmas.{numbers-hidden}
 use Rattle.agent_secrecy.proofs.QuietLemmas.{IsQuiet}
 use Rattle.replay_laws.specs.Redacting.{IsRenaming, as_is, told_at}
 use Rattle.replay_laws.specs.Replaying.{LooksAlike}
 use Rattle.replay_laws.specs.Telling.{AreToldAlike, BringsAlike, IsOfNoClient, IsShort, told_bytes}
-use Rattle.replay_laws.proofs.EventLemmas.{heard-told, joined-told, moment-told, pair_of, quiet-told, took-told}
+use Rattle.replay_laws.proofs.EventLemmas.{heard-told, joined-told, pair_of, quiet-told, took-told}
 use Rattle.replay_laws.proofs.TellLemmas.{told-nothing, told_fronts}
 
 quiet_is : (event : Happening) (state : State) → IsOfNoClient event state → IsQuiet event state

@@ -1,52 +1,26 @@
 -- The events of the lines that tell of a piece.
-use Rattle.std.proofs.Common.{◌≡◌, ◌≢◌, ℕ, zero, suc, ◌+◌, ◌<◌, ◌≤◌, ◌^◌, List, [], ◌∷◌, ◌++◌, length, take, drop, map, refl, sym, ap, subst, ◌∙◌, arith, append_assoc, append-nil, inl, inr, Bool, true, false, cond, Option, Some, None, Result, Ok, Err}
-use Rattle.std.specs.Prelude.{IsSome, is_some, ◌==◌}
-use Rattle.std.specs.Option.{option_map}
+use Rattle.std.proofs.Common.{◌≡◌, ℕ, zero, suc, ◌<◌, ◌≤◌, List, [], ◌∷◌, ◌++◌, length, take, drop, refl, sym, ap, subst, ◌∙◌, arith, append-nil, Bool, true, false, cond, Some}
+use Rattle.std.specs.Prelude.{◌==◌}
 use Rattle.std.proofs.lemmas.List.{drop_all, take_all}
-use Rattle.std.proofs.lemmas.List.Elements.{All-append}
 use Rattle.lists.specs.Rising.{is_among}
-use Rattle.lists.proofs.KeyedLemmas.{found_key}
 use Rattle.world_ports.specs.declared.Door.{Door}
 use Rattle.world_ports.specs.declared.Door.TheVariants.{Clients, Children}
 use Rattle.world_ports.specs.declared.Moment.{Moment}
 use Rattle.wire_text.specs.Bounds.{longest_body}
 use Rattle.wire_text.specs.Frames.{Bad, Front, More, Whole, front, split}
-use Rattle.wire_text.specs.Wire.{IsBytes}
-use Rattle.wire_text.proofs.FrontLemmas.{front-short}
-use Rattle.wire_text.proofs.SplitLemmas.{split-more}
 use Rattle.redact_core.specs.Redaction.{Redacted, redacted_all}
-use Rattle.record_world.specs.Frames.{rest_bytes}
-use Rattle.record_world.specs.Recording.{Left as Told, Port as Kept, Recording, Taken, client_taken, find_port as find_kept, hear_lines, hear_steps, heard as kept_heard, held, hold_steps, longest_piece, new_port as new_kept, number_of as kept_number, only, rest_taken, taken, taken_by, told as told_of_port}
+use Rattle.record_world.specs.Recording.{Port as Kept, Taken, client_taken, hear_lines, longest_piece, rest_taken, taken, taken_by}
 use Rattle.agent_model.specs.Actions.{Outcome}
 use Rattle.agent_model.specs.Children.{changed, heard_more}
-use Rattle.agent_model.specs.Events.{Happening, Timed, Joined, Heard, Ended, Took, Started, StartFailed, Tick}
-use Rattle.agent_model.specs.Looks.{due, due_at, due_by}
-use Rattle.agent_model.specs.Runs.{IsInRange}
-use Rattle.agent_model.specs.Sound.{IsSound, IsSteady}
-use Rattle.agent_model.specs.State.{Fits, Nothing, OnAsk, OnConfirmation, Port, State, Waits, change_port, find_port}
-use Rattle.agent_model.specs.Step.{ended_at, handle, heard_at, looked, step, took_at}
-use Rattle.agent_model.specs.Time.{GiveTime, at_moment}
+use Rattle.agent_model.specs.Events.{Heard}
+use Rattle.agent_model.specs.Looks.{due, due_by}
+use Rattle.agent_model.specs.State.{Port, State, change_port, find_port}
+use Rattle.agent_model.specs.Step.{handle, looked}
 use Rattle.agent_model.proofs.ClientLemmas.{handle-heard, looked-stays}
-use Rattle.agent_model.proofs.PortsLemmas.{change_port-by, found_number, found_within}
-use Rattle.agent_model.proofs.RunLemmas.{at_moment-follows, at_moment-twice, step-last_port}
-use Rattle.agent_secrecy.specs.Hiding.{Seen, hide_port}
-use Rattle.agent_secrecy.proofs.EventLemmas.{IsChild}
-use Rattle.agent_secrecy.proofs.PortLemmas.{find_port-hidden}
-use Rattle.replay_laws.specs.Lines.{events_of, lines_of}
-use Rattle.replay_laws.specs.Naming.{IsFrontOf, Keeps, name_in}
-use Rattle.replay_laws.specs.Redacting.{IsRenaming, as_is, told_at}
-use Rattle.replay_laws.specs.Replaying.{AllFitUnless, FitsUnless, IsRead, Replay, stepped_all, stepped_unless}
-use Rattle.replay_laws.specs.Telling.{AreToldAlike, BringsAlike, IsOfChild, IsShort, told_bytes, told_split}
-use Rattle.replay_laws.specs.Ticks.{is_at_one, ticked}
-use Rattle.replay_laws.proofs.BusyLemmas.{NothingIsDue, heard_due, joined_due, quiet_due, took_due}
-use Rattle.replay_laws.proofs.EventLemmas.{Pair, heard_as_is, pair_of, told_heard}
-use Rattle.replay_laws.proofs.FitLemmas.{gone_behind, open_behind}
-use Rattle.replay_laws.proofs.FollowLemmas.{AreAlike, Comes, Follow, agrees_later, alike, closed, comes, next, none_comes, one, one_comes, one_due, one_sound, one_steady, one_tracked, other, other_sound, other_time, run_of, same_closed, unpassed}
-use Rattle.replay_laws.proofs.KeepLemmas.{taken_keeps, taken_told}
-use Rattle.replay_laws.proofs.PieceLemmas.{heard_up_to, held_events, lines_come, no_bad_front, step_fresh}
-use Rattle.replay_laws.proofs.RecordedLemmas.{AreTracked, Tracked, TrackedBy, found_apart, heard_tracked, joined_tracked, none_behind, quiet_tracked, re_tracked, took_tracked, with_kept}
-use Rattle.replay_laws.proofs.ShortLemmas.{taken_short}
-use Rattle.replay_laws.proofs.SightLemmas.{heard_alike, joined_alike, quiet_alike, took_alike}
+use Rattle.agent_model.proofs.PortsLemmas.{change_port-by}
+use Rattle.replay_laws.specs.Lines.{events_of}
+use Rattle.replay_laws.specs.Replaying.{AllFitUnless, FitsUnless, stepped_all, stepped_unless}
+use Rattle.replay_laws.proofs.PieceLemmas.{heard_up_to, held_events}
 
 -- ---- a port that is kept keeps its number and door
 
@@ -111,4 +85,3 @@ nothing_heard number port state found client none =
     ap (λ (o : Outcome). o.state) (handle-heard number [] port state found client)
     ∙ ap (λ (s : State). (looked number s).state) same
     ∙ looked-stays number state (ap due_by found ∙ none)
-

@@ -1,19 +1,19 @@
 -- What is told of a client's bytes has at its front what stands at theirs.
-use Rattle.std.proofs.Common.{◌≡◌, ℕ, ◌+◌, ◌<◌, ◌≤◌, ◌^◌, List, [], ◌∷◌, ◌++◌, length, take, drop, map, refl, sym, ap, subst, ◌∙◌, arith, append_assoc, Bool, true, false, Result, Ok, Err}
+use Rattle.std.proofs.Common.{◌≡◌, ℕ, ◌+◌, ◌<◌, ◌≤◌, List, [], ◌∷◌, ◌++◌, length, take, drop, map, refl, sym, ap, subst, ◌∙◌, arith, append_assoc, Bool, true, false, Result, Ok, Err}
 use Rattle.std.specs.Prelude.{◌⊎◌}
-use Rattle.std.proofs.lemmas.List.{append-nil, drop_at, length-append, length-take-le, map-append, take_at}
+use Rattle.std.proofs.lemmas.List.{append-nil, drop_at, length-take-le, map-append, take_at}
 use Rattle.std.proofs.lemmas.List.Elements.{All-drop, All-take}
 use Rattle.wire_text.specs.Bounds.{longest_body}
-use Rattle.wire_text.specs.Frames.{Bad, Front, More, Split, Whole, after_front, frames, front, front_body, split, then_split, unsplit}
+use Rattle.wire_text.specs.Frames.{Bad, Front, More, Split, Whole, after_front, frames, front, front_body, split, then_split}
 use Rattle.wire_text.specs.Wire.{IsBytes, announced_len, string}
 use Rattle.wire_text.proofs.FrontLemmas.{IsBody-front_body, front-bad, front-short, front-string, front_says}
-use Rattle.wire_text.proofs.SplitLemmas.{frames-append, split-append, split-append_bad, split-bad, split-more, split-whole}
+use Rattle.wire_text.proofs.SplitLemmas.{frames-append, split-bad, split-more, split-whole}
 use Rattle.wire_text.proofs.WireLemmas.{announced_len-take, drop-string, length-string}
 use Rattle.agent_msg.specs.Reading.{request_of}
 use Rattle.agent_msg.specs.Requests.{ClientRequest, ListIdentities, Sign, Add, Remove, RemoveAll, Lock, Unlock, Bind, OtherExtension, Unsupported, names_bind}
 use Rattle.agent_msg.specs.declared.fault.MsgFault.{MsgFault}
 use Rattle.redact_core.specs.Redaction.{holds_secrets, unread}
-use Rattle.record_world.specs.Frames.{ends_badly, rest_bytes}
+use Rattle.record_world.specs.Frames.{rest_bytes}
 use Rattle.replay_laws.specs.Redacting.{IsRenaming, renamed, renamed_as}
 use Rattle.replay_laws.specs.Telling.{AreShort, IsShort, told_bytes, told_split}
 use Rattle.replay_laws.proofs.LookLemmas.{AreToldFronts, both_bad, both_more, both_whole}

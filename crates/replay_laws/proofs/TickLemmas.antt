@@ -1,12 +1,11 @@
 -- An event and the tick of its moment.
 use Rattle.std.proofs.Common.{◌≡◌, List, [], ◌∷◌, ◌++◌, refl, sym, ap, ◌∙◌}
 use Rattle.world_ports.specs.declared.Moment.{Moment}
-use Rattle.agent_model.specs.Actions.{Outcome}
 use Rattle.agent_model.specs.Events.{Happening, Timed}
 use Rattle.agent_model.specs.Runs.{run}
 use Rattle.agent_model.specs.State.{State}
 use Rattle.agent_model.specs.Step.{handle, step}
-use Rattle.agent_model.specs.Time.{at_moment, time_passes}
+use Rattle.agent_model.specs.Time.{at_moment}
 use Rattle.agent_model.proofs.RunLemmas.{at_moment-twice}
 use Rattle.agent_model.proofs.TimeLemmas.{time_passes-put}
 use Rattle.replay_laws.specs.Ticks.{ticked, with_ticks}

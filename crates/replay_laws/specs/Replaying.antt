@@ -1,6 +1,6 @@
 -- The run of a record beside the run that it records: docs/PROTOCOL.md, "Records" (ours). The record of a list of events is,
 -- for each of them, the tick of its moment and then the events of its lines.
-use Rattle.std.specs.Prelude.{◌≡◌, ◌^◌, ◌<◌, ◌≤◌, ℕ, suc, Bool, true, false, List, [], ◌∷◌, length, Some, if◌then◌else◌}
+use Rattle.std.specs.Prelude.{◌≡◌, ◌^◌, ◌<◌, ◌≤◌, ℕ, suc, Bool, true, false, List, [], ◌∷◌, length, Some}
 use Rattle.world_ports.specs.declared.Door.TheVariants.{Clients}
 use Rattle.world_ports.specs.declared.Moment.{Moment}
 use Rattle.agent_model.specs.Events.{Happening, Timed, Joined, Heard, Ended, Took, Started, StartFailed, Tick}

@@ -2,11 +2,11 @@
 use Rattle.std.specs.Prelude.{ℕ, List, [], ◌∷◌, ◌++◌, codes, map, take, drop}
 use Rattle.world_ports.specs.declared.Door.TheVariants.{Clients, Children}
 use Rattle.agent_model.specs.ChildRows.{hello, ticket}
-use Rattle.agent_model.specs.Events.{Happening, Timed, Ended, Heard, Joined, Started, Tick, Took}
+use Rattle.agent_model.specs.Events.{Happening, Timed, Ended, Heard, Joined, Started, Took}
 use Rattle.agent_model.specs.Rows.{add, list, lock, sign, unlock}
 use Rattle.agent_model.specs.Runs.{run}
-use Rattle.agent_model.specs.State.{Settings, State, first_state, no_settings, numbers, owed_of}
-use Rattle.agent_model.specs.TimeRows.{limited, on}
+use Rattle.agent_model.specs.State.{Settings, State, first_state, numbers, owed_of}
+use Rattle.agent_model.specs.TimeRows.{on}
 use Rattle.replay_laws.specs.Lines.{events_of}
 use Rattle.replay_laws.specs.Replaying.{Replay, first_replay, replayed, told_of}
 
@@ -54,6 +54,10 @@ listed = Joined Clients ∷ Heard 1 (take 10 (add 17)) ∷ Heard 1 (drop 10 (add
 -- a lock whose passphrase is cut short, and a bad length behind it
 abbrev pub refused : List Happening
 refused = Joined Clients ∷ Heard 1 (0 ∷ 0 ∷ 0 ∷ 3 ∷ 22 ∷ 112 ∷ 119 ∷ [] ++ 0 ∷ 0 ∷ 0 ∷ 0 ∷ 1 ∷ 2 ∷ []) ∷ Took 1 5 ∷ []
+
+-- a client asks for a list
+abbrev pub asked : List Happening
+asked = Joined Clients ∷ Heard 1 list ∷ []
 
 -- the helper's port ends in the second in which it is late
 abbrev pub late : List Timed

@@ -10,5 +10,8 @@ mod ticks;
 pub use laws::replays;
 pub use recorded::a_recorder_tells_what_was_sent;
 pub use redacted::{names_of_passphrases_change_no_answer, what_is_told_brings_the_same};
-pub use rows::{a_lock_is_replayed, a_late_port_is_passed_over, an_addition_is_replayed, what_is_refused_is_replayed};
+pub use rows::{
+    a_late_port_is_passed_over, a_list_is_recorded, a_lock_is_replayed, an_addition_is_replayed,
+    what_is_refused_is_replayed,
+};
 pub use ticks::{a_tick_before_an_event_changes_nothing, what_fits_fits_behind_its_tick};

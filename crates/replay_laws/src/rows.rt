@@ -4,10 +4,11 @@
 ghost use Rattle.std.specs.Prelude.{◌≡◌, [], ◌∷◌, ◌++◌, codes};
 ghost use Rattle.world_ports.specs.declared.Door.TheVariants.{Clients};
 ghost use Rattle.agent_model.specs.Events.{Ended, Heard, Joined, Took};
-ghost use Rattle.agent_model.specs.Rows.{done, failed, listed as list_of_one};
+ghost use Rattle.agent_model.specs.Rows.{done, failed, listed as list_of_one, none_listed};
 ghost use Rattle.agent_model.specs.State.{no_settings};
 ghost use Rattle.agent_model.specs.TimeRows.{limited};
-ghost use Rattle.replay_laws.specs.Rows.{all_at_5, late, listed, locked, refused, seen, seen_again, told, unlocked};
+ghost use Rattle.replay_laws.specs.Replaying.{IsRecorded};
+ghost use Rattle.replay_laws.specs.Rows.{all_at_5, asked, late, listed, locked, refused, seen, seen_again, told, unlocked};
 
 /// Passphrases are told by their numbers, and unlock as they did.
 pub fn a_lock_is_replayed()
@@ -32,6 +33,12 @@ pub fn what_is_refused_is_replayed()
         ∷ (Heard 1 (0 ∷ 0 ∷ 0 ∷ 1 ∷ 22 ∷ 0 ∷ 0 ∷ 0 ∷ 0 ∷ []) ∷ []) ∷ (Took 1 5 ∷ []) ∷ [] }
     ensures seen { seen no_settings (all_at_5 refused) ≡ [] ∷ [] ∷ [] }
     ensures again { seen_again no_settings (all_at_5 refused) ≡ [] ∷ [] ∷ [] }
+{}
+
+/// Such a run meets what the law asks for.
+pub fn a_list_is_recorded()
+    ensures premise { IsRecorded limited (all_at_5 asked) }
+    ensures seen { seen_again limited (all_at_5 asked) ≡ (1 ∷ []) ∷ none_listed ∷ [] }
 {}
 
 /// The end of a port that the tick of its moment closed is told and passed over.

@@ -1,4 +1,4 @@
-use Rattle.replay_laws.proofs.RelockLemmas.{time_passes-relocked, confirmer_heard-relocked}
+use Rattle.replay_laws.proofs.RelockLemmas.{time_passes-relocked}
 use Rattle.replay_laws.proofs.RelockedLemmas.{serve-relocked}
 use Rattle.replay_laws.proofs.redacted.names_of_passphrases_change_no_answer.Goals as goal
 
