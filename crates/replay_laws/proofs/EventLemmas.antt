@@ -27,7 +27,8 @@ use Rattle.replay_laws.proofs.LookLemmas.{AreToldFronts, looked-told}
 use Rattle.replay_laws.proofs.RelockLemmas.{at_moment-relocked, confirmer_heard-relocked, ended_at-relocked, failed_if-relocked, helper_heard-relocked, unnamed_heard-relocked}
 
 -- a child process isn't a client
-pub no_client : (door : Door) (number : ℕ) (state : State) → door ≡ Children → role_of door number state.under_way ≡ Client → ⊥
+pub no_client : (door : Door) (number : ℕ) (state : State) → door ≡ Children
+    → role_of door number state.under_way ≡ Client → ⊥
 no_client Clients number state is same = cc
 no_client Children number state is same = by_helper (is_linked_to number state.under_way.link.state) same
   where
@@ -43,35 +44,45 @@ no_client Children number state is same = by_helper (is_linked_to number state.u
 
 module _ (rename : List ℕ → List ℕ) where
   -- whoever sends, but for a client
-  role_heard : (role : Role) (port : Port) (piece : List ℕ) (state : State) → (role ≡ Client → ⊥) → heard_by_role role port piece (relocked_state rename state) ≡ relocked_outcome rename (heard_by_role role port piece state)
+  role_heard : (role : Role) (port : Port) (piece : List ℕ) (state : State) → (role ≡ Client → ⊥)
+      → heard_by_role role port piece (relocked_state rename state) ≡ relocked_outcome rename (heard_by_role role port piece state)
   role_heard Client port piece state other = absurd (other refl)
   role_heard Unnamed port piece state other = unnamed_heard-relocked rename port.heard piece port.number state
   role_heard Helper port piece state other = helper_heard-relocked rename piece state
   role_heard (Confirmer confirmation) port piece state other = confirmer_heard-relocked rename confirmation piece state
 
-  role_took : (role : Role) (number count : ℕ) (state : State) → (role ≡ Client → ⊥) → took_by_role role number count (relocked_state rename state) ≡ relocked_outcome rename (took_by_role role number count state)
+  role_took : (role : Role) (number count : ℕ) (state : State) → (role ≡ Client → ⊥)
+      → took_by_role role number count (relocked_state rename state) ≡ relocked_outcome rename (took_by_role role number count state)
   role_took Client number count state other = absurd (other refl)
   role_took Unnamed number count state other = refl
   role_took Helper number count state other = refl
   role_took (Confirmer confirmation) number count state other = refl
 
-  heard_found : (found : Option Port) (number : ℕ) (piece : List ℕ) (state : State) → find_port number state.ports ≡ found → IsChild number state → heard_at found piece (relocked_state rename state) ≡ relocked_outcome rename (heard_at found piece state)
+  heard_found : (found : Option Port) (number : ℕ) (piece : List ℕ) (state : State)
+      → find_port number state.ports ≡ found → IsChild number state
+      → heard_at found piece (relocked_state rename state) ≡ relocked_outcome rename (heard_at found piece state)
   heard_found None number piece state is child = refl
   heard_found (Some port) number piece state is child =
-      role_heard (role_of port.door port.number state.under_way) port piece state (no_client port.door port.number state (child port is))
+      role_heard (role_of port.door port.number state.under_way) port piece state
+      (no_client port.door port.number state (child port is))
 
-  took_found : (found : Option Port) (number count : ℕ) (state : State) → find_port number state.ports ≡ found → IsChild number state → took_at found count (relocked_state rename state) ≡ relocked_outcome rename (took_at found count state)
+  took_found : (found : Option Port) (number count : ℕ) (state : State) → find_port number state.ports ≡ found
+      → IsChild number state
+      → took_at found count (relocked_state rename state) ≡ relocked_outcome rename (took_at found count state)
   took_found None number count state is child = refl
   took_found (Some port) number count state is child =
-      role_took (role_of port.door port.number state.under_way) port.number count state (no_client port.door port.number state (child port is))
+      role_took (role_of port.door port.number state.under_way) port.number count state
+      (no_client port.door port.number state (child port is))
 
-  pub quiet-relocked : (event : Happening) (state : State) → IsQuiet event state → handle event (relocked_state rename state) ≡ relocked_outcome rename (handle event state)
+  pub quiet-relocked : (event : Happening) (state : State) → IsQuiet event state
+      → handle event (relocked_state rename state) ≡ relocked_outcome rename (handle event state)
   quiet-relocked (Joined door) state quiet = absurd quiet
   quiet-relocked (Heard port piece) state quiet = heard_found (find_port port state.ports) port piece state refl quiet
   quiet-relocked (Ended port) state quiet = ended_at-relocked rename (find_port port state.ports) state
   quiet-relocked (Took port count) state quiet = took_found (find_port port state.ports) port count state refl quiet
   quiet-relocked (Started job ticket) state quiet = refl
-  quiet-relocked (StartFailed job) state quiet = failed_if-relocked rename (find_to_start job state.under_way.to_start) state
+  quiet-relocked (StartFailed job) state quiet =
+      failed_if-relocked rename (find_to_start job state.under_way.to_start) state
   quiet-relocked Tick state quiet = refl
 
 -- ---- both runs
@@ -89,7 +100,8 @@ module _ (rename : List ℕ → List ℕ) (renaming : IsRenaming rename) (told :
       ∙ at_moment-hidden hidden length-hidden_bytes as_is moment t
 
   -- what no client sends or takes
-  pub quiet-told : (event : Happening) (s t : State) → AreAlike s t → IsQuiet event s → IsQuiet event t → redacted_seen rename told (handle event s) ≡ blanked_seen (handle event t)
+  pub quiet-told : (event : Happening) (s t : State) → AreAlike s t → IsQuiet event s → IsQuiet event t
+      → redacted_seen rename told (handle event s) ≡ blanked_seen (handle event t)
   quiet-told event s t same one other =
       ap (seen hidden (told_at told)) (sym (quiet-relocked rename event s one))
       ∙ sym (quiet-hidden length-hidden_bytes (told_at told) event (relocked_state rename s) (quiet_too event one))
@@ -106,11 +118,14 @@ module _ (rename : List ℕ → List ℕ) (renaming : IsRenaming rename) (told :
       quiet_too Tick quiet = quiet
 
   -- a port joins
-  pub joined-told : (door : Door) (s t : State) → told [] ≡ [] → AreAlike s t → redacted_seen rename told (handle (Joined door) s) ≡ blanked_seen (handle (Joined door) t)
+  pub joined-told : (door : Door) (s t : State) → told [] ≡ [] → AreAlike s t
+      → redacted_seen rename told (handle (Joined door) s) ≡ blanked_seen (handle (Joined door) t)
   joined-told door s t none same =
-      sym (exactly hidden length-hidden_bytes (told_at told) (join door (relocked_state rename s)) _ (join-hidden hidden length-hidden_bytes (told_at told) door (relocked_state rename s) none))
+      sym
+      (exactly hidden length-hidden_bytes (told_at told) (join door (relocked_state rename s)) _ (join-hidden hidden length-hidden_bytes (told_at told) door (relocked_state rename s) none))
       ∙ ap (λ state. bare (join door state)) same
-      ∙ exactly hidden length-hidden_bytes as_is (join door t) _ (join-hidden hidden length-hidden_bytes as_is door t refl)
+      ∙ exactly hidden length-hidden_bytes as_is (join door t) _
+      (join-hidden hidden length-hidden_bytes as_is door t refl)
 
   -- ---- clients
 
@@ -120,30 +135,40 @@ module _ (rename : List ℕ → List ℕ) (renaming : IsRenaming rename) (told :
     pub found : find_port number t.ports ≡ Some port
     pub same : hide_port (told_at told) p ≡ hide_port as_is port
 
-  paired : (number : ℕ) (a b : Option Port) (p : Port) (t : State) → option_map (hide_port (told_at told)) a ≡ option_map (hide_port as_is) b → a ≡ Some p → find_port number t.ports ≡ b → Pair number p t
-  paired number a None p t same is there = absurd (let e : option_map (hide_port (told_at told)) (Some p) ≡ None = ap (option_map (hide_port (told_at told))) (sym is) ∙ same in cc)
+  paired : (number : ℕ) (a b : Option Port) (p : Port) (t : State)
+      → option_map (hide_port (told_at told)) a ≡ option_map (hide_port as_is) b → a ≡ Some p
+      → find_port number t.ports ≡ b → Pair number p t
+  paired number a None p t same is there =
+      absurd
+      (let e : option_map (hide_port (told_at told)) (Some p) ≡ None = ap (option_map (hide_port (told_at told))) (sym is) ∙ same in cc)
   paired number a (Some q) p t same is there = record {
     port = q;
     found = there;
-    same = (let e : Some (hide_port (told_at told) p) ≡ Some (hide_port as_is q) = ap (option_map (hide_port (told_at told))) (sym is) ∙ same in cc);
+    same =
+        (let e : Some (hide_port (told_at told) p) ≡ Some (hide_port as_is q) = ap (option_map (hide_port (told_at told))) (sym is) ∙ same in cc);
   }
 
-  pub pair_of : (number : ℕ) (p : Port) (s t : State) → AreAlike s t → find_port number s.ports ≡ Some p → Pair number p t
+  pub pair_of : (number : ℕ) (p : Port) (s t : State) → AreAlike s t → find_port number s.ports ≡ Some p
+      → Pair number p t
   pair_of number p s t same found =
       paired number (find_port number s.ports) (find_port number t.ports) p t
       (sym (find_port-hidden (told_at told) number s.ports) ∙ ap (λ (x : State). find_port number x.ports) same ∙ find_port-hidden as_is number t.ports) found refl
 
   -- a client's port changes alike in both, and the client is looked at
-  changed-told : (number : ℕ) (f g : Port → Port) (p : Port) (s t : State) → AreAlike s t → find_port number s.ports ≡ Some p → (f p).door ≡ Clients
+  changed-told : (number : ℕ) (f g : Port → Port) (p : Port) (s t : State) → AreAlike s t
+      → find_port number s.ports ≡ Some p → (f p).door ≡ Clients
       → ((x : Port) → (f x).number ≡ x.number) → ((x : Port) → (g x).number ≡ x.number)
-      → g (hide_port (told_at told) p) ≡ hide_port (told_at told) (f p) → ((x : Port) → g (hide_port as_is x) ≡ hide_port as_is (g x))
+      → g (hide_port (told_at told) p) ≡ hide_port (told_at told) (f p)
+      → ((x : Port) → g (hide_port as_is x) ≡ hide_port as_is (g x))
       → AreToldFronts rename renaming told (f p).heard (front longest_body (f p).heard) (front longest_body (told (f p).heard))
       → redacted_seen rename told (looked number (changed number f s)) ≡ blanked_seen (looked number (changed number g t))
   changed-told number f g p s t same found client f_keeps g_keeps here as_it_is fronts =
       let q = pair_of number p s t same found in
       let is : p.number ≡ number = found_number number s.ports p found in
-      let found_f : find_port number (change_port number f s.ports) ≡ Some (f p) = find_port-change_port number f s.ports f_keeps ∙ ap (option_map f) found in
-      let found_g : find_port number (change_port number g t.ports) ≡ Some (g q.port) = find_port-change_port number g t.ports g_keeps ∙ ap (option_map g) q.found in
+      let found_f : find_port number (change_port number f s.ports) ≡ Some (f p) =
+      find_port-change_port number f s.ports f_keeps ∙ ap (option_map f) found in
+      let found_g : find_port number (change_port number g t.ports) ≡ Some (g q.port) =
+      find_port-change_port number g t.ports g_keeps ∙ ap (option_map g) q.found in
       let only : (x : Port) → find_port number s.ports ≡ Some x → g (hide_port (told_at told) x) ≡ hide_port (told_at told) (f x) =
       λ x there. subst (λ (y : Port). g (hide_port (told_at told) y) ≡ hide_port (told_at told) (f y)) (let both : Some p ≡ Some x = sym found ∙ there in let e : p ≡ x = cc in e) here in
       looked-told rename renaming told (f p) (g q.port) (changed number f s) (changed number g t)
@@ -154,7 +179,8 @@ module _ (rename : List ℕ → List ℕ) (renaming : IsRenaming rename) (told :
       client (ap (λ n. find_port n (change_port number f s.ports)) (f_keeps p ∙ is) ∙ found_f)
       number found_f found_g fronts
 
-  pub told_heard : (door : Door) (number : ℕ) (bytes : List ℕ) → door ≡ Clients → hide_heard (told_at told) door number bytes ≡ told bytes
+  pub told_heard : (door : Door) (number : ℕ) (bytes : List ℕ) → door ≡ Clients
+      → hide_heard (told_at told) door number bytes ≡ told bytes
   told_heard Clients number bytes is = refl
   told_heard Children number bytes is = absurd (cc)
 
@@ -166,7 +192,8 @@ module _ (rename : List ℕ → List ℕ) (renaming : IsRenaming rename) (told :
   with_bytes port bytes = record port { heard = bytes }
 
   -- a client sends a piece, and of it these bytes are told
-  pub heard-told : (number : ℕ) (piece bytes : List ℕ) (p : Port) (s t : State) → AreAlike s t → find_port number s.ports ≡ Some p → p.door ≡ Clients
+  pub heard-told : (number : ℕ) (piece bytes : List ℕ) (p : Port) (s t : State) → AreAlike s t
+      → find_port number s.ports ≡ Some p → p.door ≡ Clients
       → told (p.heard ++ piece) ≡ told p.heard ++ bytes
       → AreToldFronts rename renaming told (p.heard ++ piece) (front longest_body (p.heard ++ piece)) (front longest_body (told (p.heard ++ piece)))
       → redacted_seen rename told (handle (Heard number piece) s) ≡ blanked_seen (handle (Heard number bytes) t)
@@ -177,14 +204,18 @@ module _ (rename : List ℕ → List ℕ) (renaming : IsRenaming rename) (told :
       (ap (with_bytes p) (ap (λ b. b ++ bytes) (told_heard p.door p.number p.heard client) ∙ sym is ∙ sym (told_heard p.door p.number (p.heard ++ piece) client)))
       (λ x. ap (λ b. with_bytes x (b ++ bytes)) (heard_as_is x.door x.number x.heard) ∙ ap (with_bytes x) (sym (heard_as_is x.door x.number (x.heard ++ bytes))))
       fronts
-      ∙ sym (ap blanked_seen (handle-heard number bytes q.port t q.found (ap (λ (port : Port). port.door) (sym q.same) ∙ client)))
+      ∙ sym
+      (ap blanked_seen (handle-heard number bytes q.port t q.found (ap (λ (port : Port). port.door) (sym q.same) ∙ client)))
 
   -- a client takes bytes
-  pub took-told : (number count : ℕ) (p : Port) (s t : State) → AreAlike s t → find_port number s.ports ≡ Some p → p.door ≡ Clients
+  pub took-told : (number count : ℕ) (p : Port) (s t : State) → AreAlike s t → find_port number s.ports ≡ Some p
+      → p.door ≡ Clients
       → AreToldFronts rename renaming told p.heard (front longest_body p.heard) (front longest_body (told p.heard))
       → redacted_seen rename told (handle (Took number count) s) ≡ blanked_seen (handle (Took number count) t)
   took-told number count p s t same found client fronts =
       let q = pair_of number p s t same found in
       ap (redacted_seen rename told) (handle-took number count p s found client)
-      ∙ changed-told number (took_some count) (took_some count) p s t same found client (λ x. refl) (λ x. refl) refl (λ x. refl) fronts
-      ∙ sym (ap blanked_seen (handle-took number count q.port t q.found (ap (λ (port : Port). port.door) (sym q.same) ∙ client)))
+      ∙ changed-told number (took_some count) (took_some count) p s t same found client (λ x. refl) (λ x. refl) refl
+      (λ x. refl) fronts
+      ∙ sym
+      (ap blanked_seen (handle-took number count q.port t q.found (ap (λ (port : Port). port.door) (sym q.same) ∙ client)))

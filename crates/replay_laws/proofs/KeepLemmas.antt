@@ -33,15 +33,18 @@ front_then a b c first second = record {
   whole = second.whole ∙ ap (λ l. l ++ second.later) first.whole ∙ append_assoc a first.later second.later;
 }
 
-noted_grows : (place : Option ℕ) (passphrase : List ℕ) (early : List (List ℕ)) → IsFrontOf early (noted_by place passphrase early)
+noted_grows : (place : Option ℕ) (passphrase : List ℕ) (early : List (List ℕ))
+    → IsFrontOf early (noted_by place passphrase early)
 noted_grows (Some place) passphrase early = front_same early
 noted_grows None passphrase early = record { later = passphrase ∷ []; whole = refl }
 
-numbered_grows : (number : ℕ) (passphrase : List ℕ) (early : List (List ℕ)) → IsFrontOf early (numbered number passphrase early).passphrases
+numbered_grows : (number : ℕ) (passphrase : List ℕ) (early : List (List ℕ))
+    → IsFrontOf early (numbered number passphrase early).passphrases
 numbered_grows number [] early = front_same early
 numbered_grows number (byte ∷ bytes) early = noted_grows (position (bytes_eq (byte ∷ bytes)) early) (byte ∷ bytes) early
 
-grows_by : (read : Result ClientRequest MsgFault) (number : ℕ) (bytes : List ℕ) (early : List (List ℕ)) → IsFrontOf early (redacted_as read number bytes early).passphrases
+grows_by : (read : Result ClientRequest MsgFault) (number : ℕ) (bytes : List ℕ) (early : List (List ℕ))
+    → IsFrontOf early (redacted_as read number bytes early).passphrases
 grows_by (Ok ListIdentities) number bytes early = front_same early
 grows_by (Ok (Sign signing)) number bytes early = front_same early
 grows_by (Ok (Add addition)) number bytes early = front_same early
@@ -61,15 +64,21 @@ redacted_grows (number ∷ bytes) early = grows_by (request_of (number ∷ bytes
 pub all_grow : (bodies early : List (List ℕ)) → IsFrontOf early (redacted_all bodies early).passphrases
 all_grow [] early = front_same early
 all_grow (body ∷ bodies) early =
-    front_then early (redacted body early).passphrases (redacted_all (body ∷ bodies) early).passphrases (redacted_grows body early) (all_grow bodies (redacted body early).passphrases)
+    front_then early (redacted body early).passphrases (redacted_all (body ∷ bodies) early).passphrases
+    (redacted_grows body early) (all_grow bodies (redacted body early).passphrases)
 
 -- ---- a body is told by the names of the whole run
 
-numbered_body : (number : ℕ) (passphrase : List ℕ) (early all : List (List ℕ)) → IsFrontOf (numbered number passphrase early).passphrases all → (numbered number passphrase early).body ≡ number ∷ string (name_in all passphrase)
+numbered_body : (number : ℕ) (passphrase : List ℕ) (early all : List (List ℕ))
+    → IsFrontOf (numbered number passphrase early).passphrases all
+    → (numbered number passphrase early).body ≡ number ∷ string (name_in all passphrase)
 numbered_body number [] early all front = refl
-numbered_body number (byte ∷ bytes) early all front = ap (λ name. number ∷ string name) (number_is_name byte bytes early all front)
+numbered_body number (byte ∷ bytes) early all front =
+    ap (λ name. number ∷ string name) (number_is_name byte bytes early all front)
 
-body_by : (read : Result ClientRequest MsgFault) (number : ℕ) (bytes : List ℕ) (early all : List (List ℕ)) → IsFrontOf (redacted_as read number bytes early).passphrases all → (redacted_as read number bytes early).body ≡ renamed_as (name_in all) read number bytes
+body_by : (read : Result ClientRequest MsgFault) (number : ℕ) (bytes : List ℕ) (early all : List (List ℕ))
+    → IsFrontOf (redacted_as read number bytes early).passphrases all
+    → (redacted_as read number bytes early).body ≡ renamed_as (name_in all) read number bytes
 body_by (Ok ListIdentities) number bytes early all front = refl
 body_by (Ok (Sign signing)) number bytes early all front = refl
 body_by (Ok (Add addition)) number bytes early all front = refl
@@ -82,11 +91,13 @@ body_by (Ok (OtherExtension name)) number bytes early all front = refl
 body_by (Ok (Unsupported other)) number bytes early all front = refl
 body_by (Err what) number bytes early all front = refl
 
-pub redacted_body : (body : List ℕ) (early all : List (List ℕ)) → IsFrontOf (redacted body early).passphrases all → (redacted body early).body ≡ renamed (name_in all) body
+pub redacted_body : (body : List ℕ) (early all : List (List ℕ)) → IsFrontOf (redacted body early).passphrases all
+    → (redacted body early).body ≡ renamed (name_in all) body
 redacted_body [] early all front = refl
 redacted_body (number ∷ bytes) early all front = body_by (request_of (number ∷ bytes)) number bytes early all front
 
-all_bodies : (bodies early all : List (List ℕ)) → IsFrontOf (redacted_all bodies early).passphrases all → (redacted_all bodies early).body ≡ frames (map (renamed (name_in all)) bodies)
+all_bodies : (bodies early all : List (List ℕ)) → IsFrontOf (redacted_all bodies early).passphrases all
+    → (redacted_all bodies early).body ≡ frames (map (renamed (name_in all)) bodies)
 all_bodies [] early all front = refl
 all_bodies (body ∷ bodies) early all front =
     let first = redacted body early in
@@ -97,7 +108,8 @@ all_bodies (body ∷ bodies) early all front =
 -- ---- a piece
 
 -- what was told before, and then this of what was kept and the piece
-behind_told : (rename : List ℕ → List ℕ) (heard piece : List ℕ) → ends_badly (front longest_body (split longest_body heard).rest) ≡ false
+behind_told : (rename : List ℕ → List ℕ) (heard piece : List ℕ)
+    → ends_badly (front longest_body (split longest_body heard).rest) ≡ false
     → told_bytes rename (heard ++ piece) ≡ told_bytes rename heard ++ told_split rename (split longest_body ((split longest_body heard).rest ++ piece))
 behind_told rename heard piece fine =
     let cut = split longest_body heard in
@@ -105,20 +117,24 @@ behind_told rename heard piece fine =
     let none : rest_bytes (front longest_body cut.rest) cut.rest ≡ [] = by_front (front longest_body cut.rest) fine in
     ap (told_split rename) (split-append longest_body heard piece)
     ∙ told-then rename cut.bodies (split longest_body (cut.rest ++ piece))
-    ∙ ap (λ l. l ++ told_split rename (split longest_body (cut.rest ++ piece))) (sym (append-nil first) ∙ ap (λ l. first ++ l) (sym none))
+    ∙ ap (λ l. l ++ told_split rename (split longest_body (cut.rest ++ piece)))
+    (sym (append-nil first) ∙ ap (λ l. first ++ l) (sym none))
   where
     by_front : (what : Front) → ends_badly what ≡ false → rest_bytes what (split longest_body heard).rest ≡ []
     by_front (Whole body_len) is = refl
     by_front (Bad announced) is = absurd (cc)
     by_front More is = refl
 
-pub bad_starts : (rest : List ℕ) (what : Front) → front longest_body rest ≡ what → ends_badly what ≡ true → (announced : ℕ) × (front longest_body rest ≡ Bad announced)
+pub bad_starts : (rest : List ℕ) (what : Front) → front longest_body rest ≡ what → ends_badly what ≡ true
+    → (announced : ℕ) × (front longest_body rest ≡ Bad announced)
 bad_starts rest (Whole body_len) is bad = absurd (cc)
 bad_starts rest (Bad announced) is bad = (announced, is)
 bad_starts rest More is bad = absurd (cc)
 
 -- behind a bad length nothing more is told
-pub bad_told : (rename : List ℕ → List ℕ) (heard piece : List ℕ) → ends_badly (front longest_body (split longest_body heard).rest) ≡ true → told_bytes rename (heard ++ piece) ≡ told_bytes rename heard
+pub bad_told : (rename : List ℕ → List ℕ) (heard piece : List ℕ)
+    → ends_badly (front longest_body (split longest_body heard).rest) ≡ true
+    → told_bytes rename (heard ++ piece) ≡ told_bytes rename heard
 bad_told rename heard piece bad =
     let cut = split longest_body heard in
     let first = frames (map (renamed rename) cut.bodies) in
@@ -127,11 +143,13 @@ bad_told rename heard piece bad =
     let header : 4 ≤ length cut.rest = says.0.header in
     ap (told_split rename) (split-append_bad longest_body heard piece says.0)
     ∙ told-then rename cut.bodies (unsplit (cut.rest ++ piece))
-    ∙ ap (λ (f : Front). first ++ rest_bytes f (cut.rest ++ piece)) (front-append_bad longest_body cut.rest piece found.0 found.1)
+    ∙ ap (λ (f : Front). first ++ rest_bytes f (cut.rest ++ piece))
+    (front-append_bad longest_body cut.rest piece found.0 found.1)
     ∙ ap (λ (l : List ℕ). first ++ l) (take-append-le 4 cut.rest piece header)
     ∙ sym (ap (λ (f : Front). first ++ rest_bytes f cut.rest) found.1)
 
-bad_rest : (heard piece : List ℕ) → ends_badly (front longest_body (split longest_body heard).rest) ≡ true → ends_badly (front longest_body (split longest_body (heard ++ piece)).rest) ≡ true
+bad_rest : (heard piece : List ℕ) → ends_badly (front longest_body (split longest_body heard).rest) ≡ true
+    → ends_badly (front longest_body (split longest_body (heard ++ piece)).rest) ≡ true
 bad_rest heard piece bad =
     let cut = split longest_body heard in
     let found = bad_starts cut.rest (front longest_body cut.rest) refl bad in
@@ -144,63 +162,95 @@ module _ (all : List (List ℕ)) where
   told bytes = told_bytes (name_in all) bytes
 
   -- what leaves a port is what is told
-  leaves_by : (what : Front) (port : Port) (got : Redacted) (cut : Split) → got.body ≡ frames (map (renamed (name_in all)) cut.bodies) → front longest_body cut.rest ≡ what → (rest_taken what port got cut.rest).bytes ≡ told_split (name_in all) cut
-  leaves_by (Whole body_len) port got cut is at = sym (append-nil got.body) ∙ ap (λ l. l ++ []) is ∙ sym (ap (λ (f : Front). frames (map (renamed (name_in all)) cut.bodies) ++ rest_bytes f cut.rest) at)
-  leaves_by (Bad announced) port got cut is at = ap (λ l. l ++ take 4 cut.rest) is ∙ sym (ap (λ (f : Front). frames (map (renamed (name_in all)) cut.bodies) ++ rest_bytes f cut.rest) at)
-  leaves_by More port got cut is at = sym (append-nil got.body) ∙ ap (λ l. l ++ []) is ∙ sym (ap (λ (f : Front). frames (map (renamed (name_in all)) cut.bodies) ++ rest_bytes f cut.rest) at)
+  leaves_by : (what : Front) (port : Port) (got : Redacted) (cut : Split)
+      → got.body ≡ frames (map (renamed (name_in all)) cut.bodies) → front longest_body cut.rest ≡ what
+      → (rest_taken what port got cut.rest).bytes ≡ told_split (name_in all) cut
+  leaves_by (Whole body_len) port got cut is at =
+      sym (append-nil got.body) ∙ ap (λ l. l ++ []) is
+      ∙ sym (ap (λ (f : Front). frames (map (renamed (name_in all)) cut.bodies) ++ rest_bytes f cut.rest) at)
+  leaves_by (Bad announced) port got cut is at =
+      ap (λ l. l ++ take 4 cut.rest) is
+      ∙ sym (ap (λ (f : Front). frames (map (renamed (name_in all)) cut.bodies) ++ rest_bytes f cut.rest) at)
+  leaves_by More port got cut is at =
+      sym (append-nil got.body) ∙ ap (λ l. l ++ []) is
+      ∙ sym (ap (λ (f : Front). frames (map (renamed (name_in all)) cut.bodies) ++ rest_bytes f cut.rest) at)
 
-  passphrases_by : (what : Front) (port : Port) (got : Redacted) (rest : List ℕ) → (rest_taken what port got rest).passphrases ≡ got.passphrases
+  passphrases_by : (what : Front) (port : Port) (got : Redacted) (rest : List ℕ)
+      → (rest_taken what port got rest).passphrases ≡ got.passphrases
   passphrases_by (Whole body_len) port got rest = refl
   passphrases_by (Bad announced) port got rest = refl
   passphrases_by More port got rest = refl
 
-  pub passphrases_of : (cut : Split) (port : Port) (early : List (List ℕ)) → (split_taken cut port early).passphrases ≡ (redacted_all cut.bodies early).passphrases
-  passphrases_of cut port early = passphrases_by (front longest_body cut.rest) port (redacted_all cut.bodies early) cut.rest
+  pub passphrases_of : (cut : Split) (port : Port) (early : List (List ℕ))
+      → (split_taken cut port early).passphrases ≡ (redacted_all cut.bodies early).passphrases
+  passphrases_of cut port early =
+      passphrases_by (front longest_body cut.rest) port (redacted_all cut.bodies early) cut.rest
 
-  leaves : (cut : Split) (port : Port) (early : List (List ℕ)) → IsFrontOf (split_taken cut port early).passphrases all → (split_taken cut port early).bytes ≡ told_split (name_in all) cut
+  leaves : (cut : Split) (port : Port) (early : List (List ℕ))
+      → IsFrontOf (split_taken cut port early).passphrases all
+      → (split_taken cut port early).bytes ≡ told_split (name_in all) cut
   leaves cut port early front_is =
       let got = redacted_all cut.bodies early in
       let at = front longest_body cut.rest in
-      leaves_by at port got cut (all_bodies cut.bodies early all (subst (λ ps. IsFrontOf ps all) (passphrases_by at port got cut.rest) front_is)) refl
+      leaves_by at port got cut
+      (all_bodies cut.bodies early all (subst (λ ps. IsFrontOf ps all) (passphrases_by at port got cut.rest) front_is)) refl
 
-  client_told : (is_bad : Bool) (heard piece : List ℕ) (port : Port) (early : List (List ℕ)) → port.is_bad ≡ is_bad → Keeps heard port → IsFrontOf (client_taken is_bad port piece early).passphrases all → told (heard ++ piece) ≡ told heard ++ (client_taken is_bad port piece early).bytes
-  client_told true heard piece port early is keeps front_is = bad_told (name_in all) heard piece (sym keeps.bad ∙ is) ∙ sym (append-nil (told heard))
+  client_told : (is_bad : Bool) (heard piece : List ℕ) (port : Port) (early : List (List ℕ)) → port.is_bad ≡ is_bad
+      → Keeps heard port → IsFrontOf (client_taken is_bad port piece early).passphrases all
+      → told (heard ++ piece) ≡ told heard ++ (client_taken is_bad port piece early).bytes
+  client_told true heard piece port early is keeps front_is =
+      bad_told (name_in all) heard piece (sym keeps.bad ∙ is) ∙ sym (append-nil (told heard))
   client_told false heard piece port early is keeps front_is =
-      let kept : port.unrecorded ≡ (split longest_body heard).rest = keeps.unrecorded ∙ ap (λ b. kept_of b (split longest_body heard).rest) is in
+      let kept : port.unrecorded ≡ (split longest_body heard).rest =
+      keeps.unrecorded ∙ ap (λ b. kept_of b (split longest_body heard).rest) is in
       behind_told (name_in all) heard piece (sym keeps.bad ∙ is)
       ∙ ap (λ l. told heard ++ l)
       (ap (λ rest. told_split (name_in all) (split longest_body (rest ++ piece))) (sym kept)
       ∙ sym (leaves (split longest_body (port.unrecorded ++ piece)) port early front_is))
 
-  taken_told_by : (door : Door) (heard piece : List ℕ) (port : Port) (early : List (List ℕ)) → door ≡ Clients → Keeps heard port → IsFrontOf (taken_by door port piece early).passphrases all → told (heard ++ piece) ≡ told heard ++ (taken_by door port piece early).bytes
-  taken_told_by Clients heard piece port early is keeps front_is = client_told port.is_bad heard piece port early refl keeps front_is
+  taken_told_by : (door : Door) (heard piece : List ℕ) (port : Port) (early : List (List ℕ)) → door ≡ Clients
+      → Keeps heard port → IsFrontOf (taken_by door port piece early).passphrases all
+      → told (heard ++ piece) ≡ told heard ++ (taken_by door port piece early).bytes
+  taken_told_by Clients heard piece port early is keeps front_is =
+      client_told port.is_bad heard piece port early refl keeps front_is
   taken_told_by Children heard piece port early is keeps front_is = absurd (cc)
 
-  pub taken_told : (heard piece : List ℕ) (port : Port) (early : List (List ℕ)) → Keeps heard port → IsFrontOf (taken port piece early).passphrases all → told (heard ++ piece) ≡ told heard ++ (taken port piece early).bytes
-  taken_told heard piece port early keeps front_is = taken_told_by port.door heard piece port early keeps.door keeps front_is
+  pub taken_told : (heard piece : List ℕ) (port : Port) (early : List (List ℕ)) → Keeps heard port
+      → IsFrontOf (taken port piece early).passphrases all
+      → told (heard ++ piece) ≡ told heard ++ (taken port piece early).bytes
+  taken_told heard piece port early keeps front_is =
+      taken_told_by port.door heard piece port early keeps.door keeps front_is
 
 -- ---- what is kept then
 
-kept_by : (what : Front) (heard : List ℕ) (port : Port) (got : Redacted) (rest : List ℕ) → port.door ≡ Clients → port.is_bad ≡ false → (split longest_body heard).rest ≡ rest → front longest_body rest ≡ what → Keeps heard (rest_taken what port got rest).port
+kept_by : (what : Front) (heard : List ℕ) (port : Port) (got : Redacted) (rest : List ℕ) → port.door ≡ Clients
+    → port.is_bad ≡ false → (split longest_body heard).rest ≡ rest → front longest_body rest ≡ what
+    → Keeps heard (rest_taken what port got rest).port
 kept_by (Whole body_len) heard port got rest door fine is at = record { door = door; bad = fine ∙ sym (ap (λ r. ends_badly (front longest_body r)) is ∙ ap ends_badly at); unrecorded = sym is ∙ ap (λ b. kept_of b (split longest_body heard).rest) (sym fine) }
 kept_by (Bad announced) heard port got rest door fine is at = record { door = door; bad = sym (ap (λ r. ends_badly (front longest_body r)) is ∙ ap ends_badly at); unrecorded = refl }
 kept_by More heard port got rest door fine is at = record { door = door; bad = fine ∙ sym (ap (λ r. ends_badly (front longest_body r)) is ∙ ap ends_badly at); unrecorded = sym is ∙ ap (λ b. kept_of b (split longest_body heard).rest) (sym fine) }
 
-client_keeps : (is_bad : Bool) (heard piece : List ℕ) (port : Port) (early : List (List ℕ)) → port.is_bad ≡ is_bad → Keeps heard port → Keeps (heard ++ piece) (client_taken is_bad port piece early).port
+client_keeps : (is_bad : Bool) (heard piece : List ℕ) (port : Port) (early : List (List ℕ)) → port.is_bad ≡ is_bad
+    → Keeps heard port → Keeps (heard ++ piece) (client_taken is_bad port piece early).port
 client_keeps true heard piece port early is keeps = record {
   door = keeps.door;
   bad = is ∙ sym (bad_rest heard piece (sym keeps.bad ∙ is));
-  unrecorded = keeps.unrecorded ∙ ap (λ b. kept_of b (split longest_body heard).rest) is ∙ sym (ap (λ b. kept_of b (split longest_body (heard ++ piece)).rest) is);
+  unrecorded =
+      keeps.unrecorded ∙ ap (λ b. kept_of b (split longest_body heard).rest) is
+      ∙ sym (ap (λ b. kept_of b (split longest_body (heard ++ piece)).rest) is);
 }
 client_keeps false heard piece port early is keeps =
-    let kept : port.unrecorded ≡ (split longest_body heard).rest = keeps.unrecorded ∙ ap (λ b. kept_of b (split longest_body heard).rest) is in
+    let kept : port.unrecorded ≡ (split longest_body heard).rest =
+    keeps.unrecorded ∙ ap (λ b. kept_of b (split longest_body heard).rest) is in
     let cut = split longest_body (port.unrecorded ++ piece) in
     kept_by (front longest_body cut.rest) (heard ++ piece) port (redacted_all cut.bodies early) cut.rest keeps.door is
     (ap (λ (s : Split). s.rest) (split-append longest_body heard piece) ∙ ap (λ r. (split longest_body (r ++ piece)).rest) (sym kept)) refl
 
-keeps_by : (door : Door) (heard piece : List ℕ) (port : Port) (early : List (List ℕ)) → door ≡ Clients → Keeps heard port → Keeps (heard ++ piece) (taken_by door port piece early).port
+keeps_by : (door : Door) (heard piece : List ℕ) (port : Port) (early : List (List ℕ)) → door ≡ Clients
+    → Keeps heard port → Keeps (heard ++ piece) (taken_by door port piece early).port
 keeps_by Clients heard piece port early is keeps = client_keeps port.is_bad heard piece port early refl keeps
 keeps_by Children heard piece port early is keeps = absurd (cc)
 
-pub taken_keeps : (heard piece : List ℕ) (port : Port) (early : List (List ℕ)) → Keeps heard port → Keeps (heard ++ piece) (taken port piece early).port
+pub taken_keeps : (heard piece : List ℕ) (port : Port) (early : List (List ℕ)) → Keeps heard port
+    → Keeps (heard ++ piece) (taken port piece early).port
 taken_keeps heard piece port early keeps = keeps_by port.door heard piece port early keeps.door keeps

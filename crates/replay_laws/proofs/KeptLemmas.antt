@@ -36,13 +36,15 @@ quiet-same (goes_on new kept) = record { moment = refl; limits = kept.limits }
 quiet-same (names job number port found door free) = record { moment = refl; limits = refl }
 quiet-same (links job number port found door free other) = record { moment = refl; limits = refl }
 
-served-limits : {asker : Asker} {held : KeyState} {under_way : UnderWay} {served : Served} → IsServed asker held under_way served → served.work.under_way.limits ≡ under_way.limits
+served-limits : {asker : Asker} {held : KeyState} {under_way : UnderWay} {served : Served}
+    → IsServed asker held under_way served → served.work.under_way.limits ≡ under_way.limits
 served-limits (answered reply kept same) = refl
 served-limits (refused cause) = refl
 served-limits (asked errand free right) = refl
 served-limits (raised key signing free) = refl
 
-granted-limits : {chain : List Binding} {confirmation : Confirmation} {wall : ℕ} {held : KeyState} {under_way : UnderWay} {work : Work} → IsGranted chain confirmation wall held under_way work → work.under_way.limits ≡ under_way.limits
+granted-limits : {chain : List Binding} {confirmation : Confirmation} {wall : ℕ} {held : KeyState} {under_way : UnderWay} {work : Work}
+    → IsGranted chain confirmation wall held under_way work → work.under_way.limits ≡ under_way.limits
 granted-limits (disallowed never) = refl
 granted-limits (unasked cause key may fault) = refl
 granted-limits (allowed key may free) = refl
@@ -53,10 +55,12 @@ lose_if-same (Some fault) state = record { moment = refl; limits = refl }
 
 makes-same : {event : Happening} {old : State} {outcome : Outcome} → Makes event old outcome → Same old outcome.state
 makes-same (stays state) = record { moment = refl; limits = refl }
-makes-same {old = old} (first {mid = mid} {outcome = outcome} quiet rest) = same_then old mid outcome.state (quiet-same quiet) (makes-same rest)
+makes-same {old = old} (first {mid = mid} {outcome = outcome} quiet rest) =
+    same_then old mid outcome.state (quiet-same quiet) (makes-same rest)
 makes-same (serves body_len port state found door nothing owed) = record {
   moment = refl;
-  limits = served-limits (serve-ends (asker_at state.moment port) state.held state.under_way (front_body body_len port.heard));
+  limits =
+      served-limits (serve-ends (asker_at state.moment port) state.held state.under_way (front_body body_len port.heard));
 }
 makes-same (tells piece state) =
     let told = telling piece state.under_way.link in
@@ -68,19 +72,26 @@ makes-same (grants confirmation port state there opened) = record { moment = ref
 
 handle-same : (event : Happening) (state : State) → Same state (handle event state).state
 handle-same event state =
-    by_event (λ outcome. Same state outcome.state) event state (λ door. record { moment = refl; limits = refl }) (λ outcome. makes-same)
+    by_event (λ outcome. Same state outcome.state) event state (λ door. record { moment = refl; limits = refl })
+    (λ outcome. makes-same)
 
 moment-limits : (moment : Moment) (state : State) → (at_moment moment state).under_way.limits ≡ state.under_way.limits
-moment-limits moment state = at_moment-keeps (λ s. s.under_way.limits ≡ state.under_way.limits) moment state (λ s is. is) (λ one s there is. is) refl
+moment-limits moment state =
+    at_moment-keeps (λ s. s.under_way.limits ≡ state.under_way.limits) moment state (λ s is. is)
+    (λ one s there is. is) refl
 
-pub moment-time : (moment : Moment) (state : State) → GiveTime state.under_way.limits → GiveTime (at_moment moment state).under_way.limits
+pub moment-time : (moment : Moment) (state : State) → GiveTime state.under_way.limits
+    → GiveTime (at_moment moment state).under_way.limits
 moment-time moment state time = subst GiveTime (sym (moment-limits moment state)) time
 
-pub step-time : (state : State) (moment : Moment) (event : Happening) → GiveTime state.under_way.limits → GiveTime (step state moment event).state.under_way.limits
-step-time state moment event time = subst GiveTime (sym ((handle-same event (at_moment moment state)).limits ∙ moment-limits moment state)) time
+pub step-time : (state : State) (moment : Moment) (event : Happening) → GiveTime state.under_way.limits
+    → GiveTime (step state moment event).state.under_way.limits
+step-time state moment event time =
+    subst GiveTime (sym ((handle-same event (at_moment moment state)).limits ∙ moment-limits moment state)) time
 
 -- an event's moment isn't after the one that its state tells
-pub step-after : (state : State) (moment : Moment) (event : Happening) → moment.mono ≤ (step state moment event).state.moment.mono
+pub step-after : (state : State) (moment : Moment) (event : Happening)
+    → moment.mono ≤ (step state moment event).state.moment.mono
 step-after state moment event =
     let is : (step state moment event).state.moment.mono ≡ max state.moment.mono moment.mono =
     ap (λ (m : Moment). m.mono) ((handle-same event (at_moment moment state)).moment ∙ at_moment-moment moment state) in

@@ -14,6 +14,7 @@ mod KeptLemmas
 mod LaterLemmas
 mod PieceLemmas
 mod BusyLemmas
+mod DueLemmas
 mod RecordedLemmas
 mod ShortLemmas
 mod FollowLemmas

@@ -48,50 +48,69 @@ taken_of body_len read attempt port state =
 abbrev refused_of : ℕ → Bool → Port → State → Seen
 refused_of body_len attempt port state = record {
   state = record (changed port.number (take_frame body_len attempt) state) {
-    ports = change_port port.number (tell (Refuses Locked)) (changed port.number (take_frame body_len attempt) state).ports;
+    ports =
+        change_port port.number (tell (Refuses Locked)) (changed port.number (take_frame body_len attempt) state).ports;
   };
   put = [];
   closes = [];
 }
 
 module _ (heard : ℕ → List ℕ → List ℕ) where
-  concluded-seen : (number : ℕ) (body : List ℕ) (served : Served) (state : State) → seen hidden heard (concluded number body served state) ≡ concluded_seen number (served_seen hidden served) (hide_state hidden heard state)
+  concluded-seen : (number : ℕ) (body : List ℕ) (served : Served) (state : State)
+      → seen hidden heard (concluded number body served state) ≡ concluded_seen number (served_seen hidden served) (hide_state hidden heard state)
   concluded-seen number body served state =
-      ap (λ ports. let new : Seen = record (seen hidden heard (concluded number body served state)) { state = record (hide_state hidden heard (concluded number body served state).state) { ports = ports } } in new)
+      ap
+      (λ ports. let new : Seen = record (seen hidden heard (concluded number body served state)) { state = record (hide_state hidden heard (concluded number body served state).state) { ports = ports } } in new)
       (sym (tell-hidden heard number served.work.verdict state.ports))
 
   -- a request that is taken, where a frame of another length goes in the other run
-  taken-seen : (body_len other_len : ℕ) (attempt : Bool) (body : List ℕ) (read : Result ClientRequest MsgFault) (port : Port) (state : State) → ((one : Port) → find_port port.number state.ports ≡ Some one → take_frame other_len attempt (hide_port heard one) ≡ hide_port heard (take_frame body_len attempt one)) →
-      seen hidden heard (concluded port.number body (serve read (asker_at state.moment port) state.held state.under_way) (changed port.number (take_frame body_len attempt) state))
+  taken-seen : (body_len other_len : ℕ) (attempt : Bool) (body : List ℕ) (read : Result ClientRequest MsgFault) (port : Port) (state : State)
+      → ((one : Port) → find_port port.number state.ports ≡ Some one → take_frame other_len attempt (hide_port heard one) ≡ hide_port heard (take_frame body_len attempt one)) →
+      seen hidden heard
+      (concluded port.number body (serve read (asker_at state.moment port) state.held state.under_way) (changed port.number (take_frame body_len attempt) state))
       ≡ taken_of other_len (hide_read hidden read) attempt (hide_port heard port) (hide_state hidden heard state)
   taken-seen body_len other_len attempt body read port state goes =
-      concluded-seen port.number body (serve read (asker_at state.moment port) state.held state.under_way) (changed port.number (take_frame body_len attempt) state)
-      ∙ ap (λ served. concluded_seen port.number served (hide_state hidden heard (changed port.number (take_frame body_len attempt) state)))
+      concluded-seen port.number body (serve read (asker_at state.moment port) state.held state.under_way)
+      (changed port.number (take_frame body_len attempt) state)
+      ∙ ap
+      (λ served. concluded_seen port.number served (hide_state hidden heard (changed port.number (take_frame body_len attempt) state)))
       (sym (serve-hidden hidden length-hidden_bytes read (asker_at state.moment port) state.held state.under_way))
-      ∙ ap (concluded_seen port.number (served_bare (serve (hide_read hidden read) (asker_at state.moment port) (hide_held hidden state.held) (hide_under_way state.under_way))))
+      ∙ ap
+      (concluded_seen port.number (served_bare (serve (hide_read hidden read) (asker_at state.moment port) (hide_held hidden state.held) (hide_under_way state.under_way))))
       (sym (changed-hidden hidden length-hidden_bytes heard port.number (take_frame body_len attempt) (take_frame other_len attempt) state goes))
 
-  refused-seen : (body_len other_len : ℕ) (attempt : Bool) (body : List ℕ) (what : MsgFault) (port : Port) (state : State) → ((one : Port) → find_port port.number state.ports ≡ Some one → take_frame other_len attempt (hide_port heard one) ≡ hide_port heard (take_frame body_len attempt one)) →
-      seen hidden heard (concluded port.number body (refuses (unread what state.held.lock) state.held state.under_way) (changed port.number (take_frame body_len attempt) state))
+  refused-seen : (body_len other_len : ℕ) (attempt : Bool) (body : List ℕ) (what : MsgFault) (port : Port) (state : State)
+      → ((one : Port) → find_port port.number state.ports ≡ Some one → take_frame other_len attempt (hide_port heard one) ≡ hide_port heard (take_frame body_len attempt one)) →
+      seen hidden heard
+      (concluded port.number body (refuses (unread what state.held.lock) state.held state.under_way) (changed port.number (take_frame body_len attempt) state))
       ≡ refused_of other_len attempt (hide_port heard port) (hide_state hidden heard state)
   refused-seen body_len other_len attempt body what port state goes =
-      concluded-seen port.number body (refuses (unread what state.held.lock) state.held state.under_way) (changed port.number (take_frame body_len attempt) state)
-      ∙ ap (λ (left : State). concluded_seen port.number (served_seen hidden (refuses (unread what state.held.lock) state.held state.under_way)) left)
+      concluded-seen port.number body (refuses (unread what state.held.lock) state.held state.under_way)
+      (changed port.number (take_frame body_len attempt) state)
+      ∙ ap
+      (λ (left : State). concluded_seen port.number (served_seen hidden (refuses (unread what state.held.lock) state.held state.under_way)) left)
       (sym (changed-hidden hidden length-hidden_bytes heard port.number (take_frame body_len attempt) (take_frame other_len attempt) state goes))
 
-  shut-seen : (number : ℕ) (state : State) → seen hidden heard (shut number state) ≡ bare (shut number (hide_state hidden heard state))
-  shut-seen number state = sym (exactly hidden length-hidden_bytes heard (shut number state) _ (shut-hidden hidden length-hidden_bytes heard number state))
+  shut-seen : (number : ℕ) (state : State)
+      → seen hidden heard (shut number state) ≡ bare (shut number (hide_state hidden heard state))
+  shut-seen number state =
+      sym
+      (exactly hidden length-hidden_bytes heard (shut number state) _ (shut-hidden hidden length-hidden_bytes heard number state))
 
 -- a frame goes of what was heard as it is
-stays : (body_len : ℕ) (attempt : Bool) (port : Port) → take_frame body_len attempt (hide_port as_is port) ≡ hide_port as_is (take_frame body_len attempt port)
+stays : (body_len : ℕ) (attempt : Bool) (port : Port)
+    → take_frame body_len attempt (hide_port as_is port) ≡ hide_port as_is (take_frame body_len attempt port)
 stays body_len attempt port =
-    ap (λ bytes. let p : Port = record port { heard = bytes; attempted = port.attempted || attempt } in p) (by_door port.door port.number port.heard)
+    ap (λ bytes. let p : Port = record port { heard = bytes; attempted = port.attempted || attempt } in p)
+    (by_door port.door port.number port.heard)
   where
-    by_door : (door : Door) (number : ℕ) (bytes : List ℕ) → after_front body_len (hide_heard as_is door number bytes) ≡ hide_heard as_is door number (after_front body_len bytes)
+    by_door : (door : Door) (number : ℕ) (bytes : List ℕ)
+        → after_front body_len (hide_heard as_is door number bytes) ≡ hide_heard as_is door number (after_front body_len bytes)
     by_door Clients number bytes = refl
     by_door Children number bytes = refl
 
-attempts_renamed : (rename : List ℕ → List ℕ) (lock : Option (List ℕ)) (one other : List ℕ) → names_bind other ≡ names_bind one → attempts (option_map rename lock) other ≡ attempts lock one
+attempts_renamed : (rename : List ℕ → List ℕ) (lock : Option (List ℕ)) (one other : List ℕ)
+    → names_bind other ≡ names_bind one → attempts (option_map rename lock) other ≡ attempts lock one
 attempts_renamed rename None one other same = same
 attempts_renamed rename (Some passphrase) one other same = refl
 
@@ -100,50 +119,74 @@ module _ (rename : List ℕ → List ℕ) (renaming : IsRenaming rename) (told :
   pub data AreToldFronts (bytes : List ℕ) : Front → Front → Type 0 where
     both_whole : (body_len other_len : ℕ) → Reads rename (front_body body_len bytes) (front_body other_len (told bytes))
         → names_bind (front_body other_len (told bytes)) ≡ names_bind (front_body body_len bytes)
-        → after_front other_len (told bytes) ≡ told (after_front body_len bytes) → AreToldFronts bytes (Whole body_len) (Whole other_len)
+        → after_front other_len (told bytes) ≡ told (after_front body_len bytes)
+        → AreToldFronts bytes (Whole body_len) (Whole other_len)
     both_bad : (one other : ℕ) → AreToldFronts bytes (Bad one) (Bad other)
     both_more : AreToldFronts bytes More More
 
   abbrev h : ℕ → List ℕ → List ℕ
   h number bytes = told bytes
 
-  module _ (p q : Port) (s t : State) (same_port : hide_port (told_at told) p ≡ hide_port as_is q) (same : redacted_state rename told s ≡ blanked_state t) (client : p.door ≡ Clients) (found : find_port p.number s.ports ≡ Some p) where
+  module _ (p q : Port) (s t : State) (same_port : hide_port (told_at told) p ≡ hide_port as_is q)
+      (same : redacted_state rename told s ≡ blanked_state t) (client : p.door ≡ Clients)
+      (found : find_port p.number s.ports ≡ Some p) where
     -- a frame goes of what is told as one goes of what was heard
-    goes : (body_len other_len : ℕ) (attempt : Bool) → after_front other_len (told p.heard) ≡ told (after_front body_len p.heard) → (one : Port) → find_port p.number s.ports ≡ Some one → take_frame other_len attempt (hide_port (told_at told) one) ≡ hide_port (told_at told) (take_frame body_len attempt one)
+    goes : (body_len other_len : ℕ) (attempt : Bool)
+        → after_front other_len (told p.heard) ≡ told (after_front body_len p.heard) → (one : Port)
+        → find_port p.number s.ports ≡ Some one
+        → take_frame other_len attempt (hide_port (told_at told) one) ≡ hide_port (told_at told) (take_frame body_len attempt one)
     goes body_len other_len attempt after one there =
         let is : p ≡ one = (let both : Some p ≡ Some one = sym found ∙ there in cc) in
-        subst (λ (x : Port). take_frame other_len attempt (hide_port (told_at told) x) ≡ hide_port (told_at told) (take_frame body_len attempt x)) is
+        subst
+        (λ (x : Port). take_frame other_len attempt (hide_port (told_at told) x) ≡ hide_port (told_at told) (take_frame body_len attempt x)) is
         (ap (λ bytes. let new : Port = record p { heard = bytes; attempted = p.attempted || attempt } in new) (by_door p.door client))
       where
-        by_door : (door : Door) → door ≡ Clients → after_front other_len (hide_heard (told_at told) door p.number p.heard) ≡ hide_heard (told_at told) door p.number (after_front body_len p.heard)
+        by_door : (door : Door) → door ≡ Clients
+            → after_front other_len (hide_heard (told_at told) door p.number p.heard) ≡ hide_heard (told_at told) door p.number (after_front body_len p.heard)
         by_door Clients is = after
         by_door Children is = absurd (cc)
 
-    same_attempt : (one other : List ℕ) → names_bind other ≡ names_bind one → attempts t.held.lock other ≡ attempts s.held.lock one
+    same_attempt : (one other : List ℕ) → names_bind other ≡ names_bind one
+        → attempts t.held.lock other ≡ attempts s.held.lock one
     same_attempt one other names =
         ap (λ (x : State). attempts x.held.lock other) (sym same) ∙ attempts_renamed rename s.held.lock one other names
 
-    taken-told : (body_len other_len : ℕ) (one other : List ℕ) → Reads rename one other → names_bind other ≡ names_bind one → after_front other_len (told p.heard) ≡ told (after_front body_len p.heard) →
+    taken-told : (body_len other_len : ℕ) (one other : List ℕ) → Reads rename one other
+        → names_bind other ≡ names_bind one
+        → after_front other_len (told p.heard) ≡ told (after_front body_len p.heard) →
         redacted_seen rename told (taken body_len one p s) ≡ blanked_seen (taken other_len other q t)
     taken-told body_len other_len one other (as_read reads) names after =
         let attempt = attempts s.held.lock one in
-        ap (λ (served : Served). seen hidden (told_at told) (concluded p.number one served (changed p.number (take_frame body_len attempt) (relocked_state rename s))))
+        ap
+        (λ (served : Served). seen hidden (told_at told) (concluded p.number one served (changed p.number (take_frame body_len attempt) (relocked_state rename s))))
         (sym (serve-relocked rename renaming (agent_request_of one) (asker_at s.moment p) s.held s.under_way))
-        ∙ taken-seen (told_at told) body_len other_len attempt one (renamed_read rename (agent_request_of one)) p (relocked_state rename s) (goes body_len other_len attempt after)
-        ∙ ap (λ read. taken_of other_len read attempt (hide_port (told_at told) p) (redacted_state rename told s)) (sym reads)
-        ∙ ap (λ a. taken_of other_len (hide_read hidden (agent_request_of other)) a (hide_port (told_at told) p) (redacted_state rename told s)) (sym (same_attempt one other names))
-        ∙ ap (λ port. taken_of other_len (hide_read hidden (agent_request_of other)) (attempts t.held.lock other) port (redacted_state rename told s)) same_port
-        ∙ ap (taken_of other_len (hide_read hidden (agent_request_of other)) (attempts t.held.lock other) (hide_port as_is q)) same
-        ∙ sym (taken-seen as_is other_len other_len (attempts t.held.lock other) other (agent_request_of other) q t (λ port there. stays other_len (attempts t.held.lock other) port))
+        ∙ taken-seen (told_at told) body_len other_len attempt one (renamed_read rename (agent_request_of one)) p
+        (relocked_state rename s) (goes body_len other_len attempt after)
+        ∙ ap (λ read. taken_of other_len read attempt (hide_port (told_at told) p) (redacted_state rename told s))
+        (sym reads)
+        ∙ ap
+        (λ a. taken_of other_len (hide_read hidden (agent_request_of other)) a (hide_port (told_at told) p) (redacted_state rename told s))
+        (sym (same_attempt one other names))
+        ∙ ap
+        (λ port. taken_of other_len (hide_read hidden (agent_request_of other)) (attempts t.held.lock other) port (redacted_state rename told s)) same_port
+        ∙ ap
+        (taken_of other_len (hide_read hidden (agent_request_of other)) (attempts t.held.lock other) (hide_port as_is q)) same
+        ∙ sym
+        (taken-seen as_is other_len other_len (attempts t.held.lock other) other (agent_request_of other) q t (λ port there. stays other_len (attempts t.held.lock other) port))
     taken-told body_len other_len one other (unread_both what whatever one_is other_is) names after =
         let attempt = attempts s.held.lock one in
-        ap (λ read. seen hidden (told_at told) (relocked_outcome rename (concluded p.number one (serve read (asker_at s.moment p) s.held s.under_way) (changed p.number (take_frame body_len attempt) s)))) one_is
-        ∙ refused-seen (told_at told) body_len other_len attempt one what p (relocked_state rename s) (goes body_len other_len attempt after)
-        ∙ ap (λ a. refused_of other_len a (hide_port (told_at told) p) (redacted_state rename told s)) (sym (same_attempt one other names))
+        ap
+        (λ read. seen hidden (told_at told) (relocked_outcome rename (concluded p.number one (serve read (asker_at s.moment p) s.held s.under_way) (changed p.number (take_frame body_len attempt) s)))) one_is
+        ∙ refused-seen (told_at told) body_len other_len attempt one what p (relocked_state rename s)
+        (goes body_len other_len attempt after)
+        ∙ ap (λ a. refused_of other_len a (hide_port (told_at told) p) (redacted_state rename told s))
+        (sym (same_attempt one other names))
         ∙ ap (λ port. refused_of other_len (attempts t.held.lock other) port (redacted_state rename told s)) same_port
         ∙ ap (refused_of other_len (attempts t.held.lock other) (hide_port as_is q)) same
-        ∙ sym (refused-seen as_is other_len other_len (attempts t.held.lock other) other whatever q t (λ port there. stays other_len (attempts t.held.lock other) port))
-        ∙ sym (ap (λ read. blanked_seen (concluded q.number other (serve read (asker_at t.moment q) t.held t.under_way) (changed q.number (take_frame other_len (attempts t.held.lock other)) t))) other_is)
+        ∙ sym
+        (refused-seen as_is other_len other_len (attempts t.held.lock other) other whatever q t (λ port there. stays other_len (attempts t.held.lock other) port))
+        ∙ sym
+        (ap (λ read. blanked_seen (concluded q.number other (serve read (asker_at t.moment q) t.held t.under_way) (changed q.number (take_frame other_len (attempts t.held.lock other)) t))) other_is)
 
     closed-told : redacted_seen rename told (shut p.number s) ≡ blanked_seen (shut q.number t)
     closed-told =
@@ -158,29 +201,38 @@ module _ (rename : List ℕ → List ℕ) (renaming : IsRenaming rename) (told :
         ∙ sym (ap (λ (port : Port). port.heard) same_port)
         ∙ ap (λ door. hide_heard (told_at told) door p.number p.heard) client
       where
-        by_door : (heard : ℕ → List ℕ → List ℕ) (door : Door) (number : ℕ) (bytes : List ℕ) → hide_heard as_is door number bytes ≡ bytes
+        by_door : (heard : ℕ → List ℕ → List ℕ) (door : Door) (number : ℕ) (bytes : List ℕ)
+            → hide_heard as_is door number bytes ≡ bytes
         by_door heard Clients number bytes = refl
         by_door heard Children number bytes = refl
 
-    look_front-told : (one other : Front) → AreToldFronts p.heard one other → redacted_seen rename told (look_front one p s) ≡ blanked_seen (look_front other q t)
+    look_front-told : (one other : Front) → AreToldFronts p.heard one other
+        → redacted_seen rename told (look_front one p s) ≡ blanked_seen (look_front other q t)
     look_front-told one other (both_whole body_len other_len reads names after) =
-        taken-told body_len other_len (front_body body_len p.heard) (front_body other_len (told p.heard)) reads names after
+        taken-told body_len other_len (front_body body_len p.heard)
+        (front_body other_len (told p.heard)) reads names after
         ∙ ap (λ bytes. blanked_seen (taken other_len (front_body other_len bytes) q t)) (sym heard_is)
     look_front-told one other (both_bad first second) = closed-told
-    look_front-told one other both_more = ap (λ state. let new : Seen = record { state = state; put = []; closes = [] } in new) same
+    look_front-told one other both_more =
+        ap (λ state. let new : Seen = record { state = state; put = []; closes = [] } in new) same
 
-    due_told_by : (waits : Waits) (owed : List ℕ) → AreToldFronts p.heard (front longest_body p.heard) (front longest_body (told p.heard)) → AreToldFronts p.heard (due_at waits owed p.heard) (due_at waits owed (told p.heard))
+    due_told_by : (waits : Waits) (owed : List ℕ)
+        → AreToldFronts p.heard (front longest_body p.heard) (front longest_body (told p.heard))
+        → AreToldFronts p.heard (due_at waits owed p.heard) (due_at waits owed (told p.heard))
     due_told_by Nothing [] fronts = fronts
     due_told_by Nothing (byte ∷ bytes) fronts = both_more
     due_told_by (OnAsk ask) owed fronts = both_more
     due_told_by (OnConfirmation job) owed fronts = both_more
 
-    due-told : AreToldFronts p.heard (front longest_body p.heard) (front longest_body (told p.heard)) → AreToldFronts p.heard (due p) (due q)
+    due-told : AreToldFronts p.heard (front longest_body p.heard) (front longest_body (told p.heard))
+        → AreToldFronts p.heard (due p) (due q)
     due-told fronts =
         subst (λ bytes. AreToldFronts p.heard (due p) (due_at q.waits q.owed bytes)) (sym heard_is)
         (subst (λ (port : Port). AreToldFronts p.heard (due p) (due_at port.waits port.owed (told p.heard))) same_port (due_told_by p.waits p.owed fronts))
 
-    pub looked-told : (number : ℕ) → find_port number s.ports ≡ Some p → find_port number t.ports ≡ Some q → AreToldFronts p.heard (front longest_body p.heard) (front longest_body (told p.heard)) → redacted_seen rename told (looked number s) ≡ blanked_seen (looked number t)
+    pub looked-told : (number : ℕ) → find_port number s.ports ≡ Some p → find_port number t.ports ≡ Some q
+        → AreToldFronts p.heard (front longest_body p.heard) (front longest_body (told p.heard))
+        → redacted_seen rename told (looked number s) ≡ blanked_seen (looked number t)
     looked-told number here there fronts =
         ap (redacted_seen rename told) (looked-found number p s (due p) here refl)
         ∙ look_front-told (due p) (due q) (due-told fronts)

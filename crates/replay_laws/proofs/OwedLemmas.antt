@@ -29,13 +29,19 @@ use Rattle.agent_secrecy.proofs.TrackLemmas.{WasAt, another, that, was_at}
 -- ---- who is at a port of a child process
 
 -- what is owed to it doesn't stand at its port
-role_owed : (found : Option Confirmation) (one other : Port) (old new : UnderWay) → owed_as (role_by_link found) one new ≡ owed_as (role_by_link found) other old
+role_owed : (found : Option Confirmation) (one other : Port) (old new : UnderWay)
+    → owed_as (role_by_link found) one new ≡ owed_as (role_by_link found) other old
 role_owed None one other old new = refl
 role_owed (Some confirmation) one other old new = refl
 
-helper_owed : (linked : Bool) (number : ℕ) (one other : Port) (old new : UnderWay) → (linked ≡ true → new.link ≡ old.link) → find_linked number new.confirmations ≡ find_linked number old.confirmations → owed_as (role_by_helper linked number new.confirmations) one new ≡ owed_as (role_by_helper linked number old.confirmations) other old
+helper_owed : (linked : Bool) (number : ℕ) (one other : Port) (old new : UnderWay)
+    → (linked ≡ true → new.link ≡ old.link)
+    → find_linked number new.confirmations ≡ find_linked number old.confirmations
+    → owed_as (role_by_helper linked number new.confirmations) one new ≡ owed_as (role_by_helper linked number old.confirmations) other old
 helper_owed true number one other old new links linked = ap (λ (l : HelperLink). sendable l.state l.owed) (links refl)
-helper_owed false number one other old new links linked = ap (λ found. owed_as (role_by_link found) one new) linked ∙ role_owed (find_linked number old.confirmations) one other old new
+helper_owed false number one other old new links linked =
+    ap (λ found. owed_as (role_by_link found) one new) linked
+    ∙ role_owed (find_linked number old.confirmations) one other old new
 
 -- what stays for a port: whether the helper is there, and who asks the user there
 record Stays (number : ℕ) (old new : UnderWay) : Type 0 where
@@ -49,7 +55,9 @@ record IsTold (was port : Port) : Type 0 where
   door : port.door ≡ was.door
   owed : length was.owed ≤ length port.owed
 
-door_owed : (door : Door) (number : ℕ) (was port : Port) (old new : UnderWay) → length was.owed ≤ length port.owed → Stays number old new → length (owed_as (role_of door number old) was old) ≤ length (owed_as (role_of door number new) port new)
+door_owed : (door : Door) (number : ℕ) (was port : Port) (old new : UnderWay) → length was.owed ≤ length port.owed
+    → Stays number old new
+    → length (owed_as (role_of door number old) was old) ≤ length (owed_as (role_of door number new) port new)
 door_owed Clients number was port old new owed stays = owed
 door_owed Children number was port old new owed stays =
     let linked = is_linked_to number old.link.state in
@@ -58,9 +66,11 @@ door_owed Children number was port old new owed stays =
     ∙ helper_owed linked number port was old new stays.link stays.confirmer in
     omega (arith, ap length is)
 
-owed_more : (was port : Port) (old new : UnderWay) → IsTold was port → Stays was.number old new → length (owed_by_port was old) ≤ length (owed_by_port port new)
+owed_more : (was port : Port) (old new : UnderWay) → IsTold was port → Stays was.number old new
+    → length (owed_by_port was old) ≤ length (owed_by_port port new)
 owed_more was port old new told stays =
-    subst (λ (door : Door). length (owed_by_port was old) ≤ length (owed_as (role_of door port.number new) port new)) (sym told.door)
+    subst (λ (door : Door). length (owed_by_port was old) ≤ length (owed_as (role_of door port.number new) port new))
+    (sym told.door)
     (subst (λ (number : ℕ). length (owed_by_port was old) ≤ length (owed_as (role_of was.door number new) port new)) (sym told.number)
     (door_owed was.door was.number was port old new told.owed stays))
 
@@ -75,14 +85,17 @@ record Was (number : ℕ) (ports : List Port) (port : Port) : Type 0 where
 tell_more : (verdict : Verdict) (port : Port) → IsTold port (tell verdict port)
 tell_more verdict port = record { number = refl; door = refl; owed = omega (arith, length-append port.owed (verdict_text verdict)) }
 
-told_one : (verdict : Verdict) (client number : ℕ) (ports : List Port) (port : Port) → find_port number (change_port client (tell verdict) ports) ≡ Some port → Was number ports port
-told_one verdict client number ports port found = by_was (was_at client number (tell verdict) ports port (λ x. refl) found)
+told_one : (verdict : Verdict) (client number : ℕ) (ports : List Port) (port : Port)
+    → find_port number (change_port client (tell verdict) ports) ≡ Some port → Was number ports port
+told_one verdict client number ports port found =
+    by_was (was_at client number (tell verdict) ports port (λ x. refl) found)
   where
     by_was : WasAt client number (tell verdict) ports port → Was number ports port
     by_was (that was is there new) = record { was = was; found = ap (λ n. find_port n ports) is ∙ there; told = subst (IsTold was) new (tell_more verdict was) }
     by_was (another apart there) = record { was = port; found = there; told = record { number = refl; door = refl; owed = omega arith } }
 
-told_all : (verdict : Verdict) (clients : List ℕ) (number : ℕ) (ports : List Port) (port : Port) → find_port number (tell_each verdict clients ports) ≡ Some port → Was number ports port
+told_all : (verdict : Verdict) (clients : List ℕ) (number : ℕ) (ports : List Port) (port : Port)
+    → find_port number (tell_each verdict clients ports) ≡ Some port → Was number ports port
 told_all verdict [] number ports port found = record { was = port; found = found; told = record { number = refl; door = refl; owed = omega arith } }
 told_all verdict (client ∷ others) number ports port found =
     let later = told_all verdict others number (change_port client (tell verdict) ports) port found in
@@ -95,13 +108,16 @@ told_all verdict (client ∷ others) number ports port found =
 
 -- ---- ports that are closed
 
-left_apart : (at : Option ℕ) (number last : ℕ) (ports : List Port) (port : Port) → IsRising 0 last ports → find_port number (close_confirmer at ports) ≡ Some port → (find_port number ports ≡ Some port) × (at ≢ Some number)
+left_apart : (at : Option ℕ) (number last : ℕ) (ports : List Port) (port : Port) → IsRising 0 last ports
+    → find_port number (close_confirmer at ports) ≡ Some port
+    → (find_port number ports ≡ Some port) × (at ≢ Some number)
 left_apart None number last ports port rising found = (found, λ is. absurd (cc))
 left_apart (Some other) number last ports port rising found = (
   find_port-left number other 0 last ports port rising found,
   λ is.
       let apart : other ≡ number = cc in
-      let none : find_port number (remove_port other ports) ≡ None = ap (λ n. find_port n (remove_port other ports)) (sym apart) ∙ find_port-remove_port other 0 last ports rising in
+      let none : find_port number (remove_port other ports) ≡ None =
+      ap (λ n. find_port n (remove_port other ports)) (sym apart) ∙ find_port-remove_port other 0 last ports rising in
       let both : Some port ≡ None = sym found ∙ none in cc,
 )
 
@@ -110,7 +126,8 @@ helper_at states.None = None
 helper_at (states.Starting job) = None
 helper_at (states.Linked port) = Some port
 
-helper-closed : (link : LinkState) (ports : List Port) → close_helper link ports ≡ close_confirmer (helper_at link) ports
+helper-closed : (link : LinkState) (ports : List Port)
+    → close_helper link ports ≡ close_confirmer (helper_at link) ports
 helper-closed states.None ports = refl
 helper-closed (states.Starting job) ports = refl
 helper-closed (states.Linked port) ports = refl
@@ -129,22 +146,27 @@ elsewhere (Some at) number other =
     grind (arith, nat_tests)
 
 -- who asks the user at a port goes on, where another confirmation ends (as in agent_model's TimeBudgetLemmas)
-linked-removed : (number : ℕ) (one : Confirmation) (below last : ℕ) (all : List Confirmation) → JobsRise below all last → IsIn one all → came_to number one ≡ false → find_linked number (remove_job one.job all) ≡ find_linked number all
+linked-removed : (number : ℕ) (one : Confirmation) (below last : ℕ) (all : List Confirmation)
+    → JobsRise below all last → IsIn one all → came_to number one ≡ false
+    → find_linked number (remove_job one.job all) ≡ find_linked number all
 linked-removed number one below last all rise (here others) elsewhere =
     let own : (one.job == one.job) ≡ true = grind (arith, nat_tests) in
-    ap (λ b. find_linked number (cond b others (one ∷ remove_job one.job others))) own ∙ sym (ap (λ b. cond b (Some one) (find_linked number others)) elsewhere)
+    ap (λ b. find_linked number (cond b others (one ∷ remove_job one.job others))) own
+    ∙ sym (ap (λ b. cond b (Some one) (find_linked number others)) elsewhere)
 linked-removed number one below last all rise (further first others there) elsewhere =
     let later : first.job < one.job = in-above one first.job last rise.1 there in
     let other : (first.job == one.job) ≡ false = grind (arith, nat_tests) in
     ap (λ b. find_linked number (cond b others (first ∷ remove_job one.job others))) other
-    ∙ ap (cond (came_to number first) (Some first)) (linked-removed number one first.job last others rise.1 there elsewhere)
+    ∙ ap (cond (came_to number first) (Some first))
+    (linked-removed number one first.job last others rise.1 there elsewhere)
 
 -- ---- as time passes
 
 -- a port that is open yet was open, and is owed as much or more
 pub record Grows (number : ℕ) (old new : State) : Type 0 where
   pub steady : IsSteady old → IsSteady new
-  pub owed : IsSteady old → (port : Port) → find_port number new.ports ≡ Some port → (was : Port) × (find_port number old.ports ≡ Some was) × (length (owed_by_port was old.under_way) ≤ length (owed_by_port port new.under_way))
+  pub owed : IsSteady old → (port : Port) → find_port number new.ports ≡ Some port
+      → (was : Port) × (find_port number old.ports ≡ Some was) × (length (owed_by_port was old.under_way) ≤ length (owed_by_port port new.under_way))
 
 nothing_grows : (number : ℕ) (state : State) → Grows number state state
 nothing_grows number state = record { steady = λ steady. steady; owed = λ steady port found. (port, found, omega arith) }
@@ -164,14 +186,20 @@ ordered old new follows rising = rw follows.last (leads-rising 0 old.last_port o
 lose_grows : (number : ℕ) (state : State) → Grows number state (lose state).state
 lose_grows number state = record {
   steady = λ steady. record {
-    rising = ordered state (lose state).state (follows-makes Tick state (loses state) record { last = refl; ports = same }) steady.rising;
+    rising =
+        ordered state (lose state).state (follows-makes Tick state (loses state) record { last = refl; ports = same }) steady.rising;
     order = steady.order;
   };
   owed = λ steady port found.
-      let was = told_all (Refuses HelperLost) (askers old.link.asks) number (close_helper old.link.state state.ports) port found in
-      let left = left_apart (helper_at old.link.state) number state.last_port state.ports was.was steady.rising (ap (find_port number) (sym (helper-closed old.link.state state.ports)) ∙ was.found) in
+      let was =
+      told_all (Refuses HelperLost) (askers old.link.asks) number
+      (close_helper old.link.state state.ports) port found in
+      let left =
+      left_apart (helper_at old.link.state) number state.last_port state.ports was.was steady.rising
+      (ap (find_port number) (sym (helper-closed old.link.state state.ports)) ∙ was.found) in
       let own : was.was.number ≡ number = found_number number state.ports was.was left.0 in
-      let no_helper : is_linked_to was.was.number old.link.state ≡ false = not_helper old.link.state was.was.number (λ is. left.1 (is ∙ ap Some own)) in (
+      let no_helper : is_linked_to was.was.number old.link.state ≡ false =
+      not_helper old.link.state was.was.number (λ is. left.1 (is ∙ ap Some own)) in (
         was.was,
         left.0,
         owed_more was.was port old new was.told record {
@@ -188,10 +216,12 @@ lose_grows number state = record {
     new : UnderWay
     new = (lose state).state.under_way
 
-over_grows : (number : ℕ) (one : Confirmation) (state : State) → IsIn one state.under_way.confirmations → Grows number state (over one state).state
+over_grows : (number : ℕ) (one : Confirmation) (state : State) → IsIn one state.under_way.confirmations
+    → Grows number state (over one state).state
 over_grows number one state there = record {
   steady = λ steady. record {
-    rising = ordered state (over one state).state (follows-makes Tick state (overs one state there) record { last = refl; ports = same }) steady.rising;
+    rising =
+        ordered state (over one state).state (follows-makes Tick state (overs one state there) record { last = refl; ports = same }) steady.rising;
     order = jobs-remove one.job 0 state.under_way.confirmations state.under_way.last_job steady.order;
   };
   owed = λ steady port found.
@@ -203,7 +233,8 @@ over_grows number one state there = record {
         owed_more was.was port old new was.told record {
           helper = refl;
           link = λ linked. refl;
-          confirmer = linked-removed was.was.number one 0 old.last_job old.confirmations steady.order there (elsewhere one.port was.was.number (λ is. left.1 (is ∙ ap Some own)));
+          confirmer =
+              linked-removed was.was.number one 0 old.last_job old.confirmations steady.order there (elsewhere one.port was.was.number (λ is. left.1 (is ∙ ap Some own)));
         },
       );
 }

@@ -65,7 +65,8 @@ private_is_free : (form : Form) → AreFree (type_of form).private
 private_is_free (Plain kind) = free_by_kind kind
 private_is_free (Certified kind) = free_by_certificate kind
 
-zeros_fit : (fields : List Field) (contents : List (List ℕ)) → AreFree fields → AreContents fields contents → AreContents fields (map zeros contents)
+zeros_fit : (fields : List Field) (contents : List (List ℕ)) → AreFree fields → AreContents fields contents
+    → AreContents fields (map zeros contents)
 zeros_fit [] [] free fit = tt
 zeros_fit [] (content ∷ contents) free fit = absurd fit
 zeros_fit (field ∷ fields) [] free fit = absurd fit
@@ -93,16 +94,21 @@ blanked_alike key is = record {
   private_fit = zeros_fit (type_of is.form).private is.private (private_is_free is.form) is.private_fit;
   lengths = equal_zeros is.private;
   blob = refl;
-  text = blanked_text key is ∙ sym (parts_of (string (type_of is.form).name) is.blob_text (strings is.again) (strings (map zeros is.private)));
+  text =
+      blanked_text key is
+      ∙ sym (parts_of (string (type_of is.form).name) is.blob_text (strings is.again) (strings (map zeros is.private)));
 }
 
 -- ---- additions
 
 -- an addition, and what is told of it
 abbrev blanked_body : ℕ → List ℕ → Addition → List ℕ
-blanked_body number bytes addition = number ∷ (without_secrets addition.key.private ++ drop (length addition.key.private) bytes)
+blanked_body number bytes addition =
+    number ∷ (without_secrets addition.key.private ++ drop (length addition.key.private) bytes)
 
-added_so : (number code : ℕ) (bytes rest : List ℕ) (addition : Addition) → (code ≡ 17) ⊎ (code ≡ 25) → IsAddedKey addition.key → number ∷ bytes ≡ code ∷ (addition.key.private ++ rest) → AreAlikeBodies (number ∷ bytes) (blanked_body number bytes addition)
+added_so : (number code : ℕ) (bytes rest : List ℕ) (addition : Addition) → (code ≡ 17) ⊎ (code ≡ 25)
+    → IsAddedKey addition.key → number ∷ bytes ≡ code ∷ (addition.key.private ++ rest)
+    → AreAlikeBodies (number ∷ bytes) (blanked_body number bytes addition)
 added_so number code bytes rest addition adds is printed =
     let key = addition.key.private in
     let same : number ≡ code = cc in
@@ -120,9 +126,13 @@ added_so number code bytes rest addition adds is printed =
           ∙ ap (λ (b : List ℕ). code ∷ (without_secrets key ++ b)) (drop_at key rest (length key) refl);
     })
 
-added_by : (number : ℕ) (bytes : List ℕ) (addition : Addition) → IsPlainAddition (number ∷ bytes) addition ⊎ IsConstrainedAddition (number ∷ bytes) addition → AreAlikeBodies (number ∷ bytes) (blanked_body number bytes addition)
-added_by number bytes addition (inl plain) = added_so number 17 bytes (string addition.comment) addition (inl refl) plain.key plain.printed
-added_by number bytes addition (inr bound) = added_so number 25 bytes (string addition.comment ++ bound.constraints) addition (inr refl) bound.key bound.printed
+added_by : (number : ℕ) (bytes : List ℕ) (addition : Addition)
+    → IsPlainAddition (number ∷ bytes) addition ⊎ IsConstrainedAddition (number ∷ bytes) addition
+    → AreAlikeBodies (number ∷ bytes) (blanked_body number bytes addition)
+added_by number bytes addition (inl plain) =
+    added_so number 17 bytes (string addition.comment) addition (inl refl) plain.key plain.printed
+added_by number bytes addition (inr bound) =
+    added_so number 25 bytes (string addition.comment ++ bound.constraints) addition (inr refl) bound.key bound.printed
 
 -- ---- what isn't read
 
@@ -162,109 +172,150 @@ short_25 = refl
 
 -- the number alone isn't read either
 secret_unread : (number : ℕ) → IsSecret number → (what : MsgFault) × (agent_request_of (number ∷ []) ≡ Err what)
-secret_unread number (inl is) = (fault.Key key_faults.Short, ap (λ (n : ℕ). agent_request_of (n ∷ [])) is ∙ ap and_host_key short_17)
-secret_unread number (inr (inl is)) = (fault.Short, ap (λ (n : ℕ). agent_request_of (n ∷ [])) is ∙ ap and_host_key short_22)
-secret_unread number (inr (inr (inl is))) = (fault.Short, ap (λ (n : ℕ). agent_request_of (n ∷ [])) is ∙ ap and_host_key short_23)
-secret_unread number (inr (inr (inr is))) = (fault.Key key_faults.Short, ap (λ (n : ℕ). agent_request_of (n ∷ [])) is ∙ ap and_host_key short_25)
+secret_unread number (inl is) =
+    (fault.Key key_faults.Short, ap (λ (n : ℕ). agent_request_of (n ∷ [])) is ∙ ap and_host_key short_17)
+secret_unread number (inr (inl is)) =
+    (fault.Short, ap (λ (n : ℕ). agent_request_of (n ∷ [])) is ∙ ap and_host_key short_22)
+secret_unread number (inr (inr (inl is))) =
+    (fault.Short, ap (λ (n : ℕ). agent_request_of (n ∷ [])) is ∙ ap and_host_key short_23)
+secret_unread number (inr (inr (inr is))) =
+    (fault.Key key_faults.Short, ap (λ (n : ℕ). agent_request_of (n ∷ [])) is ∙ ap and_host_key short_25)
 
 -- ---- bodies
 
 module _ (rename : List ℕ → List ℕ) where
   -- a body and what is told of it are the same request but for secrets, or neither is one
   pub data Reads (body told : List ℕ) : Type 0 where
-    as_read : hide_read hidden (agent_request_of told) ≡ hide_read hidden (renamed_read rename (agent_request_of body)) → Reads body told
-    unread_both : (one other : MsgFault) → agent_request_of body ≡ Err one → agent_request_of told ≡ Err other → Reads body told
+    as_read : hide_read hidden (agent_request_of told) ≡ hide_read hidden (renamed_read rename (agent_request_of body))
+        → Reads body told
+    unread_both : (one other : MsgFault) → agent_request_of body ≡ Err one → agent_request_of told ≡ Err other
+        → Reads body told
 
   abbrev ReadsAs : List ℕ → List ℕ → Type 0
-  ReadsAs body told = hide_read hidden (agent_request_of told) ≡ hide_read hidden (renamed_read rename (agent_request_of body))
+  ReadsAs body told =
+      hide_read hidden (agent_request_of told) ≡ hide_read hidden (renamed_read rename (agent_request_of body))
 
-  bind_same : (bind : BindRequest) (key : Result KeyParts KeyFault) → renamed_read rename (bind_with bind key) ≡ bind_with bind key
+  bind_same : (bind : BindRequest) (key : Result KeyParts KeyFault)
+      → renamed_read rename (bind_with bind key) ≡ bind_with bind key
   bind_same bind (Ok key) = refl
   bind_same bind (Err fault) = refl
 
   -- a request that names no passphrase
-  unchanged_read : (body : List ℕ) (request : ClientRequest) → request_of body ≡ Ok request → renamed_read rename (with_host_key request) ≡ with_host_key request → ReadsAs body body
+  unchanged_read : (body : List ℕ) (request : ClientRequest) → request_of body ≡ Ok request
+      → renamed_read rename (with_host_key request) ≡ with_host_key request → ReadsAs body body
   unchanged_read body request is same =
-      ap (hide_read hidden) (ap and_host_key is ∙ sym same ∙ sym (ap (λ (r : Result ClientRequest MsgFault). renamed_read rename (and_host_key r)) is))
+      ap (hide_read hidden)
+      (ap and_host_key is ∙ sym same ∙ sym (ap (λ (r : Result ClientRequest MsgFault). renamed_read rename (and_host_key r)) is))
 
-  added_read : (number : ℕ) (bytes : List ℕ) (addition : Addition) → IsBytes (number ∷ bytes) → request_of (number ∷ bytes) ≡ Ok (Add addition) → ReadsAs (number ∷ bytes) (blanked_body number bytes addition)
+  added_read : (number : ℕ) (bytes : List ℕ) (addition : Addition) → IsBytes (number ∷ bytes)
+      → request_of (number ∷ bytes) ≡ Ok (Add addition)
+      → ReadsAs (number ∷ bytes) (blanked_body number bytes addition)
   added_read number bytes addition each is =
-      sym (bodies_read (number ∷ bytes) (blanked_body number bytes addition) (added_by number bytes addition (request_is_found (number ∷ bytes) (Add addition) each is)))
+      sym
+      (bodies_read (number ∷ bytes) (blanked_body number bytes addition) (added_by number bytes addition (request_is_found (number ∷ bytes) (Add addition) each is)))
       ∙ unchanged_read (number ∷ bytes) (Add addition) is refl
 
-  named_read : (number code : ℕ) (bytes passphrase : List ℕ) (request : List ℕ → ClientRequest) → IsText code (number ∷ bytes) passphrase → request_of (number ∷ bytes) ≡ Ok (request passphrase)
+  named_read : (number code : ℕ) (bytes passphrase : List ℕ) (request : List ℕ → ClientRequest)
+      → IsText code (number ∷ bytes) passphrase → request_of (number ∷ bytes) ≡ Ok (request passphrase)
       → (IsText code (number ∷ string (rename passphrase)) (rename passphrase) → request_of (number ∷ string (rename passphrase)) ≡ Ok (request (rename passphrase)))
-      → ((name : List ℕ) → with_host_key (request name) ≡ Ok (request name)) → renamed_request rename (request passphrase) ≡ request (rename passphrase)
-      → length (number ∷ string (rename passphrase)) ≤ longest_body → ReadsAs (number ∷ bytes) (number ∷ string (rename passphrase))
+      → ((name : List ℕ) → with_host_key (request name) ≡ Ok (request name))
+      → renamed_request rename (request passphrase) ≡ request (rename passphrase)
+      → length (number ∷ string (rename passphrase)) ≤ longest_body
+      → ReadsAs (number ∷ bytes) (number ∷ string (rename passphrase))
   named_read number code bytes passphrase request shown is reads keyless named short =
       let same : number ≡ code = (let printed : number ∷ bytes ≡ code ∷ string passphrase = shown.printed in cc) in
       let told : request_of (number ∷ string (rename passphrase)) ≡ Ok (request (rename passphrase)) =
-      reads (record { printed = ap (λ (n : ℕ). n ∷ string (rename passphrase)) same; fits = omega (arith, short, length-string (rename passphrase)) }) in
+      reads
+      (record { printed = ap (λ (n : ℕ). n ∷ string (rename passphrase)) same; fits = omega (arith, short, length-string (rename passphrase)) }) in
       ap (hide_read hidden) (ap and_host_key told ∙ keyless (rename passphrase) ∙ ap Ok (sym named)
       ∙ ap (renamed_read rename) (sym (keyless passphrase) ∙ sym (ap and_host_key is)))
 
-  unread_so : (secret : Bool) (number : ℕ) (bytes : List ℕ) (what : MsgFault) → holds_secrets number ≡ secret → request_of (number ∷ bytes) ≡ Err what → Reads (number ∷ bytes) (unread secret number bytes)
+  unread_so : (secret : Bool) (number : ℕ) (bytes : List ℕ) (what : MsgFault) → holds_secrets number ≡ secret
+      → request_of (number ∷ bytes) ≡ Err what → Reads (number ∷ bytes) (unread secret number bytes)
   unread_so true number bytes what holds is =
       let other = secret_unread number (secret_is number holds) in unread_both what other.0 (ap and_host_key is) other.1
   unread_so false number bytes what holds is = unread_both what what (ap and_host_key is) (ap and_host_key is)
 
-  by_read : (read : Result ClientRequest MsgFault) (number : ℕ) (bytes : List ℕ) → IsBytes (number ∷ bytes) → request_of (number ∷ bytes) ≡ read → length (renamed_as rename read number bytes) ≤ longest_body → Reads (number ∷ bytes) (renamed_as rename read number bytes)
-  by_read (Ok ListIdentities) number bytes each is short = as_read (unchanged_read (number ∷ bytes) ListIdentities is refl)
-  by_read (Ok (Sign signing)) number bytes each is short = as_read (unchanged_read (number ∷ bytes) (Sign signing) is refl)
+  by_read : (read : Result ClientRequest MsgFault) (number : ℕ) (bytes : List ℕ) → IsBytes (number ∷ bytes)
+      → request_of (number ∷ bytes) ≡ read → length (renamed_as rename read number bytes) ≤ longest_body
+      → Reads (number ∷ bytes) (renamed_as rename read number bytes)
+  by_read (Ok ListIdentities) number bytes each is short =
+      as_read (unchanged_read (number ∷ bytes) ListIdentities is refl)
+  by_read (Ok (Sign signing)) number bytes each is short =
+      as_read (unchanged_read (number ∷ bytes) (Sign signing) is refl)
   by_read (Ok (Add addition)) number bytes each is short = as_read (added_read number bytes addition each is)
-  by_read (Ok (Remove blob)) number bytes each is short = as_read (unchanged_read (number ∷ bytes) (Remove blob) is refl)
+  by_read (Ok (Remove blob)) number bytes each is short =
+      as_read (unchanged_read (number ∷ bytes) (Remove blob) is refl)
   by_read (Ok RemoveAll) number bytes each is short = as_read (unchanged_read (number ∷ bytes) RemoveAll is refl)
   by_read (Ok (Lock passphrase)) number bytes each is short =
-      as_read (named_read number 22 bytes passphrase Lock (request_is_found (number ∷ bytes) (Lock passphrase) each is) is
+      as_read
+      (named_read number 22 bytes passphrase Lock (request_is_found (number ∷ bytes) (Lock passphrase) each is) is
       (request_is_read (number ∷ string (rename passphrase)) (Lock (rename passphrase))) (λ name. refl) refl short)
   by_read (Ok (Unlock passphrase)) number bytes each is short =
-      as_read (named_read number 23 bytes passphrase Unlock (request_is_found (number ∷ bytes) (Unlock passphrase) each is) is
+      as_read
+      (named_read number 23 bytes passphrase Unlock (request_is_found (number ∷ bytes) (Unlock passphrase) each is) is
       (request_is_read (number ∷ string (rename passphrase)) (Unlock (rename passphrase))) (λ name. refl) refl short)
-  by_read (Ok (Bind bind)) number bytes each is short = as_read (unchanged_read (number ∷ bytes) (Bind bind) is (bind_same bind (public_key_of bind.host_key)))
-  by_read (Ok (OtherExtension name)) number bytes each is short = as_read (unchanged_read (number ∷ bytes) (OtherExtension name) is refl)
-  by_read (Ok (Unsupported other)) number bytes each is short = as_read (unchanged_read (number ∷ bytes) (Unsupported other) is refl)
+  by_read (Ok (Bind bind)) number bytes each is short =
+      as_read (unchanged_read (number ∷ bytes) (Bind bind) is (bind_same bind (public_key_of bind.host_key)))
+  by_read (Ok (OtherExtension name)) number bytes each is short =
+      as_read (unchanged_read (number ∷ bytes) (OtherExtension name) is refl)
+  by_read (Ok (Unsupported other)) number bytes each is short =
+      as_read (unchanged_read (number ∷ bytes) (Unsupported other) is refl)
   by_read (Err what) number bytes each is short = unread_so (holds_secrets number) number bytes what refl is
 
-  pub renamed_reads : (number : ℕ) (bytes : List ℕ) → IsBytes (number ∷ bytes) → length (renamed rename (number ∷ bytes)) ≤ longest_body → Reads (number ∷ bytes) (renamed rename (number ∷ bytes))
+  pub renamed_reads : (number : ℕ) (bytes : List ℕ) → IsBytes (number ∷ bytes)
+      → length (renamed rename (number ∷ bytes)) ≤ longest_body
+      → Reads (number ∷ bytes) (renamed rename (number ∷ bytes))
   renamed_reads number bytes each short = by_read (request_of (number ∷ bytes)) number bytes each refl short
 
   -- ---- neither binds where the other doesn't
 
-  secret_names : (number : ℕ) (one other : List ℕ) → IsSecret number → names_bind (number ∷ one) ≡ names_bind (number ∷ other)
+  secret_names : (number : ℕ) (one other : List ℕ) → IsSecret number
+      → names_bind (number ∷ one) ≡ names_bind (number ∷ other)
   unfolding names_bind bind_front
   secret_names number one other (inl is) = rw is refl
   secret_names number one other (inr (inl is)) = rw is refl
   secret_names number one other (inr (inr (inl is))) = rw is refl
   secret_names number one other (inr (inr (inr is))) = rw is refl
 
-  unread_names : (secret : Bool) (number : ℕ) (bytes : List ℕ) → holds_secrets number ≡ secret → names_bind (unread secret number bytes) ≡ names_bind (number ∷ bytes)
+  unread_names : (secret : Bool) (number : ℕ) (bytes : List ℕ) → holds_secrets number ≡ secret
+      → names_bind (unread secret number bytes) ≡ names_bind (number ∷ bytes)
   unread_names true number bytes holds = secret_names number [] bytes (secret_is number holds)
   unread_names false number bytes holds = refl
 
-  addition_is : (number : ℕ) (bytes : List ℕ) (addition : Addition) → IsPlainAddition (number ∷ bytes) addition ⊎ IsConstrainedAddition (number ∷ bytes) addition → IsSecret number
+  addition_is : (number : ℕ) (bytes : List ℕ) (addition : Addition)
+      → IsPlainAddition (number ∷ bytes) addition ⊎ IsConstrainedAddition (number ∷ bytes) addition → IsSecret number
   addition_is number bytes addition (inl plain) =
       inl (let printed : number ∷ bytes ≡ 17 ∷ (addition.key.private ++ string addition.comment) = plain.printed in cc)
   addition_is number bytes addition (inr bound) =
-      inr (inr (inr (let printed : number ∷ bytes ≡ 25 ∷ (addition.key.private ++ (string addition.comment ++ bound.constraints)) = bound.printed in cc)))
+      inr
+      (inr (inr (let printed : number ∷ bytes ≡ 25 ∷ (addition.key.private ++ (string addition.comment ++ bound.constraints)) = bound.printed in cc)))
 
   text_is : (number code : ℕ) (bytes passphrase : List ℕ) → IsText code (number ∷ bytes) passphrase → number ≡ code
-  text_is number code bytes passphrase shown = (let printed : number ∷ bytes ≡ code ∷ string passphrase = shown.printed in cc)
+  text_is number code bytes passphrase shown =
+      (let printed : number ∷ bytes ≡ code ∷ string passphrase = shown.printed in cc)
 
-  names_by : (read : Result ClientRequest MsgFault) (number : ℕ) (bytes : List ℕ) → IsBytes (number ∷ bytes) → request_of (number ∷ bytes) ≡ read → names_bind (renamed_as rename read number bytes) ≡ names_bind (number ∷ bytes)
+  names_by : (read : Result ClientRequest MsgFault) (number : ℕ) (bytes : List ℕ) → IsBytes (number ∷ bytes)
+      → request_of (number ∷ bytes) ≡ read
+      → names_bind (renamed_as rename read number bytes) ≡ names_bind (number ∷ bytes)
   names_by (Ok ListIdentities) number bytes each is = refl
   names_by (Ok (Sign signing)) number bytes each is = refl
   names_by (Ok (Add addition)) number bytes each is =
-      secret_names number _ bytes (addition_is number bytes addition (request_is_found (number ∷ bytes) (Add addition) each is))
+      secret_names number _ bytes
+      (addition_is number bytes addition (request_is_found (number ∷ bytes) (Add addition) each is))
   names_by (Ok (Remove blob)) number bytes each is = refl
   names_by (Ok RemoveAll) number bytes each is = refl
   names_by (Ok (Lock passphrase)) number bytes each is =
-      secret_names number (string (rename passphrase)) bytes (inr (inl (text_is number 22 bytes passphrase (request_is_found (number ∷ bytes) (Lock passphrase) each is))))
+      secret_names number (string (rename passphrase)) bytes
+      (inr (inl (text_is number 22 bytes passphrase (request_is_found (number ∷ bytes) (Lock passphrase) each is))))
   names_by (Ok (Unlock passphrase)) number bytes each is =
-      secret_names number (string (rename passphrase)) bytes (inr (inr (inl (text_is number 23 bytes passphrase (request_is_found (number ∷ bytes) (Unlock passphrase) each is)))))
+      secret_names number (string (rename passphrase)) bytes
+      (inr (inr (inl (text_is number 23 bytes passphrase (request_is_found (number ∷ bytes) (Unlock passphrase) each is)))))
   names_by (Ok (Bind bind)) number bytes each is = refl
   names_by (Ok (OtherExtension name)) number bytes each is = refl
   names_by (Ok (Unsupported other)) number bytes each is = refl
   names_by (Err what) number bytes each is = unread_names (holds_secrets number) number bytes refl
 
-  pub renamed_names : (number : ℕ) (bytes : List ℕ) → IsBytes (number ∷ bytes) → names_bind (renamed rename (number ∷ bytes)) ≡ names_bind (number ∷ bytes)
+  pub renamed_names : (number : ℕ) (bytes : List ℕ) → IsBytes (number ∷ bytes)
+      → names_bind (renamed rename (number ∷ bytes)) ≡ names_bind (number ∷ bytes)
   renamed_names number bytes each = names_by (request_of (number ∷ bytes)) number bytes each refl

@@ -37,26 +37,34 @@ module _ (rename : List ℕ → List ℕ) (renaming : IsRenaming rename) where
   -- ---- one request
 
   uses-relocked : (held : KeyState) (work : Work) → uses (relocked rename held) work ≡ served_of (uses held work)
-  uses-relocked held work = ap (λ keys. let s : Served = record { held = keys; work = work } in s) (after_use-relocked rename work.used held)
+  uses-relocked held work =
+      ap (λ keys. let s : Served = record { held = keys; work = work } in s) (after_use-relocked rename work.used held)
 
-  add_unless-relocked : (cause : Option Cause) (addition : Addition) (now : ℕ) (held : KeyState) (under_way : UnderWay) → add_unless cause addition now (relocked rename held) under_way ≡ served_of (add_unless cause addition now held under_way)
+  add_unless-relocked : (cause : Option Cause) (addition : Addition) (now : ℕ) (held : KeyState) (under_way : UnderWay)
+      → add_unless cause addition now (relocked rename held) under_way ≡ served_of (add_unless cause addition now held under_way)
   add_unless-relocked None addition now held under_way = refl
   add_unless-relocked (Some cause) addition now held under_way = refl
 
-  add_seen-relocked : (sees_it : Bool) (addition : Addition) (now : ℕ) (held : KeyState) (under_way : UnderWay) → add_seen sees_it addition now (relocked rename held) under_way ≡ served_of (add_seen sees_it addition now held under_way)
+  add_seen-relocked : (sees_it : Bool) (addition : Addition) (now : ℕ) (held : KeyState) (under_way : UnderWay)
+      → add_seen sees_it addition now (relocked rename held) under_way ≡ served_of (add_seen sees_it addition now held under_way)
   add_seen-relocked false addition now held under_way = refl
   add_seen-relocked true addition now held under_way =
-      add_unless-relocked (add_fault (nat_lt max_answer (length_with addition now held.table)) (held.table.last == last_number)) addition now held under_way
+      add_unless-relocked
+      (add_fault (nat_lt max_answer (length_with addition now held.table)) (held.table.last == last_number)) addition now held under_way
 
-  add_by-relocked : (found : Option HeldKey) (asker : Asker) (addition : Addition) (held : KeyState) (under_way : UnderWay) → add_by found asker addition (relocked rename held) under_way ≡ served_of (add_by found asker addition held under_way)
+  add_by-relocked : (found : Option HeldKey) (asker : Asker) (addition : Addition) (held : KeyState) (under_way : UnderWay)
+      → add_by found asker addition (relocked rename held) under_way ≡ served_of (add_by found asker addition held under_way)
   add_by-relocked None asker addition held under_way = add_seen-relocked true addition asker.mono held under_way
-  add_by-relocked (Some key) asker addition held under_way = add_seen-relocked (sees asker key) addition asker.mono held under_way
+  add_by-relocked (Some key) asker addition held under_way =
+      add_seen-relocked (sees asker key) addition asker.mono held under_way
 
-  remove_seen-relocked : (sees_it : Bool) (blob : List ℕ) (held : KeyState) (under_way : UnderWay) → remove_seen sees_it blob (relocked rename held) under_way ≡ served_of (remove_seen sees_it blob held under_way)
+  remove_seen-relocked : (sees_it : Bool) (blob : List ℕ) (held : KeyState) (under_way : UnderWay)
+      → remove_seen sees_it blob (relocked rename held) under_way ≡ served_of (remove_seen sees_it blob held under_way)
   remove_seen-relocked false blob held under_way = refl
   remove_seen-relocked true blob held under_way = refl
 
-  remove_by-relocked : (found : Option HeldKey) (asker : Asker) (blob : List ℕ) (held : KeyState) (under_way : UnderWay) → remove_by found asker blob (relocked rename held) under_way ≡ served_of (remove_by found asker blob held under_way)
+  remove_by-relocked : (found : Option HeldKey) (asker : Asker) (blob : List ℕ) (held : KeyState) (under_way : UnderWay)
+      → remove_by found asker blob (relocked rename held) under_way ≡ served_of (remove_by found asker blob held under_way)
   remove_by-relocked None asker blob held under_way = refl
   remove_by-relocked (Some key) asker blob held under_way = remove_seen-relocked (sees asker key) blob held under_way
 
@@ -65,25 +73,33 @@ module _ (rename : List ℕ → List ℕ) (renaming : IsRenaming rename) where
   locked_as held name under_way =
       let keys : KeyState = record { table = held.table; lock = Some name } in answers Success keys under_way
 
-  named : (name passphrase : List ℕ) (held : KeyState) (under_way : UnderWay) → (name ≡ [] → ⊥) → lock_by name (relocked rename held) under_way ≡ locked_as held name under_way
+  named : (name passphrase : List ℕ) (held : KeyState) (under_way : UnderWay) → (name ≡ [] → ⊥)
+      → lock_by name (relocked rename held) under_way ≡ locked_as held name under_way
   named [] passphrase held under_way some = absurd (some refl)
   named (byte ∷ bytes) passphrase held under_way some = refl
 
-  lock_by-relocked : (passphrase : List ℕ) (held : KeyState) (under_way : UnderWay) → lock_by (rename passphrase) (relocked rename held) under_way ≡ served_of (lock_by passphrase held under_way)
+  lock_by-relocked : (passphrase : List ℕ) (held : KeyState) (under_way : UnderWay)
+      → lock_by (rename passphrase) (relocked rename held) under_way ≡ served_of (lock_by passphrase held under_way)
   lock_by-relocked [] held under_way = ap (λ name. lock_by name (relocked rename held) under_way) renaming.empty
-  lock_by-relocked (byte ∷ bytes) held under_way = named (rename (byte ∷ bytes)) (byte ∷ bytes) held under_way (name_is_some byte bytes)
+  lock_by-relocked (byte ∷ bytes) held under_way =
+      named (rename (byte ∷ bytes)) (byte ∷ bytes) held under_way (name_is_some byte bytes)
 
-  unlock_by-relocked : (same : Bool) (held : KeyState) (under_way : UnderWay) → unlock_by same (relocked rename held) under_way ≡ served_of (unlock_by same held under_way)
+  unlock_by-relocked : (same : Bool) (held : KeyState) (under_way : UnderWay)
+      → unlock_by same (relocked rename held) under_way ≡ served_of (unlock_by same held under_way)
   unlock_by-relocked true held under_way = refl
   unlock_by-relocked false held under_way = refl
 
   -- ---- the table of requests
 
-  unlocked-relocked : (request : ClientRequest) (asker : Asker) (held : KeyState) (under_way : UnderWay) → serve_unlocked (renamed_request rename request) asker (relocked rename held) under_way ≡ served_of (serve_unlocked request asker held under_way)
+  unlocked-relocked : (request : ClientRequest) (asker : Asker) (held : KeyState) (under_way : UnderWay)
+      → serve_unlocked (renamed_request rename request) asker (relocked rename held) under_way ≡ served_of (serve_unlocked request asker held under_way)
   unlocked-relocked ListIdentities asker held under_way = refl
-  unlocked-relocked (Sign signing) asker held under_way = uses-relocked held (sign_by (find_identity signing.blob held.table.identities) asker signing under_way)
-  unlocked-relocked (Add addition) asker held under_way = add_by-relocked (find_identity addition.key.blob held.table.identities) asker addition held under_way
-  unlocked-relocked (Remove blob) asker held under_way = remove_by-relocked (find_identity blob held.table.identities) asker blob held under_way
+  unlocked-relocked (Sign signing) asker held under_way =
+      uses-relocked held (sign_by (find_identity signing.blob held.table.identities) asker signing under_way)
+  unlocked-relocked (Add addition) asker held under_way =
+      add_by-relocked (find_identity addition.key.blob held.table.identities) asker addition held under_way
+  unlocked-relocked (Remove blob) asker held under_way =
+      remove_by-relocked (find_identity blob held.table.identities) asker blob held under_way
   unlocked-relocked RemoveAll asker held under_way = refl
   unlocked-relocked (Lock passphrase) asker held under_way = lock_by-relocked passphrase held under_way
   unlocked-relocked (Unlock passphrase) asker held under_way = refl
@@ -91,7 +107,8 @@ module _ (rename : List ℕ → List ℕ) (renaming : IsRenaming rename) where
   unlocked-relocked (OtherExtension name) asker held under_way = refl
   unlocked-relocked (Unsupported number) asker held under_way = refl
 
-  locked-relocked : (passphrase : List ℕ) (request : ClientRequest) (held : KeyState) (under_way : UnderWay) → serve_locked (rename passphrase) (renamed_request rename request) (relocked rename held) under_way ≡ served_of (serve_locked passphrase request held under_way)
+  locked-relocked : (passphrase : List ℕ) (request : ClientRequest) (held : KeyState) (under_way : UnderWay)
+      → serve_locked (rename passphrase) (renamed_request rename request) (relocked rename held) under_way ≡ served_of (serve_locked passphrase request held under_way)
   locked-relocked passphrase ListIdentities held under_way = refl
   locked-relocked passphrase (Sign signing) held under_way = refl
   locked-relocked passphrase (Add addition) held under_way = refl
@@ -105,7 +122,8 @@ module _ (rename : List ℕ → List ℕ) (renaming : IsRenaming rename) where
   locked-relocked passphrase (OtherExtension name) held under_way = refl
   locked-relocked passphrase (Unsupported number) held under_way = refl
 
-  by_lock : (lock : Option (List ℕ)) (request : ClientRequest) (asker : Asker) (held : KeyState) (under_way : UnderWay) → serve_by (option_map rename lock) (renamed_request rename request) asker (relocked rename held) under_way ≡ served_of (serve_by lock request asker held under_way)
+  by_lock : (lock : Option (List ℕ)) (request : ClientRequest) (asker : Asker) (held : KeyState) (under_way : UnderWay)
+      → serve_by (option_map rename lock) (renamed_request rename request) asker (relocked rename held) under_way ≡ served_of (serve_by lock request asker held under_way)
   by_lock None request asker held under_way = unlocked-relocked request asker held under_way
   by_lock (Some passphrase) request asker held under_way = locked-relocked passphrase request held under_way
 
@@ -119,6 +137,8 @@ module _ (rename : List ℕ → List ℕ) (renaming : IsRenaming rename) where
   unread-relocked fault.Memory lock = refl
 
   -- a request by its other name finds the agent locked by the other name
-  pub serve-relocked : (read : Result ClientRequest MsgFault) (asker : Asker) (held : KeyState) (under_way : UnderWay) → serve (renamed_read rename read) asker (relocked rename held) under_way ≡ served_of (serve read asker held under_way)
+  pub serve-relocked : (read : Result ClientRequest MsgFault) (asker : Asker) (held : KeyState) (under_way : UnderWay)
+      → serve (renamed_read rename read) asker (relocked rename held) under_way ≡ served_of (serve read asker held under_way)
   serve-relocked (Ok request) asker held under_way = by_lock held.lock request asker held under_way
-  serve-relocked (Err what) asker held under_way = ap (λ cause. refuses cause (relocked rename held) under_way) (unread-relocked what held.lock)
+  serve-relocked (Err what) asker held under_way =
+      ap (λ cause. refuses cause (relocked rename held) under_way) (unread-relocked what held.lock)

@@ -28,26 +28,36 @@ pub client_owed : (port : Port) (under_way : UnderWay) → port.door ≡ Clients
 client_owed port under_way is = ap (λ door. owed_as (role_of door port.number under_way) port under_way) is
 
 module _ (rename : List ℕ → List ℕ) (renaming : IsRenaming rename) where
-  pub quiet_alike : (event : Happening) (s t : State) → AreToldAlike rename s t → IsOfNoClient event s → IsOfNoClient event t → BringsAlike rename (handle event s) (handle event t)
-  quiet_alike event s t same one other = quiet-told rename renaming (told_bytes rename) event s t same (quiet_is event s one) (quiet_is event t other)
+  pub quiet_alike : (event : Happening) (s t : State) → AreToldAlike rename s t → IsOfNoClient event s
+      → IsOfNoClient event t → BringsAlike rename (handle event s) (handle event t)
+  quiet_alike event s t same one other =
+      quiet-told rename renaming (told_bytes rename) event s t same (quiet_is event s one) (quiet_is event t other)
 
-  pub joined_alike : (door : Door) (s t : State) → AreToldAlike rename s t → BringsAlike rename (handle (Joined door) s) (handle (Joined door) t)
+  pub joined_alike : (door : Door) (s t : State) → AreToldAlike rename s t
+      → BringsAlike rename (handle (Joined door) s) (handle (Joined door) t)
   joined_alike door s t same = joined-told rename renaming (told_bytes rename) door s t (told-nothing rename) same
 
-  pub heard_alike : (number : ℕ) (piece bytes : List ℕ) (port : Port) (s t : State) → AreToldAlike rename s t → find_port number s.ports ≡ Some port → port.door ≡ Clients
-      → told_bytes rename (port.heard ++ piece) ≡ told_bytes rename port.heard ++ bytes → IsBytes (port.heard ++ piece) → IsShort rename (port.heard ++ piece)
+  pub heard_alike : (number : ℕ) (piece bytes : List ℕ) (port : Port) (s t : State) → AreToldAlike rename s t
+      → find_port number s.ports ≡ Some port → port.door ≡ Clients
+      → told_bytes rename (port.heard ++ piece) ≡ told_bytes rename port.heard ++ bytes
+      → IsBytes (port.heard ++ piece) → IsShort rename (port.heard ++ piece)
       → BringsAlike rename (handle (Heard number piece) s) (handle (Heard number bytes) t)
   heard_alike number piece bytes port s t same found client is each short =
-      heard-told rename renaming (told_bytes rename) number piece bytes port s t same found client is (told_fronts rename renaming (port.heard ++ piece) each short)
+      heard-told rename renaming (told_bytes rename) number piece bytes port s t same found client is
+      (told_fronts rename renaming (port.heard ++ piece) each short)
 
-  pub took_alike : (number count : ℕ) (port : Port) (s t : State) → AreToldAlike rename s t → find_port number s.ports ≡ Some port → port.door ≡ Clients → IsBytes port.heard → IsShort rename port.heard
+  pub took_alike : (number count : ℕ) (port : Port) (s t : State) → AreToldAlike rename s t
+      → find_port number s.ports ≡ Some port → port.door ≡ Clients → IsBytes port.heard → IsShort rename port.heard
       → BringsAlike rename (handle (Took number count) s) (handle (Took number count) t)
   took_alike number count port s t same found client each short =
-      took-told rename renaming (told_bytes rename) number count port s t same found client (told_fronts rename renaming port.heard each short)
+      took-told rename renaming (told_bytes rename) number count port s t same found client
+      (told_fronts rename renaming port.heard each short)
 
   pub looks_alike : (s t : State) → AreToldAlike rename s t → LooksAlike s t
   looks_alike s t same = record {
-    ports = sym (numbers-hidden (told_at (told_bytes rename)) s.ports) ∙ ap (λ (x : State). numbers x.ports) same ∙ numbers-hidden as_is t.ports;
+    ports =
+        sym (numbers-hidden (told_at (told_bytes rename)) s.ports) ∙ ap (λ (x : State). numbers x.ports) same
+        ∙ numbers-hidden as_is t.ports;
     owed = λ number port found client.
         let q = pair_of rename renaming (told_bytes rename) number port s t same found in
         ap (λ at. owed_by at s.under_way) found ∙ client_owed port s.under_way client

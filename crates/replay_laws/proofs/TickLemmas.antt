@@ -11,12 +11,15 @@ use Rattle.agent_model.proofs.TimeLemmas.{time_passes-put}
 use Rattle.replay_laws.specs.Ticks.{ticked, with_ticks}
 
 -- behind its tick an event finds the moment taken in
-pub tick-state : (state : State) (moment : Moment) (event : Happening) → (step (ticked moment state).state moment event).state ≡ (step state moment event).state
+pub tick-state : (state : State) (moment : Moment) (event : Happening)
+    → (step (ticked moment state).state moment event).state ≡ (step state moment event).state
 tick-state state moment event = ap (λ (s : State). (handle event s).state) (at_moment-twice state moment)
 
-pub tick-put : (state : State) (moment : Moment) (event : Happening) → (step (ticked moment state).state moment event).put ≡ (step state moment event).put
+pub tick-put : (state : State) (moment : Moment) (event : Happening)
+    → (step (ticked moment state).state moment event).put ≡ (step state moment event).put
 tick-put state moment event =
-    ap (λ before. before ++ (handle event (at_moment moment (at_moment moment state))).put) (time_passes-put moment (at_moment moment state))
+    ap (λ before. before ++ (handle event (at_moment moment (at_moment moment state))).put)
+    (time_passes-put moment (at_moment moment state))
     ∙ ap (λ (s : State). (handle event s).put) (at_moment-twice state moment)
     ∙ sym (ap (λ before. before ++ (handle event (at_moment moment state)).put) (time_passes-put moment state))
 

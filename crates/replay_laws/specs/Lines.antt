@@ -11,8 +11,8 @@ use Rattle.schedule_text.specs.declared.step.Step.TheVariants.{Skip, Format2, At
 use Rattle.agent_model.specs.Events.{Happening, Joined, Heard, Ended, Took, Tick, StartFailed, Started as JobStarted}
 use Rattle.record_world.specs.Recording.{Left, Recording, left, longest_piece, only}
 
--- what a recorder keeps and tells of an event, by the entry of the call that tells of it, where this was the number of the
--- last port that joined: a tick is told by its moment alone
+-- what a recorder keeps and tells of an event, by the entry of the call that tells of it, where this
+-- was the number of the last port that joined: a tick is told by its moment alone
 abbrev pub lines_of : Happening → ℕ → Recording → Left
 lines_of (Joined door) last recording = left (entry.Accept door (Ok (accepted.Port (suc last)))) recording
 lines_of (Heard port piece) last recording =

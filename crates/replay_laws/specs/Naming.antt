@@ -32,8 +32,8 @@ abbrev pub kept_of : Bool → List ℕ → List ℕ
 kept_of true rest = []
 kept_of false rest = rest
 
--- it keeps of a client's port whether its bytes came to a bad length, and else what stands behind the last whole frame of
--- what was heard there and isn't taken
+-- it keeps of a client's port whether its bytes came to a bad length, and else what stands behind the
+-- last whole frame of what was heard there and isn't taken
 pub record Keeps (heard : List ℕ) (port : Port) : Type 0 where
   pub door : port.door ≡ Clients
   pub bad : port.is_bad ≡ ends_badly (front longest_body (split longest_body heard).rest)

@@ -1,5 +1,5 @@
--- The run of a record beside the run that it records: docs/PROTOCOL.md, "Records" (ours). The record of a list of events is,
--- for each of them, the tick of its moment and then the events of its lines.
+-- The run of a record beside the run that it records: docs/PROTOCOL.md, "Records" (ours). The record
+-- of a list of events is, for each of them, the tick of its moment and then the events of its lines.
 use Rattle.std.specs.Prelude.{◌≡◌, ◌^◌, ◌<◌, ◌≤◌, ℕ, suc, Bool, true, false, List, [], ◌∷◌, length, Some}
 use Rattle.world_ports.specs.declared.Door.TheVariants.{Clients}
 use Rattle.world_ports.specs.declared.Moment.{Moment}
@@ -39,7 +39,8 @@ AllFitUnless moment closed (event ∷ later) state =
 
 -- ---- the run of a record
 
--- where it came to, and what the recorder keeps by then, where this is the number of the last port that joined
+-- where it came to, and what the recorder keeps by then, where this is the number of the last port
+-- that joined
 pub record Replay : Type 0 where
   pub state : State
   pub recording : Recording
@@ -62,7 +63,8 @@ last_after (Started job ticket) last = last
 last_after (StartFailed job) last = last
 last_after Tick last = last
 
--- the tick of the event's moment, and then the events of its lines: those at ports that this tick closed are passed over
+-- the tick of the event's moment, and then the events of its lines: those at ports that this tick
+-- closed are passed over
 abbrev pub replayed : Timed → Replay → Replay
 replayed timed replay = record {
   state = stepped_all timed.moment (ticked timed.moment replay.state).closes (events_of (told_of timed replay).steps)
@@ -84,8 +86,8 @@ recording_of replay (timed ∷ later) = recording_of (replayed timed replay) lat
 
 -- ---- the law
 
--- the same ports are open, every client is owed the same bytes, the same jobs wait to be started, and as many helpers were
--- lost by a fault
+-- the same ports are open, every client is owed the same bytes, the same jobs wait to be started,
+-- and as many helpers were lost by a fault
 pub record LooksAlike (one other : State) : Type 0 where
   pub ports : numbers one.ports ≡ numbers other.ports
   pub owed : (number : ℕ) (port : Port) → find_port number one.ports ≡ Some port → port.door ≡ Clients
@@ -114,8 +116,9 @@ abbrev pub AreRead : List Timed → Type 0
 AreRead [] = Unit {0}
 AreRead (timed ∷ later) = IsRead timed.event × AreRead later
 
--- what a run that is recorded has: each event may come, its numbers are those of its types, a read brings as much as it has
--- room for, the passphrases are counted by 64 bits, and limits that are set give a second at least
+-- what a run that is recorded has: each event may come, its numbers are those of its types, a read
+-- brings as much as it has room for, the passphrases are counted by 64 bits, and limits that are set
+-- give a second at least
 pub record IsRecorded (settings : Settings) (events : List Timed) : Type 0 where
   pub fit : AllFit (first_state settings) events
   pub range : AreInRange events

@@ -28,13 +28,14 @@ IsShort rename bytes = AreShort rename (split longest_body bytes).bodies
 
 -- ---- states and outcomes
 
--- the second state is that of the run of what is told of the first one's: the same but for private fields, the names of
--- passphrases, and of clients' bytes what isn't told; of what the helper is owed the length is the same
+-- the second state is that of the run of what is told of the first one's: the same but for private
+-- fields, the names of passphrases, and of clients' bytes what isn't told; of what the helper is owed
+-- the length is the same
 abbrev pub AreToldAlike : (List ℕ → List ℕ) → State → State → Type 0
 AreToldAlike rename one other = redacted_state rename (told_bytes rename) one ≡ blanked_state other
 
--- so are the states that both events lead to; both close the same ports, and put the same to the helper but for private
--- fields
+-- so are the states that both events lead to; both close the same ports, and put the same to the
+-- helper but for private fields
 abbrev pub BringsAlike : (List ℕ → List ℕ) → Outcome → Outcome → Type 0
 BringsAlike rename one other = redacted_seen rename (told_bytes rename) one ≡ blanked_seen other
 

@@ -1,4 +1,5 @@
-//! The law of records: the record of a run is the same run again, as clients and the outside see it.
+//! The law of records: the record of a run is the same run again, as clients and the outside
+//! see it.
 #![tactic(auto)]
 
 mod laws;

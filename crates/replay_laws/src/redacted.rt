@@ -13,12 +13,13 @@ ghost use Rattle.agent_model.specs.KeyStates.{KeyState};
 ghost use Rattle.agent_model.specs.State.{Port, State, UnderWay, find_port};
 ghost use Rattle.agent_model.specs.Step.{handle};
 ghost use Rattle.agent_model.specs.Time.{at_moment, time_passes};
-ghost use Rattle.replay_laws.specs.Redacting.{IsRenaming, relocked, relocked_outcome, relocked_state, renamed_read, served_as};
+ghost use Rattle.replay_laws.specs.Redacting.{IsRenaming, relocked, relocked_outcome};
+ghost use Rattle.replay_laws.specs.Redacting.{relocked_state, renamed_read, served_as};
 ghost use Rattle.replay_laws.specs.Replaying.{LooksAlike};
 ghost use Rattle.replay_laws.specs.Telling.{AreToldAlike, BringsAlike, IsOfNoClient, IsShort, told_bytes};
 
-/// A request to an agent that is locked with a passphrase, and the same where passphrases have other
-/// names, are served alike; so does time pass.
+/// A request to an agent that is locked with a passphrase, and the same where passphrases have
+/// other names, are served alike; so does time pass.
 pub fn names_of_passphrases_change_no_answer()
     ensures served { (rename : List ℕ → List ℕ) → IsRenaming rename
         → (read : Result ClientRequest MsgFault) (asker : Asker) (held : KeyState)

@@ -8,7 +8,8 @@ ghost use Rattle.agent_model.specs.Rows.{done, failed, listed as list_of_one, no
 ghost use Rattle.agent_model.specs.State.{no_settings};
 ghost use Rattle.agent_model.specs.TimeRows.{limited};
 ghost use Rattle.replay_laws.specs.Replaying.{IsRecorded};
-ghost use Rattle.replay_laws.specs.Rows.{all_at_5, asked, late, listed, locked, refused, seen, seen_again, told, unlocked};
+ghost use Rattle.replay_laws.specs.Rows.{all_at_5, asked, late, listed, locked, refused};
+ghost use Rattle.replay_laws.specs.Rows.{seen, seen_again, told, unlocked};
 
 /// Passphrases are told by their numbers, and unlock as they did.
 pub fn a_lock_is_replayed()

@@ -1,0 +1,249 @@
+-- Nothing is to be taken of a client behind an event: it waits, or is owed bytes, or its request isn't whole.
+use Rattle.std.proofs.Common.{◌≡◌, ◌≢◌, ℕ, suc, ◌<◌, List, [], ◌∷◌, ◌++◌, length, refl, sym, ap, subst, ◌∙◌, arith, inl, inr, Bool, Option, Some, None}
+use Rattle.std.specs.Prelude.{◌⊎◌}
+use Rattle.std.proofs.lemmas.Bool.{cases_eq}
+use Rattle.std.specs.Option.{option_map}
+use Rattle.std.proofs.lemmas.List.{length-append}
+use Rattle.world_ports.specs.declared.Door.{Door}
+use Rattle.world_ports.specs.declared.Door.TheVariants.{Clients}
+use Rattle.world_ports.specs.declared.Moment.{Moment}
+use Rattle.wire_text.specs.Bounds.{longest_body}
+use Rattle.wire_text.specs.Frames.{Bad, Front, More, Whole, front_body}
+use Rattle.wire_text.proofs.FrontLemmas.{front-short}
+use Rattle.wire_text.proofs.WireLemmas.{length-string}
+use Rattle.wire_text.specs.Wire.{string, uint32}
+use Rattle.agent_msg.specs.Replies.{entries}
+use Rattle.helper_link.specs.HelperLink.{askers}
+use Rattle.helper_link.specs.Telling.{telling}
+use Rattle.helper_link.specs.declared.answer.Answer.{Answer}
+use Rattle.helper_link.specs.declared.answer.Answer.TheVariants as answer
+use Rattle.helper_link.specs.declared.answer.Settled.{Settled}
+use Rattle.helper_link.specs.declared.fault.LinkFault.{LinkFault}
+use Rattle.helper_link.specs.declared.state.LinkState.{LinkState}
+use Rattle.helper_link.specs.declared.state.LinkState.TheVariants as states
+use Rattle.dest_rule.specs.declared.binding.Binding.{Binding}
+use Rattle.confirm_desk.specs.Confirmations.{Confirmation}
+use Rattle.agent_model.specs.Actions.{Outcome, Work}
+use Rattle.agent_model.specs.Answers.{Answering, answer_all, answer_asker, answer_by, answer_true, answers_in, close_helper, find_verification, lose, lose_if, prove, tell_each, with_answers}
+use Rattle.agent_model.specs.Children.{changed, heard_more, unheard}
+use Rattle.agent_model.specs.Consents.{close_confirmer, grant_work, over}
+use Rattle.agent_model.specs.Dispatch.{Asker, Served}
+use Rattle.agent_model.specs.Events.{Happening, Joined, Heard, Ended, Took, Started, StartFailed, Tick}
+use Rattle.agent_model.specs.KeyStates.{KeyState}
+use Rattle.agent_model.specs.Looks.{due, due_at}
+use Rattle.agent_model.specs.Sound.{IsRising}
+use Rattle.agent_model.specs.State.{Client, Confirmer, Helper, Nothing, Port, Role, State, UnderWay, Unnamed, Verification, Waits, change_port, find_port, remove_port, role_of}
+use Rattle.agent_model.specs.Step.{asker_at, attempts, handle, has_room, look_front, looked, take_frame, took_at, took_by_role, took_some}
+use Rattle.agent_model.specs.Time.{at_moment}
+use Rattle.agent_model.specs.Verdicts.{Cause, HelperLost, HelperRefused, Identities, NoLongerAllowed, NotConfirmed, Refuses, Replies, Reply, Signature, SignatureWrong, Success, Verdict, reply_text, tell, verdict_text, verdict_waits}
+use Rattle.agent_model.proofs.ClientLemmas.{handle-heard, handle-took, looked-found}
+use Rattle.agent_model.proofs.JobLemmas.{IsIn}
+use Rattle.agent_model.proofs.GrantLemmas.{IsGranted, allowed, disallowed, grant-ends, unasked}
+use Rattle.agent_model.proofs.LeadLemmas.{Follows, follows-makes, follows-quiet, leads-answers, same as led}
+use Rattle.agent_model.proofs.RunLemmas.{leads-rising}
+use Rattle.agent_model.proofs.MakeLemmas.{Makes, Quiet, alters, closes, first, goes_on, grants, links, loses, makes-handle, names, overs, serves, stays, tells}
+use Rattle.agent_model.proofs.PortsLemmas.{find_port-apart, find_port-change_port, find_port-left, find_port-remove_port, found_number, rising-change_port}
+use Rattle.agent_model.proofs.ServeLemmas.{IsServed, answered, asked, raised, refused, serve-ends}
+use Rattle.agent_model.proofs.TimeLemmas.{at_moment-keeps}
+use Rattle.agent_secrecy.proofs.EventLemmas.{IsChild}
+use Rattle.agent_secrecy.proofs.LengthLemmas.{length-hidden_bytes}
+use Rattle.agent_secrecy.proofs.QuietLemmas.{IsQuiet, moment_keeps, quiet_keeps}
+use Rattle.agent_secrecy.proofs.TrackLemmas.{WasAt, admitted_found, another, that, was_at}
+use Rattle.replay_laws.proofs.EventLemmas.{no_client}
+use Rattle.replay_laws.proofs.BusyLemmas.{Busies, Left, left_then, lose_left, makes_left, over_left, rising_behind, same_left, served_busy}
+
+-- ---- nothing is to be taken
+
+-- of no client
+abbrev pub NothingIsDue : State → Type 0
+NothingIsDue state =
+    (number : ℕ) (port : Port) → find_port number state.ports ≡ Some port → port.door ≡ Clients → due port ≡ More
+
+-- nor of one that sent no more
+due_left : (number : ℕ) (state : State) (port : Port) → NothingIsDue state → (left : Left number state.ports port)
+    → port.door ≡ Clients → port.heard ≡ left.was.heard → due port ≡ More
+due_left number state port none left client heard =
+    elim left.busy [
+      | inl kept ↦
+          ap (λ (waits : Waits). due_at waits port.owed port.heard) kept.0
+          ∙ ap (λ (owed : List ℕ). due_at left.was.waits owed port.heard) kept.1
+          ∙ ap (due_at left.was.waits left.was.owed) heard
+          ∙ none number left.was left.found (sym left.door ∙ client)
+      | inr busy ↦ busy port.heard
+    ]
+
+-- as time passes
+record Behind (number : ℕ) (old new : State) : Type 0 where
+  rising : IsRising 0 new.last_port new.ports
+  left : (port : Port) → find_port number new.ports ≡ Some port → Left number old.ports port
+
+behind_lose : (number : ℕ) (old state : State) → Behind number old state → Behind number old (lose state).state
+behind_lose number old state behind = record {
+  rising =
+      rising_behind state (lose state).state (follows-makes Tick state (loses state) record { last = refl; ports = led }) behind.rising;
+  left = λ port found.
+      let later =
+      lose_left state number port behind.rising found in left_then number old.ports state.ports port later
+      (behind.left later.was later.found);
+}
+
+behind_over : (number : ℕ) (old : State) (one : Confirmation) (state : State) → IsIn one state.under_way.confirmations
+    → Behind number old state → Behind number old (over one state).state
+behind_over number old one state there behind = record {
+  rising =
+      rising_behind state (over one state).state (follows-makes Tick state (overs one state there) record { last = refl; ports = led }) behind.rising;
+  left = λ port found.
+      let later =
+      over_left one state number port behind.rising found in left_then number old.ports state.ports port later
+      (behind.left later.was later.found);
+}
+
+moment_left : (number : ℕ) (moment : Moment) (state : State) (port : Port) → IsRising 0 state.last_port state.ports
+    → find_port number (at_moment moment state).ports ≡ Some port → Left number state.ports port
+moment_left number moment state port rising found =
+    (at_moment-keeps (Behind number state) moment state (behind_lose number state) (behind_over number state)
+    record { rising = rising; left = λ p there. same_left number state.ports p there }).left port found
+
+pub moment_due : (moment : Moment) (state : State) → IsRising 0 state.last_port state.ports → NothingIsDue state
+    → NothingIsDue (at_moment moment state)
+moment_due moment state rising none number port found client =
+    let left = moment_left number moment state port rising found in
+    due_left number state port none left client
+    (moment_keeps length-hidden_bytes moment state number port left.was rising found client left.found)
+
+-- a child process takes bytes
+took_ports : (number count : ℕ) (state : State) → IsChild number state
+    → (handle (Took number count) state).state.ports ≡ state.ports
+took_ports number count state child = by_found (find_port number state.ports) refl
+  where
+    by_role : (role : Role) (at : ℕ) → (role ≡ Client → ⊥)
+        → (took_by_role role at count state).state.ports ≡ state.ports
+    by_role Client at other = absurd (other refl)
+    by_role Unnamed at other = refl
+    by_role Helper at other = refl
+    by_role (Confirmer confirmation) at other = refl
+
+    by_found : (found : Option Port) → find_port number state.ports ≡ found
+        → (took_at found count state).state.ports ≡ state.ports
+    by_found None is = refl
+    by_found (Some port) is =
+        by_role (role_of port.door port.number state.under_way) port.number
+        (no_client port.door port.number state (child port is))
+
+took_left : (number other count : ℕ) (state : State) (port : Port) → IsChild other state
+    → find_port number (handle (Took other count) state).state.ports ≡ Some port → Left number state.ports port
+took_left number other count state port child found =
+    same_left number state.ports port (ap (find_port number) (sym (took_ports other count state child)) ∙ found)
+
+-- the events of no client
+handle_left : (event : Happening) (state : State) (number : ℕ) (port : Port) → IsQuiet event state
+    → IsRising 0 state.last_port state.ports → find_port number (handle event state).state.ports ≡ Some port
+    → Left number state.ports port
+handle_left (Joined door) state number port quiet rising found = absurd quiet
+handle_left (Took other count) state number port quiet rising found =
+    took_left number other count state port quiet found
+handle_left (Heard other piece) state number port quiet rising found =
+    makes_left (makes-handle (Heard other piece) state (λ door is. absurd (cc)))
+    (λ at count is. absurd (cc)) number port rising found
+handle_left (Ended other) state number port quiet rising found =
+    makes_left (makes-handle (Ended other) state (λ door is. absurd (cc)))
+    (λ at count is. absurd (cc)) number port rising found
+handle_left (Started job ticket) state number port quiet rising found =
+    makes_left (makes-handle (Started job ticket) state (λ door is. absurd (cc)))
+    (λ at count is. absurd (cc)) number port rising found
+handle_left (StartFailed job) state number port quiet rising found =
+    makes_left (makes-handle (StartFailed job) state (λ door is. absurd (cc)))
+    (λ at count is. absurd (cc)) number port rising found
+handle_left Tick state number port quiet rising found =
+    makes_left (makes-handle Tick state (λ door is. absurd (cc))) (λ at count is. absurd (cc)) number port rising found
+
+pub quiet_due : (event : Happening) (state : State) → IsQuiet event state → IsRising 0 state.last_port state.ports
+    → NothingIsDue state → NothingIsDue (handle event state).state
+quiet_due event state quiet rising none number port found client =
+    let left = handle_left event state number port quiet rising found in
+    due_left number state port none left client
+    (quiet_keeps length-hidden_bytes event state number port left.was rising quiet found client left.found)
+
+pub joined_due : (door : Door) (state : State) → NothingIsDue state → NothingIsDue (handle (Joined door) state).state
+joined_due door state none number port found client =
+    elim
+    (admitted_found (has_room door state.ports state.under_way) number (suc state.last_port) door state.ports port found) [
+      | inl before ↦ none number port before client
+      | inr new ↦ ap due (sym new.1) ∙ front-short longest_body [] (omega arith)
+    ]
+
+-- ---- a client that is looked at
+
+-- of no client but this one
+abbrev pub NothingElseIsDue : ℕ → State → Type 0
+NothingElseIsDue at state =
+    (number : ℕ)
+    (port : Port) → number ≢ at → find_port number state.ports ≡ Some port → port.door ≡ Clients → due port ≡ More
+
+-- the one whose frame is taken, or another
+concluded_due : (at number body_len : ℕ) (attempt : Bool) (verdict : Verdict) (state : State) (port : Port)
+    → Busies verdict → NothingElseIsDue at state
+    → find_port number (change_port at (tell verdict) (change_port at (take_frame body_len attempt) state.ports)) ≡ Some port
+    → port.door ≡ Clients → due port ≡ More
+concluded_due at number body_len attempt verdict state port busies none found client =
+    by_told
+    (was_at at number (tell verdict) (change_port at (take_frame body_len attempt) state.ports) port (λ x. refl) found)
+  where
+    by_taken : number ≢ at → WasAt at number (take_frame body_len attempt) state.ports port → due port ≡ More
+    by_taken apart (that was is there new) = absurd (apart is)
+    by_taken apart (another other there) = none number port apart there client
+
+    by_told : WasAt at number (tell verdict) (change_port at (take_frame body_len attempt) state.ports) port
+        → due port ≡ More
+    by_told (that was is there new) = ap due (sym new) ∙ busies was.owed was.heard
+    by_told (another apart there) =
+        by_taken apart (was_at at number (take_frame body_len attempt) state.ports port (λ x. refl) there)
+
+front_due : (answer : Front) (port : Port) (state : State) → IsRising 0 state.last_port state.ports
+    → find_port port.number state.ports ≡ Some port → due port ≡ answer → NothingElseIsDue port.number state
+    → NothingIsDue (look_front answer port state).state
+front_due (Whole body_len) port state rising there is none number one found client =
+    let body = front_body body_len port.heard in
+    concluded_due port.number number body_len (attempts state.held.lock body) _ state one
+    (served_busy (serve-ends (asker_at state.moment port) state.held state.under_way body)) none found client
+front_due (Bad announced) port state rising there is none number one found client =
+    none number one
+    (λ same. let gone : find_port port.number (remove_port port.number state.ports) ≡ None = find_port-remove_port port.number 0 state.last_port state.ports rising in
+    let both : Some one ≡ None =
+    sym found ∙ ap (λ n. find_port n (remove_port port.number state.ports)) same ∙ gone in cc)
+    (find_port-left number port.number 0 state.last_port state.ports one rising found) client
+front_due More port state rising there is none number one found client = elim (cases_eq number port.number) [
+  | inl same ↦ ap due (let both : Some one ≡ Some port = sym found ∙ ap (λ n. find_port n state.ports) same ∙ there in let e : one ≡ port = cc in e) ∙ is
+  | inr apart ↦ none number one apart found client
+]
+
+looked_due : (number : ℕ) (port : Port) (state : State) → IsRising 0 state.last_port state.ports
+    → find_port number state.ports ≡ Some port → NothingElseIsDue number state
+    → NothingIsDue (looked number state).state
+looked_due number port state rising there none =
+    let own : port.number ≡ number = found_number number state.ports port there in
+    subst (λ (o : Outcome). NothingIsDue o.state) (sym (looked-found number port state (due port) there refl))
+    (front_due (due port) port state rising (ap (λ n. find_port n state.ports) own ∙ there) refl (subst (λ n. NothingElseIsDue n state) (sym own) none))
+
+changed_due : (number : ℕ) (f : Port → Port) (port : Port) (state : State) → ((x : Port) → (f x).number ≡ x.number)
+    → IsRising 0 state.last_port state.ports → find_port number state.ports ≡ Some port → NothingIsDue state
+    → NothingIsDue (looked number (changed number f state)).state
+changed_due number f port state keeps rising there none =
+    looked_due number (f port) (changed number f state)
+    (rising-change_port number 0 state.last_port f state.ports keeps rising)
+    (find_port-change_port number f state.ports keeps ∙ ap (option_map f) there)
+    (λ other one apart found client. none other one (sym (find_port-apart other number f state.ports keeps apart) ∙ found) client)
+
+pub heard_due : (number : ℕ) (piece : List ℕ) (port : Port) (state : State) → IsRising 0 state.last_port state.ports
+    → find_port number state.ports ≡ Some port → port.door ≡ Clients → NothingIsDue state
+    → NothingIsDue (handle (Heard number piece) state).state
+heard_due number piece port state rising there client none =
+    subst (λ (o : Outcome). NothingIsDue o.state) (sym (handle-heard number piece port state there client))
+    (changed_due number (heard_more piece) port state (λ x. refl) rising there none)
+
+pub took_due : (number count : ℕ) (port : Port) (state : State) → IsRising 0 state.last_port state.ports
+    → find_port number state.ports ≡ Some port → port.door ≡ Clients → NothingIsDue state
+    → NothingIsDue (handle (Took number count) state).state
+took_due number count port state rising there client none =
+    subst (λ (o : Outcome). NothingIsDue o.state) (sym (handle-took number count port state there client))
+    (changed_due number (took_some count) port state (λ x. refl) rising there none)
