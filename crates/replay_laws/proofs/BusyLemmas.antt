@@ -1,15 +1,8 @@
 -- What a client waits for and is owed behind an event: the same as before, or what makes it busy.
-use Rattle.std.proofs.Common.{◌≡◌, ◌≢◌, ℕ, suc, ◌<◌, List, [], ◌∷◌, ◌++◌, length, refl, sym, ap, subst, ◌∙◌, arith, inl, inr, Bool, Option, Some, None}
+use Rattle.std.proofs.Common.{◌≡◌, ℕ, ◌<◌, List, [], ◌∷◌, ◌++◌, length, refl, sym, ap, subst, ◌∙◌, arith, inl, inr, Bool, Option, Some, None}
 use Rattle.std.specs.Prelude.{◌⊎◌}
-use Rattle.std.proofs.lemmas.Bool.{cases_eq}
-use Rattle.std.specs.Option.{option_map}
 use Rattle.std.proofs.lemmas.List.{length-append}
-use Rattle.world_ports.specs.declared.Door.{Door}
-use Rattle.world_ports.specs.declared.Door.TheVariants.{Clients}
-use Rattle.world_ports.specs.declared.Moment.{Moment}
-use Rattle.wire_text.specs.Bounds.{longest_body}
-use Rattle.wire_text.specs.Frames.{Bad, Front, More, Whole, front_body}
-use Rattle.wire_text.proofs.FrontLemmas.{front-short}
+use Rattle.wire_text.specs.Frames.{More, front_body}
 use Rattle.wire_text.proofs.WireLemmas.{length-string}
 use Rattle.wire_text.specs.Wire.{string, uint32}
 use Rattle.agent_msg.specs.Replies.{entries}
@@ -25,31 +18,23 @@ use Rattle.dest_rule.specs.declared.binding.Binding.{Binding}
 use Rattle.confirm_desk.specs.Confirmations.{Confirmation}
 use Rattle.agent_model.specs.Actions.{Outcome, Work}
 use Rattle.agent_model.specs.Answers.{Answering, answer_all, answer_asker, answer_by, answer_true, answers_in, close_helper, find_verification, lose, lose_if, prove, tell_each, with_answers}
-use Rattle.agent_model.specs.Children.{changed, heard_more, unheard}
+use Rattle.agent_model.specs.Children.{unheard}
 use Rattle.agent_model.specs.Consents.{close_confirmer, grant_work, over}
 use Rattle.agent_model.specs.Dispatch.{Asker, Served}
-use Rattle.agent_model.specs.Events.{Happening, Joined, Heard, Ended, Took, Started, StartFailed, Tick}
+use Rattle.agent_model.specs.Events.{Happening, Took}
 use Rattle.agent_model.specs.KeyStates.{KeyState}
-use Rattle.agent_model.specs.Looks.{due, due_at}
+use Rattle.agent_model.specs.Looks.{due_at}
 use Rattle.agent_model.specs.Sound.{IsRising}
-use Rattle.agent_model.specs.State.{Client, Confirmer, Helper, Nothing, Port, Role, State, UnderWay, Unnamed, Verification, Waits, change_port, find_port, remove_port, role_of}
-use Rattle.agent_model.specs.Step.{asker_at, attempts, handle, has_room, look_front, looked, take_frame, took_at, took_by_role, took_some}
-use Rattle.agent_model.specs.Time.{at_moment}
+use Rattle.agent_model.specs.State.{Nothing, Port, State, UnderWay, Verification, Waits, change_port, find_port, remove_port}
+use Rattle.agent_model.specs.Step.{asker_at, attempts, take_frame}
 use Rattle.agent_model.specs.Verdicts.{Cause, HelperLost, HelperRefused, Identities, NoLongerAllowed, NotConfirmed, Refuses, Replies, Reply, Signature, SignatureWrong, Success, Verdict, reply_text, tell, verdict_text, verdict_waits}
-use Rattle.agent_model.proofs.ClientLemmas.{handle-heard, handle-took, looked-found}
-use Rattle.agent_model.proofs.JobLemmas.{IsIn}
 use Rattle.agent_model.proofs.GrantLemmas.{IsGranted, allowed, disallowed, grant-ends, unasked}
-use Rattle.agent_model.proofs.LeadLemmas.{Follows, follows-makes, follows-quiet, leads-answers, same as led}
+use Rattle.agent_model.proofs.LeadLemmas.{Follows, follows-quiet, leads-answers, same as led}
 use Rattle.agent_model.proofs.RunLemmas.{leads-rising}
-use Rattle.agent_model.proofs.MakeLemmas.{Makes, Quiet, alters, closes, first, goes_on, grants, links, loses, makes-handle, names, overs, serves, stays, tells}
-use Rattle.agent_model.proofs.PortsLemmas.{find_port-apart, find_port-change_port, find_port-left, find_port-remove_port, found_number, rising-change_port}
+use Rattle.agent_model.proofs.MakeLemmas.{Makes, Quiet, alters, closes, first, goes_on, grants, links, loses, names, overs, serves, stays, tells}
+use Rattle.agent_model.proofs.PortsLemmas.{find_port-left}
 use Rattle.agent_model.proofs.ServeLemmas.{IsServed, answered, asked, raised, refused, serve-ends}
-use Rattle.agent_model.proofs.TimeLemmas.{at_moment-keeps}
-use Rattle.agent_secrecy.proofs.EventLemmas.{IsChild}
-use Rattle.agent_secrecy.proofs.LengthLemmas.{length-hidden_bytes}
-use Rattle.agent_secrecy.proofs.QuietLemmas.{IsQuiet, moment_keeps, quiet_keeps}
-use Rattle.agent_secrecy.proofs.TrackLemmas.{WasAt, admitted_found, another, that, was_at}
-use Rattle.replay_laws.proofs.EventLemmas.{no_client}
+use Rattle.agent_secrecy.proofs.TrackLemmas.{WasAt, another, that, was_at}
 
 -- whatever such a port sent, nothing is to be taken of it
 abbrev pub IsBusy : Waits → List ℕ → Type 0
@@ -62,7 +47,8 @@ pub record Left (number : ℕ) (ports : List Port) (port : Port) : Type 0 where
   pub door : port.door ≡ was.door
   pub busy : ((port.waits ≡ was.waits) × (port.owed ≡ was.owed)) ⊎ IsBusy port.waits port.owed
 
-pub same_left : (number : ℕ) (ports : List Port) (port : Port) → find_port number ports ≡ Some port → Left number ports port
+pub same_left : (number : ℕ) (ports : List Port) (port : Port) → find_port number ports ≡ Some port
+    → Left number ports port
 same_left number ports port found = record { was = port; found = found; door = refl; busy = inl (refl, refl) }
 
 busy_then : (mid port was : Port) → ((mid.waits ≡ was.waits) × (mid.owed ≡ was.owed)) ⊎ IsBusy mid.waits mid.owed

@@ -1,49 +1,31 @@
 -- Nothing is to be taken of a client behind an event: it waits, or is owed bytes, or its request isn't whole.
-use Rattle.std.proofs.Common.{◌≡◌, ◌≢◌, ℕ, suc, ◌<◌, List, [], ◌∷◌, ◌++◌, length, refl, sym, ap, subst, ◌∙◌, arith, inl, inr, Bool, Option, Some, None}
-use Rattle.std.specs.Prelude.{◌⊎◌}
+use Rattle.std.proofs.Common.{◌≡◌, ◌≢◌, ℕ, suc, List, [], refl, sym, ap, subst, ◌∙◌, arith, inl, inr, Bool, Option, Some, None}
 use Rattle.std.proofs.lemmas.Bool.{cases_eq}
 use Rattle.std.specs.Option.{option_map}
-use Rattle.std.proofs.lemmas.List.{length-append}
 use Rattle.world_ports.specs.declared.Door.{Door}
 use Rattle.world_ports.specs.declared.Door.TheVariants.{Clients}
 use Rattle.world_ports.specs.declared.Moment.{Moment}
 use Rattle.wire_text.specs.Bounds.{longest_body}
 use Rattle.wire_text.specs.Frames.{Bad, Front, More, Whole, front_body}
 use Rattle.wire_text.proofs.FrontLemmas.{front-short}
-use Rattle.wire_text.proofs.WireLemmas.{length-string}
-use Rattle.wire_text.specs.Wire.{string, uint32}
-use Rattle.agent_msg.specs.Replies.{entries}
-use Rattle.helper_link.specs.HelperLink.{askers}
-use Rattle.helper_link.specs.Telling.{telling}
-use Rattle.helper_link.specs.declared.answer.Answer.{Answer}
-use Rattle.helper_link.specs.declared.answer.Answer.TheVariants as answer
-use Rattle.helper_link.specs.declared.answer.Settled.{Settled}
-use Rattle.helper_link.specs.declared.fault.LinkFault.{LinkFault}
-use Rattle.helper_link.specs.declared.state.LinkState.{LinkState}
-use Rattle.helper_link.specs.declared.state.LinkState.TheVariants as states
-use Rattle.dest_rule.specs.declared.binding.Binding.{Binding}
 use Rattle.confirm_desk.specs.Confirmations.{Confirmation}
-use Rattle.agent_model.specs.Actions.{Outcome, Work}
-use Rattle.agent_model.specs.Answers.{Answering, answer_all, answer_asker, answer_by, answer_true, answers_in, close_helper, find_verification, lose, lose_if, prove, tell_each, with_answers}
-use Rattle.agent_model.specs.Children.{changed, heard_more, unheard}
-use Rattle.agent_model.specs.Consents.{close_confirmer, grant_work, over}
-use Rattle.agent_model.specs.Dispatch.{Asker, Served}
+use Rattle.agent_model.specs.Actions.{Outcome}
+use Rattle.agent_model.specs.Answers.{lose}
+use Rattle.agent_model.specs.Children.{changed, heard_more}
+use Rattle.agent_model.specs.Consents.{over}
 use Rattle.agent_model.specs.Events.{Happening, Joined, Heard, Ended, Took, Started, StartFailed, Tick}
-use Rattle.agent_model.specs.KeyStates.{KeyState}
 use Rattle.agent_model.specs.Looks.{due, due_at}
 use Rattle.agent_model.specs.Sound.{IsRising}
-use Rattle.agent_model.specs.State.{Client, Confirmer, Helper, Nothing, Port, Role, State, UnderWay, Unnamed, Verification, Waits, change_port, find_port, remove_port, role_of}
+use Rattle.agent_model.specs.State.{Client, Confirmer, Helper, Port, Role, State, Unnamed, Waits, change_port, find_port, remove_port, role_of}
 use Rattle.agent_model.specs.Step.{asker_at, attempts, handle, has_room, look_front, looked, take_frame, took_at, took_by_role, took_some}
 use Rattle.agent_model.specs.Time.{at_moment}
-use Rattle.agent_model.specs.Verdicts.{Cause, HelperLost, HelperRefused, Identities, NoLongerAllowed, NotConfirmed, Refuses, Replies, Reply, Signature, SignatureWrong, Success, Verdict, reply_text, tell, verdict_text, verdict_waits}
+use Rattle.agent_model.specs.Verdicts.{Verdict, tell}
 use Rattle.agent_model.proofs.ClientLemmas.{handle-heard, handle-took, looked-found}
 use Rattle.agent_model.proofs.JobLemmas.{IsIn}
-use Rattle.agent_model.proofs.GrantLemmas.{IsGranted, allowed, disallowed, grant-ends, unasked}
-use Rattle.agent_model.proofs.LeadLemmas.{Follows, follows-makes, follows-quiet, leads-answers, same as led}
-use Rattle.agent_model.proofs.RunLemmas.{leads-rising}
-use Rattle.agent_model.proofs.MakeLemmas.{Makes, Quiet, alters, closes, first, goes_on, grants, links, loses, makes-handle, names, overs, serves, stays, tells}
+use Rattle.agent_model.proofs.LeadLemmas.{follows-makes, same as led}
+use Rattle.agent_model.proofs.MakeLemmas.{loses, makes-handle, overs}
 use Rattle.agent_model.proofs.PortsLemmas.{find_port-apart, find_port-change_port, find_port-left, find_port-remove_port, found_number, rising-change_port}
-use Rattle.agent_model.proofs.ServeLemmas.{IsServed, answered, asked, raised, refused, serve-ends}
+use Rattle.agent_model.proofs.ServeLemmas.{serve-ends}
 use Rattle.agent_model.proofs.TimeLemmas.{at_moment-keeps}
 use Rattle.agent_secrecy.proofs.EventLemmas.{IsChild}
 use Rattle.agent_secrecy.proofs.LengthLemmas.{length-hidden_bytes}
@@ -183,7 +165,8 @@ NothingElseIsDue at state =
 -- the one whose frame is taken, or another
 concluded_due : (at number body_len : ℕ) (attempt : Bool) (verdict : Verdict) (state : State) (port : Port)
     → Busies verdict → NothingElseIsDue at state
-    → find_port number (change_port at (tell verdict) (change_port at (take_frame body_len attempt) state.ports)) ≡ Some port
+    → find_port number (change_port at (tell verdict) (change_port at (take_frame body_len attempt) state.ports))
+    ≡ Some port
     → port.door ≡ Clients → due port ≡ More
 concluded_due at number body_len attempt verdict state port busies none found client =
     by_told
@@ -213,7 +196,10 @@ front_due (Bad announced) port state rising there is none number one found clien
     sym found ∙ ap (λ n. find_port n (remove_port port.number state.ports)) same ∙ gone in cc)
     (find_port-left number port.number 0 state.last_port state.ports one rising found) client
 front_due More port state rising there is none number one found client = elim (cases_eq number port.number) [
-  | inl same ↦ ap due (let both : Some one ≡ Some port = sym found ∙ ap (λ n. find_port n state.ports) same ∙ there in let e : one ≡ port = cc in e) ∙ is
+  | inl same ↦
+      ap due
+      (let both : Some one ≡ Some port = sym found ∙ ap (λ n. find_port n state.ports) same ∙ there in let e : one ≡ port = cc in e)
+      ∙ is
   | inr apart ↦ none number one apart found client
 ]
 

@@ -45,14 +45,16 @@ no_client Children number state is same = by_helper (is_linked_to number state.u
 module _ (rename : List ℕ → List ℕ) where
   -- whoever sends, but for a client
   role_heard : (role : Role) (port : Port) (piece : List ℕ) (state : State) → (role ≡ Client → ⊥)
-      → heard_by_role role port piece (relocked_state rename state) ≡ relocked_outcome rename (heard_by_role role port piece state)
+      → heard_by_role role port piece (relocked_state rename state)
+      ≡ relocked_outcome rename (heard_by_role role port piece state)
   role_heard Client port piece state other = absurd (other refl)
   role_heard Unnamed port piece state other = unnamed_heard-relocked rename port.heard piece port.number state
   role_heard Helper port piece state other = helper_heard-relocked rename piece state
   role_heard (Confirmer confirmation) port piece state other = confirmer_heard-relocked rename confirmation piece state
 
   role_took : (role : Role) (number count : ℕ) (state : State) → (role ≡ Client → ⊥)
-      → took_by_role role number count (relocked_state rename state) ≡ relocked_outcome rename (took_by_role role number count state)
+      → took_by_role role number count (relocked_state rename state)
+      ≡ relocked_outcome rename (took_by_role role number count state)
   role_took Client number count state other = absurd (other refl)
   role_took Unnamed number count state other = refl
   role_took Helper number count state other = refl
@@ -161,7 +163,8 @@ module _ (rename : List ℕ → List ℕ) (renaming : IsRenaming rename) (told :
       → g (hide_port (told_at told) p) ≡ hide_port (told_at told) (f p)
       → ((x : Port) → g (hide_port as_is x) ≡ hide_port as_is (g x))
       → AreToldFronts rename renaming told (f p).heard (front longest_body (f p).heard) (front longest_body (told (f p).heard))
-      → redacted_seen rename told (looked number (changed number f s)) ≡ blanked_seen (looked number (changed number g t))
+      → redacted_seen rename told (looked number (changed number f s))
+      ≡ blanked_seen (looked number (changed number g t))
   changed-told number f g p s t same found client f_keeps g_keeps here as_it_is fronts =
       let q = pair_of number p s t same found in
       let is : p.number ≡ number = found_number number s.ports p found in

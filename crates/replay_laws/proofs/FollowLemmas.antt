@@ -134,7 +134,8 @@ record IsAlikeUnderWay (one other : UnderWay) : Type 0 where
   confirmations : one.confirmations ≡ other.confirmations
 
 child_owed : (linked : Bool) (number : ℕ) (one other : Port) (old new : UnderWay) → IsAlikeUnderWay old new
-    → length (owed_as (role_by_helper linked number old.confirmations) one old) ≡ length (owed_as (role_by_helper linked number new.confirmations) other new)
+    → length (owed_as (role_by_helper linked number old.confirmations) one old)
+    ≡ length (owed_as (role_by_helper linked number new.confirmations) other new)
 child_owed true number one other old new same =
     sendable_length old.link.state old.link.owed new.link.owed same.owed
     ∙ ap (λ link. length (sendable link new.link.owed)) same.state

@@ -110,7 +110,8 @@ all_bodies (body ∷ bodies) early all front =
 -- what was told before, and then this of what was kept and the piece
 behind_told : (rename : List ℕ → List ℕ) (heard piece : List ℕ)
     → ends_badly (front longest_body (split longest_body heard).rest) ≡ false
-    → told_bytes rename (heard ++ piece) ≡ told_bytes rename heard ++ told_split rename (split longest_body ((split longest_body heard).rest ++ piece))
+    → told_bytes rename (heard ++ piece)
+    ≡ told_bytes rename heard ++ told_split rename (split longest_body ((split longest_body heard).rest ++ piece))
 behind_told rename heard piece fine =
     let cut = split longest_body heard in
     let first = frames (map (renamed rename) cut.bodies) in

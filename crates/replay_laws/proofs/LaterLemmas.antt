@@ -19,7 +19,8 @@ dead_later early late (Some death) le dead = grind (arith, nat_tests)
 
 living_by : (early late : ℕ) (key : HeldKey) (keys : List HeldKey) (lives : Bool) → early ≤ late
     → lives_at early key.death ≡ lives
-    → filter (λ (k : HeldKey). lives_at late k.death) (filter (λ (k : HeldKey). lives_at early k.death) keys) ≡ filter (λ (k : HeldKey). lives_at late k.death) keys
+    → filter (λ (k : HeldKey). lives_at late k.death) (filter (λ (k : HeldKey). lives_at early k.death) keys)
+    ≡ filter (λ (k : HeldKey). lives_at late k.death) keys
     → filter (λ (k : HeldKey). lives_at late k.death) (cond lives (key ∷ filter (λ (k : HeldKey). lives_at early k.death) keys) (filter (λ (k : HeldKey). lives_at early k.death) keys))
     ≡ filter (λ (k : HeldKey). lives_at late k.death) (key ∷ keys)
 living_by early late key keys true le is rest = ap (λ r. cond (lives_at late key.death) (key ∷ r) r) rest

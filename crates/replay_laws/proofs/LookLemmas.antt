@@ -57,7 +57,8 @@ refused_of body_len attempt port state = record {
 
 module _ (heard : ℕ → List ℕ → List ℕ) where
   concluded-seen : (number : ℕ) (body : List ℕ) (served : Served) (state : State)
-      → seen hidden heard (concluded number body served state) ≡ concluded_seen number (served_seen hidden served) (hide_state hidden heard state)
+      → seen hidden heard (concluded number body served state)
+      ≡ concluded_seen number (served_seen hidden served) (hide_state hidden heard state)
   concluded-seen number body served state =
       ap
       (λ ports. let new : Seen = record (seen hidden heard (concluded number body served state)) { state = record (hide_state hidden heard (concluded number body served state).state) { ports = ports } } in new)
@@ -105,7 +106,8 @@ stays body_len attempt port =
     (by_door port.door port.number port.heard)
   where
     by_door : (door : Door) (number : ℕ) (bytes : List ℕ)
-        → after_front body_len (hide_heard as_is door number bytes) ≡ hide_heard as_is door number (after_front body_len bytes)
+        → after_front body_len (hide_heard as_is door number bytes)
+        ≡ hide_heard as_is door number (after_front body_len bytes)
     by_door Clients number bytes = refl
     by_door Children number bytes = refl
 
@@ -134,7 +136,8 @@ module _ (rename : List ℕ → List ℕ) (renaming : IsRenaming rename) (told :
     goes : (body_len other_len : ℕ) (attempt : Bool)
         → after_front other_len (told p.heard) ≡ told (after_front body_len p.heard) → (one : Port)
         → find_port p.number s.ports ≡ Some one
-        → take_frame other_len attempt (hide_port (told_at told) one) ≡ hide_port (told_at told) (take_frame body_len attempt one)
+        → take_frame other_len attempt (hide_port (told_at told) one)
+        ≡ hide_port (told_at told) (take_frame body_len attempt one)
     goes body_len other_len attempt after one there =
         let is : p ≡ one = (let both : Some p ≡ Some one = sym found ∙ there in cc) in
         subst
@@ -142,7 +145,8 @@ module _ (rename : List ℕ → List ℕ) (renaming : IsRenaming rename) (told :
         (ap (λ bytes. let new : Port = record p { heard = bytes; attempted = p.attempted || attempt } in new) (by_door p.door client))
       where
         by_door : (door : Door) → door ≡ Clients
-            → after_front other_len (hide_heard (told_at told) door p.number p.heard) ≡ hide_heard (told_at told) door p.number (after_front body_len p.heard)
+            → after_front other_len (hide_heard (told_at told) door p.number p.heard)
+            ≡ hide_heard (told_at told) door p.number (after_front body_len p.heard)
         by_door Clients is = after
         by_door Children is = absurd (cc)
 

@@ -123,7 +123,7 @@ noted_place passphrase early all (Some place) is front =
 noted_place passphrase early all None is front = (
   length early,
   ap (position (bytes_eq passphrase)) (front.whole ∙ append_assoc early (passphrase ∷ []) front.later)
-  ∙ position-behind (bytes_eq passphrase) early front.later passphrase is (same_bytes passphrase),
+      ∙ position-behind (bytes_eq passphrase) early front.later passphrase is (same_bytes passphrase),
   refl,
 )
 

@@ -37,7 +37,8 @@ role_owed (Some confirmation) one other old new = refl
 helper_owed : (linked : Bool) (number : ℕ) (one other : Port) (old new : UnderWay)
     → (linked ≡ true → new.link ≡ old.link)
     → find_linked number new.confirmations ≡ find_linked number old.confirmations
-    → owed_as (role_by_helper linked number new.confirmations) one new ≡ owed_as (role_by_helper linked number old.confirmations) other old
+    → owed_as (role_by_helper linked number new.confirmations) one new
+    ≡ owed_as (role_by_helper linked number old.confirmations) other old
 helper_owed true number one other old new links linked = ap (λ (l : HelperLink). sendable l.state l.owed) (links refl)
 helper_owed false number one other old new links linked =
     ap (λ found. owed_as (role_by_link found) one new) linked
@@ -166,7 +167,8 @@ linked-removed number one below last all rise (further first others there) elsew
 pub record Grows (number : ℕ) (old new : State) : Type 0 where
   pub steady : IsSteady old → IsSteady new
   pub owed : IsSteady old → (port : Port) → find_port number new.ports ≡ Some port
-      → (was : Port) × (find_port number old.ports ≡ Some was) × (length (owed_by_port was old.under_way) ≤ length (owed_by_port port new.under_way))
+      → (was : Port) × (find_port number old.ports ≡ Some was)
+      × (length (owed_by_port was old.under_way) ≤ length (owed_by_port port new.under_way))
 
 nothing_grows : (number : ℕ) (state : State) → Grows number state state
 nothing_grows number state = record { steady = λ steady. steady; owed = λ steady port found. (port, found, omega arith) }

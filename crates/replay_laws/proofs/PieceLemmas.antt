@@ -144,7 +144,8 @@ module _ (moment : Moment) (start : State) (number : ℕ) (port : Port) (closed 
   after early = (step start moment (Heard number early)).state
 
   cut : (early piece : List ℕ)
-      → at_moment moment (after (early ++ piece)) ≡ at_moment moment (step (after early) moment (Heard number piece)).state
+      → at_moment moment (after (early ++ piece))
+      ≡ at_moment moment (step (after early) moment (Heard number piece)).state
   cut early piece =
       (parts_agree start moment number early piece time (subst IsSound (sym again) sound)
       (subst (λ f. IfSome f (λ p. p.door ≡ Clients)) (sym (ap (λ (s : State). find_port number s.ports) again ∙ found)) client)).state

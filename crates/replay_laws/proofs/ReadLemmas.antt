@@ -148,7 +148,9 @@ secret_is number is = elim (cases_eq number 17) [
       | inl same ↦ inr (inr (inl same))
       | inr c ↦ elim (cases_eq number 25) [
         | inl same ↦ inr (inr (inr same))
-        | inr d ↦ absurd (let none : holds_secrets number ≡ false = grind (arith, nat_tests) in let both : true ≡ false = sym is ∙ none in cc)
+        | inr d ↦
+            absurd
+            (let none : holds_secrets number ≡ false = grind (arith, nat_tests) in let both : true ≡ false = sym is ∙ none in cc)
       ]
     ]
   ]

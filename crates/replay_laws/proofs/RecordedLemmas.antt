@@ -132,7 +132,9 @@ re_tracked all number new ports recorded own there elsewhere here other port fou
       subst (Tracked all port.door port.heard)
       (sym (ap (λ n. find_kept n (with_kept number new recorded)) same ∙ found_new number new recorded own there))
       (here port (ap (λ n. find_port n ports) (sym same) ∙ found))
-  | inr apart ↦ subst (Tracked all port.door port.heard) (sym (found_apart number other new recorded own apart)) (elsewhere other port apart found)
+  | inr apart ↦
+      subst (Tracked all port.door port.heard) (sym (found_apart number other new recorded own apart))
+      (elsewhere other port apart found)
 ]
 
 -- ---- a frame that is taken
@@ -303,7 +305,9 @@ module _ (all : List (List ℕ)) where
   joined_tracked door state recorded none tracked number port found =
       elim
       (admitted_found (has_room door state.ports state.under_way) number (suc state.last_port) door state.ports port found) [
-        | inl before ↦ before_last number (suc state.last_port) door port.door port.heard recorded (find_kept number recorded) refl (tracked number port before)
+        | inl before ↦
+            before_last number (suc state.last_port) door port.door port.heard recorded
+            (find_kept number recorded) refl (tracked number port before)
         | inr new ↦
             subst
             (λ (x : Port). Tracked all x.door x.heard (find_kept number (recorded ++ new_kept (suc state.last_port) door ∷ []))) new.1

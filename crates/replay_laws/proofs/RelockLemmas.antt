@@ -97,7 +97,8 @@ module _ (rename : List ℕ → List ℕ) where
   after_use-relocked (Some addition) held = refl
 
   grant_by-relocked : (lock : Option (List ℕ)) (held : KeyState) (chain : List Binding) (confirmation : Confirmation) (wall : ℕ) (under_way : UnderWay)
-      → grant_by (option_map rename lock) (relocked rename held) chain confirmation wall under_way ≡ grant_by lock held chain confirmation wall under_way
+      → grant_by (option_map rename lock) (relocked rename held) chain confirmation wall under_way
+      ≡ grant_by lock held chain confirmation wall under_way
   grant_by-relocked None held chain confirmation wall under_way = refl
   grant_by-relocked (Some passphrase) held chain confirmation wall under_way = refl
 

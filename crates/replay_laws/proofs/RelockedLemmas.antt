@@ -41,19 +41,22 @@ module _ (rename : List ℕ → List ℕ) (renaming : IsRenaming rename) where
       ap (λ keys. let s : Served = record { held = keys; work = work } in s) (after_use-relocked rename work.used held)
 
   add_unless-relocked : (cause : Option Cause) (addition : Addition) (now : ℕ) (held : KeyState) (under_way : UnderWay)
-      → add_unless cause addition now (relocked rename held) under_way ≡ served_of (add_unless cause addition now held under_way)
+      → add_unless cause addition now (relocked rename held) under_way
+      ≡ served_of (add_unless cause addition now held under_way)
   add_unless-relocked None addition now held under_way = refl
   add_unless-relocked (Some cause) addition now held under_way = refl
 
   add_seen-relocked : (sees_it : Bool) (addition : Addition) (now : ℕ) (held : KeyState) (under_way : UnderWay)
-      → add_seen sees_it addition now (relocked rename held) under_way ≡ served_of (add_seen sees_it addition now held under_way)
+      → add_seen sees_it addition now (relocked rename held) under_way
+      ≡ served_of (add_seen sees_it addition now held under_way)
   add_seen-relocked false addition now held under_way = refl
   add_seen-relocked true addition now held under_way =
       add_unless-relocked
       (add_fault (nat_lt max_answer (length_with addition now held.table)) (held.table.last == last_number)) addition now held under_way
 
   add_by-relocked : (found : Option HeldKey) (asker : Asker) (addition : Addition) (held : KeyState) (under_way : UnderWay)
-      → add_by found asker addition (relocked rename held) under_way ≡ served_of (add_by found asker addition held under_way)
+      → add_by found asker addition (relocked rename held) under_way
+      ≡ served_of (add_by found asker addition held under_way)
   add_by-relocked None asker addition held under_way = add_seen-relocked true addition asker.mono held under_way
   add_by-relocked (Some key) asker addition held under_way =
       add_seen-relocked (sees asker key) addition asker.mono held under_way
@@ -64,7 +67,8 @@ module _ (rename : List ℕ → List ℕ) (renaming : IsRenaming rename) where
   remove_seen-relocked true blob held under_way = refl
 
   remove_by-relocked : (found : Option HeldKey) (asker : Asker) (blob : List ℕ) (held : KeyState) (under_way : UnderWay)
-      → remove_by found asker blob (relocked rename held) under_way ≡ served_of (remove_by found asker blob held under_way)
+      → remove_by found asker blob (relocked rename held) under_way
+      ≡ served_of (remove_by found asker blob held under_way)
   remove_by-relocked None asker blob held under_way = refl
   remove_by-relocked (Some key) asker blob held under_way = remove_seen-relocked (sees asker key) blob held under_way
 
@@ -92,7 +96,8 @@ module _ (rename : List ℕ → List ℕ) (renaming : IsRenaming rename) where
   -- ---- the table of requests
 
   unlocked-relocked : (request : ClientRequest) (asker : Asker) (held : KeyState) (under_way : UnderWay)
-      → serve_unlocked (renamed_request rename request) asker (relocked rename held) under_way ≡ served_of (serve_unlocked request asker held under_way)
+      → serve_unlocked (renamed_request rename request) asker (relocked rename held) under_way
+      ≡ served_of (serve_unlocked request asker held under_way)
   unlocked-relocked ListIdentities asker held under_way = refl
   unlocked-relocked (Sign signing) asker held under_way =
       uses-relocked held (sign_by (find_identity signing.blob held.table.identities) asker signing under_way)
@@ -108,7 +113,8 @@ module _ (rename : List ℕ → List ℕ) (renaming : IsRenaming rename) where
   unlocked-relocked (Unsupported number) asker held under_way = refl
 
   locked-relocked : (passphrase : List ℕ) (request : ClientRequest) (held : KeyState) (under_way : UnderWay)
-      → serve_locked (rename passphrase) (renamed_request rename request) (relocked rename held) under_way ≡ served_of (serve_locked passphrase request held under_way)
+      → serve_locked (rename passphrase) (renamed_request rename request) (relocked rename held) under_way
+      ≡ served_of (serve_locked passphrase request held under_way)
   locked-relocked passphrase ListIdentities held under_way = refl
   locked-relocked passphrase (Sign signing) held under_way = refl
   locked-relocked passphrase (Add addition) held under_way = refl
@@ -123,7 +129,8 @@ module _ (rename : List ℕ → List ℕ) (renaming : IsRenaming rename) where
   locked-relocked passphrase (Unsupported number) held under_way = refl
 
   by_lock : (lock : Option (List ℕ)) (request : ClientRequest) (asker : Asker) (held : KeyState) (under_way : UnderWay)
-      → serve_by (option_map rename lock) (renamed_request rename request) asker (relocked rename held) under_way ≡ served_of (serve_by lock request asker held under_way)
+      → serve_by (option_map rename lock) (renamed_request rename request) asker (relocked rename held) under_way
+      ≡ served_of (serve_by lock request asker held under_way)
   by_lock None request asker held under_way = unlocked-relocked request asker held under_way
   by_lock (Some passphrase) request asker held under_way = locked-relocked passphrase request held under_way
 
@@ -138,7 +145,8 @@ module _ (rename : List ℕ → List ℕ) (renaming : IsRenaming rename) where
 
   -- a request by its other name finds the agent locked by the other name
   pub serve-relocked : (read : Result ClientRequest MsgFault) (asker : Asker) (held : KeyState) (under_way : UnderWay)
-      → serve (renamed_read rename read) asker (relocked rename held) under_way ≡ served_of (serve read asker held under_way)
+      → serve (renamed_read rename read) asker (relocked rename held) under_way
+      ≡ served_of (serve read asker held under_way)
   serve-relocked (Ok request) asker held under_way = by_lock held.lock request asker held under_way
   serve-relocked (Err what) asker held under_way =
       ap (λ cause. refuses cause (relocked rename held) under_way) (unread-relocked what held.lock)

@@ -129,7 +129,7 @@ module _ (all : List (List ℕ)) (few : length all < 2 ^ 64) where
       subst IsTakenWell (sym cut) record {
         short = (
           body_length body early (small_body bytes body_len each)
-          (IsBody-front_body longest_body bytes body_len is).within
+              (IsBody-front_body longest_body bytes body_len is).within
               (front_then first.passphrases (redacted_all behind.bodies first.passphrases).passphrases all (all_grow behind.bodies first.passphrases) grown_all),
           after.short,
         );

@@ -25,20 +25,23 @@ use Rattle.replay_laws.proofs.PieceLemmas.{heard_up_to, held_events}
 -- ---- a port that is kept keeps its number and door
 
 rest_same : (at : Front) (port : Kept) (frames : Redacted) (rest : List ℕ)
-    → ((rest_taken at port frames rest).port.number ≡ port.number) × ((rest_taken at port frames rest).port.door ≡ port.door)
+    → ((rest_taken at port frames rest).port.number ≡ port.number)
+    × ((rest_taken at port frames rest).port.door ≡ port.door)
 rest_same (Bad announced) port frames rest = (refl, refl)
 rest_same (Whole body_len) port frames rest = (refl, refl)
 rest_same More port frames rest = (refl, refl)
 
 client_same : (is_bad : Bool) (port : Kept) (piece : List ℕ) (early : List (List ℕ))
-    → ((client_taken is_bad port piece early).port.number ≡ port.number) × ((client_taken is_bad port piece early).port.door ≡ port.door)
+    → ((client_taken is_bad port piece early).port.number ≡ port.number)
+    × ((client_taken is_bad port piece early).port.door ≡ port.door)
 client_same true port piece early = (refl, refl)
 client_same false port piece early =
     let cut = split longest_body (port.unrecorded ++ piece) in
     rest_same (front longest_body cut.rest) port (redacted_all cut.bodies early) cut.rest
 
 pub taken_same : (door : Door) (port : Kept) (piece : List ℕ) (early : List (List ℕ))
-    → ((taken_by door port piece early).port.number ≡ port.number) × ((taken_by door port piece early).port.door ≡ port.door)
+    → ((taken_by door port piece early).port.number ≡ port.number)
+    × ((taken_by door port piece early).port.door ≡ port.door)
 taken_same Clients port piece early = client_same port.is_bad port piece early
 taken_same Children port piece early = (refl, refl)
 
@@ -68,7 +71,8 @@ one_piece number (byte ∷ bytes) some few =
 -- those of a port that was closed are passed over
 pub all_passed : (moment : Moment) (number count : ℕ) (bytes ports : List ℕ) (state : State)
     → is_among number ports ≡ true
-    → AllFitUnless moment ports (heard_up_to number count bytes) state × (stepped_all moment ports (heard_up_to number count bytes) state ≡ state)
+    → AllFitUnless moment ports (heard_up_to number count bytes) state
+    × (stepped_all moment ports (heard_up_to number count bytes) state ≡ state)
 all_passed moment number zero bytes ports state passed = (tt, refl)
 all_passed moment number (suc count) [] ports state passed = (tt, refl)
 all_passed moment number (suc count) (byte ∷ bytes) ports state passed =

@@ -70,7 +70,8 @@ module _ (rename : List ℕ → List ℕ) where
     Fronts bytes one other = AreToldFronts rename renaming (told_bytes rename) bytes one other
 
     told_whole : (bytes : List ℕ) (body_len : ℕ) → front longest_body bytes ≡ Whole body_len
-        → told_bytes rename bytes ≡ string (renamed rename (front_body body_len bytes)) ++ told_bytes rename (after_front body_len bytes)
+        → told_bytes rename bytes
+        ≡ string (renamed rename (front_body body_len bytes)) ++ told_bytes rename (after_front body_len bytes)
     told_whole bytes body_len is =
         let told = renamed rename (front_body body_len bytes) in
         ap (told_split rename) (split-whole longest_body bytes body_len is)
@@ -80,12 +81,13 @@ module _ (rename : List ℕ → List ℕ) where
     -- the same of a frame of what is told
     told_frame : (bytes body later : List ℕ) (body_len : ℕ) → bytes ≡ string body ++ later
         → length body ≤ longest_body → 0 < length body
-        → (front longest_body bytes ≡ Whole (length body)) × (front_body (length body) bytes ≡ body) × (after_front (length body) bytes ≡ later)
+        → (front longest_body bytes ≡ Whole (length body)) × (front_body (length body) bytes ≡ body)
+        × (after_front (length body) bytes ≡ later)
     told_frame bytes body later body_len is short some = (
       ap (front longest_body) is
-      ∙ front-string longest_body body later (omega arith) (record { some = some; within = short }),
+          ∙ front-string longest_body body later (omega arith) (record { some = some; within = short }),
       ap (front_body (length body)) is ∙ ap (take (length body)) (drop-string body later)
-      ∙ take_at body later (length body) refl,
+          ∙ take_at body later (length body) refl,
       ap (after_front (length body)) is ∙ drop_at (string body) later (4 + length body) (length-string body),
     )
 
