@@ -261,6 +261,16 @@ def read_wrong(name: str = "wrong.txt") -> list[dict[str, str]]:
 CASES: list[Case] = []
 
 
+def tell_found(kind: str, edits: list[dict[str, str]], found: list[tuple[int, str | None]]) -> bool:
+    """By how many rows, and by which random case, each wrong one was found; whether all were."""
+    for edit, (rows, case) in zip(edits, found):
+        print(f"{rows:3} rows, {case or 'no case':20}  {edit['wrong']}")
+    missed = sum(not rows and not case for rows, case in found)
+    by_rows = sum(not case for _, case in found) - missed
+    print(f"{len(edits)} wrong {kind}: {by_rows} found by rows alone, {missed} not at all")
+    return missed == 0
+
+
 def write_case(seed: str) -> Case:
     return Schedule(seed).case()
 

@@ -23,7 +23,7 @@ from random import Random
 
 from . import audit
 from .audit import BAD_RECORD, DIFFERS, FILE_FAULT, USAGE, WRITE_FAULT, YES
-from .differential import Result, read_wrong, show, wrong_module
+from .differential import Result, read_wrong, show, tell_found, wrong_module
 from .generate import Schedule, garbled_text
 from .record import record
 from .replay import LONGEST_SCHEDULE, replay
@@ -275,12 +275,7 @@ def try_wrong(count: int, seed: str) -> bool:
         CASES.extend(pool.imap(Case, [f"{seed}/{place}" for place in range(count)], 4))
     with multiprocessing.Pool(JOBS, maxtasksperchild=1) as pool:
         found = pool.map(first_found, edits, 1)
-    for edit, (rows, pair) in zip(edits, found):
-        print(f"{rows:3} rows, {pair or 'no pair':10}  {edit['wrong']}")
-    missed = sum(not rows and not pair for rows, pair in found)
-    by_rows = sum(not pair for _, pair in found) - missed
-    print(f"{len(edits)} wrong audits: {by_rows} found by rows alone, {missed} not at all")
-    return missed == 0
+    return tell_found("audits", edits, found)
 
 
 def main(program: str = "", count: str = "", seed: str = "") -> int:

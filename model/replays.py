@@ -24,7 +24,7 @@ from typing import Any
 
 from . import formats, record
 from .agent import LIMITS
-from .differential import read_wrong, wrong_module
+from .differential import read_wrong, tell_found, wrong_module
 from .played import ROOM, Played, seen
 from .record import Entry
 from .replay import Run
@@ -259,12 +259,7 @@ def try_wrong(count: int, seed: str) -> bool:
         RUNS.extend(pool.imap(Played, [f"{seed}/{place}" for place in range(count)], 4))
     with multiprocessing.Pool(JOBS, maxtasksperchild=1) as pool:
         found = pool.map(first_found, edits, 1)
-    for edit, (rows, run) in zip(edits, found):
-        print(f"{rows:3} rows, {run or 'no run':20}  {edit['wrong']}")
-    missed = sum(not rows and not run for rows, run in found)
-    by_rows = sum(not run for _, run in found) - missed
-    print(f"{len(edits)} wrong recorders: {by_rows} found by rows alone, {missed} not at all")
-    return missed == 0
+    return tell_found("recorders", edits, found)
 
 
 def main() -> int:
