@@ -15,7 +15,7 @@ const BOTH: &[u8] = b"\0\0\0\x01\x06\0\0\0\x01\x05";
 const FAILURE: &[u8] = b"\0\0\0\x01\x05";
 
 // A client adds the key under the comment "one", so that each use is to be confirmed.
-fn adds_with_confirmation(alloc: Global, port: u64) -> Result<Cue, AllocError> {
+pub fn adds_with_confirmation(alloc: Global, port: u64) -> Result<Cue, AllocError> {
     let tail = b"\0\0\0\x03one\x02".as_slice();
     send(alloc, port, &[b"\0\0\0\x6d\x19", BLOB, SECRET, tail])
 }

@@ -9,6 +9,8 @@ mod ends;
 #[cfg(test)]
 mod play;
 #[cfg(test)]
+mod recording;
+#[cfg(test)]
 mod relay;
 #[cfg(test)]
 mod runs;
