@@ -381,6 +381,29 @@ def through(agents, null):
             peer.ask(REMOVE_ALL)
 
 
+MOST_RECORDED = 2
+
+
+def records(agents, null):
+    """What a refusal takes where a record is made, beside the same agent without one, and what memory a record costs."""
+    with open(WORK / "record", "wb") as file:
+        more = dict(name="recorded", stdout=file, stderr=subprocess.DEVNULL)
+        with our_agent(PROGRAM, WORK, "--record", **more) as recorded:
+            for clients in (1, 16, 100):
+                pairs = [[cost(each, clients, [b"\xc8"]) for each in (agents["ours"], recorded)] for _ in range(ROUNDS)]
+                alone, both = map(statistics.median, zip(*pairs))
+                ratio = statistics.median(both / alone for alone, both in pairs)
+                print(
+                    f"a refusal with a record, {clients} clients: without {alone:.4g} us, with {both:.4g} us, "
+                    f"ratio {ratio:.2g}; goal at most {MOST_RECORDED}: {'met' if ratio <= MOST_RECORDED else 'not met'}",
+                    flush=True,
+                )
+            before = memory(recorded)
+            load(recorded, 16, [b"\xc8"], 600, 300_000)
+            grown, written = memory(recorded) - before, os.path.getsize(file.name)
+            print(f"memory behind 300000 refusals with a record: {grown} kB more, in a record of {written >> 20} MB", flush=True)
+
+
 def waits(agents, null):
     others_wait(agents)
 
@@ -399,6 +422,7 @@ PARTS = {
     "waits": waits,
     "signatures": signatures,
     "filter": through,
+    "records": records,
     "instructions": instruction_counts,
 }
 
