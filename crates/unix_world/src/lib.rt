@@ -9,6 +9,7 @@ mod doors;
 mod lock;
 mod marks;
 mod port;
+mod ports;
 mod programs;
 mod started;
 mod unix;

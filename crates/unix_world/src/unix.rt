@@ -10,12 +10,11 @@ mod waits;
 use crate::children::Children;
 use crate::clock::seconds;
 use crate::doors::{BoundFile, Listener, listen_at, remove_bound};
-use crate::port::Port;
+use crate::ports::Ports;
 use crate::programs::{Programs, kept_environment};
 use crate::unix::accepts::owe;
 use mio::{Events, Interest, Poll, Token};
 use std::alloc::{AllocError, AllocGlobal, Global};
-use std::collections::HashMap;
 use std::env::Env;
 use std::fs::{File, Files};
 use std::io;
@@ -44,8 +43,9 @@ const STARTED: u64 = 1 << 63;
 ///
 /// A port's number is its token. A connection is registered for reading; for writing only once a write found no room.
 /// Between two polls each port is read once, and each listener gives a bounded number of connections; where that may
-/// leave something waiting, the next poll tells of it and doesn't wait. For a child process that has ended the world
-/// opens a connection, says its hello there and ends it, whether or not the process did; ended ones are reaped.
+/// leave something waiting, the next poll tells of it and doesn't wait. The clocks are read once between two polls, too.
+/// For a child process that has ended the world opens a connection, says its hello there and ends it, whether or not the
+/// process did; ended ones are reaped.
 #[derive(Drop)]
 pub struct UnixWorld<'a, R: Processes> {
     rt: &'a R,
@@ -60,7 +60,7 @@ pub struct UnixWorld<'a, R: Processes> {
     socket: String,
     programs: Programs,
     kept: Vec<(String, String)>,
-    ports: HashMap<u64, Port>,
+    ports: Ports,
     open_clients: usize,
     inbox: Vec<u8>,
     // The polls so far, and 1 more.
@@ -70,6 +70,8 @@ pub struct UnixWorld<'a, R: Processes> {
     started: Children<R::Started>,
     last_port: u64,
     moment: Moment,
+    // The round in which the clocks were read.
+    dated_in: u64,
     faults: u64,
 }
 
@@ -96,7 +98,7 @@ impl<'a, R: Files + Net + Processes + Env + AllocGlobal> UnixWorld<'a, R> {
             socket,
             programs,
             kept: kept_environment(rt, alloc)?,
-            ports: HashMap::new(alloc),
+            ports: Ports::new(alloc),
             open_clients: 0,
             inbox: vec![in alloc; 0; INBOX]?,
             round: 1,
@@ -104,6 +106,7 @@ impl<'a, R: Files + Net + Processes + Env + AllocGlobal> UnixWorld<'a, R> {
             started: Children::new(alloc),
             last_port: 0,
             moment: Moment { mono: 0, wall: 0 },
+            dated_in: 0,
             faults: 0,
         })
     }
@@ -161,6 +164,20 @@ impl<R: Files<File = File> + Net + Processes + RandomSource + Clock> UnixWorld<'
         WorldFault::Failed
     }
 
+    // Reads both clocks. The monotonic one counts as never falling.
+    fn read_clocks(&mut self)
+        ensures faults { self.new.faults ≡ self.old.faults }
+        ensures ports { self.new.last_port ≡ self.old.last_port }
+        ensures moment { self.old.moment.mono ≤ self.new.moment.mono }
+    {
+        if let Some(mono) = seconds(self.rt) {
+            self.moment.mono = self.moment.mono.max(mono);
+        }
+        if let Ok(wall) = self.rt.since_1970() {
+            self.moment.wall = wall.as_secs();
+        }
+    }
+
     fn listen(&mut self, door: Door, path: &str) -> io::Result<()>
         ensures faults { self.new.faults ≡ self.old.faults }
         ensures ports { self.new.last_port ≡ self.old.last_port }
@@ -199,7 +216,7 @@ impl<R: Files<File = File> + Net + Processes + RandomSource + Clock> UnixWorld<'
         ensures ports { self.new.last_port ≡ self.old.last_port }
         ensures moment { self.new.moment ≡ self.old.moment }
     {
-        match self.ports.get_mut(&port) {
+        match self.ports.get_mut(port) {
             Some(found) => {
                 if found.marks.asks(self.round) {
                     return found.read(self.round, &mut self.inbox, room);
@@ -227,7 +244,7 @@ impl<R: Files<File = File> + Net + Processes + RandomSource + Clock> UnixWorld<'
         ensures ports { self.new.last_port ≡ self.old.last_port }
         ensures moment { self.new.moment ≡ self.old.moment }
     {
-        match self.ports.get_mut(&port) {
+        match self.ports.get_mut(port) {
             Some(found) => found.write(self.poll.registry(), Token(port as usize), bytes),
             // It would be offered private keys where the world speaks, and nobody is there to take them.
             None if self.started.speaks_at(port) => Ok(Wrote::NotNow),
@@ -283,7 +300,7 @@ impl<R: Files<File = File> + Net + Processes + RandomSource + Clock> World for U
     }
 
     fn close(&mut self, port: u64) -> Result<(), AllocError> {
-        match self.ports.remove(&port) {
+        match self.ports.remove(port) {
             Some(closed) if closed.door == Door::Clients => self.client_left(),
             _ => {
                 if self.started.leave(port) {
@@ -303,11 +320,9 @@ impl<R: Files<File = File> + Net + Processes + RandomSource + Clock> World for U
     }
 
     fn now(&mut self) -> Result<Moment, AllocError> {
-        if let Some(mono) = seconds(self.rt) {
-            self.moment.mono = self.moment.mono.max(mono);
-        }
-        if let Ok(wall) = self.rt.since_1970() {
-            self.moment.wall = wall.as_secs();
+        if self.dated_in != self.round {
+            self.dated_in = self.round;
+            self.read_clocks();
         }
         Ok(self.moment)
     }

@@ -8,7 +8,6 @@ use crate::port::Port;
 use crate::unix::STARTED;
 use mio::Token;
 use mio::net::UnixStream;
-use std::alloc::AllocError;
 use std::fs::{File, Files};
 use std::io;
 use std::io::{Error, ErrorKind};
@@ -69,7 +68,7 @@ impl<R: Files<File = File> + Net + Processes + RandomSource + Clock> UnixWorld<'
         ensures ports { self.new.last_port ≡ self.old.last_port }
         ensures moment { self.new.moment ≡ self.old.moment }
     {
-        self.ports.reserve(1)?;
+        self.ports.reserve()?;
         let found = match door {
             Door::Clients => self.next_client()?,
             Door::Children if self.started.speak(number) => return Ok(true),
@@ -79,7 +78,7 @@ impl<R: Files<File = File> + Net + Processes + RandomSource + Clock> UnixWorld<'
             return Ok(false);
         };
         let port = Port::new(self.poll.registry(), Token(number as usize), stream, door)?;
-        self.ports.insert(number, port).map_err(AllocError::from)?;
+        self.ports.add(number, port)?;
         if door == Door::Clients {
             self.open_clients = self.open_clients.saturating_add(1);
         }

@@ -78,7 +78,7 @@ impl<R: Files<File = File> + Net + Processes + RandomSource + Clock> UnixWorld<'
             let Token(number) = event.token();
             let number = number as u64;
             let has_ended = event.is_read_closed() || event.is_error();
-            if let Some(port) = self.ports.get_mut(&number) {
+            if let Some(port) = self.ports.get_mut(number) {
                 if has_ended {
                     port.marks.shut();
                 } else if event.is_readable() {
