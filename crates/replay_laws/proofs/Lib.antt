@@ -22,3 +22,4 @@ mod SpokenLemmas
 mod ReplayLemmas
 mod HeardLemmas
 mod RunLemmas
+mod RowLemmas
