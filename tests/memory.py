@@ -9,9 +9,9 @@ serve: one client that adds, lists, signs and leaves. Both are run once for each
 is status 5 and what was written a prefix, or all is as without a refusal, or a start that failed is FAILURE. What serve
 frees is searched for the key's private field. limits: the same client and a longer list at 40 sizes of the address
 space, beginning where the agent comes to listen. Both sockets are gone at the end. played: tests of a world in memory
-with one client, of an agent and of a table alone, built by `rt try`, which refuses each allocation in turn: they answer,
-and end no process. The last line has the numbers of runs, and --write, of all parts, writes it into docs/PROOFS.md; ends
-with 1 where something failed.
+with one client, of an agent and of a table alone, as the check of their crates builds them, with each allocation refused:
+they answer, and end no process. The last line has the numbers of runs, and --write, of all parts, writes it into
+docs/PROOFS.md; ends with 1 where something failed.
 
 A library that cc makes here stands before malloc, so the agent must not be linked with AddressSanitizer."""
 
@@ -288,17 +288,30 @@ PLAYED = {
 }
 
 
-def try_played(crate, test, tally):
-    """Refuses one allocation of each test of a crate after another, until a run has fewer. The others, which have no
-    memory to spare, may fail then."""
-    for number in range(1, 1000):
-        words = [os.environ.get("RT", "rt"), "try", "--test", "--fail-alloc", str(number)]
-        said = rig.run(words, None, cwd=rig.TOP / "crates" / crate, stdin=subprocess.DEVNULL, timeout=600)
-        assert f"{test} ... ok" in said, f"{crate}, {number}: {said[-2000:]}"
-        if "test result: ok" in said:
-            return
+def played(crate):
+    """The program of a crate's tests, which a check of the crate leaves."""
+    program = rig.TOP / "crates" / crate / f"out/{crate}_tests"
+    if not program.exists():
+        rig.run([os.environ.get("RT", "rt"), "test"], cwd=program.parents[1], stdin=subprocess.DEVNULL, timeout=3600)
+    return program
+
+
+def run_played(program, test, folder, number):
+    pipes = dict(stdin=subprocess.DEVNULL, stdout=subprocess.PIPE, stderr=subprocess.STDOUT)
+    with subprocess.Popen([program, test], env=refusing(folder, number, ""), **pipes) as process:
+        said, _ = process.communicate(timeout=60)
+    assert process.returncode == 0, f"{test}, {number}: status {process.returncode}: {said[-2000:]}"
+    return counted(folder, process.pid)[0]
+
+
+def try_played(crate, test, folder, tally):
+    """Refuses one allocation of a test after another: it answers, and ends no process."""
+    program = played(crate)
+    total = run_played(program, test, folder, 0)
+    assert total > 10, "the library that refuses stands before nothing"
+    for number in range(1, total + 1):
+        run_played(program, test, folder, number)
         tally[f"played: {crate}"] += 1
-    raise AssertionError(f"{crate}: no run has few enough allocations")
 
 
 def write(line):
@@ -326,9 +339,9 @@ def main(words):
                 try_serve(program, folder, tally)
             if not parts or "limits" in parts:
                 try_limits(program, folder, tally)
-        for crate, test in PLAYED.items():
-            if not parts or "played" in parts:
-                try_played(crate, test, tally)
+            for crate, test in PLAYED.items():
+                if not parts or "played" in parts:
+                    try_played(crate, test, folder, tally)
     except rig.Skip as reason:
         print(f"memory: not run: {reason}")
         return 1
