@@ -94,21 +94,29 @@ def show_mismatch(program: str, text: bytes, life: int | None) -> None:
         show(f"{name}, with status {status}", output)
 
 
-def try_rows(program: str) -> bool:
-    """The literal rows, by the model and by the program."""
+def rows_agree(rows: list, runs: dict[str, Callable[..., Result]]) -> bool:
+    """Literal rows, each by all runs, which are named."""
     good = True
-    for row in EVERY_ROW:
-        wanted = (row.printed, row.status)
-        seen = {"the model": replay(row.schedule, row.life)}
-        seen["the program"] = run_program(program, row.schedule, row.life)
-        for name, result in seen.items():
-            if result != wanted:
+    for row in rows:
+        for name, run in runs.items():
+            if (result := run(row)) != (row.printed, row.status):
                 good = False
                 print(f"row '{row.name}': {name} differs, with status {result[1]}")
                 show("printed", result[0])
                 show("wanted", row.printed)
-    print(f"{len(EVERY_ROW)} rows by the model and by the program")
+    print(f"{len(rows)} rows by the model and by the program")
     return good
+
+
+def try_rows(program: str) -> bool:
+    """The literal rows, by the model and by the program."""
+    return rows_agree(
+        EVERY_ROW,
+        {
+            "the model": lambda row: replay(row.schedule, row.life),
+            "the program": lambda row: run_program(program, row.schedule, row.life),
+        },
+    )
 
 
 def run_long(program: str, line: bytes, count: int, last: bytes) -> Result:

@@ -23,7 +23,7 @@ from random import Random
 
 from . import audit
 from .audit import BAD_RECORD, DIFFERS, FILE_FAULT, USAGE, WRITE_FAULT, YES
-from .differential import Result, read_wrong, show, tell_found, wrong_module
+from .differential import Result, read_wrong, rows_agree, show, tell_found, wrong_module
 from .generate import Schedule, garbled_text
 from .record import record
 from .replay import LONGEST_SCHEDULE, replay
@@ -150,19 +150,13 @@ ENVIRONMENT = os.environ | {"PYTHONDONTWRITEBYTECODE": "1"}
 
 
 def try_rows(program: list[str]) -> bool:
-    good = True
-    for row in ROWS:
-        wanted = (row.printed, row.status)
-        seen = {"the model": audit.audit(row.words, row.files.get)}
-        seen["the program"] = run_program(program, row.words, row.files)
-        for name, result in seen.items():
-            if result != wanted:
-                good = False
-                print(f"row '{row.name}': {name} differs, with status {result[1]}")
-                show("printed", result[0])
-                show("wanted", row.printed)
-    print(f"{len(ROWS)} rows by the model and by the program")
-    return good
+    return rows_agree(
+        ROWS,
+        {
+            "the model": lambda row: audit.audit(row.words, row.files.get),
+            "the program": lambda row: run_program(program, row.words, row.files),
+        },
+    )
 
 
 def try_edges(program: list[str]) -> bool:
