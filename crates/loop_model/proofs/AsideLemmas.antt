@@ -3,8 +3,8 @@ use Rattle.std.proofs.Common.{◌≡◌, ◌∙◌, ℕ, Bool, true, false, List
 use Rattle.std.proofs.lemmas.Bool.Decides.{nat_tests}
 use Rattle.std.specs.List.{filter}
 use Rattle.world_ports.specs.declared.events.Door.{Door}
-use Rattle.lists.specs.Rising.{IsRisingList, is_among, removed}
-use Rattle.lists.proofs.RisingLemmas.{is_among-inserted, removed-filter}
+use Rattle.lists.specs.Rising.{is_among}
+use Rattle.lists.proofs.RisingLemmas.{is_among-inserted}
 use Rattle.agent_model.specs.State.{State}
 use Rattle.loop_model.specs.Servable.{is_servable}
 use Rattle.loop_model.specs.Things.{Hot, same_door, same_thing, set_of}
@@ -189,29 +189,33 @@ accepts-more (first ∷ doors) door thing =
 
 -- ---- what is set aside changes
 
+-- whether a thing is among those of its kind that are set aside
+abbrev aside_at : Aside → Thing → Bool
+aside_at aside (Accept door) = set_of (accepts_of aside.doors) (Accept door)
+aside_at aside (Read port) = is_among port aside.reads
+aside_at aside (Write port) = is_among port aside.writes
+
+set_of-aside : (aside : Aside) (thing : Thing) → set_of (things_aside aside) thing ≡ aside_at aside thing
+set_of-aside aside (Accept door) = aside-accept aside door
+set_of-aside aside (Read port) = aside-read aside port
+set_of-aside aside (Write port) = aside-write aside port
+
 put_at : (thing : Thing) (aside : Aside) (other : Thing)
     → set_of (things_aside (put_aside thing aside)) other ≡ heated thing (set_of (things_aside aside)) other
-put_at (Accept door) aside (Accept other) =
-    aside-accept (put_aside (Accept door) aside) other ∙ accepts-more aside.doors door (Accept other)
-    ∙ sym (ap (λ (b : Bool). same_door door other || b) (aside-accept aside other))
-put_at (Accept door) aside (Read port) =
-    aside-read (put_aside (Accept door) aside) port ∙ sym (aside-read aside port)
-put_at (Accept door) aside (Write port) =
-    aside-write (put_aside (Accept door) aside) port ∙ sym (aside-write aside port)
-put_at (Read port) aside (Accept door) =
-    aside-accept (put_aside (Read port) aside) door ∙ sym (aside-accept aside door)
-put_at (Read port) aside (Read other) =
-    aside-read (put_aside (Read port) aside) other ∙ is_among-inserted other port aside.reads
-    ∙ sym (ap (λ (b : Bool). (port == other) || b) (aside-read aside other))
-put_at (Read port) aside (Write other) =
-    aside-write (put_aside (Read port) aside) other ∙ sym (aside-write aside other)
-put_at (Write port) aside (Accept door) =
-    aside-accept (put_aside (Write port) aside) door ∙ sym (aside-accept aside door)
-put_at (Write port) aside (Read other) =
-    aside-read (put_aside (Write port) aside) other ∙ sym (aside-read aside other)
-put_at (Write port) aside (Write other) =
-    aside-write (put_aside (Write port) aside) other ∙ is_among-inserted other port aside.writes
-    ∙ sym (ap (λ (b : Bool). (port == other) || b) (aside-write aside other))
+put_at thing aside other =
+    set_of-aside (put_aside thing aside) other ∙ by_kind thing other
+    ∙ sym (ap (λ (b : Bool). same_thing thing other || b) (set_of-aside aside other))
+  where
+    by_kind : (thing other : Thing) → aside_at (put_aside thing aside) other ≡ (same_thing thing other || aside_at aside other)
+    by_kind (Accept door) (Accept other) = accepts-more aside.doors door (Accept other)
+    by_kind (Accept door) (Read port) = refl
+    by_kind (Accept door) (Write port) = refl
+    by_kind (Read port) (Accept door) = refl
+    by_kind (Read port) (Read other) = is_among-inserted other port aside.reads
+    by_kind (Read port) (Write other) = refl
+    by_kind (Write port) (Accept door) = refl
+    by_kind (Write port) (Read other) = refl
+    by_kind (Write port) (Write other) = is_among-inserted other port aside.writes
 
 -- with one thing more set aside it is the set with it
 pub set_of-put_aside : (thing : Thing) (aside : Aside)
@@ -240,27 +244,20 @@ without_number ports port other =
 
 taken_at : (thing : Thing) (aside : Aside) (other : Thing)
     → set_of (things_aside (taken_back thing aside)) other ≡ cooled thing (set_of (things_aside aside)) other
-taken_at (Accept door) aside (Accept other) =
-    aside-accept (taken_back (Accept door) aside) other ∙ accepts-without aside.doors door other
-    ∙ sym (ap (λ (b : Bool). not (same_door door other) && b) (aside-accept aside other))
-taken_at (Accept door) aside (Read port) =
-    aside-read (taken_back (Accept door) aside) port ∙ sym (aside-read aside port)
-taken_at (Accept door) aside (Write port) =
-    aside-write (taken_back (Accept door) aside) port ∙ sym (aside-write aside port)
-taken_at (Read port) aside (Accept door) =
-    aside-accept (taken_back (Read port) aside) door ∙ sym (aside-accept aside door)
-taken_at (Read port) aside (Read other) =
-    aside-read (taken_back (Read port) aside) other ∙ without_number aside.reads port other
-    ∙ sym (ap (λ (b : Bool). not (port == other) && b) (aside-read aside other))
-taken_at (Read port) aside (Write other) =
-    aside-write (taken_back (Read port) aside) other ∙ sym (aside-write aside other)
-taken_at (Write port) aside (Accept door) =
-    aside-accept (taken_back (Write port) aside) door ∙ sym (aside-accept aside door)
-taken_at (Write port) aside (Read other) =
-    aside-read (taken_back (Write port) aside) other ∙ sym (aside-read aside other)
-taken_at (Write port) aside (Write other) =
-    aside-write (taken_back (Write port) aside) other ∙ without_number aside.writes port other
-    ∙ sym (ap (λ (b : Bool). not (port == other) && b) (aside-write aside other))
+taken_at thing aside other =
+    set_of-aside (taken_back thing aside) other ∙ by_kind thing other
+    ∙ sym (ap (λ (b : Bool). not (same_thing thing other) && b) (set_of-aside aside other))
+  where
+    by_kind : (thing other : Thing) → aside_at (taken_back thing aside) other ≡ (not (same_thing thing other) && aside_at aside other)
+    by_kind (Accept door) (Accept other) = accepts-without aside.doors door other
+    by_kind (Accept door) (Read port) = refl
+    by_kind (Accept door) (Write port) = refl
+    by_kind (Read port) (Accept door) = refl
+    by_kind (Read port) (Read other) = without_number aside.reads port other
+    by_kind (Read port) (Write other) = refl
+    by_kind (Write port) (Accept door) = refl
+    by_kind (Write port) (Read other) = refl
+    by_kind (Write port) (Write other) = without_number aside.writes port other
 
 -- with one thing less it is the set without it
 pub set_of-taken_back : (thing : Thing) (aside : Aside)
@@ -271,19 +268,16 @@ set_of-taken_back thing aside =
 -- what stays aside is what can't be served
 pub set_of-still_aside : (state : State) (aside : Aside) (thing : Thing)
     → set_of (things_aside (still_aside state aside)) thing ≡ (set_of (things_aside aside) thing && not (is_servable state thing))
-set_of-still_aside state aside (Accept door) =
-    aside-accept (still_aside state aside) door
-    ∙ ap (λ (ts : List Thing). set_of ts (Accept door)) (accepts-filter (λ thing. not (is_servable state thing)) aside.doors)
-    ∙ set_of-filter (λ thing. not (is_servable state thing)) (accepts_of aside.doors) (Accept door)
-    ∙ sym (ap (λ (b : Bool). b && not (is_servable state (Accept door))) (aside-accept aside door))
-set_of-still_aside state aside (Read port) =
-    aside-read (still_aside state aside) port
-    ∙ is_among-filter (λ port. not (is_servable state (Read port))) aside.reads port
-    ∙ sym (ap (λ (b : Bool). b && not (is_servable state (Read port))) (aside-read aside port))
-set_of-still_aside state aside (Write port) =
-    aside-write (still_aside state aside) port
-    ∙ is_among-filter (λ port. not (is_servable state (Write port))) aside.writes port
-    ∙ sym (ap (λ (b : Bool). b && not (is_servable state (Write port))) (aside-write aside port))
+set_of-still_aside state aside thing =
+    set_of-aside (still_aside state aside) thing ∙ by_kind thing
+    ∙ sym (ap (λ (b : Bool). b && not (is_servable state thing)) (set_of-aside aside thing))
+  where
+    by_kind : (thing : Thing) → aside_at (still_aside state aside) thing ≡ (aside_at aside thing && not (is_servable state thing))
+    by_kind (Accept door) =
+        ap (λ (ts : List Thing). set_of ts (Accept door)) (accepts-filter (λ thing. not (is_servable state thing)) aside.doors)
+        ∙ set_of-filter (λ thing. not (is_servable state thing)) (accepts_of aside.doors) (Accept door)
+    by_kind (Read port) = is_among-filter (λ port. not (is_servable state (Read port))) aside.reads port
+    by_kind (Write port) = is_among-filter (λ port. not (is_servable state (Write port))) aside.writes port
 
 -- ---- where a thing is looked for and taken out
 
@@ -293,29 +287,8 @@ pub told : (there : Bool) (view aside : Aside) (thing found : Thing) → view �
 told there view aside thing found same is tells =
     tells ∙ ap (λ (a : Aside). set_of (things_aside a) found) same ∙ ap (set_of (things_aside aside)) (sym is)
 
--- a number less among the reads, or among the writes
-pub read_taken : (view aside : Aside) (thing : Thing) (port : ℕ) (left : List ℕ) → view ≡ aside → thing ≡ Read port
-    → IsRisingList view.reads → left ≡ removed port view.reads
-    → record view { reads = left } ≡ taken_back thing aside
-read_taken view aside thing port left same is rising less =
-    ap (λ (ports : List ℕ). record view { reads = ports }) (less ∙ removed-filter port view.reads rising)
-    ∙ ap (taken_back (Read port)) same ∙ ap (λ (t : Thing). taken_back t aside) (sym is)
-
-pub write_taken : (view aside : Aside) (thing : Thing) (port : ℕ) (left : List ℕ) → view ≡ aside
-    → thing ≡ Write port → IsRisingList view.writes → left ≡ removed port view.writes
-    → record view { writes = left } ≡ taken_back thing aside
-write_taken view aside thing port left same is rising less =
-    ap (λ (ports : List ℕ). record view { writes = ports }) (less ∙ removed-filter port view.writes rising)
-    ∙ ap (taken_back (Write port)) same ∙ ap (λ (t : Thing). taken_back t aside) (sym is)
-
-and_swap : (here there : Bool) → (here && there) ≡ (there && here)
-and_swap true true = refl
-and_swap true false = refl
-and_swap false true = refl
-and_swap false false = refl
-
 -- the queue without a thing is the set without it
 pub set_of-dropped : (thing : Thing) (queue : List Thing) → set_of (dropped thing queue) ≡ cooled thing (set_of queue)
 set_of-dropped thing queue = same_sets (set_of (dropped thing queue)) (cooled thing (set_of queue)) (λ other.
     set_of-filter (λ third. not (same_thing thing third)) queue other
-    ∙ and_swap (set_of queue other) (not (same_thing thing other)))
+    ∙ and_swapped (set_of queue other) (not (same_thing thing other)))

@@ -149,48 +149,31 @@ listed-hand state thing queue listed other there =
     listed other (and_both (not (same_thing thing other)) (set_of queue other)
     (sym (ap (λ (hot : Hot). hot other) (set_of-dropped thing queue)) ∙ there)).1
 
-quiet_by : (state : State) (line : Line) (due : Due) (next : Entry) → IsQuiet state line
-    → let after = led (in_state state line due) next in IsQuiet after.state after.line
-quiet_by state line due (entry.Bind door path answer) quiet = quiet
-quiet_by state line due (entry.Poll wait items (Ok polled.Some)) quiet =
-    holds-all state (IsQuiet state) (quiet-placed state) items line quiet
-quiet_by state line due (entry.Poll wait items (Ok polled.Over)) quiet = quiet
-quiet_by state line due (entry.Poll wait items (Err fault)) quiet = quiet
-quiet_by state line due (entry.Accept door (Ok (accepted.Port number))) quiet =
-    holds-port state (IsQuiet state) (quiet-placed state) number (in_hand (Accept door) line) quiet
-quiet_by state line due (entry.Accept door (Ok accepted.NotNow)) quiet = quiet
-quiet_by state line due (entry.Accept door (Err fault)) quiet = quiet
-quiet_by state line due (entry.Read port room bytes answer) quiet = quiet
-quiet_by state line due (entry.Write port offered answer) quiet = quiet
-quiet_by state line due (entry.Close port answer) quiet = quiet
-quiet_by state line due (entry.Start job answer) quiet = quiet
-quiet_by state line due (entry.Now (Ok moment)) quiet =
+-- what placing a thing, taking it in hand and the mark of a client keep, and every event brings, an entry keeps
+holds_led : (Holds : State → Line → Type 0)
+    → ((state : State) (thing : Thing) (line : Line) → Holds state line → Holds state (placed state thing line))
+    → ((state : State) (thing : Thing) (line : Line) → Holds state line → Holds state (in_hand thing line))
+    → ((state : State) (line : Line) (joined : Bool) → Holds state line → Holds state (record line { joined = joined }))
+    → ((state : State) (line : Line) → IsOrdered state line → Holds state line)
+    → (state : State) (line : Line) (due : Due) (next : Entry) → Holds state line
+    → let after = led (in_state state line due) next in Holds after.state after.line
+holds_led Holds place hand mark ordered state line due (entry.Bind door path answer) holds = holds
+holds_led Holds place hand mark ordered state line due (entry.Poll wait items (Ok polled.Some)) holds =
+    holds-all state (Holds state) (place state) items line holds
+holds_led Holds place hand mark ordered state line due (entry.Poll wait items (Ok polled.Over)) holds = holds
+holds_led Holds place hand mark ordered state line due (entry.Poll wait items (Err fault)) holds = holds
+holds_led Holds place hand mark ordered state line due (entry.Accept door (Ok (accepted.Port number))) holds =
+    mark state _ _ (holds-port state (Holds state) (place state) number (in_hand (Accept door) line) (hand state (Accept door) line holds))
+holds_led Holds place hand mark ordered state line due (entry.Accept door (Ok accepted.NotNow)) holds = hand state (Accept door) line holds
+holds_led Holds place hand mark ordered state line due (entry.Accept door (Err fault)) holds = hand state (Accept door) line holds
+holds_led Holds place hand mark ordered state line due (entry.Read port room bytes answer) holds = hand state (Read port) line holds
+holds_led Holds place hand mark ordered state line due (entry.Write port offered answer) holds = hand state (Write port) line holds
+holds_led Holds place hand mark ordered state line due (entry.Close port answer) holds = holds
+holds_led Holds place hand mark ordered state line due (entry.Start job answer) holds = holds
+holds_led Holds place hand mark ordered state line due (entry.Now (Ok moment)) holds =
     let left = (led (in_state state line due) (entry.Now (Ok moment))).state in
-    (ordered-event left (closed_by state (events_at due (entry.Now (Ok moment)))) (own_port due left.last_port) (hand_of due)
-    line).quiet
-quiet_by state line due (entry.Now (Err want)) quiet = quiet
-
-listed_led : (state : State) (line : Line) (due : Due) (next : Entry) → IsListed state line.queue
-    → let after = led (in_state state line due) next in IsListed after.state after.line.queue
-listed_led state line due (entry.Bind door path answer) listed = listed
-listed_led state line due (entry.Poll wait items (Ok polled.Some)) listed =
-    holds-all state (λ l. IsListed state l.queue) (listed-placed state) items line listed
-listed_led state line due (entry.Poll wait items (Ok polled.Over)) listed = listed
-listed_led state line due (entry.Poll wait items (Err fault)) listed = listed
-listed_led state line due (entry.Accept door (Ok (accepted.Port number))) listed =
-    holds-port state (λ l. IsListed state l.queue) (listed-placed state) number (in_hand (Accept door) line)
-    (listed-hand state (Accept door) line.queue listed)
-listed_led state line due (entry.Accept door (Ok accepted.NotNow)) listed = listed-hand state (Accept door) line.queue listed
-listed_led state line due (entry.Accept door (Err fault)) listed = listed-hand state (Accept door) line.queue listed
-listed_led state line due (entry.Read port room bytes answer) listed = listed-hand state (Read port) line.queue listed
-listed_led state line due (entry.Write port offered answer) listed = listed-hand state (Write port) line.queue listed
-listed_led state line due (entry.Close port answer) listed = listed
-listed_led state line due (entry.Start job answer) listed = listed
-listed_led state line due (entry.Now (Ok moment)) listed =
-    let left = (led (in_state state line due) (entry.Now (Ok moment))).state in
-    (ordered-event left (closed_by state (events_at due (entry.Now (Ok moment)))) (own_port due left.last_port) (hand_of due)
-    line).listed
-listed_led state line due (entry.Now (Err want)) listed = listed
+    ordered left _ (ordered-event left (closed_by state (events_at due (entry.Now (Ok moment)))) (own_port due left.last_port) (hand_of due) line)
+holds_led Holds place hand mark ordered state line due (entry.Now (Err want)) holds = holds
 
 -- ---- after any entries
 
@@ -198,13 +181,15 @@ pub quiet_taken : (from to : Turning) (next : Entry) → taken from next ≡ Som
     → IsQuiet from.state from.line → IsQuiet to.state to.line
 quiet_taken from to next is quiet =
     subst (λ (t : Turning). IsQuiet t.state t.line) (leads from to next is).left
-    (quiet_by from.state from.line from.due next quiet)
+    (holds_led IsQuiet quiet-placed (λ state thing line still. still) (λ state line joined still. still)
+    (λ state line ordered. ordered.quiet) from.state from.line from.due next quiet)
 
 pub ordered_taken : (from to : Turning) (next : Entry) → taken from next ≡ Some to
     → IsOrdered from.state from.line → IsOrdered to.state to.line
 ordered_taken from to next is ordered = record {
   listed = subst (λ (t : Turning). IsListed t.state t.line.queue) (leads from to next is).left
-      (listed_led from.state from.line from.due next ordered.listed);
+      (holds_led (λ state line. IsListed state line.queue) listed-placed (λ state thing line. listed-hand state thing line.queue)
+      (λ state line joined now. now) (λ state line now. now.listed) from.state from.line from.due next ordered.listed);
   quiet = quiet_taken from to next is ordered.quiet;
 }
 
