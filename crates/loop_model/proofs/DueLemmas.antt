@@ -1,18 +1,18 @@
 -- What isn't due at a moment isn't late at it, by a clock of 64 bits.
-use Rattle.std.proofs.Common.{◌≡◌, ◌∙◌, ℕ, ◌+◌, ◌^◌, ◌≤◌, ◌<◌, min, max, nat_lt, not, ◌||◌, if◌then◌else◌, Bool, true, false, List, [], ◌∷◌, Option, Some, None, refl, sym, ap, arith}
+use Rattle.std.proofs.Common.{◌≡◌, ℕ, ◌+◌, ◌^◌, ◌≤◌, ◌<◌, min, max, nat_lt, not, if◌then◌else◌, Bool, true, false, List, [], ◌∷◌, Option, Some, None, refl, ap, arith}
 use Rattle.std.specs.List.{list_any}
 use Rattle.std.specs.Option.{option_map}
 use Rattle.std.proofs.lemmas.Bool.Decides.{Decides-ltb}
-use Rattle.std.proofs.lemmas.Bool.{ltb-false}
+use Rattle.std.proofs.lemmas.Bool.{ltb-false, or_from}
 use Rattle.world_ports.specs.declared.events.Moment.{Moment}
 use Rattle.helper_link.specs.HelperLink.{earlier as earlier_second, oldest}
 use Rattle.helper_link.specs.declared.ask.Ask.{Ask}
 use Rattle.confirm_desk.specs.Confirmations.{Confirmation, earlier as earlier_job, oldest as oldest_confirmation}
 use Rattle.identity_table.specs.Deaths.{earlier, on_clock}
 use Rattle.identity_table.specs.Identities.{next_death}
-use Rattle.agent_model.specs.State.{State, UnderWay, limit_from, next_limit, second_of}
-use Rattle.agent_model.specs.Time.{has_lasted, is_helper_late, is_late, is_one_late, taken_in}
-use Rattle.loop_model.specs.Elsewhere.{ends_by, ends_waits, has_come, is_due}
+use Rattle.agent_model.specs.State.{State, limit_from, next_limit, second_of}
+use Rattle.agent_model.specs.Time.{has_lasted, is_one_late}
+use Rattle.loop_model.specs.Elsewhere.{ends_waits, has_come, is_due}
 
 -- ---- a second that the clock has come to, or hasn't
 
@@ -52,10 +52,6 @@ before_end end now within none = by (nat_lt end (2 ^ 64)) refl none
 abbrev IsBefore : ℕ → ℕ → Option ℕ → Type 0
 IsBefore limit now found = (since : ℕ) → found ≡ Some since → now < since + limit
 
-neither_late : (a b : Bool) → a ≡ false → b ≡ false → (a || b) ≡ false
-neither_late true b first second = absurd (cc)
-neither_late false b first second = second
-
 late_not : (limit since now : ℕ) → now < since + limit → has_lasted (Some limit) since now ≡ false
 late_not limit since now below = ap not (below_true now (since + limit) below)
 
@@ -65,7 +61,7 @@ asks_before limit now [] before = refl
 asks_before limit now (ask ∷ asks) before =
     let first : now < earlier_second ask.put_at (oldest asks) + limit =
     before (earlier_second ask.put_at (oldest asks)) refl in
-    neither_late (has_lasted (Some limit) ask.put_at now) (is_one_late (Some limit) now asks)
+    or_from (has_lasted (Some limit) ask.put_at now) (is_one_late (Some limit) now asks)
     (late_not limit ask.put_at now (own ask.put_at (oldest asks) first))
     (asks_before limit now asks (λ since is. others ask.put_at (oldest asks) since first is))
   where
@@ -112,7 +108,7 @@ desk_before limit now [] before = refl
 desk_before limit now (one ∷ all) before =
     let first : now < (earlier_job (one.job, one.raised_at) (oldest_confirmation all)).1 + limit =
     before (earlier_job (one.job, one.raised_at) (oldest_confirmation all)).1 refl in
-    neither_late (late_at (Some limit) now one) (list_any (late_at (Some limit) now) all)
+    or_from (late_at (Some limit) now one) (list_any (late_at (Some limit) now) all)
     (late_not limit one.raised_at now (own (one.job, one.raised_at) (oldest_confirmation all) first))
     (desk_before limit now all (λ since is.
     others (one.job, one.raised_at) (oldest_confirmation all) since first is))
@@ -161,6 +157,6 @@ none_ends state moment within none =
     let limits = (neither_come (next_death state.held.table.identities) (next_limit u) now none).1 in
     let both = neither_come (limit_from u.limits.ask (oldest u.link.asks))
     (limit_from u.limits.confirmation (option_map second_of (oldest_confirmation u.confirmations))) now limits in
-    neither_late (is_one_late u.limits.ask now u.link.asks) (list_any (late_at u.limits.confirmation now) u.confirmations)
+    or_from (is_one_late u.limits.ask now u.link.asks) (list_any (late_at u.limits.confirmation now) u.confirmations)
     (none_late u.limits.ask now u.link.asks within both.0)
     (none_open_late u.limits.confirmation now u.confirmations within both.1)

@@ -1,14 +1,11 @@
 -- Tests that are joined.
 use Rattle.std.proofs.Common.{◌≡◌, ◌⊎◌, inl, inr, Bool, true, false, refl, ◌&&◌, ◌||◌, not, if◌then◌else◌}
+pub use Rattle.std.proofs.lemmas.Bool.{and_from as both_and, not_from_false as false_not, or_left, or_right}
 
 -- both hold
 pub and_both : (here there : Bool) → (here && there) ≡ true → (here ≡ true) × (there ≡ true)
 and_both true there both = (refl, both)
 and_both false there both = cc
-
-pub both_and : (here there : Bool) → here ≡ true → there ≡ true → (here && there) ≡ true
-both_and true there is also = also
-both_and false there is also = cc
 
 -- the one that holds leaves the other
 pub and_true : (here there : Bool) → there ≡ true → (here && there) ≡ here
@@ -25,22 +22,10 @@ pub or_either : (here there : Bool) → (here || there) ≡ true → (here ≡ t
 or_either true there is = inl refl
 or_either false there is = inr is
 
-pub or_left : (here there : Bool) → here ≡ true → (here || there) ≡ true
-or_left true there is = refl
-or_left false there is = cc
-
-pub or_right : (here there : Bool) → there ≡ true → (here || there) ≡ true
-or_right true there is = refl
-or_right false there is = is
-
 -- a test that doesn't hold where its opposite does
 pub not_true : (test : Bool) → not test ≡ true → test ≡ false
 not_true true is = cc
 not_true false is = refl
-
-pub false_not : (test : Bool) → test ≡ false → not test ≡ true
-false_not true is = cc
-false_not false is = refl
 
 -- one test in another
 pub both_if : {T : Type 0} (here able : Bool) (there other : T)

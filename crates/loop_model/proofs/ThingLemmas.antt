@@ -1,10 +1,11 @@
 -- When two things are the same.
-use Rattle.std.proofs.Common.{◌≡◌, Bool, true, false, refl, ap, not, ◌&&◌, ◌||◌}
+use Rattle.std.proofs.Common.{◌≡◌, true, refl, ap, not, ◌&&◌, ◌||◌}
 use Rattle.std.proofs.lemmas.Bool.Decides.{Decides-eqb}
 use Rattle.world_ports.specs.declared.events.Door.TheVariants.{Clients, Children}
 use Rattle.loop_model.specs.Things.{Hot, same_thing}
 use Rattle.loop_model.specs.declared.thing.Thing.{Thing}
 use Rattle.loop_model.specs.declared.thing.Thing.TheVariants.{Accept, Read, Write}
+pub use Rattle.std.proofs.lemmas.Bool.{false_from_ne_true as false_by}
 
 -- a set with this thing
 abbrev pub heated : Thing → Hot → Hot
@@ -35,8 +36,3 @@ same_thing-true (Read port) (Write other) same = cc
 same_thing-true (Write port) (Accept other) same = cc
 same_thing-true (Write port) (Read other) same = cc
 same_thing-true (Write port) (Write other) same = ap Write ((Decides-eqb port other).0 same)
-
--- a test that can't be true is false
-pub false_by : (test : Bool) → (test ≡ true → ⊥) → test ≡ false
-false_by true never = absurd (never refl)
-false_by false never = refl
