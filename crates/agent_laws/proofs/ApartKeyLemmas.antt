@@ -1,5 +1,5 @@
 -- Lemmas on specs/Apart.antt: identities that are the same but for hidden ones.
-use Rattle.std.proofs.Common.{◌≡◌, ◌≢◌, ℕ, ◌-◌, ◌==◌, List, [], ◌∷◌, map, filter, arith, refl, ap, sym, subst, ◌∙◌, Option, Some, None, Bool, true, false, cond}
+use Rattle.std.proofs.Common.{◌≡◌, ℕ, ◌-◌, ◌==◌, List, [], ◌∷◌, map, filter, arith, refl, ap, sym, subst, ◌∙◌, Option, Some, None, Bool, true, false, cond}
 use Rattle.std.specs.Option.{IfSome}
 use Rattle.std.specs.Str.{bytes_eq}
 use Rattle.std.proofs.lemmas.Bool.Decides.{nat_tests}
@@ -7,10 +7,7 @@ use Rattle.std.proofs.lemmas.Slice.Eq.{bytes_eq-Decides}
 use Rattle.identity_table.specs.Deaths.{lives_at}
 use Rattle.identity_table.specs.Identities.{HaveOwnNumbers, HeldKey, alive_at, find_identity, find_number, in_front, put_identity, remove_identity, spend_identity, used, used_by}
 use Rattle.identity_table.proofs.NumberLaws.{number_of_found}
-use Rattle.constraint_rec.specs.declared.constraint.Constraint.{Constraint}
-use Rattle.dest_rule.specs.Rules.{denial_under, visible}
-use Rattle.dest_rule.specs.declared.binding.Binding.{Binding}
-use Rattle.dest_rule.proofs.LawLemmas.{signed_is_visible}
+use Rattle.dest_rule.specs.Rules.{visible}
 use Rattle.agent_model.specs.KeyStates.{shown}
 use Rattle.agent_model.specs.State.{Port}
 use Rattle.agent_model.proofs.UnseenLemmas.{find_identity-cons}
@@ -240,17 +237,3 @@ module _ (who : Insiders) where
   keys-turned (both key number shown_one plain rest) = both (renumbered number key) key.number shown_one plain (keys-turned rest)
   keys-turned (first_has key hidden rest) = second_has key hidden (keys-turned rest)
   keys-turned (second_has key hidden rest) = first_has key hidden (keys-turned rest)
-
--- ---- what is denied
-
--- a key without constraints is seen
-seen_always : (chain : List Binding) (attempted : Bool) (wall : ℕ) → visible [] chain attempted wall ≡ false → ⊥
-unfolding visible
-seen_always chain attempted wall is = absurd (cc)
-
--- what isn't seen isn't signed with
-pub unseen-denied : (rules : List Constraint) (blob : List ℕ) (chain : List Binding) (message : List ℕ) (wall : ℕ) (attempted : Bool) → visible rules chain attempted wall ≡ false → denial_under rules blob chain message wall ≢ None
-unseen-denied [] blob chain message wall attempted unseen undenied = absurd (seen_always chain attempted wall unseen)
-unseen-denied (rule ∷ rules) blob chain message wall attempted unseen undenied =
-    let seen : visible (rule ∷ rules) chain attempted wall ≡ true = signed_is_visible (rule ∷ rules) blob chain message wall attempted undenied in
-    absurd (cc)

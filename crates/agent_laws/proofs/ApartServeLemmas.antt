@@ -21,9 +21,9 @@ use Rattle.agent_model.specs.State.{Port, UnderWay}
 use Rattle.agent_model.specs.Step.{asker_at}
 use Rattle.agent_model.specs.Unseen.{IsSameReply}
 use Rattle.agent_model.specs.Verdicts.{Cause, DestinationDenied, Identities, NotHeld, Refuses, Replies, verdict_text}
-use Rattle.agent_model.proofs.UnseenLemmas.{same_work}
+use Rattle.agent_model.proofs.UnseenLemmas.{same_work, unseen-denied, both_fail}
 use Rattle.agent_laws.specs.Apart.{AreUnseen, Insiders, IsAlikeHeld, SaysNoMore, none}
-use Rattle.agent_laws.proofs.ApartKeyLemmas.{FindsAlike, finds-alike, found, listed-alike, neither, put-alike, removed-alike, renumbered, spent-alike, unseen-denied, unseen-found}
+use Rattle.agent_laws.proofs.ApartKeyLemmas.{FindsAlike, finds-alike, found, listed-alike, neither, put-alike, removed-alike, renumbered, spent-alike, unseen-found}
 use Rattle.agent_laws.proofs.KeyLemmas.{kept-added, kept-emptied, kept-removed, kept-used}
 
 -- the client gets the same, the same is under way, what is held is alike, and nothing more is to be confirmed
@@ -31,10 +31,6 @@ pub record ServesAlike (who : Insiders) (under_way : UnderWay) (one two : Served
   pub held : IsAlikeHeld who one.held two.held
   pub reply : IsSameReply one.work two.work
   pub calm : one.work.under_way.confirmations ≡ under_way.confirmations
-
--- two failures are told alike
-both_fail : (cause other : Cause) (under_way : UnderWay) → IsSameReply (settles (Refuses cause) under_way) (settles (Refuses other) under_way)
-both_fail cause other under_way = record { text = refl; waits = refl; under_way = refl; put = refl }
 
 -- an ask leaves what is to be confirmed
 put_unless-calm : (fault : Option Cause) (errand : Errand) (asker : ℕ) (under_way : UnderWay) → (put_unless fault errand asker under_way).under_way.confirmations ≡ under_way.confirmations

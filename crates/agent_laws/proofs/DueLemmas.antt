@@ -22,7 +22,7 @@ use Rattle.agent_model.proofs.ServeLemmas.{Serves, adds, confirms, denies, empti
 use Rattle.agent_laws.specs.Dues.{Claim, claim_of_request, is_consented, is_met, is_permitted}
 use Rattle.agent_laws.specs.History.{IsDue}
 use Rattle.agent_laws.specs.Past.{PastAddition, done_of_request, held_by}
-use Rattle.agent_laws.proofs.HoldsLemmas.{Facts, Holds, facts_after, key_of}
+use Rattle.agent_laws.proofs.HoldsLemmas.{Facts, Holds, facts_after, key_of, Made, made_of}
 
 -- what comes of a request behind which this is due: it is put to the helper, or the user is asked, or neither
 pub data Acts (N : Type 0) (due : Option Claim) (asker : Asker) (held : KeyState) (under_way : UnderWay) : Work → Type 0 where
@@ -79,18 +79,8 @@ module _ (life : Option ℕ) (asker : Asker) (facts : Facts) (held : KeyState) (
     told : find_identity signing.blob held.table.identities ≡ option_map (key_of life) held_now
     told = sym (fresh signing.blob) ∙ holds.found signing.blob asker.mono (omega arith)
 
-    -- the addition that made the key
-    pub record Made (key : HeldKey) : Type 0 where
-      pub past : PastAddition
-      pub now : held_now ≡ Some past
-      pub is : key_of life past ≡ key
-
-    made_by : (key : HeldKey) (now : Option PastAddition) → held_now ≡ now → Some key ≡ option_map (key_of life) now → Made key
-    made_by key None is some = absurd (cc)
-    made_by key (Some past) is some = let same_key : key ≡ key_of life past = cc in record { past = past; now = is; is = sym same_key }
-
-    made : (key : HeldKey) → find_identity signing.blob held.table.identities ≡ Some key → Made key
-    made key found = made_by key held_now refl (sym found ∙ told)
+    made : (key : HeldKey) → find_identity signing.blob held.table.identities ≡ Some key → Made life held_now key
+    made key found = made_of life held_now key (sym found ∙ told)
 
     not_due : is_due held_now ≡ false → due ≡ None
     not_due fails = ap (λ b. if b then Some claim else None) fails
@@ -103,7 +93,7 @@ module _ (life : Option ℕ) (asker : Asker) (facts : Facts) (held : KeyState) (
     few = nat_lt (length opens) 256
 
     -- what is due is by the parts of the key
-    by_made : (key : HeldKey) (made : Made key) → is_due held_now ≡ (not key.confirm && (permits key && (few && not facts.locked)))
+    by_made : (key : HeldKey) (made : Made life held_now key) → is_due held_now ≡ (not key.confirm && (permits key && (few && not facts.locked)))
     by_made key made = ap is_due made.now ∙ ap (λ (k : HeldKey). not k.confirm && (permits k && (few && not facts.locked))) made.is
 
     open_count : length opens ≡ length under_way.link.asks

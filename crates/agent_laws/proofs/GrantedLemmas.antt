@@ -28,10 +28,11 @@ use Rattle.agent_model.proofs.RoomLemmas.{RoomFor, free, full, no_ask, no_job, r
 use Rattle.agent_laws.specs.Dues.{Claim, claim_of_raising, due_signing, is_met, is_permitted, met_by, open_asks, proved_of, raised_at}
 use Rattle.agent_laws.specs.Past.{PastAddition, held_by}
 use Rattle.agent_laws.proofs.DueLemmas.{all_pass, met_with, third_fails}
-use Rattle.agent_laws.proofs.HoldsLemmas.{Facts, Holds, facts_of, key_of, numbers-used, used-holds}
+use Rattle.agent_laws.proofs.HoldsLemmas.{Facts, Holds, facts_of, key_of, numbers-used, used-holds, Made, made_of}
 use Rattle.agent_laws.proofs.PastLemmas.{stamp}
 use Rattle.agent_laws.proofs.RaisedLemmas.{AllRaised, IsRaised, all_raised-kept, all_raised-more, all_raised-over}
 use Rattle.agent_laws.proofs.StepLemmas.{Agrees, Goes, Opened, due_as, numbers-append}
+use Rattle.std.proofs.lemmas.Bool.{false_from_ne_true}
 
 -- ---- a confirmation ends
 
@@ -66,10 +67,6 @@ none_if_not : (lock : Option (List ℕ)) → not (is_some lock) ≡ true → loc
 none_if_not None is = refl
 none_if_not (Some passphrase) is = absurd (cc)
 
-true_or_not : (b : Bool) → (b ≡ true → ⊥) → b ≡ false
-true_or_not true never = absurd (never refl)
-true_or_not false never = refl
-
 module _ (life : Option ℕ) (second wall : ℕ) (facts : Facts) (held : KeyState) (under_way : UnderWay) (opens : List ℕ) (chain : List Binding) (confirmation : Confirmation) (holds : Holds life second facts held) (fresh : (blob : List ℕ) → if_alive second (find_identity blob held.table.identities) ≡ find_identity blob held.table.identities) (same : opens ≡ map (λ (one : Ask). one.number) under_way.link.asks) (raising : Raising) (addition : raising.addition ≡ confirmation.addition) (message : raising.signing.message ≡ confirmation.message) (flags : raising.signing.flags ≡ confirmation.flags) (blob : (key : HeldKey) → find_number confirmation.addition held.table.identities ≡ Some key → key.blob ≡ raising.signing.blob) where
   abbrev claim : Claim
   claim = record { port = raising.port; addition = Some raising.addition; signing = raising.signing }
@@ -92,29 +89,19 @@ module _ (life : Option ℕ) (second wall : ℕ) (facts : Facts) (held : KeyStat
   told : find_identity raising.signing.blob held.table.identities ≡ option_map (key_of life) held_now
   told = sym (fresh raising.signing.blob) ∙ holds.found raising.signing.blob second (omega arith)
 
-  -- the addition that made the key
-  pub record Made (key : HeldKey) : Type 0 where
-    pub past : PastAddition
-    pub now : held_now ≡ Some past
-    pub is : key_of life past ≡ key
-
-  made_by : (key : HeldKey) (now : Option PastAddition) → held_now ≡ now → Some key ≡ option_map (key_of life) now → Made key
-  made_by key None is some = absurd (cc)
-  made_by key (Some past) is some = let same_key : key ≡ key_of life past = cc in record { past = past; now = is; is = sym same_key }
-
   -- what the addition's number finds was so made, and is of that addition
-  made : (key : HeldKey) → find_number confirmation.addition held.table.identities ≡ Some key → Made key
+  made : (key : HeldKey) → find_number confirmation.addition held.table.identities ≡ Some key → Made life held_now key
   made key found =
-      made_by key held_now refl
+      made_of life held_now key
       (sym (ap (λ b. find_identity b held.table.identities) (sym (blob key found)) ∙ blob_of_numbered confirmation.addition held.table.identities key holds.own found) ∙ told)
 
-  numbered : (key : HeldKey) → find_number confirmation.addition held.table.identities ≡ Some key → (made : Made key) → (made.past.number == raising.addition) ≡ true
+  numbered : (key : HeldKey) → find_number confirmation.addition held.table.identities ≡ Some key → (made : Made life held_now key) → (made.past.number == raising.addition) ≡ true
   numbered key found made =
       let is : made.past.number ≡ key.number = ap (λ (k : HeldKey). k.number) made.is in
       let of_key : key.number ≡ confirmation.addition = found_has_number confirmation.addition held.table.identities key found in
       grind (arith, nat_tests, is, of_key, addition)
 
-  by_made : (key : HeldKey) (made : Made key) → is_due held_now ≡ ((made.past.number == raising.addition) && (permits key && (few && not facts.locked)))
+  by_made : (key : HeldKey) (made : Made life held_now key) → is_due held_now ≡ ((made.past.number == raising.addition) && (permits key && (few && not facts.locked)))
   by_made key made = ap is_due made.now ∙ ap (λ (k : HeldKey). (made.past.number == raising.addition) && (permits k && (few && not facts.locked))) made.is
 
   open_count : length opens ≡ length under_way.link.asks
@@ -153,7 +140,7 @@ module _ (life : Option ℕ) (second wall : ℕ) (facts : Facts) (held : KeyStat
 
   never-due : ((key : HeldKey) → IsGrantable key chain confirmation.addition confirmation.message wall held → ⊥) → due ≡ None
   never-due never =
-      ap (λ b. if b then Some claim else None) (true_or_not (is_due held_now) (λ met. let may = due-grantable held_now refl met in never may.0 may.1))
+      ap (λ b. if b then Some claim else None) (false_from_ne_true (is_due held_now) (λ met. let may = due-grantable held_now refl met in never may.0 may.1))
 
   -- where an ask can't be put it is for want of room alone
   full-not : {N : Type 0} → (N → under_way.link.last < 2 ^ 64 - 1) → (N → under_way.last_job < 2 ^ 64 - 1) → (key : HeldKey) → IsGrantable key chain confirmation.addition confirmation.message wall held → {cause : Cause} → RoomFor under_way (Some cause) → N → due ≡ None

@@ -8,13 +8,13 @@ use Rattle.agent_model.specs.Actions.{Action, Outcome, behind}
 use Rattle.agent_model.specs.Bindings.{bound_after, chain_of}
 use Rattle.agent_model.specs.Events.{Happening, Tick, Timed}
 use Rattle.agent_model.specs.Runs.{Stamped, history, run, stamped}
-use Rattle.agent_model.specs.Sound.{IsJudged, IsRising, IsTied}
+use Rattle.agent_model.specs.Sound.{IsJudged, IsTied}
 use Rattle.agent_model.specs.State.{Port, Settings, State, find_port, first_state}
 use Rattle.agent_model.specs.Step.{handle, join, step}
 use Rattle.agent_model.specs.Time.{at_moment, taken_in, time_passes}
 use Rattle.agent_model.proofs.FatedLemmas.{first-tied, step-fated, tied-opened}
 use Rattle.agent_model.proofs.JudgedRunLemmas.{Adds, first-judged, step-judged}
-use Rattle.agent_model.proofs.PortsLemmas.{found_within}
+use Rattle.agent_model.proofs.PortsLemmas.{absent_above}
 use Rattle.agent_model.proofs.MakeLemmas.{by_event, loses, overs}
 use Rattle.agent_model.proofs.JudgedLemmas.{judges-makes}
 use Rattle.agent_model.proofs.NumberLemmas.{run-grows}
@@ -33,14 +33,6 @@ pub record Tells (N : Type 0) (life : Option ℕ) (past : List Stamped) (state :
   pub agrees : Agrees N life state.moment.mono past state.held state.under_way.link.asks state.under_way.confirmations
   pub chains : (number : ℕ) (port : Port) → find_port number state.ports ≡ Some port → proved_of number past ≡ port.chain
   pub unborn : (number : ℕ) → state.last_port < number → proved_of number past ≡ []
-
--- no port has a number above the last
-absent_above : (number low high : ℕ) (ports : List Port) → IsRising low high ports → high < number → find_port number ports ≡ None
-absent_above number low high ports rising above = by_found (find_port number ports) refl
-  where
-    by_found : (found : Option Port) → find_port number ports ≡ found → find_port number ports ≡ None
-    by_found None is = is
-    by_found (Some port) is = absurd (omega (arith, above, found_within number low high ports port rising is))
 
 -- what is proved behind the past
 proved-onto : (number : ℕ) (moment : Moment) (past : List Stamped) (actions : List Action) → proved_of number (onto past (stamps moment actions)) ≡ bound_after number actions (proved_of number past)

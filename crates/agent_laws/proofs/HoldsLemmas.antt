@@ -49,6 +49,18 @@ abbrev pub key_of : Option ℕ → PastAddition → HeldKey
 key_of life past =
     record (identity_of past.number past.addition.key past.addition.comment (death_of past.second past.addition.terms.life life) past.addition.terms) { uses = uses_left past.addition.terms.uses past.uses }
 
+-- the addition that made a key, where this is what is held
+pub record Made (life : Option ℕ) (held : Option PastAddition) (key : HeldKey) : Type 0 where
+  pub past : PastAddition
+  pub now : held ≡ Some past
+  pub is : key_of life past ≡ key
+
+pub made_of : (life : Option ℕ) (held : Option PastAddition) (key : HeldKey) → Some key ≡ option_map (key_of life) held → Made life held key
+made_of life None key some = absurd (cc)
+made_of life (Some past) key some =
+    let same_key : key ≡ key_of life past = cc in
+    record { past = past; now = refl; is = sym same_key }
+
 -- the agent holds what the past tells, from this second on
 pub record Holds (life : Option ℕ) (second : ℕ) (facts : Facts) (held : KeyState) : Type 0 where
   pub locked : facts.locked ≡ is_some held.lock
@@ -125,7 +137,7 @@ pub record NumbersKept (old new : KeyState) : Type 0 where
 pub same_numbers : (old new : KeyState) → new.table ≡ old.table → NumbersKept old new
 same_numbers old new same = record { last = rw same (omega arith); found = λ number key within found. was_held number old.table.identities key (sym (ap (λ (t : TableState). find_number number t.identities) same) ∙ found) }
 
-of_alive : (second : ℕ) (found : Option HeldKey) (key : HeldKey) → if_alive second found ≡ Some key → found ≡ Some key
+pub of_alive : (second : ℕ) (found : Option HeldKey) (key : HeldKey) → if_alive second found ≡ Some key → found ≡ Some key
 of_alive second None key is = absurd (cc)
 of_alive second (Some first) key is = by_test (lives_at second first.death) is
   where

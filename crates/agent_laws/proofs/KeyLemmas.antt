@@ -1,13 +1,11 @@
 -- Identities have blobs and numbers of their own, and no number is given to another one later.
 use Rattle.std.proofs.Common.{◌≡◌, ℕ, ◌+◌, ◌≤◌, List, [], ◌∷◌, refl, arith, sym, ◌∙◌, eqb, cond, max, Option, Some, None, Bool, true, false, Result}
-use Rattle.std.specs.Str.{bytes_eq}
 use Rattle.std.proofs.lemmas.Bool.{eqb-true}
 use Rattle.world_ports.specs.declared.Moment.{Moment}
 use Rattle.agent_msg.specs.declared.fault.MsgFault.{MsgFault}
 use Rattle.agent_msg.specs.Requests.{Addition, ClientRequest}
-use Rattle.identity_table.specs.Deaths.{lives_at}
 use Rattle.identity_table.specs.Identities.{HaveOwnBlobs, HaveOwnNumbers, HeldKey, TableState, alive_at, find_number, new_identity, remove_identity}
-use Rattle.identity_table.proofs.FindLemmas.{if_alive, own_blobs-alive, own_blobs-put, own_blobs-remove}
+use Rattle.identity_table.proofs.FindLemmas.{own_blobs-alive, own_blobs-put, own_blobs-remove}
 use Rattle.identity_table.proofs.NumberLaws.{find_number-alive, find_number-put, find_number-remove, unless_blob}
 use Rattle.identity_table.proofs.NumberLemmas.{own_numbers-alive, own_numbers-put, own_numbers-remove}
 use Rattle.wire_text.specs.Frames.{front_body}
@@ -29,6 +27,7 @@ use Rattle.agent_model.proofs.MakeLemmas.{Makes, alters, by_event, closes, first
 use Rattle.agent_model.proofs.TimeLemmas.{at_moment-keeps}
 use Rattle.agent_laws.proofs.UseLemmas.{own_blobs-used, own_numbers-used, used_in_turn, was_held, was_held-used}
 use Rattle.agent_model.proofs.ServeLemmas.{Serves, adds, confirms, denies, empties, lists, locks, removes, serves-any, signs, unlocks, verifies}
+use Rattle.agent_laws.proofs.HoldsLemmas.{none_numbered, of_alive, of_unless}
 
 -- the numbers that were given find what they found, or nothing; and identities have parts of their own yet
 pub record KeysKept (old new : TableState) : Type 0 where
@@ -49,38 +48,20 @@ kept-in_turn one two = record {
       record { was = before.was; found = before.found; used = used_in_turn before.used later.used };
 }
 
--- the dead leave
-alive_before : (second : ℕ) (found : Option HeldKey) (key : HeldKey) → if_alive second found ≡ Some key → found ≡ Some key
-alive_before second None key is = is
-alive_before second (Some one) key is = by_test (lives_at second one.death) is
-  where
-    by_test : (alive : Bool) → cond alive (Some one) None ≡ Some key → Some one ≡ Some key
-    by_test true some = some
-    by_test false some = absurd (cc)
-
 pub kept-alive : (second : ℕ) (table : TableState) → HaveOwnParts table → KeysKept table (record table { identities = alive_at second table.identities; greatest = second })
 kept-alive second table own = record {
   own = record { blobs = own_blobs-alive second table.identities own.blobs; numbers = own_numbers-alive table.last second table.identities own.numbers };
   last = omega arith;
   found = λ number key within is.
-      was_held number table.identities key (alive_before second (find_number number table.identities) key (sym (find_number-alive number table.last second table.identities own.numbers) ∙ is));
+      was_held number table.identities key (of_alive second (find_number number table.identities) key (sym (find_number-alive number table.last second table.identities own.numbers) ∙ is));
 }
-
--- one leaves
-unless_before : (blob : List ℕ) (found : Option HeldKey) (key : HeldKey) → unless_blob blob found ≡ Some key → found ≡ Some key
-unless_before blob None key is = is
-unless_before blob (Some one) key is = by_test (bytes_eq one.blob blob) is
-  where
-    by_test : (same : Bool) → cond same None (Some one) ≡ Some key → Some one ≡ Some key
-    by_test true some = absurd (cc)
-    by_test false some = some
 
 pub kept-removed : (blob : List ℕ) (table : TableState) → HaveOwnParts table → KeysKept table (record table { identities = remove_identity blob table.identities })
 kept-removed blob table own = record {
   own = record { blobs = own_blobs-remove blob table.identities own.blobs; numbers = own_numbers-remove table.last blob table.identities own.numbers };
   last = omega arith;
   found = λ number key within is.
-      was_held number table.identities key (unless_before blob (find_number number table.identities) key (sym (find_number-remove number table.last blob table.identities own.blobs own.numbers) ∙ is));
+      was_held number table.identities key (of_unless blob (find_number number table.identities) key (sym (find_number-remove number table.last blob table.identities own.blobs own.numbers) ∙ is));
 }
 
 -- all leave
@@ -88,15 +69,11 @@ own_none : (last greatest : ℕ) (life : Option ℕ) → HaveOwnParts (record { 
 unfolding HaveOwnBlobs HaveOwnNumbers
 own_none last greatest life = record { blobs = tt; numbers = tt }
 
-none_found : (number : ℕ) (key : HeldKey) → find_number number [] ≡ Some key → ⊥
-unfolding find_number
-none_found number key is = absurd (cc)
-
 pub kept-emptied : (table : TableState) → KeysKept table (record table { identities = [] })
 kept-emptied table = record {
   own = own_none table.last table.greatest table.life;
   last = omega arith;
-  found = λ number key within is. absurd (none_found number key is);
+  found = λ number key within is. absurd (none_numbered number key is);
 }
 
 -- one comes, under the next number
@@ -112,7 +89,7 @@ kept-added addition now table own =
   where
     by_test : (new : HeldKey) (number : ℕ) (key : HeldKey) → number ≤ table.last → (same : Bool) → new.number ≡ table.last + 1 → eqb new.number number ≡ same → cond same (Some new) (unless_blob new.blob (find_number number table.identities)) ≡ Some key → find_number number table.identities ≡ Some key
     by_test new number key within true is equal some = absurd (omega (arith, is, eqb-true new.number number equal, within))
-    by_test new number key within false is equal some = unless_before new.blob (find_number number table.identities) key some
+    by_test new number key within false is equal some = of_unless new.blob (find_number number table.identities) key some
 
 -- one is used
 pub kept-used : (used : Option ℕ) (held : KeyState) → HaveOwnParts held.table → KeysKept held.table (after_use used held).table

@@ -27,7 +27,8 @@ use Rattle.agent_laws.specs.Dues.{without_number}
 use Rattle.agent_laws.specs.History.{onto}
 use Rattle.agent_laws.proofs.HoldsLemmas.{Holds, facts_of}
 use Rattle.agent_laws.proofs.PastLemmas.{LawfulIf, lawful-append, onto-append, stamp, stamps, stamps-append}
-use Rattle.agent_laws.proofs.StepLemmas.{Agrees, Goes, Opened, calm-quiet, keeps-calm, numbers_of, opened-quiet, served-agrees, served-lawful}
+use Rattle.agent_laws.proofs.StepLemmas.{Agrees, Goes, Opened, calm-quiet, numbers_of, opened-quiet, served-agrees, served-lawful}
+use Rattle.agent_model.proofs.JudgedLemmas.{keeps-quiet}
 
 -- the numbers of the asks that are left
 numbers-removed : (number : ℕ) (pending : List Ask) → without_number number (numbers_of pending) ≡ numbers_of (remove_ask number pending)
@@ -149,7 +150,7 @@ pub goes-makes : {N : Type 0} {event : Happening} {old : State} {outcome : Outco
 goes-makes life past (stays state) tied opened = record { lawful = opened.agrees.idle; agrees = opened.agrees; moment = refl }
 goes-makes {N = N} {old = old} life past (first {mid = mid} {outcome = outcome} quiet rest) tied opened =
     let calm = calm-quiet quiet in
-    let later = goes-makes life past rest (tied-quiet quiet tied) (opened-quiet life past old mid calm (keeps-calm quiet tied.rising) opened) in
+    let later = goes-makes life past rest (tied-quiet quiet tied) (opened-quiet life past old mid calm (keeps-quiet quiet tied.rising) opened) in
     record {
       lawful = subst (λ m. LawfulIf N life past (stamps m outcome.actions)) calm.moment later.lawful;
       agrees = subst (λ m. Agrees N life m.mono (onto past (stamps m outcome.actions)) outcome.state.held outcome.state.under_way.link.asks outcome.state.under_way.confirmations) calm.moment later.agrees;

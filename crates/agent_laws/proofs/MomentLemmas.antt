@@ -8,7 +8,7 @@ use Rattle.agent_model.specs.Events.{Tick}
 use Rattle.agent_model.specs.Sound.{IsJudged, IsTied}
 use Rattle.agent_model.specs.State.{State}
 use Rattle.agent_model.specs.Time.{at_moment, taken_in, time_passes}
-use Rattle.agent_model.proofs.FatedMakeLemmas.{fated-makes}
+use Rattle.agent_model.proofs.FatedMakeLemmas.{fated-makes, tied-taken}
 use Rattle.agent_model.proofs.JobLemmas.{IsIn}
 use Rattle.agent_model.proofs.JudgedLemmas.{judges-makes}
 use Rattle.agent_model.proofs.MakeLemmas.{Makes, loses, overs, stays}
@@ -38,13 +38,9 @@ module _ (Stays : State → Type 0) (keeps : (s : State) (outcome : Outcome) →
 
 -- ---- where waits are tied
 
-taken-tied : (moment : Moment) (state : State) → IsTied state → IsTied (taken_in moment state)
-taken-tied moment state tied =
-    record { rising = tied.rising; order = tied.order; tied = tied.tied; askers = tied.askers; helper = tied.helper; known = tied.known; raised = tied.raised }
-
 pub tied-brings : (R : State → Outcome → Type 0) (moment : Moment) (state : State) → IsTied state → ((s : State) → R s (stay s)) → ((s : State) → IsTied s → R s (lose s)) → ((one : Confirmation) (s : State) → IsIn one s.under_way.confirmations → IsTied s → R s (over one s)) → ((s : State) (first later : Outcome) → R s first → R first.state later → R s (behind first later)) → R (taken_in moment state) (time_passes moment state)
 tied-brings R moment state tied none loss end join =
-    (brings-by IsTied (λ s outcome makes at. (fated-makes makes at).tied) R moment state none loss end join (taken-tied moment state tied)).so
+    (brings-by IsTied (λ s outcome makes at. (fated-makes makes at).tied) R moment state none loss end join (tied-taken moment state tied)).so
 
 -- ---- and judged
 
@@ -56,7 +52,7 @@ settled-makes s outcome makes at = ((fated-makes makes at.0).tied, (judges-makes
 
 taken-settled : (moment : Moment) (state : State) → IsTied state → IsJudged state → AreSettled (taken_in moment state)
 taken-settled moment state tied judged =
-    (taken-tied moment state tied, record { verified = judged.verified; noted = judged.noted; given = judged.given; chains = judged.chains })
+    (tied-taken moment state tied, record { verified = judged.verified; noted = judged.noted; given = judged.given; chains = judged.chains })
 
 pub judged-brings : (R : State → Outcome → Type 0) (moment : Moment) (state : State) → IsTied state → IsJudged state → ((s : State) → R s (stay s)) → ((s : State) → IsTied s → IsJudged s → R s (lose s)) → ((one : Confirmation) (s : State) → IsIn one s.under_way.confirmations → IsTied s → IsJudged s → R s (over one s)) → ((s : State) (first later : Outcome) → R s first → R first.state later → R s (behind first later)) → R (taken_in moment state) (time_passes moment state)
 judged-brings R moment state tied judged none loss end join =

@@ -7,15 +7,6 @@ use Rattle.agent_laws.specs.Grants.{pending_after, pending_by, times_ended, time
 
 -- ---- among others
 
-pub among-front : (action : Action) (some more : List Action) → IsAmong action some → IsAmong action (some ++ more)
-among-front action [] more among = absurd among
-among-front action (one ∷ some) more (inl same) = inl same
-among-front action (one ∷ some) more (inr later) = inr (among-front action some more later)
-
-pub among-back : (action : Action) (some more : List Action) → IsAmong action more → IsAmong action (some ++ more)
-among-back action [] more among = among
-among-back action (one ∷ some) more among = inr (among-back action some more among)
-
 -- what is among both is among one of them
 pub among-either : (action : Action) (some more : List Action) → IsAmong action (some ++ more) → IsAmong action some ⊎ IsAmong action more
 among-either action [] more among = inr among

@@ -37,7 +37,7 @@ use Rattle.agent_model.specs.Verdicts.{HelperRefused, Refuses, Replies, Signatur
 use Rattle.agent_model.proofs.BindLemmas.{AreGiven}
 use Rattle.agent_model.proofs.FatedLemmas.{first-tied, step-fated, tied-opened}
 use Rattle.agent_model.proofs.GrantLemmas.{IsGranted, allowed, disallowed, grant-ends, unasked}
-use Rattle.agent_model.proofs.JudgeLemmas.{either, find_verification-append, find_verification-apart, left_asks}
+use Rattle.agent_model.proofs.JudgeLemmas.{find_verification-append, find_verification-apart, left_asks}
 use Rattle.agent_model.proofs.JudgedLemmas.{keeps-quiet}
 use Rattle.agent_model.proofs.JudgedRunLemmas.{first-judged, step-judged}
 use Rattle.agent_model.proofs.MakeLemmas.{Makes, by_event, first, grants, loses, overs, serves, stays, tells}
@@ -45,8 +45,9 @@ use Rattle.agent_model.proofs.PortsLemmas.{found_number}
 use Rattle.agent_model.proofs.ServeLemmas.{IsServed, answered, asked, raised, refused, serve-ends}
 use Rattle.agent_model.proofs.TiedLemmas.{tied-quiet}
 use Rattle.agent_laws.proofs.MomentLemmas.{judged-brings, judged-moment}
-use Rattle.agent_laws.proofs.PendingLemmas.{among-back, among-front}
 use Rattle.agent_laws.specs.Proven.{AnswerTheirAsks, AnswersItsAsk, IsRightAnswer}
+use Rattle.agent_model.proofs.ActionLemmas.{among-back, among-front}
+use Rattle.std.specs.Option.{option_or}
 
 -- ---- actions behind actions
 
@@ -105,7 +106,7 @@ module _ (errand : Errand) (asker last : ℕ) where
     split : (ask : ℕ) (one : Verification) → find_verification ask (verifications ++ noted) ≡ Some one → (find_verification ask verifications ≡ Some one) ⊎ ((ask ≡ last + 1) × (purpose_of errand ≡ ForBinding one.binding))
     split ask one is = by_found (find_verification ask verifications) refl (sym (find_verification-append ask verifications noted) ∙ is)
       where
-        by_found : (was : Option Verification) → find_verification ask verifications ≡ was → either was (find_verification ask noted) ≡ Some one → (find_verification ask verifications ≡ Some one) ⊎ ((ask ≡ last + 1) × (purpose_of errand ≡ ForBinding one.binding))
+        by_found : (was : Option Verification) → find_verification ask verifications ≡ was → option_or was (find_verification ask noted) ≡ Some one → (find_verification ask verifications ≡ Some one) ⊎ ((ask ≡ last + 1) × (purpose_of errand ≡ ForBinding one.binding))
         by_found None was some = inr (of_new errand ask one some)
         by_found (Some first_one) was some = inl (was ∙ some)
 

@@ -28,7 +28,7 @@ use Rattle.agent_model.specs.Sound.{IsTied}
 use Rattle.agent_model.specs.State.{Port, Settings, State, UnderWay, find_port, first_state}
 use Rattle.agent_model.specs.Step.{asker_at, handle, step}
 use Rattle.agent_model.specs.Time.{at_moment, time_passes}
-use Rattle.agent_model.proofs.ActionLemmas.{Each, among-each, each-append, each-tells}
+use Rattle.agent_model.proofs.ActionLemmas.{Each, among-each, each-append, each-tells, among-back}
 use Rattle.agent_model.proofs.FatedLemmas.{first-tied, run-tied, tied-opened}
 use Rattle.agent_model.proofs.TiedLemmas.{tied-quiet}
 use Rattle.agent_model.proofs.GrantLemmas.{IsGranted, allowed, disallowed, grant-ends, unasked}
@@ -39,7 +39,7 @@ use Rattle.agent_laws.proofs.KeyLemmas.{KeysKept, first-own, kept-event, kept-op
 use Rattle.agent_model.proofs.MakeLemmas.{Makes, Quiet, alters, by_event, closes, first, goes_on, grants, links, loses, names, overs, serves, stays, tells}
 use Rattle.agent_model.proofs.TimeLemmas.{time_passes-brings}
 use Rattle.agent_model.proofs.ServeLemmas.{Serves, adds, confirms, denies, empties, lists, locks, removes, serves-any, signs, unlocks, verifies}
-use Rattle.agent_laws.proofs.PendingLemmas.{among-back, among-either, pending-append}
+use Rattle.agent_laws.proofs.PendingLemmas.{among-either, pending-append}
 use Rattle.agent_laws.proofs.TraceLemmas.{moment-pending, quiet-noted, run-pending}
 
 -- ---- what a request does
@@ -102,14 +102,9 @@ module _ (read : Result ClientRequest MsgFault) (asker : Asker) (held : KeyState
 
 -- neither an ask nor a confirmation comes of these
 abbrev IsIdle : Action → Type 0
-IsIdle (Requested requesting) = Unit {0}
 IsIdle (Asked asking) = ⊥
-IsIdle (Answered one) = Unit {0}
-IsIdle (Proved proving) = Unit {0}
 IsIdle (Raised raising) = ⊥
-IsIdle (Granted job) = Unit {0}
-IsIdle (Over job) = Unit {0}
-IsIdle Lost = Unit {0}
+IsIdle _ = Unit {0}
 
 idle-tells : (told : Telling) (state : State) → Each IsIdle (helper_tells told state).actions
 idle-tells told state = each-tells IsIdle (λ one. tt) (λ proving. tt) tt told state

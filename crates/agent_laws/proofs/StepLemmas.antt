@@ -20,9 +20,6 @@ use Rattle.agent_model.specs.KeyStates.{KeyState}
 use Rattle.agent_model.specs.Runs.{Stamped}
 use Rattle.agent_model.specs.State.{Port, State, UnderWay, find_port}
 use Rattle.agent_model.specs.Step.{asker_at}
-use Rattle.agent_model.specs.Children.{unheard}
-use Rattle.agent_model.specs.Sound.{IsRising}
-use Rattle.agent_model.proofs.JudgeLemmas.{keeps-changed, keeps-removed, keeps-same}
 use Rattle.agent_model.proofs.JudgedLemmas.{Keeps}
 use Rattle.agent_model.proofs.MakeLemmas.{Quiet, alters, closes, goes_on, links, names}
 use Rattle.agent_laws.specs.Dues.{Claim, claim_of_request, due_signing, met_by, open_asks, proved_of}
@@ -82,14 +79,6 @@ calm-quiet (links job number port found door free other) = record {
   jobs = refl;
   kept = lightly job (linked_at number) record { job = λ c. refl; asker = λ c. refl; addition = λ c. refl; message = λ c. refl; flags = λ c. refl };
 }
-
--- and it keeps the bindings of those who stay, the asks and the verifications
-pub keeps-calm : {event : Happening} {old new : State} → Quiet event old new → IsRising 0 old.last_port old.ports → Keeps old new
-keeps-calm {old = old} (alters number f mild) rising = record { ports = keeps-changed number f old.ports mild.number mild.chain; asks = refl; last = refl; verifications = refl }
-keeps-calm {old = old} (closes number may) rising = record { ports = keeps-removed number 0 old.last_port old.ports rising; asks = refl; last = refl; verifications = refl }
-keeps-calm {old = old} (goes_on new same) rising = record { ports = keeps-same old.ports; asks = same.asks; last = same.last; verifications = same.verifications }
-keeps-calm {old = old} (names job number port found door free) rising = record { ports = keeps-changed number unheard old.ports (λ p. refl) (λ p. refl); asks = refl; last = refl; verifications = refl }
-keeps-calm {old = old} (links job number port found door free other) rising = record { ports = keeps-changed number unheard old.ports (λ p. refl) (λ p. refl); asks = refl; last = refl; verifications = refl }
 
 pub opened-quiet : {N : Type 0} (life : Option ℕ) (past : List Stamped) (old new : State) → Calm old new → Keeps old new → Opened N life past old → Opened N life past new
 opened-quiet life past old new calm keeps opened = record {

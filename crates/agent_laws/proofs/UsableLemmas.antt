@@ -87,16 +87,8 @@ all_read bytes = terms_read (length bytes) no_terms bytes tt
 
 -- an addition has such terms
 abbrev pub IsUsable : ClientRequest → Type 0
-IsUsable ListIdentities = Unit {0}
-IsUsable (Sign signing) = Unit {0}
 IsUsable (Add addition) = AreUsable addition.terms
-IsUsable (Remove blob) = Unit {0}
-IsUsable RemoveAll = Unit {0}
-IsUsable (Lock passphrase) = Unit {0}
-IsUsable (Unlock passphrase) = Unit {0}
-IsUsable (Bind bind) = Unit {0}
-IsUsable (OtherExtension name) = Unit {0}
-IsUsable (Unsupported number) = Unit {0}
+IsUsable _ = Unit {0}
 
 abbrev Is : Result ClientRequest MsgFault → Type 0
 Is read = IfOk read IsUsable

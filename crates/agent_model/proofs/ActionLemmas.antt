@@ -6,7 +6,7 @@ use Rattle.helper_link.specs.declared.answer.Answer.{Answer}
 use Rattle.helper_link.specs.declared.answer.Answer.TheVariants as answer
 use Rattle.helper_link.specs.declared.answer.Settled.{Settled}
 use Rattle.helper_link.specs.declared.fault.LinkFault.{LinkFault}
-use Rattle.agent_model.specs.Actions.{Action, Answered, Asked, Granted, Lost, Over, Proved, Proving, Raised, Requested}
+use Rattle.agent_model.specs.Actions.{Action, Answered, Granted, Lost, Over, Proved, Proving, Raised}
 use Rattle.agent_model.specs.Answers.{Answering, answer_all, answer_by, answer_true, find_verification, helper_tells, lose_if, proved_at}
 use Rattle.agent_model.specs.Grants.{IsAmong}
 use Rattle.agent_model.specs.State.{Port, State, Verification, find_port}
@@ -28,6 +28,16 @@ among-each P action [] other each among = among
 among-each P action (one ∷ later) other each (inl same) = other (subst P same each.0)
 among-each P action (one ∷ later) other each (inr there) =
     among-each P action later other each.1 there
+
+-- what is among some is among these and more
+pub among-front : (action : Action) (some more : List Action) → IsAmong action some → IsAmong action (some ++ more)
+among-front action [] more among = absurd among
+among-front action (one ∷ some) more (inl same) = inl same
+among-front action (one ∷ some) more (inr later) = inr (among-front action some more later)
+
+pub among-back : (action : Action) (some more : List Action) → IsAmong action more → IsAmong action (some ++ more)
+among-back action [] more among = among
+among-back action (one ∷ some) more among = inr (among-back action some more among)
 
 -- ---- what the helper's answers and its loss bring
 
@@ -70,14 +80,10 @@ module _ (P : Action → Type 0) (answered : (one : Settled) → P (Answered one
 -- ---- actions that have nothing to do with confirmations
 
 abbrev pub IsPlain : Action → Type 0
-IsPlain (Requested requesting) = Unit {0}
-IsPlain (Asked asking) = Unit {0}
-IsPlain (Answered one) = Unit {0}
-IsPlain (Proved proving) = Unit {0}
 IsPlain (Raised raising) = ⊥
 IsPlain (Granted job) = ⊥
 IsPlain (Over job) = ⊥
-IsPlain Lost = Unit {0}
+IsPlain _ = Unit {0}
 
 abbrev pub ArePlain : List Action → Type 0
 ArePlain actions = Each IsPlain actions

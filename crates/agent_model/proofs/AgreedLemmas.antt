@@ -27,7 +27,7 @@ use Rattle.agent_model.proofs.GrantLemmas.{IsGranted, allowed, disallowed, grant
 use Rattle.agent_model.proofs.JobLemmas.{IsIn, in-found}
 use Rattle.agent_model.proofs.MakeLemmas.{Makes, by_event, first, grants, loses, overs, serves, stays, tells}
 use Rattle.agent_model.proofs.ServeLemmas.{IsServed, answered, asked, raised, refused, serve-ends}
-use Rattle.agent_model.proofs.ActionLemmas.{ArePlain, IsPlain, among-each, plain-tells}
+use Rattle.agent_model.proofs.ActionLemmas.{ArePlain, IsPlain, among-each, plain-tells, among-back, among-front}
 use Rattle.agent_model.proofs.WaitLemmas.{told-close_confirmer, waits-quiet, waits-served}
 use Rattle.agent_model.proofs.StillLemmas.{heard-refused, still-handle, still-lost, still-makes, still-tells}
 use Rattle.agent_model.proofs.TimeLemmas.{time_passes-brings}
@@ -60,15 +60,6 @@ Ends number job old outcome =
     × (IsTold number (Refuses NotConfirmed) old.ports → IsTold number (Refuses NotConfirmed) outcome.state.ports)
 
 -- ---- which actions are there
-
-among_first : (action : Action) (some more : List Action) → IsAmong action some → IsAmong action (some ++ more)
-among_first action [] more among = absurd among
-among_first action (one ∷ some) more (inl is) = inl is
-among_first action (one ∷ some) more (inr there) = inr (among_first action some more there)
-
-among_later : (action : Action) (some more : List Action) → IsAmong action more → IsAmong action (some ++ more)
-among_later action [] more among = among
-among_later action (one ∷ some) more among = inr (among_later action some more among)
 
 none_of : (action : Action) (some more : List Action) → (IsAmong action some → ⊥) → (IsAmong action more → ⊥) → IsAmong action (some ++ more) → ⊥
 none_of action [] more none nothing among = nothing among
@@ -240,17 +231,17 @@ time-settles number job moment state tied told =
       where
         by_later : Settles number job later → Settles number job (behind before later)
         by_later (inl more) = inl ((none_of (Granted job) before.actions later.actions open_yet.0.0 more.0.0, none_of (Over job) before.actions later.actions open_yet.0.1 more.0.1), more.1)
-        by_later (inr ended) = inr (among_later (Over job) before.actions later.actions ended.0, ended.1)
-    by_either before later (inr ended) goes stay = inr (among_first (Over job) before.actions later.actions ended.0, stay ended.1)
+        by_later (inr ended) = inr (among-back (Over job) before.actions later.actions ended.0, ended.1)
+    by_either before later (inr ended) goes stay = inr (among-front (Over job) before.actions later.actions ended.0, stay ended.1)
 
 -- actions before that don't end it make no difference
 agreed-behind : (number job : ℕ) (some more : List Action) (ports : List Port) → Unended job some → IsAgreed number job more ports → IsAgreed number job (some ++ more) ports
 agreed-behind number job some more ports none (unagreed not_granted not_over told) =
     unagreed (none_of (Granted job) some more none.0 not_granted) (none_of (Over job) some more none.1 not_over) told
-agreed-behind number job some more ports none (disagreed over_it told) = disagreed (among_later (Over job) some more over_it) told
+agreed-behind number job some more ports none (disagreed over_it told) = disagreed (among-back (Over job) some more over_it) told
 agreed-behind number job some more ports none (agreed asking granted put its told) =
-    agreed asking (among_later (Granted job) some more granted) (among_later (Asked asking) some more put) its told
-agreed-behind number job some more ports none (ungranted cause granted told) = ungranted cause (among_later (Granted job) some more granted) told
+    agreed asking (among-back (Granted job) some more granted) (among-back (Asked asking) some more put) its told
+agreed-behind number job some more ports none (ungranted cause granted told) = ungranted cause (among-back (Granted job) some more granted) told
 
 -- each event
 pub step-agreed : (number job : ℕ) (state : State) (moment : Moment) (event : Happening) → event ≢ Ended number → ((count : ℕ) → event ≢ Took number count) → IsTied state → Waits number job state.ports → IsAgreed number job (step state moment event).actions (step state moment event).state.ports
@@ -269,5 +260,5 @@ step-agreed number job state moment event open_yet untaken tied told = by_time (
         (λ door. agreed-admitted number job (has_room door opened.ports opened.under_way) door opened waits.1)
         (λ outcome makes. agreed-makes number job makes open_yet tied_yet waits.1))
     by_time (inr ended) =
-        disagreed (among_first (Over job) (time_passes moment state).actions (handle event opened).actions ended.0)
+        disagreed (among-front (Over job) (time_passes moment state).actions (handle event opened).actions ended.0)
         (still-handle number (Refuses NotConfirmed) (heard-refused NotConfirmed) event opened open_yet untaken tied_yet ended.1)

@@ -14,8 +14,9 @@ use Rattle.agent_model.specs.Errands.{Errand, Signs, Verifies, binding_of, kind_
 use Rattle.agent_model.specs.Sound.{AreJudged, AreNoted, IsRight}
 use Rattle.agent_model.specs.State.{Port, Verification, find_port}
 use Rattle.agent_model.proofs.BindLemmas.{AreGiven}
-use Rattle.agent_model.proofs.JudgeLemmas.{KeepsChains, either, find_verification-append}
+use Rattle.agent_model.proofs.JudgeLemmas.{KeepsChains, find_verification-append}
 use Rattle.agent_model.proofs.ServeLemmas.{MayPut}
+use Rattle.std.specs.Option.{option_or}
 
 -- the verification of a request to bind
 abbrev one_for : BindRequest → Bool → ℕ → Verification
@@ -56,7 +57,7 @@ module _ (asker : Asker) (errand : Errand) (last : ℕ) where
     split : (ask : ℕ) (one : Verification) → MayPut asker errand → find_verification ask (verifications ++ noted) ≡ Some one → (find_verification ask verifications ≡ Some one) ⊎ ((ask ≡ last + 1) × IsRight one asker.chain)
     split ask one right is = by_found (find_verification ask verifications) refl (sym (find_verification-append ask verifications noted) ∙ is)
       where
-        by_found : (was : Option Verification) → find_verification ask verifications ≡ was → either was (find_verification ask noted) ≡ Some one → (find_verification ask verifications ≡ Some one) ⊎ ((ask ≡ last + 1) × IsRight one asker.chain)
+        by_found : (was : Option Verification) → find_verification ask verifications ≡ was → option_or was (find_verification ask noted) ≡ Some one → (find_verification ask verifications ≡ Some one) ⊎ ((ask ≡ last + 1) × IsRight one asker.chain)
         by_found None was some = inr (of_new errand ask one right some)
         by_found (Some first) was some = inl (was ∙ some)
 
@@ -89,11 +90,11 @@ module _ (asker : Asker) (errand : Errand) (last : ℕ) where
     pub noted-asked : AreNoted verifications asks → AreNoted (verifications ++ noted) (asks ++ new ∷ [])
     noted-asked noted_before ask who put_at there = by_test (last + 1 == ask) refl (sym (pushed ask) ∙ there)
       where
-        some_of : (first later : Option Verification) → IsSome first → IsSome (either first later)
+        some_of : (first later : Option Verification) → IsSome first → IsSome (option_or first later)
         some_of None later some = absurd (cc)
         some_of (Some one) later some = refl
 
-        some_behind : (first later : Option Verification) → IsSome later → IsSome (either first later)
+        some_behind : (first later : Option Verification) → IsSome later → IsSome (option_or first later)
         some_behind None later some = some
         some_behind (Some one) later some = refl
 

@@ -135,7 +135,7 @@ numbers-remove_port number (port ∷ ports) =
     grind (arith, nat_tests)
 
 -- an open port's number is among the numbers
-is_among-open : (number : ℕ) (ports : List Port) →
+pub is_among-open : (number : ℕ) (ports : List Port) →
     is_among number (numbers ports) ≡ is_some (find_port number ports)
 is_among-open number [] = refl
 is_among-open number (port ∷ ports) =

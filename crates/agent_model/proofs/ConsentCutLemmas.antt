@@ -41,10 +41,6 @@ said job a b decided = consent-append job a b decided
 
 -- ---- confirmations
 
--- two parts are heard as one
-told-twice : (job : ℕ) (a b : List ℕ) (confirmations : List Confirmation) → told job b (told job a confirmations) ≡ told job (a ++ b) confirmations
-told-twice = told-told
-
 -- it doesn't matter what was heard of one that ends
 remove-told : (job : ℕ) (piece : List ℕ) (confirmations : List Confirmation) → remove_job job (told job piece confirmations) ≡ remove_job job confirmations
 remove-told job piece confirmations = remove-change (has_key job_of job) (heard_more piece) confirmations (λ c. refl)
@@ -139,7 +135,7 @@ module _ (moment : Moment) (state : State) (number : ℕ) (a b : List ℕ) (port
   rest_alike : (says : Consent) → consent_by says confirmation (a ++ b) state ≡ consent_by says (heard_more a confirmation) b next
   rest_alike NotYet =
       ap (λ confirmations. stay (record state { under_way = record uw { confirmations = confirmations } }))
-      (sym (told-twice confirmation.job a b uw.confirmations))
+      (sym (told-told confirmation.job a b uw.confirmations))
   rest_alike Yes = granted ∙ sym granted_next
   rest_alike No = sym over_next
 

@@ -37,12 +37,12 @@ use Rattle.agent_model.proofs.GrowLemmas.{jobs-for}
 use Rattle.agent_model.proofs.JobLemmas.{IsIn, in-found}
 use Rattle.agent_model.proofs.LeadLemmas.{Follows, changes, follows-makes, leads-answers, leads-close_confirmer, same}
 use Rattle.agent_model.proofs.MakeLemmas.{Makes, first, grants, loses, overs, serves, stays, tells}
-use Rattle.agent_model.proofs.PortsLemmas.{find_port-removed_apart, found_number, rising-append, rising_higher}
+use Rattle.agent_model.proofs.PortsLemmas.{find_port-removed_apart, rising-append, rising_higher}
 use Rattle.agent_model.proofs.RaisedLemmas.{Fewer, fewer-closed, fewer-removed, raised-answers, raised-fewer, raised-joined, raised-later, raised-lost, raised-over}
 use Rattle.agent_model.proofs.ServeLemmas.{serve-ends}
 use Rattle.agent_model.proofs.TiedLemmas.{assemble, tied-fewer, tied-quiet}
 use Rattle.agent_model.proofs.WaitLemmas.{told-close_confirmer, told-close_helper, waits-quiet}
-use Rattle.agent_model.proofs.TieLemmas.{found_joined, tied-asked, tied-silent}
+use Rattle.agent_model.proofs.TieLemmas.{found_joined, tied-asked, tied-silent, found_known}
 use Rattle.agent_model.proofs.FatedServeLemmas.{Fated, fated-served, linked-begun, new_asker}
 
 -- ---- the helper answers, or is lost
@@ -270,12 +270,12 @@ fated-admitted event door state true tied = record {
     order = tied.order;
     tied = record {
       waits = λ number ask port found is. by_port number ask port (found_joined number (suc state.last_port) door state.ports port found) is;
-      asks = λ ask one port there found. tied.tied.asks ask one port there (known_port one.asker port (tied.askers ask one there) found);
+      asks = λ ask one port there found. tied.tied.asks ask one port there (found_known one.asker state.last_port door state.ports port (tied.askers ask one there) found);
     };
     askers = λ ask one found. omega (arith, tied.askers ask one found);
-    helper = λ number port is found. tied.helper number port is (known_port number port (tied.known number is) found);
+    helper = λ number port is found. tied.helper number port is (found_known number state.last_port door state.ports port (tied.known number is) found);
     known = λ number is. omega (arith, tied.known number is);
-    raised = raised-joined state.last_port door state.ports tied.raised known_port;
+    raised = raised-joined state.last_port door state.ports tied.raised;
   };
   told = λ number ask open_yet told. record { port = told.port; found = found_still number told.port state.ports _ told.found; door = told.door; owed = told.owed; waits = told.waits };
 }
@@ -283,15 +283,6 @@ fated-admitted event door state true tied = record {
     by_port : (number ask : ℕ) (port : Port) → (find_port number state.ports ≡ Some port) ⊎ (port ≡ new_port (suc state.last_port) door) → port.waits ≡ OnAsk ask → IsWaiting number ask port state.under_way.link.asks
     by_port number ask port (inl was) is = tied.tied.waits number ask port was is
     by_port number ask port (inr new) is = let waits : Nothing ≡ OnAsk ask = sym (ap (λ (p : Port). p.waits) new) ∙ is in absurd (cc)
-
-    known_port : (number : ℕ) (port : Port) → number ≤ state.last_port → find_port number (state.ports ++ new_port (suc state.last_port) door ∷ []) ≡ Some port → find_port number state.ports ≡ Some port
-    known_port number port known found = elim (found_joined number (suc state.last_port) door state.ports port found) [
-      | inl was ↦ was
-      | inr new ↦
-          (let numbered : port.number ≡ number = found_number number _ port found in
-          let is : port.number ≡ suc state.last_port = ap (λ (p : Port). p.number) new in
-          absurd (omega (arith, numbered, is, known)))
-    ]
 
 -- what a moment takes in leaves it tied
 pub tied-taken : (moment : Moment) (state : State) → IsTied state → IsTied (taken_in moment state)

@@ -31,19 +31,9 @@ use Rattle.agent_model.proofs.TieLemmas.{IsOf, apart, found_after, here, one_ask
 
 -- ---- lists of verifications
 
--- the first of two that is there
-abbrev pub either : Option Verification → Option Verification → Option Verification
-either None later = later
-either (Some one) later = Some one
-
-either-or : (some more : Option Verification) → option_or some more ≡ either some more
-either-or None more = refl
-either-or (Some one) more = refl
-
 -- what comes first is found
-pub find_verification-append : (ask : ℕ) (some more : List Verification) → find_verification ask (some ++ more) ≡ either (find_verification ask some) (find_verification ask more)
-find_verification-append ask some more =
-    find-append (has_key ask_number ask) some more ∙ either-or (find_verification ask some) (find_verification ask more)
+pub find_verification-append : (ask : ℕ) (some more : List Verification) → find_verification ask (some ++ more) ≡ option_or (find_verification ask some) (find_verification ask more)
+find_verification-append ask some more = find-append (has_key ask_number ask) some more
 
 -- the removal of another leaves one
 pub find_verification-apart : (ask other : ℕ) (all : List Verification) → other ≢ ask → find_verification ask (remove_verification other all) ≡ find_verification ask all

@@ -1,7 +1,6 @@
 -- Over events, what was judged of bindings stands, and connections are bound to what was proved on them.
 use Rattle.std.proofs.Common.{◌≡◌, ℕ, suc, ◌<◌, ◌≤◌, List, [], ◌∷◌, ◌++◌, refl, ap, arith, sym, subst, ◌∙◌, nat_lt, Option, Some, None, Bool, true, false, inl, inr}
 use Rattle.std.proofs.lemmas.Bool.Decides.{nat_tests}
-use Rattle.lists.proofs.KeyedLemmas.{find_by-above}
 use Rattle.world_ports.specs.declared.Door.{Door}
 use Rattle.world_ports.specs.declared.Door.TheVariants.{Clients}
 use Rattle.world_ports.specs.declared.Moment.{Moment}
@@ -15,8 +14,8 @@ use Rattle.agent_model.specs.Events.{Happening, Heard, Tick, Timed}
 use Rattle.agent_model.specs.Fates.{actions_of}
 use Rattle.agent_model.specs.Looks.{due}
 use Rattle.agent_model.specs.Runs.{run}
-use Rattle.agent_model.specs.Sound.{AreApart, IsJudged, IsRising, IsTied}
-use Rattle.agent_model.specs.State.{Port, Settings, State, find_port, first_state, new_port, number_of}
+use Rattle.agent_model.specs.Sound.{AreApart, IsJudged, IsTied}
+use Rattle.agent_model.specs.State.{Port, Settings, State, find_port, first_state}
 use Rattle.agent_model.specs.Step.{admitted, asker_at, handle, has_room, heard_at, look_front, look_port, looked, step, turned_away}
 use Rattle.agent_model.specs.Time.{at_moment, time_passes}
 use Rattle.agent_model.proofs.BindLemmas.{bound_after-append}
@@ -26,10 +25,10 @@ use Rattle.agent_model.proofs.FatedMakeLemmas.{fated-makes, tied-taken}
 use Rattle.agent_model.proofs.JudgeLemmas.{KeepsChains, keeps-absent, keeps-in_turn, keeps-same, no_bindings}
 use Rattle.agent_model.proofs.JudgedLemmas.{Judges, judges-makes, silent_served}
 use Rattle.agent_model.proofs.MakeLemmas.{Makes, by_event, loses, overs}
-use Rattle.agent_model.proofs.PortsLemmas.{found_number}
+use Rattle.agent_model.proofs.PortsLemmas.{found_number, absent_above}
 use Rattle.agent_model.proofs.RunLemmas.{at_moment-follows, handle-unused, leads-found, run-unused, step-rises}
 use Rattle.agent_model.proofs.ServeLemmas.{serve-ends}
-use Rattle.agent_model.proofs.TieLemmas.{found_joined}
+use Rattle.agent_model.proofs.TieLemmas.{found_joined, found_known}
 use Rattle.agent_model.proofs.TimeLemmas.{AreEnds, at_moment-keeps, end, loss, no_more, one_more, time_passes-ends}
 
 -- ---- an event
@@ -55,23 +54,10 @@ goes-made old outcome judges = record {
   };
 }
 
--- no port has a number above the last
-absent_above : (number low high : ℕ) (ports : List Port) → IsRising low high ports → high < number → find_port number ports ≡ None
-absent_above number low high ports rising above = find_by-above number_of number low high ports above rising
-
 module _ (door : Door) (state : State) (tied : IsTied state) (judged : IsJudged state) where
   -- one more port
   abbrev with_port : Bool → State
   with_port room = record state { ports = admitted room (suc state.last_port) door state.ports; last_port = suc state.last_port }
-
-  known_port : (number : ℕ) (port : Port) → number ≤ state.last_port → find_port number (state.ports ++ new_port (suc state.last_port) door ∷ []) ≡ Some port → find_port number state.ports ≡ Some port
-  known_port number port known found = elim (found_joined number (suc state.last_port) door state.ports port found) [
-    | inl was ↦ was
-    | inr new ↦
-        (let numbered : port.number ≡ number = found_number number _ port found in
-        let is : port.number ≡ suc state.last_port = ap (λ (p : Port). p.number) new in
-        absurd (omega (arith, numbered, is, known)))
-  ]
 
   goes-admitted : (room : Bool) → Goes state (record (stay (with_port room)) { closes = turned_away room (suc state.last_port) })
   goes-admitted false = record {
@@ -80,7 +66,7 @@ module _ (door : Door) (state : State) (tied : IsTied state) (judged : IsJudged 
   }
   goes-admitted true = record {
     judged = record {
-      verified = λ ask what one port noted there found. judged.verified ask what one port noted there (known_port what.asker port (tied.askers ask what there) found);
+      verified = λ ask what one port noted there found. judged.verified ask what one port noted there (found_known what.asker state.last_port door state.ports port (tied.askers ask what there) found);
       noted = judged.noted;
       given = judged.given;
       chains = λ number port found. elim (found_joined number (suc state.last_port) door state.ports port found) [

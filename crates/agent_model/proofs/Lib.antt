@@ -6,6 +6,7 @@ pub mod MakeLemmas
 pub mod TimeLemmas
 pub mod OnTimeLemmas
 pub mod LateLemmas
+pub mod TimeKeptLemmas
 pub mod PromptLemmas
 pub mod SecondLemmas
 pub mod BoundLemmas

@@ -9,7 +9,7 @@ use Rattle.identity_table.specs.Deaths.{earlier}
 use Rattle.helper_link.specs.HelperLink.{oldest}
 use Rattle.helper_link.specs.HelperLink as link
 use Rattle.helper_link.specs.declared.ask.Ask.{Ask}
-use Rattle.confirm_desk.specs.Confirmations.{Confirmation, job_of, remove_job}
+use Rattle.confirm_desk.specs.Confirmations.{Confirmation, remove_job}
 use Rattle.confirm_desk.specs.Confirmations as desk
 use Rattle.agent_model.specs.Actions.{Outcome, and_then}
 use Rattle.agent_model.specs.Answers.{lose_where}
@@ -194,7 +194,3 @@ taken_in-at_moment moment state = taken_in-again moment state.held state.moment.
 -- the moment is that
 pub at_moment-moment : (moment : Moment) (state : State) → (at_moment moment state).moment ≡ record { mono = max state.moment.mono moment.mono; wall = moment.wall }
 at_moment-moment moment state = (at_moment-taken moment state).moment
-
--- and what is held is what lives
-pub at_moment-held : (moment : Moment) (state : State) → (at_moment moment state).held ≡ expired (max state.moment.mono moment.mono) state.held
-at_moment-held moment state = (at_moment-taken moment state).held

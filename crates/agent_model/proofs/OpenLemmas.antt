@@ -4,8 +4,8 @@ use Rattle.std.specs.Option.{option_map}
 use Rattle.std.proofs.lemmas.Bool.{cases_eq}
 use Rattle.std.proofs.lemmas.Bool.Decides.{nat_tests}
 use Rattle.lists.specs.Keyed.{has_key}
-use Rattle.lists.proofs.FirstLemmas.{length-change, length-remove}
-use Rattle.confirm_desk.specs.Confirmations.{Confirmation, change_job, find_asker, find_job, find_linked, is_at, linked_at, remove_job, job_of}
+use Rattle.lists.proofs.FirstLemmas.{length-change, length-remove, some_or_later}
+use Rattle.confirm_desk.specs.Confirmations.{Confirmation, change_job, find_asker, find_job, find_linked, is_at, linked_at, remove_job, job_of, came_to}
 use Rattle.helper_link.specs.declared.answer.Settled.{Settled}
 use Rattle.helper_link.specs.declared.state.LinkState.{LinkState}
 use Rattle.helper_link.specs.declared.state.LinkState.TheVariants as states
@@ -18,6 +18,7 @@ use Rattle.agent_model.proofs.FateLemmas.{answers_as}
 use Rattle.agent_model.proofs.JobLemmas.{IsIn, change-apart, changed_back, find_job-push, find_job-remove, here, behind}
 use Rattle.agent_model.proofs.MakeLemmas.{Kept, altered, unchanged}
 use Rattle.agent_model.proofs.PortsLemmas.{find_port-apart, find_port-change_port, find_port-removed_apart}
+use Rattle.std.specs.List.{find}
 
 -- ---- open ports
 
@@ -65,34 +66,27 @@ removed-apart number at ports other some = subst IsSome (sym (find_port-removed_
 
 -- ---- confirmations that are linked
 
+-- where a search finds nothing, nothing that is there passes
+none_passes : (test : Confirmation → Bool) (one : Confirmation) {confirmations : List Confirmation} → IsIn one confirmations → find test confirmations ≡ None → test one ≡ false
+none_passes test one (here others) none = (some_or_later (test one) one (find test others) none).0
+none_passes test one (behind other others there) none =
+    none_passes test one there (some_or_later (test other) other (find test others) none).1
+
 -- where nothing is found at a port, none is linked to it
 pub none_linked : (number : ℕ) (one : Confirmation) {confirmations : List Confirmation} → IsIn one confirmations → find_linked number confirmations ≡ None → one.port ≢ Some number
-none_linked number one (here others) none at = by_port one.port at none
-  where
-    by_port : (port : Option ℕ) → port ≡ Some number → cond (is_at number port) (Some one) (find_linked number others) ≡ None → ⊥
-    by_port None is gone = absurd (cc)
-    by_port (Some other) is gone =
-        let equal : other ≡ number = cc in
-        let test : (other == number) ≡ true = grind (arith, nat_tests) in
-        let some : Some one ≡ None = sym (ap (λ b. cond b (Some one) (find_linked number others)) test) ∙ gone in
-        absurd (cc)
-none_linked number one (behind other others there) none at = by_test (is_at number other.port) (λ gone. none_linked number one there gone at) none
-  where
-    by_test : (test : Bool) → (find_linked number others ≡ None → ⊥) → cond test (Some other) (find_linked number others) ≡ None → ⊥
-    by_test true rest gone = absurd (cc)
-    by_test false rest gone = rest gone
+none_linked number one there none at =
+    let fails : is_at number one.port ≡ false = none_passes (came_to number) one there none in
+    let passes : (number == number) ≡ true = grind (arith, nat_tests) in
+    let no : true ≡ false = sym passes ∙ sym (ap (is_at number) at) ∙ fails in
+    absurd (cc)
 
 -- where none is found for a client, none is its own
 pub none_asks : (asker : ℕ) (one : Confirmation) {confirmations : List Confirmation} → IsIn one confirmations → find_asker asker confirmations ≡ None → one.asker ≢ asker
-none_asks asker one (here others) none is =
-    let test : (one.asker == asker) ≡ true = grind (arith, nat_tests) in
-    let some : Some one ≡ None = sym (ap (λ b. cond b (Some one) (find_asker asker others)) test) ∙ none in
+none_asks asker one there none is =
+    let fails : (one.asker == asker) ≡ false = none_passes (λ c. c.asker == asker) one there none in
+    let passes : (one.asker == asker) ≡ true = grind (arith, nat_tests) in
+    let no : true ≡ false = sym passes ∙ fails in
     absurd (cc)
-none_asks asker one (behind other others there) none is = by_test (other.asker == asker) (λ gone. none_asks asker one there gone is) none
-  where
-    by_test : (test : Bool) → (find_asker asker others ≡ None → ⊥) → cond test (Some other) (find_asker asker others) ≡ None → ⊥
-    by_test true rest gone = absurd (cc)
-    by_test false rest gone = rest gone
 
 -- ---- small changes
 

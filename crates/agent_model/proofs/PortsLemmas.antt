@@ -5,7 +5,7 @@ use Rattle.world_ports.specs.declared.Door.{Door}
 use Rattle.lists.specs.Keyed.{has_key}
 use Rattle.lists.proofs.FirstLemmas.{change-agree, change-twice, map-change, remove-change}
 use Rattle.lists.proofs.KeyedLemmas as keyed
-use Rattle.lists.proofs.KeyedLemmas.{find_by-below, find_by-change, find_by-change_apart, find_by-left, find_by-remove_apart, find_by-removed, found_key, keeps_key, rise-bound, rise-change, rise-higher, rise-lower, rise-push, rise-remove}
+use Rattle.lists.proofs.KeyedLemmas.{find_by-above, find_by-below, find_by-change, find_by-change_apart, find_by-left, find_by-remove_apart, find_by-removed, found_key, keeps_key, rise-bound, rise-change, rise-higher, rise-lower, rise-push, rise-remove}
 use Rattle.agent_model.specs.Sound.{IsRising}
 use Rattle.agent_model.specs.State.{Port, find_port, change_port, number_of, remove_port, numbers, new_port}
 
@@ -23,6 +23,10 @@ rising_bound low high ports rising = rise-bound number_of low high ports rising
 -- a port with a lower number isn't there
 pub find_port-below : (number low high : ℕ) (ports : List Port) → number ≤ low → IsRising low high ports → find_port number ports ≡ None
 find_port-below number low high ports below rising = find_by-below number_of number low high ports below rising
+
+-- no port has a number above the last
+pub absent_above : (number low high : ℕ) (ports : List Port) → IsRising low high ports → high < number → find_port number ports ≡ None
+absent_above number low high ports rising above = find_by-above number_of number low high ports above rising
 
 -- a change leaves the numbers
 pub numbers-change_port : (number : ℕ) (f : Port → Port) (ports : List Port) → ((port : Port) → (f port).number ≡ port.number) → numbers (change_port number f ports) ≡ numbers ports

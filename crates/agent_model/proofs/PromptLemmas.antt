@@ -1,5 +1,5 @@
 -- What an event begins isn't late in its own second.
-use Rattle.std.proofs.Common.{◌≡◌, ℕ, ◌+◌, ◌<◌, List, [], ◌∷◌, ◌++◌, refl, ap, arith, sym, ◌∙◌, ◌==◌, ◌||◌, cond, max, Option, Some, None, Bool, true, false}
+use Rattle.std.proofs.Common.{◌≡◌, ℕ, ◌+◌, ◌<◌, List, [], ◌∷◌, ◌++◌, refl, ap, arith, sym, ◌∙◌, ◌==◌, cond, max, Option, Some, None, Bool, true, false}
 use Rattle.std.proofs.Math.Nat.{max-eq_left, le-max_right}
 use Rattle.std.proofs.lemmas.Bool.Decides.{nat_tests}
 use Rattle.std.specs.List.{find}
@@ -33,6 +33,8 @@ use Rattle.agent_model.proofs.MakeLemmas.{Kept, Makes, Quiet, altered, alters, b
 use Rattle.agent_model.proofs.OnTimeLemmas.{at_moment-moment, at_moment-on_time, taken_in-at_moment}
 use Rattle.agent_model.proofs.ServeLemmas.{IsServed, answered, asked, raised, refused, serve-ends}
 use Rattle.agent_model.proofs.TimeLemmas.{at_moment-keeps}
+use Rattle.agent_model.proofs.TimeKeptLemmas.{keeps_time-handle}
+use Rattle.std.proofs.lemmas.Bool.{or_from, or_parts}
 
 -- what has just begun isn't late
 not_at_once : (limit : Option ℕ) (since second : ℕ) → GivesTime limit → since ≡ second → has_lasted limit since second ≡ false
@@ -43,30 +45,23 @@ not_at_once (Some limit) since second time now =
 
 -- ---- asks
 
-neither : (a b : Bool) → (a || b) ≡ false → (a ≡ false) × (b ≡ false)
-neither true b is = absurd (cc)
-neither false b is = (refl, is)
-
-none_of : (a b : Bool) → a ≡ false → b ≡ false → (a || b) ≡ false
-none_of a b one other = ap (λ c. c || b) one ∙ other
-
 -- one more
 asks-push : (limit : Option ℕ) (second : ℕ) (asks : List Ask) (one : Ask) → is_one_late limit second asks ≡ false → has_lasted limit one.put_at second ≡ false → is_one_late limit second (asks ++ one ∷ []) ≡ false
-asks-push limit second [] one none prompt = none_of (has_lasted limit one.put_at second) false prompt refl
+asks-push limit second [] one none prompt = or_from (has_lasted limit one.put_at second) false prompt refl
 asks-push limit second (ask ∷ asks) one none prompt =
-    let both = neither (has_lasted limit ask.put_at second) (is_one_late limit second asks) none in
-    none_of (has_lasted limit ask.put_at second) (is_one_late limit second (asks ++ one ∷ [])) both.0 (asks-push limit second asks one both.1 prompt)
+    let both = or_parts (has_lasted limit ask.put_at second) (is_one_late limit second asks) none in
+    or_from (has_lasted limit ask.put_at second) (is_one_late limit second (asks ++ one ∷ [])) both.0 (asks-push limit second asks one both.1 prompt)
 
 -- one less
 asks-remove : (limit : Option ℕ) (second number : ℕ) (asks : List Ask) → is_one_late limit second asks ≡ false → is_one_late limit second (remove_ask number asks) ≡ false
 asks-remove limit second number [] none = refl
 asks-remove limit second number (ask ∷ asks) none =
-    let both = neither (has_lasted limit ask.put_at second) (is_one_late limit second asks) none in
+    let both = or_parts (has_lasted limit ask.put_at second) (is_one_late limit second asks) none in
     by_test (ask.number == number) both.0 both.1 (asks-remove limit second number asks both.1)
   where
     by_test : (is : Bool) → has_lasted limit ask.put_at second ≡ false → is_one_late limit second asks ≡ false → is_one_late limit second (remove_ask number asks) ≡ false → is_one_late limit second (cond is asks (ask ∷ remove_ask number asks)) ≡ false
     by_test true this others left = others
-    by_test false this others left = none_of (has_lasted limit ask.put_at second) (is_one_late limit second (remove_ask number asks)) this left
+    by_test false this others left = or_from (has_lasted limit ask.put_at second) (is_one_late limit second (remove_ask number asks)) this left
 
 -- those that answers leave
 asks-left : (limit : Option ℕ) (second : ℕ) (settled : List Settled) (asks left : List Ask) → LeadTo settled asks left → is_one_late limit second asks ≡ false → is_one_late limit second left ≡ false
@@ -183,34 +178,6 @@ module _ (limits : TimeLimits) (second : ℕ) (time : GiveTime limits) where
       by_event (λ outcome. IsPrompt limits second state.under_way → IsPrompt limits second outcome.state.under_way) event state
       (λ door prompt. prompt) (λ outcome. prompt-makes)
 
--- ---- the moment stays
-
-quiet-moment : {event : Happening} {old new : State} → Quiet event old new → new.moment ≡ old.moment
-quiet-moment (alters number f mild) = refl
-quiet-moment (closes number may) = refl
-quiet-moment (goes_on new same) = refl
-quiet-moment (names job number port found door free) = refl
-quiet-moment (links job number port found door free other) = refl
-
-lose_if-moment : (fault : Option LinkFault) (state : State) → (lose_if fault state).state.moment ≡ state.moment
-lose_if-moment None state = refl
-lose_if-moment (Some fault) state = refl
-
-makes-moment : {event : Happening} {old : State} {outcome : Outcome} → Makes event old outcome → outcome.state.moment ≡ old.moment
-makes-moment (stays state) = refl
-makes-moment (first quiet rest) = makes-moment rest ∙ quiet-moment quiet
-makes-moment (serves body_len port state found door nothing owed) = refl
-makes-moment (tells piece state) =
-    let told = telling piece state.under_way.link in
-    lose_if-moment told.fault (with_answers told.link (answers_in told.settled state) state)
-makes-moment (loses state) = refl
-makes-moment (overs confirmation state there) = refl
-makes-moment (grants confirmation port state there opened) = refl
-
-handle-moment : (event : Happening) (state : State) → (handle event state).state.moment ≡ state.moment
-handle-moment event state =
-    by_event (λ outcome. outcome.state.moment ≡ state.moment) event state (λ door. refl) (λ outcome. makes-moment)
-
 -- ---- an event at its moment
 
 -- where each limit gives time nothing is late behind an event, at the same moment
@@ -219,7 +186,7 @@ step-on_time moment state event time =
     let after : State = (handle event opened).state in
     let prompt = prompt-handle state.under_way.limits now time event opened prompt_opened in
     let again : max after.moment.mono moment.mono ≡ now =
-    ap (λ (m : Moment). max m.mono moment.mono) (handle-moment event opened ∙ at_moment-moment moment state)
+    ap (λ (m : Moment). max m.mono moment.mono) ((keeps_time-handle event opened).moment ∙ at_moment-moment moment state)
     ∙ max-eq_left (le-max_right state.moment.mono moment.mono) in
     record {
       helper = ap (λ (l : TimeLimits). is_one_late l.ask (max after.moment.mono moment.mono) after.under_way.link.asks) prompt.limits

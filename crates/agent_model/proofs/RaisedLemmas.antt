@@ -22,7 +22,7 @@ use Rattle.agent_model.proofs.FateLemmas.{answers_as, one_answer, one_lost}
 use Rattle.agent_model.proofs.JobLemmas.{changed_back, changed_forth, find_job-push, find_job-remove, job_within, jobs-change, jobs-higher, jobs-push, jobs-remove}
 use Rattle.agent_model.proofs.MakeLemmas.{IsMild, Kept, altered, unchanged}
 use Rattle.agent_model.proofs.PortsLemmas.{find_port-left}
-use Rattle.agent_model.proofs.TieLemmas.{IsOf, apart, found_after, found_joined, here}
+use Rattle.agent_model.proofs.TieLemmas.{IsOf, apart, found_after, found_joined, here, found_known}
 
 -- ---- ports that go on waiting for what they waited for
 
@@ -77,15 +77,15 @@ raised-later {confirmations = confirmations} last_job more_jobs last_port more_p
 }
 
 -- a port that joins waits for nothing
-pub raised-joined : {confirmations : List Confirmation} {last_job : ℕ} (last : ℕ) (door : Door) (ports : List Port) → AreRaised confirmations last_job ports last → ((number : ℕ) (port : Port) → number ≤ last → find_port number (ports ++ new_port (suc last) door ∷ []) ≡ Some port → find_port number ports ≡ Some port) → AreRaised confirmations last_job (ports ++ new_port (suc last) door ∷ []) (suc last)
-raised-joined {confirmations = confirmations} last door ports raised known_port = record {
+pub raised-joined : {confirmations : List Confirmation} {last_job : ℕ} (last : ℕ) (door : Door) (ports : List Port) → AreRaised confirmations last_job ports last → AreRaised confirmations last_job (ports ++ new_port (suc last) door ∷ []) (suc last)
+raised-joined {confirmations = confirmations} last door ports raised = record {
   order = raised.order;
   asking = record {
     waits = λ number job port found is. by_port number job port (found_joined number (suc last) door ports port found) is;
-    asks = λ job one port there found. raised.asking.asks job one port there (known_port one.asker port (raised.askers job one there) found);
+    asks = λ job one port there found. raised.asking.asks job one port there (found_known one.asker last door ports port (raised.askers job one there) found);
   };
   askers = λ job one found. omega (arith, raised.askers job one found);
-  confirmers = λ job number one port there at found. raised.confirmers job number one port there at (known_port number port (raised.known job number one there at) found);
+  confirmers = λ job number one port there at found. raised.confirmers job number one port there at (found_known number last door ports port (raised.known job number one there at) found);
   known = λ job number one found at. omega (arith, raised.known job number one found at);
 }
   where

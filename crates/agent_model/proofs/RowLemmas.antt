@@ -1,68 +1,18 @@
 -- Long rows without limits: what a moment would end needs no computing.
-use Rattle.std.proofs.Common.{◌≡◌, ℕ, zero, suc, List, [], ◌∷◌, refl, ap, ◌∙◌, Option, Some, None}
+use Rattle.std.proofs.Common.{◌≡◌, ℕ, zero, suc, List, [], ◌∷◌, refl, ap, ◌∙◌}
 use Rattle.world_ports.specs.declared.Door.TheVariants.{Clients, Children}
 use Rattle.world_ports.specs.declared.Moment.{Moment}
-use Rattle.helper_link.specs.Telling.{telling}
-use Rattle.helper_link.specs.declared.fault.LinkFault.{LinkFault}
-use Rattle.dest_rule.specs.declared.binding.Binding.{Binding}
-use Rattle.confirm_desk.specs.Confirmations.{Confirmation}
-use Rattle.wire_text.specs.Frames.{front_body}
-use Rattle.agent_model.specs.Actions.{Outcome, Work}
-use Rattle.agent_model.specs.Answers.{answers_in, lose_if, with_answers}
+use Rattle.agent_model.specs.Actions.{Outcome}
 use Rattle.agent_model.specs.ChildRows.{hello, then, ticket}
 use Rattle.agent_model.specs.ConsentRows.{add_for_host, at_second, bind, bound_to_host, sign_login, true_for, unanswered}
-use Rattle.agent_model.specs.Dispatch.{Asker, Served}
 use Rattle.agent_model.specs.Events.{Ended, Happening, Heard, Joined, Started, Took}
-use Rattle.agent_model.specs.KeyStates.{KeyState}
 use Rattle.agent_model.specs.Rows.{add, add_asking, moment_at, sign, with_event}
-use Rattle.agent_model.specs.State.{State, TimeLimits, UnderWay, first_state, no_limits, no_settings}
-use Rattle.agent_model.specs.Step.{asker_at, handle, step}
+use Rattle.agent_model.specs.State.{State, TimeLimits, first_state, no_limits, no_settings}
+use Rattle.agent_model.specs.Step.{handle, step}
 use Rattle.agent_model.specs.Time.{taken_in}
-use Rattle.agent_model.proofs.GrantLemmas.{IsGranted, allowed, disallowed, grant-ends, unasked}
-use Rattle.agent_model.proofs.MakeLemmas.{Makes, Quiet, alters, by_event, closes, first, goes_on, grants, links, loses, names, overs, serves, stays, tells}
 use Rattle.agent_model.proofs.OnTimeLemmas.{unlimited-on_time}
-use Rattle.agent_model.proofs.ServeLemmas.{IsServed, answered, asked, raised, refused, serve-ends}
 use Rattle.agent_model.proofs.TimeLemmas.{on_time-step}
-
--- ---- limits stay
-
-quiet-limits : {event : Happening} {old new : State} → Quiet event old new → new.under_way.limits ≡ old.under_way.limits
-quiet-limits (alters number f mild) = refl
-quiet-limits (closes number may) = refl
-quiet-limits (goes_on new kept) = kept.limits
-quiet-limits (names job number port found door free) = refl
-quiet-limits (links job number port found door free other) = refl
-
-served-limits : {asker : Asker} {held : KeyState} {under_way : UnderWay} {served : Served} → IsServed asker held under_way served → served.work.under_way.limits ≡ under_way.limits
-served-limits (answered reply kept same) = refl
-served-limits (refused cause) = refl
-served-limits (asked errand free right) = refl
-served-limits (raised key signing free) = refl
-
-granted-limits : {chain : List Binding} {confirmation : Confirmation} {wall : ℕ} {held : KeyState} {under_way : UnderWay} {work : Work} → IsGranted chain confirmation wall held under_way work → work.under_way.limits ≡ under_way.limits
-granted-limits (disallowed never) = refl
-granted-limits (unasked cause key may fault) = refl
-granted-limits (allowed key may free) = refl
-
-lose_if-limits : (fault : Option LinkFault) (state : State) → (lose_if fault state).state.under_way.limits ≡ state.under_way.limits
-lose_if-limits None state = refl
-lose_if-limits (Some fault) state = refl
-
-makes-limits : {event : Happening} {old : State} {outcome : Outcome} → Makes event old outcome → outcome.state.under_way.limits ≡ old.under_way.limits
-makes-limits (stays state) = refl
-makes-limits (first quiet rest) = makes-limits rest ∙ quiet-limits quiet
-makes-limits (serves body_len port state found door nothing owed) =
-    served-limits (serve-ends (asker_at state.moment port) state.held state.under_way (front_body body_len port.heard))
-makes-limits (tells piece state) =
-    let told = telling piece state.under_way.link in
-    lose_if-limits told.fault (with_answers told.link (answers_in told.settled state) state)
-makes-limits (loses state) = refl
-makes-limits (overs confirmation state there) = refl
-makes-limits (grants confirmation port state there opened) = granted-limits (grant-ends port.chain confirmation state)
-
-handle-limits : (event : Happening) (state : State) → (handle event state).state.under_way.limits ≡ state.under_way.limits
-handle-limits event state =
-    by_event (λ outcome. outcome.state.under_way.limits ≡ state.under_way.limits) event state (λ door. refl) (λ outcome. makes-limits)
+use Rattle.agent_model.proofs.TimeKeptLemmas.{keeps_time-handle}
 
 -- ---- events that end nothing
 
@@ -80,7 +30,7 @@ abbrev HasNone : State → Type 0
 HasNone state = state.under_way.limits ≡ no_limits
 
 plain-keeps : (moment : Moment) (event : Happening) (state : State) → HasNone state → HasNone (plain_at moment event state)
-plain-keeps moment event state none = handle-limits event (taken_in moment state) ∙ none
+plain-keeps moment event state none = (keeps_time-handle event (taken_in moment state)).limits ∙ none
 
 step-plain : (moment : Moment) (event : Happening) (state : State) → HasNone state → (step state moment event).state ≡ plain_at moment event state
 step-plain moment event state none =

@@ -15,6 +15,7 @@ use Rattle.agent_model.specs.Step.{admitted, handle, has_room, joined, step}
 use Rattle.agent_model.specs.Time.{at_moment}
 use Rattle.agent_model.specs.Answers.{close_helper, lose}
 use Rattle.agent_model.specs.Verdicts.{HelperLost, Refuses}
+pub use Rattle.agent_model.specs.Runs.{last_after}
 use Rattle.helper_link.specs.HelperLink.{askers}
 use Rattle.helper_link.specs.declared.state.LinkState.TheVariants as states
 use Rattle.agent_model.proofs.LeadLemmas.{Follows, Leads, changes, follows-makes, leads-tell_each, removes, same}
@@ -88,6 +89,10 @@ leads-found number low high old port (changes other f ports keeps doors leads) r
 leads-found number low high old port (removes other ports leads) rising found =
     leads-found number low high old port leads rising (find_port-left number other low high ports port (leads-rising low high old leads rising) found)
 
+-- and the numbers rise up to the last one behind what follows
+pub rising_behind : (old new : State) → Follows old new → IsRising 0 old.last_port old.ports → IsRising 0 new.last_port new.ports
+rising_behind old new follows rising = rw follows.last (leads-rising 0 old.last_port old.ports follows.ports rising)
+
 -- ---- a step
 
 -- what a moment leaves of the ports
@@ -97,6 +102,10 @@ at_moment-follows moment state =
     (λ one s there follows. follows-makes Tick state (overs one s there) follows) record { last = refl; ports = same }
 
 -- what every event but a joining leaves of the ports
+pub handle-follows : (event : Happening) (state : State) → ((door : Door) → event ≡ Joined door → ⊥) → Follows state (handle event state).state
+handle-follows event state other = follows-makes event state (makes-handle event state other) record { last = refl; ports = same }
+
+-- and behind a moment
 step-follows : (state : State) (moment : Moment) (event : Happening) → ((door : Door) → event ≡ Joined door → ⊥) → Follows state (step state moment event).state
 step-follows state moment event other =
     let opened : State = at_moment moment state in
@@ -114,16 +123,6 @@ by_ports : (P : State → Type 0) (event : Happening) (moment : Moment) (state :
 by_ports P event moment state joins keeps holds =
     let opened : State = at_moment moment state in
     handle_ports P event opened (joins opened) (keeps opened) (keeps state opened (at_moment-follows moment state) holds)
-
--- the number of the last port after an event: one more where a port joined
-abbrev pub last_after : Happening → ℕ → ℕ
-last_after (Joined door) last = suc last
-last_after (Heard port piece) last = last
-last_after (Ended port) last = last
-last_after (Took port count) last = last
-last_after (Started job ticket) last = last
-last_after (StartFailed job) last = last
-last_after Tick last = last
 
 -- only a port that joins gets a number
 pub step-last_port : (state : State) (moment : Moment) (event : Happening) → (step state moment event).state.last_port ≡ last_after event state.last_port
@@ -167,7 +166,7 @@ admitted-rising false last door ports rising = rising_higher 0 last (suc last) p
 pub step_keeps-rising : (state : State) (moment : Moment) (event : Happening) → IsNumbered state → IsNumbered (step state moment event).state
 step_keeps-rising state moment event =
     by_ports IsNumbered event moment state (λ s door. admitted-rising (has_room door s.ports s.under_way) s.last_port door s.ports)
-    (λ old new follows rising. rw follows.last (leads-rising 0 old.last_port old.ports follows.ports rising))
+    rising_behind
 
 count-append : (number : ℕ) (door : Door) (ports : List Port) → client_count (ports ++ new_port number door ∷ []) ≤ suc (client_count ports)
 count-append number door [] = grind (arith, nat_tests)

@@ -48,16 +48,8 @@ pub data Serves (read : Result ClientRequest MsgFault) (asker : Asker) (held : K
 
 -- where it is a request to bind, its host key is one that is read
 abbrev IsReadable : ClientRequest → Type 0
-IsReadable ListIdentities = Unit {0}
-IsReadable (Sign signing) = Unit {0}
-IsReadable (Add addition) = Unit {0}
-IsReadable (Remove blob) = Unit {0}
-IsReadable RemoveAll = Unit {0}
-IsReadable (Lock passphrase) = Unit {0}
-IsReadable (Unlock passphrase) = Unit {0}
 IsReadable (Bind bind) = IsOk (public_key_of bind.host_key)
-IsReadable (OtherExtension name) = Unit {0}
-IsReadable (Unsupported number) = Unit {0}
+IsReadable _ = Unit {0}
 
 abbrev AreReadable : Result ClientRequest MsgFault → Type 0
 AreReadable (Ok request) = IsReadable request

@@ -1,6 +1,6 @@
 -- Who waits for the helper, and the asks that are unanswered, where ports change and asks are put and answered.
-use Rattle.std.proofs.Common.{◌≡◌, ◌≢◌, ℕ, ◌+◌, ◌<◌, ◌≤◌, List, [], ◌∷◌, ◌++◌, refl, ap, arith, sym, ◌∙◌, ◌==◌, ◌⊎◌, Option, Some, None, Bool, true, false, cond, inl, inr, if◌then◌else◌}
-use Rattle.std.specs.Option.{option_map}
+use Rattle.std.proofs.Common.{◌≡◌, ◌≢◌, ℕ, suc, ◌+◌, ◌<◌, ◌≤◌, List, [], ◌∷◌, ◌++◌, refl, ap, arith, sym, ◌∙◌, ◌==◌, ◌⊎◌, Option, Some, None, Bool, true, false, cond, inl, inr}
+use Rattle.std.specs.Option.{option_map, option_or}
 use Rattle.std.proofs.lemmas.Bool.{cases_eq}
 use Rattle.std.proofs.lemmas.Bool.Decides.{nat_tests}
 use Rattle.helper_link.specs.Settling as helper
@@ -16,9 +16,11 @@ use Rattle.lists.proofs.KeyedLemmas.{differ, found_above, found_within}
 use Rattle.helper_link.proofs.OrderLemmas.{find-push, find-remove}
 use Rattle.agent_model.specs.Fates.{IsTold}
 use Rattle.agent_model.specs.Sound.{AreTied, IsWaiting}
-use Rattle.agent_model.specs.State.{OnAsk, Port, change_port, find_port, new_port}
+use Rattle.agent_model.specs.State.{OnAsk, Port, change_port, find_port, new_port, number_of}
 use Rattle.agent_model.specs.Verdicts.{Verdict, verdict_waits}
-use Rattle.agent_model.proofs.PortsLemmas.{find_port-apart, find_port-change_port}
+use Rattle.agent_model.proofs.PortsLemmas.{find_port-apart, find_port-change_port, found_number}
+use Rattle.std.proofs.lemmas.List.Folds.{find-append}
+use Rattle.lists.specs.Keyed.{has_key}
 
 -- ---- ports
 
@@ -40,16 +42,23 @@ found_after number at f ports port keeps found = elim (cases_eq number at) [
 
 -- one that is found where one more joined was there, or is that one
 pub found_joined : (number last : ℕ) (door : Door) (ports : List Port) (port : Port) → find_port number (ports ++ new_port last door ∷ []) ≡ Some port → (find_port number ports ≡ Some port) ⊎ (port ≡ new_port last door)
-found_joined number last door [] port found = by_test (last == number) found
+found_joined number last door ports port found =
+    by_found (find_port number ports) (last == number) (sym (find-append (has_key number_of number) ports (new_port last door ∷ [])) ∙ found)
   where
-    by_test : (same : Bool) → (if same then Some (new_port last door) else None) ≡ Some port → (None ≡ Some port) ⊎ (port ≡ new_port last door)
-    by_test true some = let is : new_port last door ≡ port = cc in inr (sym is)
-    by_test false some = absurd (cc)
-found_joined number last door (first ∷ ports) port found = by_test (first.number == number) (found_joined number last door ports port) found
-  where
-    by_test : (same : Bool) → (find_port number (ports ++ new_port last door ∷ []) ≡ Some port → (find_port number ports ≡ Some port) ⊎ (port ≡ new_port last door)) → (if same then Some first else find_port number (ports ++ new_port last door ∷ [])) ≡ Some port → ((if same then Some first else find_port number ports) ≡ Some port) ⊎ (port ≡ new_port last door)
-    by_test true later some = inl some
-    by_test false later some = later some
+    by_found : (was : Option Port) (same : Bool) → option_or was (cond same (Some (new_port last door)) None) ≡ Some port → (was ≡ Some port) ⊎ (port ≡ new_port last door)
+    by_found (Some was) same is = inl is
+    by_found None true is = let new : new_port last door ≡ port = cc in inr (sym new)
+    by_found None false is = absurd (cc)
+
+-- one of a number up to the last was there
+pub found_known : (number last : ℕ) (door : Door) (ports : List Port) (port : Port) → number ≤ last → find_port number (ports ++ new_port (suc last) door ∷ []) ≡ Some port → find_port number ports ≡ Some port
+found_known number last door ports port known found = elim (found_joined number (suc last) door ports port found) [
+  | inl was ↦ was
+  | inr new ↦
+      (let numbered : port.number ≡ number = found_number number _ port found in
+      let is : port.number ≡ suc last = ap (λ (p : Port). p.number) new in
+      absurd (omega (arith, numbered, is, known)))
+]
 
 -- ---- asks
 

@@ -15,12 +15,12 @@ use Rattle.agent_model.proofs.LeadLemmas.{Follows, follows-quiet, same}
 use Rattle.agent_model.proofs.MakeLemmas.{Quiet, alters, closes, goes_on, links, mild-unheard, mild_of, names}
 use Rattle.agent_model.proofs.PortsLemmas.{found_within}
 use Rattle.agent_model.proofs.RaisedLemmas.{Fewer, fewer-changed, fewer-removed, raised-fewer, raised-kept, raised-linked}
-use Rattle.agent_model.proofs.RunLemmas.{leads-found, leads-rising}
+use Rattle.agent_model.proofs.RunLemmas.{leads-found, leads-rising, rising_behind}
 
 -- what follows a tied state is tied, by its asks
 pub assemble : (old new : State) → Follows old new → IsTied old → RiseTo 0 new.under_way.link.asks new.under_way.link.last → AreTied new.ports new.under_way.link.asks → ((ask : ℕ) (one : Ask) → find_ask ask new.under_way.link.asks ≡ Some one → one.asker ≤ old.last_port) → ((number : ℕ) → new.under_way.link.state ≡ states.Linked number → old.under_way.link.state ≡ states.Linked number) → AreRaised new.under_way.confirmations new.under_way.last_job new.ports old.last_port → IsTied new
 assemble old new follows tied order ties askers linked consents = record {
-  rising = rw follows.last (leads-rising 0 old.last_port old.ports follows.ports tied.rising);
+  rising = rising_behind old new follows tied.rising;
   order = order;
   tied = ties;
   askers = λ ask one found. rw follows.last (askers ask one found);

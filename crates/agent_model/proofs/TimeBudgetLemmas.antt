@@ -23,12 +23,12 @@ use Rattle.agent_model.specs.State.{Helper, Port, State, UnderWay, change_port, 
 use Rattle.agent_model.specs.Time.{at_moment, taken_in}
 use Rattle.agent_model.specs.Verdicts.{HelperLost, NotConfirmed, Refuses, Verdict, tell}
 use Rattle.agent_model.proofs.JobLemmas.{IsIn, behind, here, in-above, jobs-remove}
-use Rattle.agent_model.proofs.LeadLemmas.{Follows, follows-makes, same}
+use Rattle.agent_model.proofs.LeadLemmas.{follows-makes, same}
 use Rattle.agent_model.proofs.MakeLemmas.{loses, overs}
 use Rattle.agent_model.proofs.OnTimeLemmas.{removed_one}
 use Rattle.agent_model.proofs.PartBudgetLemmas.{all_lower, all_lower_but, budget-change, budget-remove, budget-removed, by_helper, one_or_none, role-children}
 use Rattle.agent_model.proofs.PortsLemmas.{find_port-apart, find_port-remove_port, find_port-removed_apart, found_number}
-use Rattle.agent_model.proofs.RunLemmas.{leads-rising}
+use Rattle.agent_model.proofs.RunLemmas.{rising_behind}
 use Rattle.agent_model.proofs.TimeLemmas.{time_passes-brings}
 
 -- ---- clients that are told
@@ -145,8 +145,15 @@ owed_same Children port old new helper confirmers links =
     ap (λ r. owed_as r port new) (role-children port.number new ∙ ap (λ b. by_helper b (find_linked port.number new.confirmations)) helper ∙ ap (by_helper linked) confirmers)
     ∙ owed_by_role linked found port old new links ∙ ap (λ r. owed_as r port old) (sym (role-children port.number old))
 
+-- who isn't there
+pub elsewhere : (at : Option ℕ) (number : ℕ) → at ≢ Some number → is_at number at ≡ false
+elsewhere None number other = refl
+elsewhere (Some at) number other =
+    let differs : at ≢ number = λ same. other (ap Some same) in
+    grind (arith, nat_tests)
+
 -- who asks the user at a port goes on, where another confirmation ends
-linked-removed : (number : ℕ) (one : Confirmation) (below last : ℕ) (all : List Confirmation) → JobsRise below all last → IsIn one all → came_to number one ≡ false → find_linked number (remove_job one.job all) ≡ find_linked number all
+pub linked-removed : (number : ℕ) (one : Confirmation) (below last : ℕ) (all : List Confirmation) → JobsRise below all last → IsIn one all → came_to number one ≡ false → find_linked number (remove_job one.job all) ≡ find_linked number all
 linked-removed number one below last all rise (here others) elsewhere =
     let own : (one.job == one.job) ≡ true = grind (arith, nat_tests) in
     ap (λ b. find_linked number (cond b others (one ∷ remove_job one.job others))) own ∙ sym (ap (λ b. cond b (Some one) (find_linked number others)) elsewhere)
@@ -181,32 +188,28 @@ ends_in_turn old mid new one two = record {
 }
 
 -- the helper's port
-abbrev helper_at : LinkState → Option ℕ
+abbrev pub helper_at : LinkState → Option ℕ
 helper_at states.None = None
 helper_at (states.Starting job) = None
 helper_at (states.Linked port) = Some port
 
-helper-closed : (link : LinkState) (ports : List Port) → close_helper link ports ≡ close_confirmer (helper_at link) ports
+pub helper-closed : (link : LinkState) (ports : List Port) → close_helper link ports ≡ close_confirmer (helper_at link) ports
 helper-closed states.None ports = refl
 helper-closed (states.Starting job) ports = refl
 helper-closed (states.Linked port) ports = refl
 
 -- whoever isn't there isn't the helper
-not_helper : (link : LinkState) (number : ℕ) → helper_at link ≢ Some number → is_linked_to number link ≡ false
+pub not_helper : (link : LinkState) (number : ℕ) → helper_at link ≢ Some number → is_linked_to number link ≡ false
 not_helper states.None number other = refl
 not_helper (states.Starting job) number other = refl
 not_helper (states.Linked port) number other =
     let differs : port ≢ number = λ same. other (ap Some same) in
     grind (arith, nat_tests)
 
--- what a change that follows leaves in order
-ordered : (old new : State) → Follows old new → IsRising 0 old.last_port old.ports → IsRising 0 new.last_port new.ports
-ordered old new follows rising = rw follows.last (leads-rising 0 old.last_port old.ports follows.ports rising)
-
 lose_ends : (state : State) → Ends state (lose state).state
 lose_ends state = record {
   steady = λ steady. record {
-    rising = ordered state (lose state).state (follows-makes Tick state (loses state) record { last = refl; ports = same }) steady.rising;
+    rising = rising_behind state (lose state).state (follows-makes Tick state (loses state) record { last = refl; ports = same }) steady.rising;
     order = steady.order;
   };
   most = λ steady.
@@ -243,7 +246,7 @@ lose_ends state = record {
 over_ends : (one : Confirmation) (state : State) → IsIn one state.under_way.confirmations → Ends state (over one state).state
 over_ends one state there = record {
   steady = λ steady. record {
-    rising = ordered state (over one state).state (follows-makes Tick state (overs one state there) record { last = refl; ports = same }) steady.rising;
+    rising = rising_behind state (over one state).state (follows-makes Tick state (overs one state there) record { last = refl; ports = same }) steady.rising;
     order = jobs-remove one.job 0 state.under_way.confirmations state.under_way.last_job steady.order;
   };
   most = λ steady.
@@ -261,12 +264,6 @@ over_ends one state there = record {
 
     new : UnderWay
     new = (over one state).state.under_way
-
-    elsewhere : (at : Option ℕ) (number : ℕ) → at ≢ Some number → is_at number at ≡ false
-    elsewhere None number other = refl
-    elsewhere (Some at) number other =
-        let differs : at ≢ number = λ same. other (ap Some same) in
-        grind (arith, nat_tests)
 
     alike : IsSteady state → (port : Port) → one.port ≢ Some port.number → owed_by_port port new ≡ owed_by_port port old
     alike steady port other =

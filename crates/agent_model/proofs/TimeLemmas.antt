@@ -66,10 +66,6 @@ pub time_passes-makes : (R : State → Outcome → Type 0) (event : Happening) (
 time_passes-makes R event moment state makes join =
     time_passes-brings R moment state (λ s. makes s (stay s) (stays s)) (λ s. makes s (lose s) (loses s)) (λ one s there. makes s (over one s) (overs one s there)) join
 
--- an event behind its moment
-pub step-brings : (R : State → Outcome → Type 0) (moment : Moment) (state : State) (event : Happening) → ((s : State) (first later : Outcome) → R s first → R first.state later → R s (behind first later)) → R (taken_in moment state) (time_passes moment state) → R (at_moment moment state) (handle event (at_moment moment state)) → R (taken_in moment state) (and_then (time_passes moment state) (handle event))
-step-brings R moment state event join time happens = join (taken_in moment state) (time_passes moment state) (handle event (at_moment moment state)) time happens
-
 -- ---- its actions, and what it puts
 
 -- the loss of the helper, or the end of a confirmation

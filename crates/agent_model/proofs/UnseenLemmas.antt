@@ -2,7 +2,7 @@
 use Rattle.std.proofs.Common.{◌≡◌, ◌≢◌, ℕ, List, [], ◌∷◌, ◌++◌, map, filter, refl, ap, sym, subst, ◌∙◌, Option, Some, None, Bool, true, false, cond, Ok}
 use Rattle.std.specs.Str.{bytes_eq}
 use Rattle.std.proofs.lemmas.Slice.Eq.{bytes_eq-Decides}
-use Rattle.identity_table.specs.Identities.{HeldKey, find_identity}
+use Rattle.identity_table.specs.Identities.{HeldKey, find_identity, has_blob}
 use Rattle.agent_msg.specs.Requests.{Addition, ClientRequest, Signing, ListIdentities, Sign, Add, Remove, RemoveAll, Lock, Unlock, Bind, OtherExtension, Unsupported}
 use Rattle.constraint_rec.specs.declared.constraint.Constraint.{Constraint}
 use Rattle.dest_rule.specs.Rules.{denial, denial_under, visible}
@@ -15,28 +15,21 @@ use Rattle.agent_model.specs.KeyStates.{KeyState, shown}
 use Rattle.agent_model.specs.State.{UnderWay}
 use Rattle.agent_model.specs.Unseen.{IsSameReply}
 use Rattle.agent_model.specs.Verdicts.{Cause, Identities, Refuses, Replies, verdict_text}
+use Rattle.std.specs.Option.{option_or}
+use Rattle.std.proofs.lemmas.List.Folds.{find-append}
 
 -- ---- lists of keys
 
-abbrev pub either : Option HeldKey → Option HeldKey → Option HeldKey
-either None later = later
-either (Some key) later = Some key
-
 -- what comes first is found
-pub find_identity-append : (blob : List ℕ) (some more : List HeldKey) → find_identity blob (some ++ more) ≡ either (find_identity blob some) (find_identity blob more)
+find_identity-append : (blob : List ℕ) (some more : List HeldKey) → find_identity blob (some ++ more) ≡ option_or (find_identity blob some) (find_identity blob more)
 unfolding find_identity
-find_identity-append blob [] more = refl
-find_identity-append blob (key ∷ some) more = by_test (bytes_eq key.blob blob) (find_identity-append blob some more)
-  where
-    by_test : (same : Bool) → find_identity blob (some ++ more) ≡ either (find_identity blob some) (find_identity blob more) → cond same (Some key) (find_identity blob (some ++ more)) ≡ either (cond same (Some key) (find_identity blob some)) (find_identity blob more)
-    by_test true rest = refl
-    by_test false rest = rest
+find_identity-append blob some more = find-append (has_blob blob) some more
 
 pub find_identity-cons : (blob : List ℕ) (key : HeldKey) (keys : List HeldKey) → find_identity blob (key ∷ keys) ≡ cond (bytes_eq key.blob blob) (Some key) (find_identity blob keys)
 unfolding find_identity
 find_identity-cons blob key keys = refl
 
-neither : (one two : Option HeldKey) → either one two ≡ None → (one ≡ None) × (two ≡ None)
+neither : (one two : Option HeldKey) → option_or one two ≡ None → (one ≡ None) × (two ≡ None)
 neither None two is = (refl, is)
 neither (Some key) two is = absurd (cc)
 
@@ -46,17 +39,17 @@ pub data Finds (blob : List ℕ) (key : HeldKey) : (with without : Option HeldKe
   same : (found : Option HeldKey) → Finds blob key found found
 
 module _ (key : HeldKey) (before after : List HeldKey) (alone : find_identity key.blob (before ++ after) ≡ None) where
-  found_with : (blob : List ℕ) → find_identity blob (before ++ key ∷ after) ≡ either (find_identity blob before) (cond (bytes_eq key.blob blob) (Some key) (find_identity blob after))
-  found_with blob = find_identity-append blob before (key ∷ after) ∙ ap (either (find_identity blob before)) (find_identity-cons blob key after)
+  found_with : (blob : List ℕ) → find_identity blob (before ++ key ∷ after) ≡ option_or (find_identity blob before) (cond (bytes_eq key.blob blob) (Some key) (find_identity blob after))
+  found_with blob = find_identity-append blob before (key ∷ after) ∙ ap (option_or (find_identity blob before)) (find_identity-cons blob key after)
 
-  finds-by : (blob : List ℕ) (equal : Bool) → bytes_eq key.blob blob ≡ equal → Finds blob key (either (find_identity blob before) (cond equal (Some key) (find_identity blob after))) (either (find_identity blob before) (find_identity blob after))
+  finds-by : (blob : List ℕ) (equal : Bool) → bytes_eq key.blob blob ≡ equal → Finds blob key (option_or (find_identity blob before) (cond equal (Some key) (find_identity blob after))) (option_or (find_identity blob before) (find_identity blob after))
   finds-by blob true is =
-      let none : either (find_identity blob before) (find_identity blob after) ≡ None =
+      let none : option_or (find_identity blob before) (find_identity blob after) ≡ None =
       sym (find_identity-append blob before after) ∙ ap (λ b. find_identity b (before ++ after)) (sym ((bytes_eq-Decides key.blob blob).0 is)) ∙ alone in
       let both = neither (find_identity blob before) (find_identity blob after) none in
-      subst (λ first. Finds blob key (either first (Some key)) (either first (find_identity blob after))) (sym both.0)
+      subst (λ first. Finds blob key (option_or first (Some key)) (option_or first (find_identity blob after))) (sym both.0)
       (subst (λ second. Finds blob key (Some key) second) (sym both.1) this)
-  finds-by blob false is = same (either (find_identity blob before) (find_identity blob after))
+  finds-by blob false is = same (option_or (find_identity blob before) (find_identity blob after))
 
   pub finds : (blob : List ℕ) → Finds blob key (find_identity blob (before ++ key ∷ after)) (find_identity blob (before ++ after))
   finds blob =
@@ -76,7 +69,7 @@ unfolding visible
 seen_always chain attempted wall is = absurd (cc)
 
 -- what isn't seen isn't signed with
-unseen-denied : (rules : List Constraint) (blob : List ℕ) (chain : List Binding) (message : List ℕ) (wall : ℕ) (attempted : Bool) → visible rules chain attempted wall ≡ false → denial_under rules blob chain message wall ≢ None
+pub unseen-denied : (rules : List Constraint) (blob : List ℕ) (chain : List Binding) (message : List ℕ) (wall : ℕ) (attempted : Bool) → visible rules chain attempted wall ≡ false → denial_under rules blob chain message wall ≢ None
 unseen-denied [] blob chain message wall attempted unseen none = absurd (seen_always chain attempted wall unseen)
 unseen-denied (rule ∷ rules) blob chain message wall attempted unseen none =
     let seen : visible (rule ∷ rules) chain attempted wall ≡ true = signed_is_visible (rule ∷ rules) blob chain message wall attempted none in
@@ -88,7 +81,7 @@ pub same_work : (work : Work) → IsSameReply work work
 same_work work = record { text = refl; waits = refl; under_way = refl; put = refl }
 
 -- two failures are told alike
-both_fail : (one two : Cause) (under_way : UnderWay) → IsSameReply (settles (Refuses one) under_way) (settles (Refuses two) under_way)
+pub both_fail : (one two : Cause) (under_way : UnderWay) → IsSameReply (settles (Refuses one) under_way) (settles (Refuses two) under_way)
 both_fail one two under_way = record { text = refl; waits = refl; under_way = refl; put = refl }
 
 module _ (asker : Asker) (key : HeldKey) (before after : List HeldKey) (held : KeyState) (under_way : UnderWay) (unseen : sees asker key ≡ false) (alone : find_identity key.blob (before ++ after) ≡ None) where

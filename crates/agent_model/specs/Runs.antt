@@ -1,11 +1,21 @@
 -- Events one after another, each at its moment (ours).
-use Rattle.std.specs.Prelude.{◌≡◌, ◌^◌, ◌<◌, length, List, [], ◌∷◌, ◌++◌, map}
+use Rattle.std.specs.Prelude.{◌≡◌, ℕ, suc, ◌^◌, ◌<◌, length, List, [], ◌∷◌, ◌++◌, map}
 use Rattle.world_ports.specs.declared.Moment.{Moment}
 use Rattle.wire_text.specs.Wire.{IsBytes}
 use Rattle.agent_model.specs.Events.{Happening, Timed, Joined, Heard, Ended, Took, Started, StartFailed, Tick}
 use Rattle.agent_model.specs.Actions.{Action, Outcome}
 use Rattle.agent_model.specs.State.{Fits, State}
 use Rattle.agent_model.specs.Step.{step}
+
+-- the number of the last port after an event: one more where a port joined
+abbrev pub last_after : Happening → ℕ → ℕ
+last_after (Joined door) last = suc last
+last_after (Heard port piece) last = last
+last_after (Ended port) last = last
+last_after (Took port count) last = last
+last_after (Started job ticket) last = last
+last_after (StartFailed job) last = last
+last_after Tick last = last
 
 -- the state that these events lead to, the first one first
 abbrev pub run : State → List Timed → State

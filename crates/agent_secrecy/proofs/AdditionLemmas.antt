@@ -105,16 +105,8 @@ alive second keys held = All-filter (λ (key : HeldKey). lives_at second key.dea
 -- ---- requests that are read
 
 abbrev pub Adds : ClientRequest → Type 0
-Adds ListIdentities = Unit {0}
-Adds (Sign signing) = Unit {0}
 Adds (Add addition) = IsAddedKey addition.key
-Adds (Remove blob) = Unit {0}
-Adds RemoveAll = Unit {0}
-Adds (Lock passphrase) = Unit {0}
-Adds (Unlock passphrase) = Unit {0}
-Adds (Bind bind) = Unit {0}
-Adds (OtherExtension name) = Unit {0}
-Adds (Unsupported number) = Unit {0}
+Adds _ = Unit {0}
 
 abbrev pub AddsWhereRead : Result ClientRequest MsgFault → Type 0
 AddsWhereRead (Ok request) = Adds request

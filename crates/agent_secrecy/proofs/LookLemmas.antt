@@ -30,6 +30,24 @@ use Rattle.agent_secrecy.proofs.StreamLemmas.{AreAlikeFronts, both_bad, both_mor
 abbrev pub blanked : ℕ → List ℕ → List ℕ
 blanked number bytes = blank bytes
 
+-- what comes of a request that was served, in a state without secrets
+abbrev pub concluded_seen : ℕ → SeenServed → State → Seen
+concluded_seen number served state = record {
+  state = record state {
+    held = served.held;
+    under_way = served.work.under_way;
+    ports = change_port number (tell served.work.verdict) state.ports;
+  };
+  put = served.work.put;
+  closes = [];
+}
+
+-- the same, of what isn't secret alone
+abbrev pub taken_of : ℕ → Result ClientRequest MsgFault → Bool → Port → State → Seen
+taken_of body_len read attempt port state =
+    concluded_seen port.number (served_bare (serve read (asker_at state.moment port) state.held state.under_way))
+    (changed port.number (take_frame body_len attempt) state)
+
 module _ (keeps : (bytes : List ℕ) → length (hidden bytes) ≡ length bytes) where
   abbrev pub without_secrets : State → State
   without_secrets state = hide_state hidden blanked state
@@ -48,28 +66,10 @@ module _ (keeps : (bytes : List ℕ) → length (hidden bytes) ≡ length bytes)
   take_frame-hidden body_len attempt port =
       ap (λ bytes. let p : Port = record port { heard = bytes; attempted = port.attempted || attempt } in p) (frame_by port.door port.number (4 + body_len) port.heard)
 
-  -- what comes of a request that was served, in a state without secrets
-  abbrev concluded_seen : ℕ → SeenServed → State → Seen
-  concluded_seen number served state = record {
-    state = record state {
-      held = served.held;
-      under_way = served.work.under_way;
-      ports = change_port number (tell served.work.verdict) state.ports;
-    };
-    put = served.work.put;
-    closes = [];
-  }
-
   concluded-seen : (number : ℕ) (body : List ℕ) (served : Served) (state : State) → seen_of (concluded number body served state) ≡ concluded_seen number (served_seen hidden served) (without_secrets state)
   concluded-seen number body served state =
       ap (λ ports. let new : Seen = record (seen_of (concluded number body served state)) { state = record (without_secrets (concluded number body served state).state) { ports = ports } } in new)
       (sym (tell-hidden blanked number served.work.verdict state.ports))
-
-  -- the same, of what isn't secret alone
-  abbrev taken_of : ℕ → Result ClientRequest MsgFault → Bool → Port → State → Seen
-  taken_of body_len read attempt port state =
-      concluded_seen port.number (served_bare (serve read (asker_at state.moment port) state.held state.under_way))
-      (changed port.number (take_frame body_len attempt) state)
 
   taken-seen : (body_len : ℕ) (body : List ℕ) (port : Port) (state : State) → seen_of (taken body_len body port state) ≡ taken_of body_len (hide_read hidden (agent_request_of body)) (attempts state.held.lock body) (hide_port blanked port) (without_secrets state)
   taken-seen body_len body port state =

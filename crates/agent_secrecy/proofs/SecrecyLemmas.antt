@@ -1,6 +1,6 @@
 -- Alike lists of events, from the first state on.
-use Rattle.std.proofs.Common.{◌≡◌, ℕ, ◌<◌, ◌≤◌, List, [], ◌∷◌, ◌++◌, length, refl, sym, ap, subst, ◌∙◌, arith, cond, Option, Some, None}
-use Rattle.std.specs.Prelude.{IsSome, nat_lt}
+use Rattle.std.proofs.Common.{◌≡◌, ℕ, ◌<◌, ◌≤◌, List, [], ◌∷◌, ◌++◌, length, refl, sym, ap, subst, ◌∙◌, arith, Option, Some, None}
+use Rattle.std.specs.Prelude.{IsSome}
 use Rattle.std.proofs.lemmas.List.{map-append}
 use Rattle.identity_table.specs.Deaths.{earlier}
 use Rattle.agent_model.specs.NumberLists.{put_all}
@@ -15,10 +15,10 @@ use Rattle.agent_model.specs.State.{Fits, Port, Settings, State, UnderWay, clien
 use Rattle.agent_model.specs.Step.{handle, in_order, step}
 use Rattle.agent_model.specs.Time.{at_moment, time_passes}
 use Rattle.agent_model.proofs.PortsLemmas.{found_within}
-use Rattle.agent_model.proofs.RunLemmas.{first_is_sound}
+use Rattle.agent_model.proofs.RunLemmas.{first_is_sound, at_moment-follows, last_after-le, step-last_port}
 use Rattle.agent_secrecy.specs.Secrets.{hidden}
-use Rattle.agent_secrecy.specs.Hiding.{Seen, hide_message, hide_port, hide_ports}
-use Rattle.agent_secrecy.specs.Alike.{AreAlike, AreAlikeStreams, AreOfOneShape, JoinThrough, JoinsThrough, heard_in, last_after, stream_of}
+use Rattle.agent_secrecy.specs.Hiding.{Seen, hide_message, hide_port}
+use Rattle.agent_secrecy.specs.Alike.{AreAlike, AreAlikeStreams, AreOfOneShape, JoinThrough, JoinsThrough, heard_in, stream_of}
 use Rattle.agent_secrecy.specs.Secrecy.{AreAlikeSeen, IsAlikeSeen}
 use Rattle.agent_secrecy.proofs.BlankLemmas.{length-blank}
 use Rattle.agent_secrecy.proofs.TableLemmas.{length-hidden, next_death-hidden}
@@ -30,34 +30,8 @@ use Rattle.agent_secrecy.proofs.LookLemmas.{blanked}
 use Rattle.agent_secrecy.proofs.StreamLemmas.{AreAlikeFronts, alike_fronts, both_bad, both_more, both_whole}
 use Rattle.wire_text.specs.Frames.{Front, front}
 use Rattle.wire_text.specs.Bounds.{longest_body}
-use Rattle.agent_secrecy.proofs.TrackLemmas.{follows, follows-moment, tracked-moment, tracked-step, was_at_moment}
+use Rattle.agent_secrecy.proofs.TrackLemmas.{tracked-moment, tracked-step, was_at_moment}
 use Rattle.agent_secrecy.proofs.RunLemmas.{ArePair, Tracks, handle-after, heard_lengths, no_piece, pair, pair_of, pieces, same_event, seen_of, without_secrets}
-
--- ---- the number of the last port
-
-quiet-last : (event : Happening) (state : State) → ((d : Door) → event ≡ Joined d → ⊥) → (handle event state).state.last_port ≡ state.last_port
-quiet-last event state other = (follows event state other).last
-
-last-handle : (event : Happening) (state : State) → (handle event state).state.last_port ≡ last_after state.last_port event
-last-handle (Joined through) state = refl
-last-handle (Heard port piece) state = quiet-last (Heard port piece) state (λ d is. absurd (cc))
-last-handle (Ended port) state = quiet-last (Ended port) state (λ d is. absurd (cc))
-last-handle (Took port count) state = quiet-last (Took port count) state (λ d is. absurd (cc))
-last-handle (Started job ticket) state = quiet-last (Started job ticket) state (λ d is. absurd (cc))
-last-handle (StartFailed job) state = quiet-last (StartFailed job) state (λ d is. absurd (cc))
-last-handle Tick state = quiet-last Tick state (λ d is. absurd (cc))
-
-last-step : (state : State) (moment : Moment) (event : Happening) → (step state moment event).state.last_port ≡ last_after state.last_port event
-last-step state moment event = last-handle event (at_moment moment state) ∙ ap (λ last. last_after last event) (follows-moment moment state).last
-
-last-grows : (last : ℕ) (event : Happening) → last ≤ last_after last event
-last-grows last (Joined through) = omega arith
-last-grows last (Heard port piece) = omega arith
-last-grows last (Ended port) = omega arith
-last-grows last (Took port count) = omega arith
-last-grows last (Started job ticket) = omega arith
-last-grows last (StartFailed job) = omega arith
-last-grows last Tick = omega arith
 
 -- ---- nothing is heard of a port that hasn't joined
 
@@ -103,7 +77,7 @@ module _ (door : ℕ → Door) (f g : ℕ → List ℕ) where
         subst (λ bytes. AreAlikeStreams (bytes ++ f number) (q.heard ++ g number)) (sym (moment_keeps length-hidden_bytes moment s number p was.0 tracks.one.sound.rising at_p (was.2 ∙ was_client) was.1))
         (subst (λ bytes. AreAlikeStreams (was.0.heard ++ f number) (bytes ++ g number)) (sym (moment_keeps length-hidden_bytes moment t number q other_was.0 tracks.other.sound.rising at_q (other_was.2 ∙ other_client) other_was.1))
         (tracks.streams number was.0 other_was.0 was.1 other_was.1 client));
-    later = λ number above client. tracks.later number (subst (λ last. last < number) (follows-moment moment s).last above) client;
+    later = λ number above client. tracks.later number (subst (λ last. last < number) (at_moment-follows moment s).last above) client;
   }
 
 -- what is seen of what a moment brings
@@ -146,7 +120,7 @@ stepped door f g s t moment one other both fits joins tracks =
         other = tracked-step door t moment other (subst (λ last. JoinsThrough door last other) same_last (joins_other door one other s.last_port both joins)) tracks.other;
         streams = after.streams;
         later = λ number above client.
-            let grows : s.last_port < number = omega (arith, above, last-step s moment one, last-grows s.last_port one) in
+            let grows : s.last_port < number = omega (arith, above, step-last_port s moment one, last_after-le one s.last_port) in
             subst (λ bytes. AreAlikeStreams (bytes ++ f number) (g number)) (unheard one s number tracks.one.sound fits grows)
             (subst (λ bytes. AreAlikeStreams (to_come one f number) (bytes ++ g number)) (unheard_other door one other s number both tracks.one.sound fits grows)
             (tracks.later number grows client));
@@ -155,7 +129,7 @@ stepped door f g s t moment one other both fits joins tracks =
 
 -- ---- what is seen of it
 
-owed_at_client : (port : Port) (under_way : UnderWay) → port.door ≡ Clients → owed_by (Some port) under_way ≡ port.owed
+pub owed_at_client : (port : Port) (under_way : UnderWay) → port.door ≡ Clients → owed_by (Some port) under_way ≡ port.owed
 owed_at_client port under_way client = ap (λ d. owed_as (role_of d port.number under_way) port under_way) client
 
 -- a client is to be read in both
@@ -223,7 +197,7 @@ runs door (one ∷ ones) (other ∷ others) s t shapes joins fit tracks =
     (let both = pair door one.event other.event shapes.1 in
     let next = stepped door (λ number. stream_of number ones) (λ number. stream_of number others) s t one.moment one.event other.event both fit.0 joins.0 tracks in
     let later_joins : JoinThrough door (step s one.moment one.event).state.last_port ones =
-    subst (λ last. JoinThrough door last ones) (sym (last-step s one.moment one.event)) joins.1 in (
+    subst (λ last. JoinThrough door last ones) (sym (step-last_port s one.moment one.event)) joins.1 in (
       seen-alike (step s one.moment one.event) (step t one.moment other.event) next.seen
           (λ number. wants-by door (λ number. stream_of number ones) (λ number. stream_of number others) (step s one.moment one.event).state (step t one.moment other.event).state number _ _ next.tracks refl refl),
       runs door ones others (step s one.moment one.event).state (step t one.moment other.event).state shapes.2 later_joins fit.1 next.tracks,

@@ -7,6 +7,7 @@ use Rattle.key_blob.specs.declared.added.AddedKey.{AddedKey}
 use Rattle.agent_model.specs.Events.{Happening, Timed, Joined, Heard, Ended, Took, Started, StartFailed, Tick}
 use Rattle.wire_text.specs.Bounds.{longest_body}
 use Rattle.agent_secrecy.specs.Secrets.{AreAlikeKeys, blank}
+use Rattle.agent_model.specs.Runs.{last_after}
 
 -- ---- bodies
 
@@ -85,20 +86,10 @@ JoinsThrough door last (Started job ticket) = Unit {0}
 JoinsThrough door last (StartFailed job) = Unit {0}
 JoinsThrough door last Tick = Unit {0}
 
--- the number of the last port that joined, after an event
-abbrev pub last_after : ℕ → Happening → ℕ
-last_after last (Joined through) = suc last
-last_after last (Heard port piece) = last
-last_after last (Ended port) = last
-last_after last (Took port count) = last
-last_after last (Started job ticket) = last
-last_after last (StartFailed job) = last
-last_after last Tick = last
-
 abbrev pub JoinThrough : (ℕ → Door) → ℕ → List Timed → Type 0
 JoinThrough door last [] = Unit {0}
 JoinThrough door last (timed ∷ later) =
-    JoinsThrough door last timed.event × JoinThrough door (last_after last timed.event) later
+    JoinsThrough door last timed.event × JoinThrough door (last_after timed.event last) later
 
 -- the same moments and events in the same order, but for the bytes of clients, in pieces of equal lengths
 abbrev pub AreOfOneShape : (ℕ → Door) → List Timed → List Timed → Type 0

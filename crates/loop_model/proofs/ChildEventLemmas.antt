@@ -1,6 +1,5 @@
 -- What each event leaves of the child processes that were owed bytes.
-use Rattle.std.proofs.Common.{◌≡◌, ◌≢◌, ℕ, Bool, true, false, List, [], ◌∷◌, ◌++◌, Option, Some, None, Result, Ok, Err, is_some, refl, sym, ap, ◌∙◌}
-use Rattle.std.specs.List.{find}
+use Rattle.std.proofs.Common.{◌≡◌, ◌≢◌, ℕ, Bool, true, false, List, ◌++◌, Option, Some, None, Result, Ok, Err, is_some, refl, sym, ap, ◌∙◌}
 use Rattle.std.specs.Option.{option_map}
 use Rattle.std.specs.Str.{bytes_eq}
 use Rattle.lists.proofs.KeyedLemmas.{find_by-change, found_key}
@@ -17,12 +16,12 @@ use Rattle.confirm_desk.specs.Confirmations as desk
 use Rattle.confirm_desk.specs.Confirmations.{Confirmation, change_job, consent, find_asker, find_job, find_linked, linked, linked_at}
 use Rattle.helper_link.specs.declared.state.LinkState.TheVariants as states
 use Rattle.agent_model.specs.Children.{changed, closed, confirmer_named, failed_by, failed_if, first_frame, first_message, heard_more, hello_by, helper_named, is_started_by, job_left, job_started, named_by, ticket_by, unheard}
-use Rattle.agent_model.specs.Consents.{find_started, over_if, started_number}
+use Rattle.agent_model.specs.Consents.{find_started, started_number}
 use Rattle.agent_model.specs.Events.{Ended, Happening, Heard, Joined, StartFailed, Started, Tick, Took}
 use Rattle.agent_model.specs.State.{Client, Confirmer, Helper, Port, Role, StartedJob, State, UnderWay, Unnamed, find_port, find_to_start, job_number, role_of}
 use Rattle.agent_model.specs.Step.{ended_at, ended_by_role, handle, heard_at, heard_by_role, helper_took, took_at, took_by_role, took_some}
-use Rattle.agent_model.specs.Time.{all_over, at_moment, is_helper_late, is_late, lose_late, taken_in}
-use Rattle.agent_model.proofs.JobLemmas.{in-by_asker, in-by_port, in-found, in-found_by, linked_port}
+use Rattle.agent_model.specs.Time.{at_moment, taken_in}
+use Rattle.agent_model.proofs.JobLemmas.{in-by_asker, in-by_port, in-found, linked_port}
 use Rattle.agent_model.proofs.LeadLemmas.{changes, same}
 use Rattle.agent_model.proofs.MakeLemmas.{role-confirmer, role-free, role-helper, role-other}
 use Rattle.agent_model.proofs.PortsLemmas.{found_number}
@@ -30,6 +29,7 @@ use Rattle.loop_model.specs.Orderly.{IsStaffed}
 use Rattle.loop_model.proofs.ChildLemmas.{Keeps, Owes, answered_owes, by_desk, by_link, keeps-changed, keeps-closed, keeps-consent, keeps-goes_on, keeps-helper_heard, keeps-look, keeps-lose, keeps-lose_where, keeps-over, keeps-over_if, linked_owes, named_owes}
 use Rattle.loop_model.proofs.OpenLemmas.{leads-open, leads-rising, linked-elsewhere}
 use Rattle.loop_model.proofs.StaffLemmas.{awaited, not_linked, staffed-changed, staffed-helper, staffed-left, staffed-linked, staffed-started}
+use Rattle.agent_model.proofs.TimeLemmas.{at_moment-keeps}
 
 module _ (number high : ℕ) where
   -- whose child process came to this port
@@ -321,21 +321,9 @@ module _ (number high : ℕ) where
         answered_owes number high state.under_way (taken_in moment state).under_way (keeps.owes opened) refl refl refl;
   }
 
-  keeps-all_over : (ones : List Confirmation) (state : State) → Keeps number high state
-      → Keeps number high (all_over ones state).state
-  keeps-all_over [] state keeps = keeps
-  keeps-all_over (one ∷ ones) state keeps =
-      let found = find (is_late state.under_way) state.under_way.confirmations in
-      keeps-all_over ones (over_if found state).state
-      (keeps-over_if number high found state
-      (λ late is.
-      in-found late 0 state.under_way.last_job keeps.staffed.jobs.order
-      (in-found_by (is_late state.under_way) state.under_way.confirmations late is)) keeps)
-
   pub keeps-moment : (moment : Moment) (state : State) → Keeps number high state
       → Keeps number high (at_moment moment state)
   keeps-moment moment state keeps =
-      let begun = taken_in moment state in
-      let left = (lose_late begun).state in
-      keeps-all_over left.under_way.confirmations left
-      (keeps-lose_where number high (is_helper_late begun.under_way) begun (keeps-taken_in moment state keeps))
+      at_moment-keeps (Keeps number high) moment state (keeps-lose number high)
+      (λ one s there kept. keeps-over number high one s (in-found one 0 s.under_way.last_job kept.staffed.jobs.order there) kept)
+      (keeps-taken_in moment state keeps)

@@ -1,7 +1,5 @@
 -- The ports that an event closed, and what is open after it.
-use Rattle.std.proofs.Common.{◌≡◌, ◌∙◌, ℕ, Bool, true, false, List, [], ◌∷◌, ◌++◌, refl, sym, ap, not, ◌&&◌, ◌||◌, ◌==◌, if◌then◌else◌, arith}
-use Rattle.std.specs.Prelude.{is_some}
-use Rattle.std.proofs.lemmas.Bool.Decides.{nat_tests}
+use Rattle.std.proofs.Common.{◌≡◌, ◌∙◌, ℕ, Bool, true, false, List, [], ◌∷◌, ◌++◌, refl, sym, ap, not, ◌&&◌, ◌||◌, ◌==◌, if◌then◌else◌}
 use Rattle.std.proofs.lemmas.Bool.{eqb-true}
 use Rattle.lists.specs.Rising.{is_among}
 use Rattle.world_ports.specs.declared.events.Moment.{Moment}
@@ -9,17 +7,10 @@ use Rattle.agent_model.specs.Closings.{joined_between}
 use Rattle.agent_model.specs.Events.{Happening}
 use Rattle.agent_model.specs.NumberLists.{without}
 use Rattle.agent_model.specs.Sound.{IsRising}
-use Rattle.agent_model.specs.State.{Port, State, find_port, is_open, numbers}
+use Rattle.agent_model.specs.State.{State, is_open, numbers}
 use Rattle.agent_model.specs.Step.{step}
-use Rattle.agent_model.proofs.ClosesLemmas.{closes-closed}
+use Rattle.agent_model.proofs.ClosesLemmas.{closes-closed, is_among-open}
 use Rattle.loop_model.proofs.TestLemmas.{and_both, not_true, or_assoc, or_left}
-
--- an open port's number is among the numbers
-is_among-open : (number : ℕ) (ports : List Port) → is_among number (numbers ports) ≡ is_some (find_port number ports)
-is_among-open number [] = refl
-is_among-open number (port ∷ ports) =
-    let rest : is_among number (numbers ports) ≡ is_some (find_port number ports) = is_among-open number ports in
-    grind (arith, nat_tests)
 
 among-append : (number : ℕ) (first later : List ℕ)
     → is_among number (first ++ later) ≡ (is_among number first || is_among number later)

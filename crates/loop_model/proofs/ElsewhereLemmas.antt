@@ -20,8 +20,9 @@ use Rattle.agent_model.specs.Verdicts.{Verdict, tell}
 use Rattle.agent_model.proofs.JobLemmas.{asker_own}
 use Rattle.agent_model.proofs.PortsLemmas.{find_port-apart, find_port-change_port, find_port-left, find_port-remove_port, find_port-removed_apart}
 use Rattle.loop_model.specs.Elsewhere.{ends_waits, is_clients, is_of, tells_others}
-use Rattle.loop_model.proofs.MomentLemmas.{last-moment, quiet-moment, rising-moment}
+use Rattle.loop_model.proofs.MomentLemmas.{quiet-moment, rising-moment}
 use Rattle.loop_model.proofs.SparedLemmas.{KeepsNumber, Spares, alters, apart_from, quiet, removes, same, spared-ended, spared-failed, spared-heard, spared-heard_client, spared-moment, spared-took, spares-close_confirmer, spares-rising}
+use Rattle.agent_model.proofs.RunLemmas.{at_moment-follows}
 
 -- one more that joins leaves the others
 find-joined : (port last : ℕ) (door : Door) (ports : List Port) → port ≢ last
@@ -122,7 +123,7 @@ wanted_before state moment event port rising other wanted =
     wants-spared port 0 state.last_port state.ports
     (spared-moment IsSilent port state.ports silent-tell silent-prove moment state same) rising
     (wanted_by event (at_moment moment state) port (rising-moment moment state rising)
-    (ap (λ n. is_of event n port) (last-moment moment state) ∙ other) wanted)
+    (ap (λ n. is_of event n port) (at_moment-follows moment state).last ∙ other) wanted)
 
 -- ---- what clients are owed
 

@@ -81,11 +81,11 @@ last_by false true state thing line stand able both = let no : false ≡ true = 
 last_by false false state thing line stand able both = sym (append-nil line.queue)
 
 -- what can be served stands
-open_wants : (found : Option Port) → wants_by found ≡ true → is_some found ≡ true
+pub open_wants : (found : Option Port) → wants_by found ≡ true → is_some found ≡ true
 open_wants None able = absurd (cc)
 open_wants (Some at) able = refl
 
-open_owed : (found : Option Port) (u : UnderWay) → is_some_bytes (owed_by found u) ≡ true → is_some found ≡ true
+pub open_owed : (found : Option Port) (u : UnderWay) → is_some_bytes (owed_by found u) ≡ true → is_some found ≡ true
 open_owed None u able = absurd (cc)
 open_owed (Some at) u able = refl
 

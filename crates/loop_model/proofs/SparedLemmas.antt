@@ -1,7 +1,6 @@
 -- What events do to the ports other than their own.
 use Rattle.std.proofs.Common.{◌≡◌, ◌≢◌, ◌==◌, ℕ, List, [], ◌∷◌, ◌++◌, refl, arith, sym, Option, Some, None, Result, Ok, Err, Bool, true, false, ◌∙◌}
 use Rattle.std.proofs.lemmas.Bool.Decides.{nat_tests}
-use Rattle.std.specs.List.{find}
 use Rattle.std.specs.Str.{bytes_eq}
 use Rattle.world_ports.specs.declared.events.Job.{Job}
 use Rattle.world_ports.specs.declared.events.JobKind.{JobKind}
@@ -27,9 +26,10 @@ use Rattle.wire_text.specs.Bounds.{longest_body}
 use Rattle.agent_model.specs.Sound.{IsRising}
 use Rattle.agent_model.specs.State.{Client, Confirmer, Helper, Nothing, OnAsk, OnConfirmation, Port, Role, StartedJob, State, Unnamed, Verification, Waits, change_port, find_port, remove_port, role_of}
 use Rattle.agent_model.specs.Step.{ended_at, ended_by_role, heard_at, heard_by_role, look_front, look_owed, look_port, look_waits, took_at, took_by_role, took_some}
-use Rattle.agent_model.specs.Time.{all_over, at_moment, is_helper_late, is_late, lose_late, taken_in}
+use Rattle.agent_model.specs.Time.{at_moment}
 use Rattle.agent_model.specs.Verdicts.{HelperLost, HelperRefused, NotConfirmed, Refuses, Replies, Signature, SignatureWrong, Success, Verdict, tell}
 use Rattle.agent_model.proofs.PortsLemmas.{found_number, rising-change_port, rising-remove_port}
+use Rattle.agent_model.proofs.TimeLemmas.{at_moment-keeps}
 
 -- a change leaves a port's number
 abbrev pub KeepsNumber : (Port → Port) → Type 0
@@ -206,18 +206,9 @@ module _ (IsQuiet : (Port → Port) → Type 0) (port : ℕ) (start : List Port)
 
       -- what a moment ends
 
-      spared-all_over : (ones : List Confirmation) (state : State) → Spared state → Spared (all_over ones state).state
-      spared-all_over [] state spared = spared
-      spared-all_over (one ∷ ones) state spared =
-          let found = find (is_late state.under_way) state.under_way.confirmations in
-          spared-all_over ones (over_if found state).state (spared-over_if found state spared)
-
       pub spared-moment : (moment : Moment) (state : State) → Spared state → Spared (at_moment moment state)
       spared-moment moment state spared =
-          let begun = taken_in moment state in
-          let left = (lose_late begun).state in
-          spared-all_over left.under_way.confirmations left
-          (spared-lose_where (is_helper_late begun.under_way) begun spared)
+          at_moment-keeps Spared moment state spared-lose (λ one s there. spared-over one s) spared
 
       spared-grant : (found : Option Port) (confirmation : Confirmation) (state : State) → Spared state
           → Spared (grant_to found confirmation state).state

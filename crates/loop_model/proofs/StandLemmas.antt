@@ -1,14 +1,12 @@
 -- What can be served stays so, unless its own service brought the event, or it was closed.
 use Rattle.std.proofs.Common.{◌≡◌, ◌∙◌, ℕ, ◌-◌, ◌^◌, suc, Bool, true, false, List, Option, Some, None, is_some, nat_lt, not, refl, sym, ap, ◌==◌}
-use Rattle.world_ports.specs.declared.events.Door.{Door}
 use Rattle.world_ports.specs.declared.events.Moment.{Moment}
 use Rattle.agent_model.specs.Events.{Ended, Happening, Heard, Joined, StartFailed, Started, Tick, Took}
 use Rattle.agent_model.specs.Sound.{IsRising}
-use Rattle.agent_model.specs.State.{Port, State, UnderWay, find_port, is_client, is_open, is_some_bytes, owed_by, owed_of, wants_by}
+use Rattle.agent_model.specs.State.{Port, State, find_port, is_client, is_open, is_some_bytes, owed_of}
 use Rattle.agent_model.specs.Step.{handle, has_room, step}
 use Rattle.agent_model.specs.Time.{at_moment}
-use Rattle.agent_model.proofs.LeadLemmas.{Follows, follows-makes, same}
-use Rattle.agent_model.proofs.MakeLemmas.{makes-handle}
+use Rattle.agent_model.proofs.LeadLemmas.{same}
 use Rattle.loop_model.specs.Elsewhere.{is_child, is_clients, is_joining, may_end, stands, takes_bytes}
 use Rattle.loop_model.specs.Orderly.{IsOrderly}
 use Rattle.loop_model.specs.Servable.{is_servable}
@@ -17,27 +15,23 @@ use Rattle.loop_model.specs.declared.thing.Thing.{Thing}
 use Rattle.loop_model.proofs.ElsewhereLemmas.{find-admitted}
 use Rattle.loop_model.proofs.LeftLemmas.{door_at, never_joins, wanted_after, wanted_at}
 use Rattle.loop_model.proofs.ClientOwedLemmas.{owed_after, owed_at}
-use Rattle.loop_model.proofs.MomentLemmas.{last-moment, rising-moment}
+use Rattle.loop_model.proofs.MomentLemmas.{rising-moment}
 use Rattle.loop_model.proofs.OpenLemmas.{leads-was}
 use Rattle.loop_model.proofs.OwedLemmas.{child_owed_after, child_owed_at, orderly_at}
 use Rattle.loop_model.proofs.ThingLemmas.{false_by}
-
--- what an event but a joining leads to
-follows : (event : Happening) (state : State) → ((door : Door) → event ≡ Joined door → ⊥)
-    → Follows state (handle event state).state
-follows event state never =
-    follows-makes event state (makes-handle event state never) (record { last = refl; ports = same })
+use Rattle.agent_model.proofs.RunLemmas.{at_moment-follows, handle-follows}
+use Rattle.loop_model.proofs.RoundLemmas.{open_owed, open_wants}
 
 -- ---- the last number
 
 last_left : (event : Happening) (state : State) → is_joining event ≡ false
     → (handle event state).state.last_port ≡ state.last_port
 last_left (Joined door) state other = absurd (cc)
-last_left (Heard number piece) state other = (follows (Heard number piece) state (λ door is. absurd (cc))).last
-last_left (Ended number) state other = (follows (Ended number) state (λ door is. absurd (cc))).last
-last_left (Took number count) state other = (follows (Took number count) state (λ door is. absurd (cc))).last
+last_left (Heard number piece) state other = (handle-follows (Heard number piece) state (λ door is. absurd (cc))).last
+last_left (Ended number) state other = (handle-follows (Ended number) state (λ door is. absurd (cc))).last
+last_left (Took number count) state other = (handle-follows (Took number count) state (λ door is. absurd (cc))).last
 last_left (Started job ticket) state other = refl
-last_left (StartFailed job) state other = (follows (StartFailed job) state (λ door is. absurd (cc))).last
+last_left (StartFailed job) state other = (handle-follows (StartFailed job) state (λ door is. absurd (cc))).last
 last_left Tick state other = refl
 
 -- ---- a client stays one, and a child process does
@@ -78,17 +72,17 @@ kept_by (Joined door) state port rising other at found =
     let is_in = has_room door state.ports state.under_way in
     (at, sym (find-admitted is_in port (suc state.last_port) door state.ports other) ∙ found, refl)
 kept_by (Heard number piece) state port rising other at found =
-    let was = leads-was port state.last_port state.ports (follows (Heard number piece) state (λ door is. absurd (cc))).ports rising at found in
+    let was = leads-was port state.last_port state.ports (handle-follows (Heard number piece) state (λ door is. absurd (cc))).ports rising at found in
     (was.was, was.found, was.door)
 kept_by (Ended number) state port rising other at found =
-    let was = leads-was port state.last_port state.ports (follows (Ended number) state (λ door is. absurd (cc))).ports rising at found in
+    let was = leads-was port state.last_port state.ports (handle-follows (Ended number) state (λ door is. absurd (cc))).ports rising at found in
     (was.was, was.found, was.door)
 kept_by (Took number count) state port rising other at found =
-    let was = leads-was port state.last_port state.ports (follows (Took number count) state (λ door is. absurd (cc))).ports rising at found in
+    let was = leads-was port state.last_port state.ports (handle-follows (Took number count) state (λ door is. absurd (cc))).ports rising at found in
     (was.was, was.found, was.door)
 kept_by (Started job ticket) state port rising other at found = (at, found, refl)
 kept_by (StartFailed job) state port rising other at found =
-    let was = leads-was port state.last_port state.ports (follows (StartFailed job) state (λ door is. absurd (cc))).ports rising at found in
+    let was = leads-was port state.last_port state.ports (handle-follows (StartFailed job) state (λ door is. absurd (cc))).ports rising at found in
     (was.was, was.found, was.door)
 kept_by Tick state port rising other at found = (at, found, refl)
 
@@ -108,10 +102,6 @@ opened_before event state port rising other opened =
 
 -- ---- what is owed
 
-owed_open : (found : Option Port) (u : UnderWay) → is_some_bytes (owed_by found u) ≡ true → is_some found ≡ true
-owed_open None u some = absurd (cc)
-owed_open (Some at) u some = refl
-
 child_or : (found : Option Port) → is_some found ≡ true → is_clients found ≡ false → is_child found ≡ true
 child_or None opened other = absurd (cc)
 child_or (Some at) opened other = ap not other
@@ -121,13 +111,13 @@ owed_either : (client : Bool) (state : State) (event : Happening) (port : ℕ) �
     → is_some_bytes (owed_of port state) ≡ true → is_open port (handle event state).state ≡ true
     → is_some_bytes (owed_of port (handle event state).state) ≡ true
 owed_either true state event port orderly silent client some opened =
-    let was = owed_open (find_port port state.ports) state.under_way some in
+    let was = open_owed (find_port port state.ports) state.under_way some in
     let kept = clients_kept (find_port port (handle event state).state.ports) (find_port port state.ports)
     (kept_by event state port orderly.sound.rising
     (never_next port state.last_port state.ports orderly.sound.rising was)) opened in
     owed_after state event port orderly.sound.rising silent client some (kept ∙ client)
 owed_either false state event port orderly silent client some opened =
-    let was = owed_open (find_port port state.ports) state.under_way some in
+    let was = open_owed (find_port port state.ports) state.under_way some in
     let kept = child_kept (find_port port (handle event state).state.ports) (find_port port state.ports)
     (kept_by event state port orderly.sound.rising
     (never_next port state.last_port state.ports orderly.sound.rising was)) opened in
@@ -167,7 +157,7 @@ owed_either_at true state moment port orderly client some opened =
     (door_at true state moment port orderly.sound.rising (has_door true (find_port port state.ports) client)) opened in
     owed_at state moment port orderly.sound.rising client some kept
 owed_either_at false state moment port orderly client some opened =
-    let was = owed_open (find_port port state.ports) state.under_way some in
+    let was = open_owed (find_port port state.ports) state.under_way some in
     let kept = clients_by false (find_port port (at_moment moment state).ports)
     (door_at false state moment port orderly.sound.rising (has_door false (find_port port state.ports) client)) opened in
     child_owed_at state moment port orderly (child_or (find_port port state.ports) was client) some
@@ -176,7 +166,7 @@ owed_either_at false state moment port orderly client some opened =
 servable_at : (state : State) (moment : Moment) (thing : Thing) → IsOrderly state → is_servable state thing ≡ true
     → stands thing (at_moment moment state) ≡ true → is_servable (at_moment moment state) thing ≡ true
 servable_at state moment (Accept door) orderly able opened =
-    ap (λ n. nat_lt n (2 ^ 64 - 1)) (last-moment moment state) ∙ able
+    ap (λ n. nat_lt n (2 ^ 64 - 1)) (at_moment-follows moment state).last ∙ able
 servable_at state moment (Read port) orderly able opened =
     wanted_at state moment port orderly.sound.rising able opened
 servable_at state moment (Write port) orderly able opened =
@@ -190,21 +180,17 @@ stood-port : (state : State) (moment : Moment) (event : Happening) (port : ℕ) 
     → is_open port (at_moment moment state) ≡ true
 stood-port state moment event port orderly was opened =
     opened_before event (at_moment moment state) port (rising-moment moment state orderly.sound.rising)
-    (ap (λ n. suc n == port) (last-moment moment state)
+    (ap (λ n. suc n == port) (at_moment-follows moment state).last
     ∙ never_next port state.last_port state.ports orderly.sound.rising was) opened
-
-wanted_open : (found : Option Port) → wants_by found ≡ true → is_some found ≡ true
-wanted_open None wanted = absurd (cc)
-wanted_open (Some at) wanted = refl
 
 stood : (state : State) (moment : Moment) (event : Happening) (thing : Thing) → IsOrderly state
     → is_servable state thing ≡ true → stands thing (step state moment event).state ≡ true
     → stands thing (at_moment moment state) ≡ true
 stood state moment event (Accept door) orderly able opened = refl
 stood state moment event (Read port) orderly able opened =
-    stood-port state moment event port orderly (wanted_open (find_port port state.ports) able) opened
+    stood-port state moment event port orderly (open_wants (find_port port state.ports) able) opened
 stood state moment event (Write port) orderly able opened =
-    stood-port state moment event port orderly (owed_open (find_port port state.ports) state.under_way able) opened
+    stood-port state moment event port orderly (open_owed (find_port port state.ports) state.under_way able) opened
 
 pub servable_after : (state : State) (moment : Moment) (event : Happening) (thing : Thing) → IsOrderly state
     → may_end event thing ≡ false → is_servable state thing ≡ true → stands thing (step state moment event).state ≡ true

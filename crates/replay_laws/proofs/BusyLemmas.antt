@@ -29,8 +29,8 @@ use Rattle.agent_model.specs.State.{Nothing, Port, State, UnderWay, Verification
 use Rattle.agent_model.specs.Step.{asker_at, attempts, take_frame}
 use Rattle.agent_model.specs.Verdicts.{Cause, HelperLost, HelperRefused, Identities, NoLongerAllowed, NotConfirmed, Refuses, Replies, Reply, Signature, SignatureWrong, Success, Verdict, reply_text, tell, verdict_text, verdict_waits}
 use Rattle.agent_model.proofs.GrantLemmas.{IsGranted, allowed, disallowed, grant-ends, unasked}
-use Rattle.agent_model.proofs.LeadLemmas.{Follows, follows-quiet, leads-answers, same as led}
-use Rattle.agent_model.proofs.RunLemmas.{leads-rising}
+use Rattle.agent_model.proofs.LeadLemmas.{follows-quiet, leads-answers, same as led}
+use Rattle.agent_model.proofs.RunLemmas.{leads-rising, rising_behind}
 use Rattle.agent_model.proofs.MakeLemmas.{Makes, Quiet, alters, closes, first, goes_on, grants, links, loses, names, overs, serves, stays, tells}
 use Rattle.agent_model.proofs.PortsLemmas.{find_port-left}
 use Rattle.agent_model.proofs.ServeLemmas.{IsServed, answered, asked, raised, refused, serve-ends}
@@ -258,11 +258,6 @@ quiet_left {old = old} (names job at p there door free) none number port rising 
     plain_left at number unheard old.ports port (λ x. refl) (λ x. refl) (λ x. refl) (λ x. refl) found
 quiet_left {old = old} (links job at p there door free other) none number port rising found =
     plain_left at number unheard old.ports port (λ x. refl) (λ x. refl) (λ x. refl) (λ x. refl) found
-
--- the numbers rise yet
-pub rising_behind : (old new : State) → Follows old new → IsRising 0 old.last_port old.ports
-    → IsRising 0 new.last_port new.ports
-rising_behind old new follows rising = rw follows.last (leads-rising 0 old.last_port old.ports follows.ports rising)
 
 rising_quiet : {event : Happening} {old new : State} → Quiet event old new → IsRising 0 old.last_port old.ports
     → IsRising 0 new.last_port new.ports

@@ -32,7 +32,8 @@ use Rattle.agent_secrecy.proofs.LengthLemmas.{length-hidden_bytes}
 use Rattle.agent_secrecy.proofs.QuietLemmas.{IsQuiet, moment_keeps, quiet_keeps}
 use Rattle.agent_secrecy.proofs.TrackLemmas.{WasAt, admitted_found, another, that, was_at}
 use Rattle.replay_laws.proofs.EventLemmas.{no_client}
-use Rattle.replay_laws.proofs.BusyLemmas.{Busies, Left, left_then, lose_left, makes_left, over_left, rising_behind, same_left, served_busy}
+use Rattle.replay_laws.proofs.BusyLemmas.{Busies, Left, left_then, lose_left, makes_left, over_left, same_left, served_busy}
+use Rattle.agent_model.proofs.RunLemmas.{rising_behind}
 
 -- ---- nothing is to be taken
 

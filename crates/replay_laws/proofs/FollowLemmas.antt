@@ -22,7 +22,7 @@ use Rattle.record_world.specs.Recording.{Left as Told, find_port as find_kept}
 use Rattle.replay_laws.specs.Lines.{events_of}
 use Rattle.replay_laws.specs.Naming.{IsFrontOf, name_in}
 use Rattle.replay_laws.specs.Redacting.{IsRenaming}
-use Rattle.replay_laws.specs.Replaying.{AllFitUnless, FitsUnless, LooksAlike, Replay, last_after, stepped_all, stepped_unless}
+use Rattle.replay_laws.specs.Replaying.{AllFitUnless, FitsUnless, LooksAlike, Replay, stepped_all, stepped_unless}
 use Rattle.replay_laws.specs.Telling.{AreToldAlike, BringsAlike, told_bytes}
 use Rattle.replay_laws.specs.Ticks.{is_at_one, ticked}
 use Rattle.replay_laws.proofs.DueLemmas.{NothingIsDue, moment_due}
@@ -32,7 +32,9 @@ use Rattle.replay_laws.proofs.KeptLemmas.{moment-time, step-time}
 use Rattle.replay_laws.proofs.LaterLemmas.{later_same, taken_same}
 use Rattle.replay_laws.proofs.PieceLemmas.{IsFresh}
 use Rattle.replay_laws.proofs.RecordedLemmas.{AreTracked, moment_tracked}
-use Rattle.replay_laws.proofs.SightLemmas.{client_owed, looks_alike}
+use Rattle.replay_laws.proofs.SightLemmas.{looks_alike}
+use Rattle.agent_model.specs.Runs.{last_after}
+use Rattle.agent_secrecy.proofs.SecrecyLemmas.{owed_at_client}
 
 -- ---- between two events
 
@@ -108,8 +110,8 @@ looks_through all renaming state whole final same agrees =
           let other_client : q.port.door ≡ Clients = ap (λ (p : Port). p.door) (sym q.same) ∙ client in
           let there : find_port number final.ports ≡ Some q.port = ap (find_port number) (sym agrees.ports) ∙ q.found in
           looks.owed number port found client
-          ∙ ap (λ at. owed_by at whole.under_way) q.found ∙ client_owed q.port whole.under_way other_client
-          ∙ sym (ap (λ at. owed_by at final.under_way) there ∙ client_owed q.port final.under_way other_client);
+          ∙ ap (λ at. owed_by at whole.under_way) q.found ∙ owed_at_client q.port whole.under_way other_client
+          ∙ sym (ap (λ at. owed_by at final.under_way) there ∙ owed_at_client q.port final.under_way other_client);
       jobs = looks.jobs ∙ agrees.jobs;
       faults = looks.faults ∙ agrees.faults;
     }

@@ -15,7 +15,7 @@ use Rattle.agent_model.specs.State.{Nothing, OnAsk, OnConfirmation, Port, State,
 use Rattle.agent_model.specs.Step.{asker_at, attempts, concluded, look_front, looked, take_frame, taken}
 use Rattle.agent_model.specs.Verdicts.{Locked, Refuses, tell}
 use Rattle.agent_model.proofs.ClientLemmas.{looked-found}
-use Rattle.agent_secrecy.specs.Hiding.{Seen, SeenServed, bare, hide_heard, hide_held, hide_port, hide_read, hide_state, hide_under_way, seen, served_bare, served_seen}
+use Rattle.agent_secrecy.specs.Hiding.{Seen, bare, hide_heard, hide_held, hide_port, hide_read, hide_state, hide_under_way, seen, served_bare, served_seen}
 use Rattle.agent_secrecy.specs.Secrets.{hidden}
 use Rattle.agent_secrecy.proofs.LengthLemmas.{length-hidden_bytes}
 use Rattle.agent_secrecy.proofs.PortLemmas.{tell-hidden}
@@ -24,25 +24,9 @@ use Rattle.agent_secrecy.proofs.StateLemmas.{changed-hidden, exactly, shut-hidde
 use Rattle.replay_laws.specs.Redacting.{IsRenaming, as_is, blanked_seen, blanked_state, redacted_seen, redacted_state, relocked_outcome, relocked_state, renamed_read, told_at}
 use Rattle.replay_laws.proofs.ReadLemmas.{Reads, as_read, unread_both}
 use Rattle.replay_laws.proofs.RelockedLemmas.{serve-relocked}
+use Rattle.agent_secrecy.proofs.LookLemmas.{concluded_seen, taken_of}
 
 -- ---- what comes of a request, in a state without secrets
-
-abbrev concluded_seen : ℕ → SeenServed → State → Seen
-concluded_seen number served state = record {
-  state = record state {
-    held = served.held;
-    under_way = served.work.under_way;
-    ports = change_port number (tell served.work.verdict) state.ports;
-  };
-  put = served.work.put;
-  closes = [];
-}
-
--- by what isn't secret alone
-abbrev taken_of : ℕ → Result ClientRequest MsgFault → Bool → Port → State → Seen
-taken_of body_len read attempt port state =
-    concluded_seen port.number (served_bare (serve read (asker_at state.moment port) state.held state.under_way))
-    (changed port.number (take_frame body_len attempt) state)
 
 -- a body that isn't read is refused, whatever is wrong with it
 abbrev refused_of : ℕ → Bool → Port → State → Seen

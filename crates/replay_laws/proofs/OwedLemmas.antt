@@ -1,30 +1,27 @@
 -- What a port is owed is no less as time passes, while it is open.
-use Rattle.std.proofs.Common.{◌≡◌, ◌≢◌, ℕ, ◌<◌, ◌≤◌, List, [], ◌∷◌, length, refl, sym, ap, subst, ◌∙◌, arith, Bool, true, false, cond, Option, Some, None}
-use Rattle.std.specs.Prelude.{◌==◌}
-use Rattle.std.proofs.lemmas.Bool.Decides.{nat_tests}
+use Rattle.std.proofs.Common.{◌≡◌, ◌≢◌, ℕ, ◌≤◌, List, [], ◌∷◌, length, refl, sym, ap, subst, ◌∙◌, arith, Bool, true, false, Option, Some, None}
 use Rattle.std.proofs.lemmas.List.{length-append}
 use Rattle.world_ports.specs.declared.Door.{Door}
 use Rattle.world_ports.specs.declared.Door.TheVariants.{Clients, Children}
 use Rattle.world_ports.specs.declared.Moment.{Moment}
 use Rattle.helper_link.specs.HelperLink.{HelperLink, askers, sendable}
-use Rattle.helper_link.specs.declared.state.LinkState.{LinkState}
 use Rattle.helper_link.specs.declared.state.LinkState.TheVariants as states
-use Rattle.confirm_desk.specs.Confirmations.{Confirmation, came_to, find_linked, is_at, remove_job}
+use Rattle.confirm_desk.specs.Confirmations.{Confirmation, find_linked}
 use Rattle.agent_model.specs.Answers.{close_helper, lose, tell_each}
-use Rattle.agent_model.specs.Asking.{JobsRise}
 use Rattle.agent_model.specs.Consents.{close_confirmer, over}
 use Rattle.agent_model.specs.Events.{Tick}
 use Rattle.agent_model.specs.Sound.{IsRising, IsSteady}
 use Rattle.agent_model.specs.State.{Port, State, UnderWay, change_port, find_port, is_linked_to, owed_as, owed_by_port, remove_port, role_by_helper, role_by_link, role_of}
 use Rattle.agent_model.specs.Time.{at_moment, taken_in}
 use Rattle.agent_model.specs.Verdicts.{HelperLost, NotConfirmed, Refuses, Verdict, tell, verdict_text}
-use Rattle.agent_model.proofs.JobLemmas.{IsIn, behind as further, here, in-above, jobs-remove}
-use Rattle.agent_model.proofs.LeadLemmas.{Follows, follows-makes, same}
+use Rattle.agent_model.proofs.JobLemmas.{IsIn, jobs-remove}
+use Rattle.agent_model.proofs.LeadLemmas.{follows-makes, same}
 use Rattle.agent_model.proofs.MakeLemmas.{loses, overs}
 use Rattle.agent_model.proofs.PortsLemmas.{find_port-left, find_port-remove_port, found_number}
-use Rattle.agent_model.proofs.RunLemmas.{leads-rising}
+use Rattle.agent_model.proofs.RunLemmas.{rising_behind}
 use Rattle.agent_model.proofs.TimeLemmas.{time_passes-brings}
 use Rattle.agent_secrecy.proofs.TrackLemmas.{WasAt, another, that, was_at}
+use Rattle.agent_model.proofs.TimeBudgetLemmas.{helper_at, helper-closed, linked-removed, not_helper, elsewhere}
 
 -- ---- who is at a port of a child process
 
@@ -122,45 +119,6 @@ left_apart (Some other) number last ports port rising found = (
       let both : Some port ≡ None = sym found ∙ none in cc,
 )
 
-abbrev helper_at : LinkState → Option ℕ
-helper_at states.None = None
-helper_at (states.Starting job) = None
-helper_at (states.Linked port) = Some port
-
-helper-closed : (link : LinkState) (ports : List Port)
-    → close_helper link ports ≡ close_confirmer (helper_at link) ports
-helper-closed states.None ports = refl
-helper-closed (states.Starting job) ports = refl
-helper-closed (states.Linked port) ports = refl
-
-not_helper : (link : LinkState) (number : ℕ) → helper_at link ≢ Some number → is_linked_to number link ≡ false
-not_helper states.None number other = refl
-not_helper (states.Starting job) number other = refl
-not_helper (states.Linked port) number other =
-    let differs : port ≢ number = λ is. other (ap Some is) in
-    grind (arith, nat_tests)
-
-elsewhere : (at : Option ℕ) (number : ℕ) → at ≢ Some number → is_at number at ≡ false
-elsewhere None number other = refl
-elsewhere (Some at) number other =
-    let differs : at ≢ number = λ is. other (ap Some is) in
-    grind (arith, nat_tests)
-
--- who asks the user at a port goes on, where another confirmation ends (as in agent_model's TimeBudgetLemmas)
-linked-removed : (number : ℕ) (one : Confirmation) (below last : ℕ) (all : List Confirmation)
-    → JobsRise below all last → IsIn one all → came_to number one ≡ false
-    → find_linked number (remove_job one.job all) ≡ find_linked number all
-linked-removed number one below last all rise (here others) elsewhere =
-    let own : (one.job == one.job) ≡ true = grind (arith, nat_tests) in
-    ap (λ b. find_linked number (cond b others (one ∷ remove_job one.job others))) own
-    ∙ sym (ap (λ b. cond b (Some one) (find_linked number others)) elsewhere)
-linked-removed number one below last all rise (further first others there) elsewhere =
-    let later : first.job < one.job = in-above one first.job last rise.1 there in
-    let other : (first.job == one.job) ≡ false = grind (arith, nat_tests) in
-    ap (λ b. find_linked number (cond b others (first ∷ remove_job one.job others))) other
-    ∙ ap (cond (came_to number first) (Some first))
-    (linked-removed number one first.job last others rise.1 there elsewhere)
-
 -- ---- as time passes
 
 -- a port that is open yet was open, and is owed as much or more
@@ -182,14 +140,11 @@ grows_then number old mid new one two = record {
       (first.0, first.1, omega (arith, first.2, later.2));
 }
 
-ordered : (old new : State) → Follows old new → IsRising 0 old.last_port old.ports → IsRising 0 new.last_port new.ports
-ordered old new follows rising = rw follows.last (leads-rising 0 old.last_port old.ports follows.ports rising)
-
 lose_grows : (number : ℕ) (state : State) → Grows number state (lose state).state
 lose_grows number state = record {
   steady = λ steady. record {
     rising =
-        ordered state (lose state).state (follows-makes Tick state (loses state) record { last = refl; ports = same }) steady.rising;
+        rising_behind state (lose state).state (follows-makes Tick state (loses state) record { last = refl; ports = same }) steady.rising;
     order = steady.order;
   };
   owed = λ steady port found.
@@ -223,7 +178,7 @@ over_grows : (number : ℕ) (one : Confirmation) (state : State) → IsIn one st
 over_grows number one state there = record {
   steady = λ steady. record {
     rising =
-        ordered state (over one state).state (follows-makes Tick state (overs one state there) record { last = refl; ports = same }) steady.rising;
+        rising_behind state (over one state).state (follows-makes Tick state (overs one state there) record { last = refl; ports = same }) steady.rising;
     order = jobs-remove one.job 0 state.under_way.confirmations state.under_way.last_job steady.order;
   };
   owed = λ steady port found.

@@ -1,5 +1,5 @@
 -- A body that is told is read as the body itself, but for its secrets.
-use Rattle.std.proofs.Common.{◌≡◌, ℕ, ◌<◌, ◌≤◌, ◌^◌, List, [], ◌∷◌, ◌++◌, length, drop, map, refl, sym, ap, subst, ◌∙◌, arith, inl, inr, Bool, true, false, Result, Ok, Err}
+use Rattle.std.proofs.Common.{◌≡◌, ℕ, ◌≤◌, List, [], ◌∷◌, ◌++◌, length, drop, map, refl, sym, ap, ◌∙◌, arith, inl, inr, Bool, true, false, Result, Ok, Err}
 use Rattle.std.specs.Prelude.{◌⊎◌}
 use Rattle.std.proofs.lemmas.Bool.{cases_eq}
 use Rattle.std.proofs.lemmas.Bool.Decides.{nat_tests}
@@ -9,16 +9,12 @@ use Rattle.wire_text.specs.Wire.{IsBytes, string}
 use Rattle.wire_text.proofs.WireLemmas.{length-string}
 use Rattle.wire_core.specs.Fields.{string_at, string_len}
 use Rattle.key_blob.specs.AddedKeys.{IsAddedKey, added_key_at}
-use Rattle.key_blob.specs.KeyTypes.{Field, any, sized, text, key_type, certified_type, type_of}
+use Rattle.key_blob.specs.KeyTypes.{text, type_of}
 use Rattle.key_blob.specs.PublicKeys.{KeyParts, public_key_of}
-use Rattle.key_blob.specs.Reading.{AreContents, form_at, strings}
+use Rattle.key_blob.specs.Reading.{form_at, strings}
 use Rattle.key_blob.specs.declared.added.AddedKey.{AddedKey}
 use Rattle.key_blob.specs.declared.fault.KeyFault.{KeyFault}
 use Rattle.key_blob.specs.declared.fault.KeyFault.TheVariants as key_faults
-use Rattle.key_blob.specs.declared.form.Form.{Form}
-use Rattle.key_blob.specs.declared.form.Form.TheVariants.{Plain, Certified}
-use Rattle.key_blob.specs.declared.kind.KeyKind.{KeyKind}
-use Rattle.key_blob.specs.declared.kind.KeyKind.TheVariants.{Ed25519, Rsa, Nistp256, Nistp384, Nistp521, StandIn}
 use Rattle.agent_msg.specs.declared.fault.MsgFault.{MsgFault}
 use Rattle.agent_msg.specs.declared.fault.MsgFault.TheVariants as fault
 use Rattle.agent_msg.specs.Reading.{request_of, request_of_number}
@@ -35,52 +31,9 @@ use Rattle.agent_secrecy.specs.Secrets.{AreAlikeKeys, AreOfEqualLengths, hidden}
 use Rattle.agent_secrecy.proofs.BodyLemmas.{bodies_read}
 use Rattle.agent_secrecy.proofs.KeyLemmas.{parts_of}
 use Rattle.replay_laws.specs.Redacting.{renamed, renamed_as, renamed_read, renamed_request}
+use Rattle.agent_secrecy.proofs.ExactLemmas.{fit_by_length, private_is_free}
 
 -- ---- zeros for private fields
-
--- fields that hold no fixed text (as in redact_core's BlankLemmas, where these aren't public)
-abbrev AreFree : List Field → Type 0
-AreFree [] = Unit {0}
-AreFree (any ∷ fields) = AreFree fields
-AreFree (sized len ∷ fields) = AreFree fields
-AreFree (text bytes ∷ fields) = ⊥
-
-free_by_kind : (kind : KeyKind) → AreFree (key_type kind).private
-free_by_kind Ed25519 = tt
-free_by_kind Rsa = tt
-free_by_kind Nistp256 = tt
-free_by_kind Nistp384 = tt
-free_by_kind Nistp521 = tt
-free_by_kind StandIn = tt
-
-free_by_certificate : (kind : KeyKind) → AreFree (certified_type kind).private
-free_by_certificate Ed25519 = tt
-free_by_certificate Rsa = tt
-free_by_certificate Nistp256 = tt
-free_by_certificate Nistp384 = tt
-free_by_certificate Nistp521 = tt
-free_by_certificate StandIn = tt
-
-private_is_free : (form : Form) → AreFree (type_of form).private
-private_is_free (Plain kind) = free_by_kind kind
-private_is_free (Certified kind) = free_by_certificate kind
-
-zeros_fit : (fields : List Field) (contents : List (List ℕ)) → AreFree fields → AreContents fields contents
-    → AreContents fields (map zeros contents)
-zeros_fit [] [] free fit = tt
-zeros_fit [] (content ∷ contents) free fit = absurd fit
-zeros_fit (field ∷ fields) [] free fit = absurd fit
-zeros_fit (any ∷ fields) (content ∷ contents) free fit = (
-  subst (λ n. n < 2 ^ 32) (sym (length-replicate (length content) 0)) fit.0,
-  tt,
-  zeros_fit fields contents free fit.2,
-)
-zeros_fit (sized len ∷ fields) (content ∷ contents) free fit = (
-  subst (λ n. n < 2 ^ 32) (sym (length-replicate (length content) 0)) fit.0,
-  length-replicate (length content) 0 ∙ fit.1,
-  zeros_fit fields contents free fit.2,
-)
-zeros_fit (text bytes ∷ fields) (content ∷ contents) free fit = absurd free
 
 equal_zeros : (contents : List (List ℕ)) → AreOfEqualLengths contents (map zeros contents)
 equal_zeros [] = tt
@@ -91,7 +44,7 @@ pub blanked_alike : (key : AddedKey) → IsAddedKey key → AreAlikeKeys key (bl
 blanked_alike key is = record {
   is = is;
   private = map zeros is.private;
-  private_fit = zeros_fit (type_of is.form).private is.private (private_is_free is.form) is.private_fit;
+  private_fit = fit_by_length (type_of is.form).private is.private (map zeros is.private) (private_is_free is.form) (equal_zeros is.private) is.private_fit;
   lengths = equal_zeros is.private;
   blob = refl;
   text =

@@ -4,7 +4,7 @@ use Rattle.world_ports.specs.declared.Door.{Door}
 use Rattle.world_ports.specs.declared.Door.TheVariants.{Clients}
 use Rattle.wire_text.specs.Wire.{IsBytes}
 use Rattle.agent_model.specs.Events.{Happening, Joined, Heard, Ended, Took, Started, StartFailed, Tick}
-use Rattle.agent_model.specs.State.{Port, State, UnderWay, find_port, numbers, owed_as, owed_by, role_of}
+use Rattle.agent_model.specs.State.{Port, State, find_port, numbers, owed_by}
 use Rattle.agent_model.specs.Step.{handle}
 use Rattle.agent_secrecy.proofs.PortLemmas.{numbers-hidden}
 use Rattle.agent_secrecy.proofs.QuietLemmas.{IsQuiet}
@@ -13,6 +13,7 @@ use Rattle.replay_laws.specs.Replaying.{LooksAlike}
 use Rattle.replay_laws.specs.Telling.{AreToldAlike, BringsAlike, IsOfNoClient, IsShort, told_bytes}
 use Rattle.replay_laws.proofs.EventLemmas.{heard-told, joined-told, pair_of, quiet-told, took-told}
 use Rattle.replay_laws.proofs.TellLemmas.{told-nothing, told_fronts}
+use Rattle.agent_secrecy.proofs.SecrecyLemmas.{owed_at_client}
 
 quiet_is : (event : Happening) (state : State) → IsOfNoClient event state → IsQuiet event state
 quiet_is (Joined door) state quiet = quiet
@@ -22,10 +23,6 @@ quiet_is (Took port count) state quiet = quiet
 quiet_is (Started job ticket) state quiet = quiet
 quiet_is (StartFailed job) state quiet = quiet
 quiet_is Tick state quiet = quiet
-
--- what a client is owed stands at its port
-pub client_owed : (port : Port) (under_way : UnderWay) → port.door ≡ Clients → owed_by (Some port) under_way ≡ port.owed
-client_owed port under_way is = ap (λ door. owed_as (role_of door port.number under_way) port under_way) is
 
 module _ (rename : List ℕ → List ℕ) (renaming : IsRenaming rename) where
   pub quiet_alike : (event : Happening) (s t : State) → AreToldAlike rename s t → IsOfNoClient event s
@@ -60,9 +57,9 @@ module _ (rename : List ℕ → List ℕ) (renaming : IsRenaming rename) where
         ∙ numbers-hidden as_is t.ports;
     owed = λ number port found client.
         let q = pair_of rename renaming (told_bytes rename) number port s t same found in
-        ap (λ at. owed_by at s.under_way) found ∙ client_owed port s.under_way client
+        ap (λ at. owed_by at s.under_way) found ∙ owed_at_client port s.under_way client
         ∙ ap (λ (p : Port). p.owed) q.same
-        ∙ sym (ap (λ at. owed_by at t.under_way) q.found ∙ client_owed q.port t.under_way (ap (λ (p : Port). p.door) (sym q.same) ∙ client));
+        ∙ sym (ap (λ at. owed_by at t.under_way) q.found ∙ owed_at_client q.port t.under_way (ap (λ (p : Port). p.door) (sym q.same) ∙ client));
     jobs = ap (λ (x : State). x.under_way.to_start) same;
     faults = ap (λ (x : State). x.under_way.link.faults) same;
   }

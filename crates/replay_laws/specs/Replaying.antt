@@ -1,10 +1,10 @@
 -- The run of a record beside the run that it records: docs/PROTOCOL.md, "Records" (ours). The record
 -- of a list of events is, for each of them, the tick of its moment and then the events of its lines.
-use Rattle.std.specs.Prelude.{◌≡◌, ◌^◌, ◌<◌, ◌≤◌, ℕ, suc, Bool, true, false, List, [], ◌∷◌, length, Some}
+use Rattle.std.specs.Prelude.{◌≡◌, ◌^◌, ◌<◌, ◌≤◌, ℕ, Bool, true, false, List, [], ◌∷◌, length, Some}
 use Rattle.world_ports.specs.declared.Door.TheVariants.{Clients}
 use Rattle.world_ports.specs.declared.Moment.{Moment}
 use Rattle.agent_model.specs.Events.{Happening, Timed, Joined, Heard, Ended, Took, Started, StartFailed, Tick}
-use Rattle.agent_model.specs.Runs.{AllFit, AreInRange}
+use Rattle.agent_model.specs.Runs.{AllFit, AreInRange, last_after}
 use Rattle.agent_model.specs.State.{Fits, Port, Settings, State, find_port, first_state, numbers, owed_of, starts}
 use Rattle.agent_model.specs.Step.{step}
 use Rattle.agent_model.specs.Time.{GiveTime}
@@ -52,16 +52,6 @@ first_replay settings = record { state = first_state settings; recording = first
 -- what the recorder keeps and tells of the next event
 abbrev pub told_of : Timed → Replay → Left
 told_of timed replay = lines_of timed.event replay.last_port replay.recording
-
--- the number of the last port that joined, after an event
-abbrev pub last_after : Happening → ℕ → ℕ
-last_after (Joined door) last = suc last
-last_after (Heard port piece) last = last
-last_after (Ended port) last = last
-last_after (Took port count) last = last
-last_after (Started job ticket) last = last
-last_after (StartFailed job) last = last
-last_after Tick last = last
 
 -- the tick of the event's moment, and then the events of its lines: those at ports that this tick
 -- closed are passed over
