@@ -25,11 +25,12 @@ use Rattle.agent_model.proofs.JobLemmas.{in-by_asker, in-by_port, in-found, link
 use Rattle.agent_model.proofs.LeadLemmas.{changes, same}
 use Rattle.agent_model.proofs.MakeLemmas.{role-confirmer, role-free, role-helper, role-other}
 use Rattle.agent_model.proofs.PortsLemmas.{found_number}
+use Rattle.agent_model.proofs.RunLemmas.{leads-rising}
+use Rattle.agent_model.proofs.TimeLemmas.{at_moment-keeps}
 use Rattle.loop_model.specs.Orderly.{IsStaffed}
 use Rattle.loop_model.proofs.ChildLemmas.{Keeps, Owes, answered_owes, by_desk, by_link, keeps-changed, keeps-closed, keeps-consent, keeps-goes_on, keeps-helper_heard, keeps-look, keeps-lose, keeps-lose_where, keeps-over, keeps-over_if, linked_owes, named_owes}
-use Rattle.loop_model.proofs.OpenLemmas.{leads-open, leads-rising, linked-elsewhere}
+use Rattle.loop_model.proofs.OpenLemmas.{leads-open, linked-elsewhere}
 use Rattle.loop_model.proofs.StaffLemmas.{awaited, not_linked, staffed-changed, staffed-helper, staffed-left, staffed-linked, staffed-started}
-use Rattle.agent_model.proofs.TimeLemmas.{at_moment-keeps}
 
 module _ (number high : ℕ) where
   -- whose child process came to this port
@@ -49,7 +50,7 @@ module _ (number high : ℕ) where
         let leads = changes own unheard state.ports (λ p. refl) (λ p. refl) same in
         let next = helper_named job own state in
         record {
-          rising = leads-rising high state.ports leads keeps.rising;
+          rising = leads-rising 0 high state.ports leads keeps.rising;
           staffed = staffed-helper state.under_way job one next.under_way.link keeps.staffed found is;
           owes = λ opened.
               named_owes number high state.under_way next.under_way own apart
@@ -63,7 +64,7 @@ module _ (number high : ℕ) where
         let leads = changes own unheard state.ports (λ p. refl) (λ p. refl) same in
         let next = confirmer_named job own state in
         record {
-          rising = leads-rising high state.ports leads keeps.rising;
+          rising = leads-rising 0 high state.ports leads keeps.rising;
           staffed = staffed-linked state.under_way job own one keeps.staffed found;
           owes = λ opened.
               linked_owes number high state.under_way next.under_way own job apart keeps.staffed

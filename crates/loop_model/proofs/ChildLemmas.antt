@@ -31,11 +31,12 @@ use Rattle.agent_model.proofs.GrantLemmas.{IsGranted, allowed, disallowed, grant
 use Rattle.agent_model.proofs.JobLemmas.{in-by_port, in-found, linked-change, linked_port}
 use Rattle.agent_model.proofs.LeadLemmas.{Leads, changes, leads-answers, leads-close_confirmer, leads-tell_each, removes, same}
 use Rattle.agent_model.proofs.PortsLemmas.{rising-change_port, rising-remove_port}
+use Rattle.agent_model.proofs.RunLemmas.{leads-rising}
 use Rattle.agent_model.proofs.ServeLemmas.{IsServed, answered, asked, raised, refused, serve-ends}
 use Rattle.under_way.specs.Parts.{IsAwaited}
 use Rattle.loop_model.specs.Orderly.{IsStaffed}
 use Rattle.loop_model.proofs.ClientOwedLemmas.{some-more}
-use Rattle.loop_model.proofs.OpenLemmas.{leads-open, leads-rising, linked-elsewhere, linked-left, never_open, open-changed, open-removed}
+use Rattle.loop_model.proofs.OpenLemmas.{leads-open, linked-elsewhere, linked-left, never_open, open-changed, open-removed}
 use Rattle.loop_model.proofs.StaffLemmas.{staffed-changed, staffed-lost, staffed-over, staffed-put, staffed-raised}
 
 -- ---- what a child process is owed
@@ -64,7 +65,7 @@ module _ (number high : ℕ) where
   pub keeps-ports : (state : State) (ports : List Port) → Keeps number high state → Leads state.ports ports
       → Keeps number high (record state { ports = ports })
   keeps-ports state ports keeps leads = record {
-    rising = leads-rising high state.ports leads keeps.rising;
+    rising = leads-rising 0 high state.ports leads keeps.rising;
     staffed = keeps.staffed;
     owes = λ opened. keeps.owes (leads-open number high state.ports leads keeps.rising opened);
   }
@@ -110,7 +111,7 @@ module _ (number high : ℕ) where
       let left_rising = rising-link state.under_way.link.state state.ports keeps.rising in
       let leads = leads-tell_each left (Refuses HelperLost) (askers state.under_way.link.asks) left same in
       record {
-        rising = leads-rising high left leads left_rising;
+        rising = leads-rising 0 high left leads left_rising;
         staffed = staffed-lost state keeps.staffed;
         owes = λ opened.
             let was = open-link state.under_way.link.state state.ports keeps.rising
@@ -142,7 +143,7 @@ module _ (number high : ℕ) where
       let next = with_answers told.link (answers_in told.settled state) state in
       let leads : Leads state.ports next.ports = leads-answers state.ports told.settled _ same in
       keeps-lose_if told.fault next record {
-        rising = leads-rising high state.ports leads keeps.rising;
+        rising = leads-rising 0 high state.ports leads keeps.rising;
         staffed = record { jobs = keeps.staffed.jobs; coming = keeps.staffed.coming };
         owes = λ opened.
             answered_owes state.under_way next.under_way
@@ -191,7 +192,7 @@ module _ (number high : ℕ) where
   keeps-ended one f state new number_is door_is there staffed_new owes_new keeps =
       let left = close_confirmer one.port state.ports in
       let leads_left = leads-close_confirmer state.ports one.port state.ports same in
-      let left_rising = leads-rising high state.ports leads_left keeps.rising in
+      let left_rising = leads-rising 0 high state.ports leads_left keeps.rising in
       record {
         rising = rising-change_port one.asker 0 high f left number_is left_rising;
         staffed = staffed_new (staffed-over one.job state.under_way keeps.staffed);
@@ -297,7 +298,7 @@ module _ (number high : ℕ) where
       let leads = changes port.number (tell (serve (agent_request_of body) (asker_at state.moment port) state.held state.under_way).work.verdict) _ (λ p. refl) (λ p. refl)
       (changes port.number (take_frame body_len (attempts state.held.lock body)) state.ports (λ p. refl) (λ p. refl) same) in
       record {
-        rising = leads-rising high state.ports leads keeps.rising;
+        rising = leads-rising 0 high state.ports leads keeps.rising;
         staffed = served_staffed port state.moment state ends keeps.staffed;
         owes = λ opened.
             served_owes port state.moment state ends

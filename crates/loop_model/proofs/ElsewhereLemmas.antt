@@ -19,10 +19,10 @@ use Rattle.agent_model.specs.Time.{at_moment, taken_in}
 use Rattle.agent_model.specs.Verdicts.{Verdict, tell}
 use Rattle.agent_model.proofs.JobLemmas.{asker_own}
 use Rattle.agent_model.proofs.PortsLemmas.{find_port-apart, find_port-change_port, find_port-left, find_port-remove_port, find_port-removed_apart}
+use Rattle.agent_model.proofs.RunLemmas.{at_moment-follows}
 use Rattle.loop_model.specs.Elsewhere.{ends_waits, is_clients, is_of, tells_others}
 use Rattle.loop_model.proofs.MomentLemmas.{quiet-moment, rising-moment}
 use Rattle.loop_model.proofs.SparedLemmas.{KeepsNumber, Spares, alters, apart_from, quiet, removes, same, spared-ended, spared-failed, spared-heard, spared-heard_client, spared-moment, spared-took, spares-close_confirmer, spares-rising}
-use Rattle.agent_model.proofs.RunLemmas.{at_moment-follows}
 
 -- one more that joins leaves the others
 find-joined : (port last : ℕ) (door : Door) (ports : List Port) → port ≢ last

@@ -1,5 +1,6 @@
 -- What a moment leaves before its event: some ports are closed, some clients are told, and the last number stays.
 use Rattle.std.proofs.Common.{◌≡◌, ◌∙◌, Bool, false, List, [], ◌∷◌, Option, Some, None, cond, refl, ap}
+use Rattle.std.proofs.lemmas.Bool.{or_parts}
 use Rattle.std.specs.List.{find, list_any}
 use Rattle.world_ports.specs.declared.events.Moment.{Moment}
 use Rattle.confirm_desk.specs.Confirmations.{Confirmation}
@@ -8,10 +9,9 @@ use Rattle.agent_model.specs.Consents.{over_if}
 use Rattle.agent_model.specs.Sound.{IsRising}
 use Rattle.agent_model.specs.State.{State}
 use Rattle.agent_model.specs.Time.{all_over, at_moment, is_helper_late, is_late, lose_late, taken_in}
-use Rattle.loop_model.specs.Elsewhere.{ends_waits}
-use Rattle.agent_model.proofs.TimeLemmas.{at_moment-keeps}
 use Rattle.agent_model.proofs.RunLemmas.{at_moment-follows, rising_behind}
-use Rattle.std.proofs.lemmas.Bool.{or_parts}
+use Rattle.agent_model.proofs.TimeLemmas.{at_moment-keeps}
+use Rattle.loop_model.specs.Elsewhere.{ends_waits}
 
 -- ---- the clocks
 

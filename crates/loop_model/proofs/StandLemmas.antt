@@ -7,6 +7,7 @@ use Rattle.agent_model.specs.State.{Port, State, find_port, is_client, is_open, 
 use Rattle.agent_model.specs.Step.{handle, has_room, step}
 use Rattle.agent_model.specs.Time.{at_moment}
 use Rattle.agent_model.proofs.LeadLemmas.{same}
+use Rattle.agent_model.proofs.RunLemmas.{at_moment-follows, handle-follows, leads-found}
 use Rattle.loop_model.specs.Elsewhere.{is_child, is_clients, is_joining, may_end, stands, takes_bytes}
 use Rattle.loop_model.specs.Orderly.{IsOrderly}
 use Rattle.loop_model.specs.Servable.{is_servable}
@@ -16,11 +17,9 @@ use Rattle.loop_model.proofs.ElsewhereLemmas.{find-admitted}
 use Rattle.loop_model.proofs.LeftLemmas.{door_at, never_joins, wanted_after, wanted_at}
 use Rattle.loop_model.proofs.ClientOwedLemmas.{owed_after, owed_at}
 use Rattle.loop_model.proofs.MomentLemmas.{rising-moment}
-use Rattle.loop_model.proofs.OpenLemmas.{leads-was}
 use Rattle.loop_model.proofs.OwedLemmas.{child_owed_after, child_owed_at, orderly_at}
-use Rattle.loop_model.proofs.ThingLemmas.{false_by}
-use Rattle.agent_model.proofs.RunLemmas.{at_moment-follows, handle-follows}
 use Rattle.loop_model.proofs.RoundLemmas.{open_owed, open_wants}
+use Rattle.loop_model.proofs.ThingLemmas.{false_by}
 
 -- ---- the last number
 
@@ -72,18 +71,14 @@ kept_by (Joined door) state port rising other at found =
     let is_in = has_room door state.ports state.under_way in
     (at, sym (find-admitted is_in port (suc state.last_port) door state.ports other) ∙ found, refl)
 kept_by (Heard number piece) state port rising other at found =
-    let was = leads-was port state.last_port state.ports (handle-follows (Heard number piece) state (λ door is. absurd (cc))).ports rising at found in
-    (was.was, was.found, was.door)
+    leads-found port 0 state.last_port state.ports at (handle-follows (Heard number piece) state (λ door is. absurd (cc))).ports rising found
 kept_by (Ended number) state port rising other at found =
-    let was = leads-was port state.last_port state.ports (handle-follows (Ended number) state (λ door is. absurd (cc))).ports rising at found in
-    (was.was, was.found, was.door)
+    leads-found port 0 state.last_port state.ports at (handle-follows (Ended number) state (λ door is. absurd (cc))).ports rising found
 kept_by (Took number count) state port rising other at found =
-    let was = leads-was port state.last_port state.ports (handle-follows (Took number count) state (λ door is. absurd (cc))).ports rising at found in
-    (was.was, was.found, was.door)
+    leads-found port 0 state.last_port state.ports at (handle-follows (Took number count) state (λ door is. absurd (cc))).ports rising found
 kept_by (Started job ticket) state port rising other at found = (at, found, refl)
 kept_by (StartFailed job) state port rising other at found =
-    let was = leads-was port state.last_port state.ports (handle-follows (StartFailed job) state (λ door is. absurd (cc))).ports rising at found in
-    (was.was, was.found, was.door)
+    leads-found port 0 state.last_port state.ports at (handle-follows (StartFailed job) state (λ door is. absurd (cc))).ports rising found
 kept_by Tick state port rising other at found = (at, found, refl)
 
 -- so it was open
