@@ -21,7 +21,7 @@ use Rattle.agent_model.specs.State.{Port, UnderWay}
 use Rattle.agent_model.specs.Step.{asker_at}
 use Rattle.agent_model.specs.Unseen.{IsSameReply}
 use Rattle.agent_model.specs.Verdicts.{Cause, DestinationDenied, Identities, NotHeld, Refuses, Replies, verdict_text}
-use Rattle.agent_model.proofs.UnseenLemmas.{same_work, unseen-denied, both_fail}
+use Rattle.agent_model.proofs.UnseenLemmas.{both_fail, same_work, unseen-denied}
 use Rattle.agent_laws.specs.Apart.{AreUnseen, Insiders, IsAlikeHeld, SaysNoMore, none}
 use Rattle.agent_laws.proofs.ApartKeyLemmas.{FindsAlike, finds-alike, found, listed-alike, neither, put-alike, removed-alike, renumbered, spent-alike, unseen-found}
 use Rattle.agent_laws.proofs.KeyLemmas.{kept-added, kept-emptied, kept-removed, kept-used}

@@ -22,7 +22,7 @@ use Rattle.agent_model.proofs.ServeLemmas.{Serves, adds, confirms, denies, empti
 use Rattle.agent_laws.specs.Dues.{Claim, claim_of_request, is_consented, is_met, is_permitted}
 use Rattle.agent_laws.specs.History.{IsDue}
 use Rattle.agent_laws.specs.Past.{PastAddition, done_of_request, held_by}
-use Rattle.agent_laws.proofs.HoldsLemmas.{Facts, Holds, facts_after, key_of, Made, made_of}
+use Rattle.agent_laws.proofs.HoldsLemmas.{Facts, Holds, Made, facts_after, key_of, made_of}
 
 -- what comes of a request behind which this is due: it is put to the helper, or the user is asked, or neither
 pub data Acts (N : Type 0) (due : Option Claim) (asker : Asker) (held : KeyState) (under_way : UnderWay) : Work → Type 0 where

@@ -1,6 +1,7 @@
 -- The user's consent puts what is due behind it, and the end of a confirmation agrees with the past.
 use Rattle.std.proofs.Common.{◌≡◌, ◌≢◌, ℕ, ◌+◌, ◌-◌, ◌^◌, ◌<◌, List, [], ◌∷◌, ◌++◌, map, length, refl, ap, arith, sym, subst, ◌∙◌, Option, Some, None, IsSomeAnd, Bool, true, false, is_some, nat_lt, not, ◌&&◌, ◌==◌, if◌then◌else◌}
 use Rattle.std.specs.Option.{option_map}
+use Rattle.std.proofs.lemmas.Bool.{false_from_ne_true}
 use Rattle.std.proofs.lemmas.Bool.Decides.{nat_tests}
 use Rattle.std.proofs.lemmas.List.{length-map}
 use Rattle.agent_msg.specs.Requests.{Signing}
@@ -28,11 +29,10 @@ use Rattle.agent_model.proofs.RoomLemmas.{RoomFor, free, full, no_ask, no_job, r
 use Rattle.agent_laws.specs.Dues.{Claim, claim_of_raising, due_signing, is_met, is_permitted, met_by, open_asks, proved_of, raised_at}
 use Rattle.agent_laws.specs.Past.{PastAddition, held_by}
 use Rattle.agent_laws.proofs.DueLemmas.{all_pass, met_with, third_fails}
-use Rattle.agent_laws.proofs.HoldsLemmas.{Facts, Holds, facts_of, key_of, numbers-used, used-holds, Made, made_of}
+use Rattle.agent_laws.proofs.HoldsLemmas.{Facts, Holds, Made, facts_of, key_of, made_of, numbers-used, used-holds}
 use Rattle.agent_laws.proofs.PastLemmas.{stamp}
 use Rattle.agent_laws.proofs.RaisedLemmas.{AllRaised, IsRaised, all_raised-kept, all_raised-more, all_raised-over}
 use Rattle.agent_laws.proofs.StepLemmas.{Agrees, Goes, Opened, due_as, numbers-append}
-use Rattle.std.proofs.lemmas.Bool.{false_from_ne_true}
 
 -- ---- a confirmation ends
 

@@ -25,9 +25,9 @@ use Rattle.agent_model.specs.Step.{asker_at, handle, step}
 use Rattle.agent_model.specs.Time.{at_moment, taken_in}
 use Rattle.agent_model.proofs.MakeLemmas.{Makes, alters, by_event, closes, first, goes_on, grants, links, loses, names, overs, serves, stays, tells}
 use Rattle.agent_model.proofs.TimeLemmas.{at_moment-keeps}
+use Rattle.agent_laws.proofs.HoldsLemmas.{none_numbered, of_alive, of_unless}
 use Rattle.agent_laws.proofs.UseLemmas.{own_blobs-used, own_numbers-used, used_in_turn, was_held, was_held-used}
 use Rattle.agent_model.proofs.ServeLemmas.{Serves, adds, confirms, denies, empties, lists, locks, removes, serves-any, signs, unlocks, verifies}
-use Rattle.agent_laws.proofs.HoldsLemmas.{none_numbered, of_alive, of_unless}
 
 -- the numbers that were given find what they found, or nothing; and identities have parts of their own yet
 pub record KeysKept (old new : TableState) : Type 0 where

@@ -17,6 +17,7 @@ use Rattle.agent_model.specs.Runs.{Stamped}
 use Rattle.agent_model.specs.Sound.{IsTied}
 use Rattle.agent_model.specs.State.{Port, State, Verification, find_port}
 use Rattle.agent_model.proofs.BindLemmas.{AnswerIs, answer_is, proves, tells as told_so}
+use Rattle.agent_model.proofs.JudgedLemmas.{keeps-quiet}
 use Rattle.agent_model.proofs.TiedLemmas.{tied-quiet}
 use Rattle.agent_model.proofs.MakeLemmas.{Makes, first, grants, loses, overs, serves, stays, tells}
 use Rattle.confirm_desk.specs.Confirmations.{Confirmation}
@@ -28,7 +29,6 @@ use Rattle.agent_laws.specs.History.{onto}
 use Rattle.agent_laws.proofs.HoldsLemmas.{Holds, facts_of}
 use Rattle.agent_laws.proofs.PastLemmas.{LawfulIf, lawful-append, onto-append, stamp, stamps, stamps-append}
 use Rattle.agent_laws.proofs.StepLemmas.{Agrees, Goes, Opened, calm-quiet, numbers_of, opened-quiet, served-agrees, served-lawful}
-use Rattle.agent_model.proofs.JudgedLemmas.{keeps-quiet}
 
 -- the numbers of the asks that are left
 numbers-removed : (number : ℕ) (pending : List Ask) → without_number number (numbers_of pending) ≡ numbers_of (remove_ask number pending)

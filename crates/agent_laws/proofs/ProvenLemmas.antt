@@ -2,6 +2,7 @@
 use Rattle.std.proofs.Common.{◌≡◌, ◌⊎◌, ℕ, ◌+◌, List, [], ◌∷◌, ◌++◌, refl, ap, arith, sym, subst, ◌∙◌, ◌==◌, append_assoc, Option, Some, None, Bool, true, false, cond, inl, inr}
 use Rattle.std.proofs.lemmas.Bool.Decides.{nat_tests}
 use Rattle.std.proofs.lemmas.List.{append-nil}
+use Rattle.std.specs.Option.{option_or}
 use Rattle.world_ports.specs.declared.Door.{Door}
 use Rattle.world_ports.specs.declared.Moment.{Moment}
 use Rattle.wire_text.specs.Frames.{front_body}
@@ -34,6 +35,7 @@ use Rattle.agent_model.specs.State.{Port, Settings, State, Verification, find_po
 use Rattle.agent_model.specs.Step.{asker_at, attempts, concluded, handle, join, step, take_frame}
 use Rattle.agent_model.specs.Time.{at_moment, time_passes}
 use Rattle.agent_model.specs.Verdicts.{HelperRefused, Refuses, Replies, Signature, SignatureWrong, Success, Verdict}
+use Rattle.agent_model.proofs.ActionLemmas.{among-back, among-front}
 use Rattle.agent_model.proofs.BindLemmas.{AreGiven}
 use Rattle.agent_model.proofs.FatedLemmas.{first-tied, step-fated, tied-opened}
 use Rattle.agent_model.proofs.GrantLemmas.{IsGranted, allowed, disallowed, grant-ends, unasked}
@@ -46,8 +48,6 @@ use Rattle.agent_model.proofs.ServeLemmas.{IsServed, answered, asked, raised, re
 use Rattle.agent_model.proofs.TiedLemmas.{tied-quiet}
 use Rattle.agent_laws.proofs.MomentLemmas.{judged-brings, judged-moment}
 use Rattle.agent_laws.specs.Proven.{AnswerTheirAsks, AnswersItsAsk, IsRightAnswer}
-use Rattle.agent_model.proofs.ActionLemmas.{among-back, among-front}
-use Rattle.std.specs.Option.{option_or}
 
 -- ---- actions behind actions
 

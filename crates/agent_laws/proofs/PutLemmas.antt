@@ -28,7 +28,7 @@ use Rattle.agent_model.specs.Sound.{IsTied}
 use Rattle.agent_model.specs.State.{Port, Settings, State, UnderWay, find_port, first_state}
 use Rattle.agent_model.specs.Step.{asker_at, handle, step}
 use Rattle.agent_model.specs.Time.{at_moment, time_passes}
-use Rattle.agent_model.proofs.ActionLemmas.{Each, among-each, each-append, each-tells, among-back}
+use Rattle.agent_model.proofs.ActionLemmas.{Each, among-back, among-each, each-append, each-tells}
 use Rattle.agent_model.proofs.FatedLemmas.{first-tied, run-tied, tied-opened}
 use Rattle.agent_model.proofs.TiedLemmas.{tied-quiet}
 use Rattle.agent_model.proofs.GrantLemmas.{IsGranted, allowed, disallowed, grant-ends, unasked}

@@ -31,7 +31,7 @@ use Rattle.agent_model.proofs.FatedLemmas.{step-fated, tied-opened}
 use Rattle.agent_model.proofs.TiedLemmas.{tied-quiet}
 use Rattle.agent_model.proofs.GrantLemmas.{IsGranted, allowed, disallowed, grant-ends, unasked}
 use Rattle.agent_model.proofs.GrowLemmas.{jobs-for}
-use Rattle.agent_model.proofs.JobLemmas.{find_job-push, find_job-remove, in-found, job_within}
+use Rattle.agent_model.proofs.JobLemmas.{find_job-push, find_job-remove, in-found, job-change, job_within}
 use Rattle.agent_model.proofs.MakeLemmas.{IsFaint, Kept, Makes, Quiet, altered, alters, by_event, closes, first, goes_on, grants, links, loses, names, overs, serves, stays, tells, unchanged}
 use Rattle.agent_model.proofs.OnceLemmas.{unused}
 use Rattle.agent_laws.proofs.MomentLemmas.{tied-brings}
@@ -44,22 +44,14 @@ wanted-is : (f : Confirmation → Confirmation) → IsFaint f → (c : Confirmat
 wanted-is f faint c = rw (faint.asker c, faint.addition c, faint.message c, faint.flags c) refl
 
 noted-changed : (job at : ℕ) (f : Confirmation → Confirmation) → ((c : Confirmation) → (f c).job ≡ c.job) → ((c : Confirmation) → wanted_of (f c) ≡ wanted_of c) → (confirmations : List Confirmation) → noted job (change_job at f confirmations) ≡ noted job confirmations
-noted-changed job at f jobs same [] = refl
-noted-changed job at f jobs same (one ∷ others) = by_tests (one.job == at) (one.job == job) refl (noted-changed job at f jobs same others)
+noted-changed job at f jobs same all = elim (job-change job at f all jobs) [
+  | inl is ↦ ap (option_map wanted_of) is
+  | inr is ↦ ap (option_map wanted_of) is ∙ by_found (find_job job all)
+]
   where
-    by_tests : (here_at is : Bool) → (one.job == job) ≡ is → noted job (change_job at f others) ≡ noted job others → noted job (cond here_at (f one ∷ others) (one ∷ change_job at f others)) ≡ option_map wanted_of (cond is (Some one) (find_job job others))
-    by_tests true is test rest =
-        ap (λ b. option_map wanted_of (cond b (Some (f one)) (find_job job others))) (ap (λ n. n == job) (jobs one) ∙ test) ∙ by_is is
-      where
-        by_is : (is : Bool) → option_map wanted_of (cond is (Some (f one)) (find_job job others)) ≡ option_map wanted_of (cond is (Some one) (find_job job others))
-        by_is true = ap Some (same one)
-        by_is false = refl
-    by_tests false is test rest =
-        ap (λ b. option_map wanted_of (cond b (Some one) (find_job job (change_job at f others)))) test ∙ by_is is
-      where
-        by_is : (is : Bool) → option_map wanted_of (cond is (Some one) (find_job job (change_job at f others))) ≡ option_map wanted_of (cond is (Some one) (find_job job others))
-        by_is true = refl
-        by_is false = rest
+    by_found : (found : Option Confirmation) → option_map wanted_of (option_map f found) ≡ option_map wanted_of found
+    by_found None = refl
+    by_found (Some one) = ap Some (same one)
 
 noted-kept : (job : ℕ) {old new : List Confirmation} → Kept old new → noted job new ≡ noted job old
 noted-kept job unchanged = refl
@@ -81,11 +73,9 @@ abbrev pub endable : ℕ → UnderWay → ℕ
 endable job under_way = if nat_lt under_way.last_job job then 1 else noted_by (noted job under_way.confirmations)
 
 pub endable_most : (job : ℕ) (under_way : UnderWay) → endable job under_way ≤ 1
-endable_most job under_way = by_test (nat_lt under_way.last_job job)
-  where
-    by_test : (above : Bool) → (if above then 1 else noted_by (noted job under_way.confirmations)) ≤ 1
-    by_test true = omega arith
-    by_test false = noted_most (noted job under_way.confirmations)
+endable_most job under_way =
+    let most = noted_most (noted job under_way.confirmations) in
+    grind (arith, nat_tests)
 
 pub record Traces (job : ℕ) (old : UnderWay) (actions : List Action) (new : UnderWay) : Type 0 where
   pub pending : (before : Option Raising) → noted job old.confirmations ≡ option_map wanted before → noted job new.confirmations ≡ option_map wanted (pending_after job actions before)

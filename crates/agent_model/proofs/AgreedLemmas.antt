@@ -27,7 +27,7 @@ use Rattle.agent_model.proofs.GrantLemmas.{IsGranted, allowed, disallowed, grant
 use Rattle.agent_model.proofs.JobLemmas.{IsIn, in-found}
 use Rattle.agent_model.proofs.MakeLemmas.{Makes, by_event, first, grants, loses, overs, serves, stays, tells}
 use Rattle.agent_model.proofs.ServeLemmas.{IsServed, answered, asked, raised, refused, serve-ends}
-use Rattle.agent_model.proofs.ActionLemmas.{ArePlain, IsPlain, among-each, plain-tells, among-back, among-front}
+use Rattle.agent_model.proofs.ActionLemmas.{ArePlain, IsPlain, among-back, among-each, among-front, plain-tells}
 use Rattle.agent_model.proofs.WaitLemmas.{told-close_confirmer, waits-quiet, waits-served}
 use Rattle.agent_model.proofs.StillLemmas.{heard-refused, still-handle, still-lost, still-makes, still-tells}
 use Rattle.agent_model.proofs.TimeLemmas.{time_passes-brings}

@@ -1,6 +1,7 @@
 -- Bindings that are verified, where one more ask is put.
 use Rattle.std.proofs.Common.{◌≡◌, ℕ, ◌+◌, List, [], ◌∷◌, ◌++◌, refl, ap, arith, sym, subst, ◌∙◌, ◌==◌, ◌⊎◌, Option, Some, None, IsSome, Bool, true, false, cond, inl, inr}
 use Rattle.std.proofs.lemmas.Bool.Decides.{nat_tests}
+use Rattle.std.specs.Option.{option_or}
 use Rattle.agent_msg.specs.Requests.{BindRequest}
 use Rattle.helper_link.specs.HelperLink.{ask_of}
 use Rattle.helper_link.specs.Settling.{find_ask}
@@ -16,7 +17,6 @@ use Rattle.agent_model.specs.State.{Port, Verification, find_port}
 use Rattle.agent_model.proofs.BindLemmas.{AreGiven}
 use Rattle.agent_model.proofs.JudgeLemmas.{KeepsChains, find_verification-append}
 use Rattle.agent_model.proofs.ServeLemmas.{MayPut}
-use Rattle.std.specs.Option.{option_or}
 
 -- the verification of a request to bind
 abbrev one_for : BindRequest → Bool → ℕ → Verification

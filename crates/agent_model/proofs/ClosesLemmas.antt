@@ -1,5 +1,5 @@
 -- The ports that an event closes are those that were open or joined and aren't open after.
-use Rattle.std.proofs.Common.{◌≡◌, ◌≢◌, ◌==◌, ◌&&◌, ◌||◌, ◌<◌, ◌+◌, ℕ, List, [], ◌∷◌, ◌++◌, refl, ap, arith, sym, subst, ◌∙◌, suc, Option, Some, None, is_some, Bool, true, false, not, nat_lt, inl, inr, if◌then◌else◌}
+use Rattle.std.proofs.Common.{◌≡◌, ◌≢◌, ◌==◌, ◌&&◌, ◌<◌, ◌+◌, ℕ, List, [], ◌∷◌, ◌++◌, refl, ap, arith, sym, subst, ◌∙◌, suc, Option, Some, None, is_some, Bool, true, false, not, nat_lt, inl, inr, if◌then◌else◌}
 use Rattle.std.proofs.lemmas.Bool.{cases_eq}
 use Rattle.std.proofs.lemmas.Bool.Decides.{nat_tests}
 use Rattle.std.proofs.lemmas.List.{append-nil}
@@ -63,15 +63,9 @@ inserted-first : (low number : ℕ) (ns kept : List ℕ) → IsRisingNumbers low
     inserted number (without ns kept) ≡ number ∷ without ns kept
 inserted-first low number [] kept rising below = refl
 inserted-first low number (n ∷ ns) kept rising below =
-    by_test (is_among n kept) (inserted-first n number ns kept rising.1 (omega (arith, rising.0)))
-  where
-    by_test : (test : Bool) → inserted number (without ns kept) ≡ number ∷ without ns kept →
-        inserted number (if test then without ns kept else n ∷ without ns kept)
-        ≡ number ∷ (if test then without ns kept else n ∷ without ns kept)
-    by_test true rest = rest
-    by_test false rest =
-        let above : low < n = rising.0 in
-        grind (arith, nat_tests)
+    let above : low < n = rising.0 in
+    let rest = inserted-first n number ns kept rising.1 (omega (arith, rising.0)) in
+    grind (arith, nat_tests)
 
 -- one number less is kept: it is one more of those that aren't
 inserted-without : (low number : ℕ) (ns kept left : List ℕ) → IsRisingNumbers low ns →
@@ -96,14 +90,8 @@ inserted-without low number (n ∷ ns) kept left rising there was is others = el
       inserted-without n number ns kept left rising.1 later was is others in
       let less : n < number = is_among-above n number ns rising.1 later in
       let here : is_among n left ≡ is_among n kept = others n (λ e. apart (sym e)) in
-      rw here (by_test (is_among n kept) rest less))
+      grind (arith, nat_tests))
 ]
-  where
-    by_test : (test : Bool) → inserted number (without ns kept) ≡ without ns left → n < number →
-        inserted number (if test then without ns kept else n ∷ without ns kept)
-        ≡ (if test then without ns left else n ∷ without ns left)
-    by_test true rest less = rest
-    by_test false rest less = grind (arith, nat_tests)
 
 -- what is taken out, put in order behind what isn't kept any more, is what isn't kept then
 put-taken : (low : ℕ) (all out kept left : List ℕ) → IsRisingNumbers low all → IsRisingList kept →
@@ -283,30 +271,20 @@ taken-with number (one ∷ out) before after taken =
         (is_among one (ns ++ number ∷ []) ≡ true)
         × (removed one (ns ++ number ∷ []) ≡ removed one ns ++ number ∷ [])
     one_with [] there = absurd (cc)
-    one_with (n ∷ ns) there = by_test (one == n) there (one_with ns)
-      where
-        by_test : (is : Bool) → (is || is_among one ns) ≡ true →
-            (is_among one ns ≡ true → (is_among one (ns ++ number ∷ []) ≡ true)
-            × (removed one (ns ++ number ∷ []) ≡ removed one ns ++ number ∷ [])) →
-            ((is || is_among one (ns ++ number ∷ [])) ≡ true)
-            × ((if is then ns ++ number ∷ [] else n ∷ removed one (ns ++ number ∷ []))
-            ≡ (if is then ns else n ∷ removed one ns) ++ number ∷ [])
-        by_test true is rest = (refl, refl)
-        by_test false is rest = ((rest is).0, ap (λ ms. n ∷ ms) (rest is).1)
+    one_with (n ∷ ns) there =
+        let kept : is_among one ns ≡ true → is_among one (ns ++ number ∷ []) ≡ true = λ was. (one_with ns was).0 in
+        let left : is_among one ns ≡ true → removed one (ns ++ number ∷ []) ≡ removed one ns ++ number ∷ [] =
+        λ was. (one_with ns was).1 in
+        (grind (arith, nat_tests), grind (arith, nat_tests))
 
 -- the last of numbers is taken out, where it isn't among the others
 taken-last : (number : ℕ) (ns : List ℕ) → is_among number ns ≡ false →
     (is_among number (ns ++ number ∷ []) ≡ true) × (ns ≡ removed number (ns ++ number ∷ []))
 taken-last number [] absent = (grind (arith, nat_tests), grind (arith, nat_tests))
-taken-last number (n ∷ ns) absent = by_test (number == n) absent (taken-last number ns)
-  where
-    by_test : (is : Bool) → (is || is_among number ns) ≡ false →
-        (is_among number ns ≡ false → (is_among number (ns ++ number ∷ []) ≡ true)
-        × (ns ≡ removed number (ns ++ number ∷ []))) →
-        ((is || is_among number (ns ++ number ∷ [])) ≡ true)
-        × ((n ∷ ns) ≡ (if is then ns ++ number ∷ [] else n ∷ removed number (ns ++ number ∷ [])))
-    by_test true is rest = absurd (cc)
-    by_test false is rest = ((rest is).0, ap (λ ms. n ∷ ms) (rest is).1)
+taken-last number (n ∷ ns) absent =
+    let there : is_among number ns ≡ false → is_among number (ns ++ number ∷ []) ≡ true = λ none. (taken-last number ns none).0 in
+    let left : is_among number ns ≡ false → ns ≡ removed number (ns ++ number ∷ []) = λ none. (taken-last number ns none).1 in
+    (grind (arith, nat_tests), grind (arith, nat_tests))
 
 -- a port that joins is closed where it isn't admitted
 taken-admitted : (is_in : Bool) (number : ℕ) (door : Door) (ports : List Port) →

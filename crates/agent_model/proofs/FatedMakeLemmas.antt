@@ -42,7 +42,7 @@ use Rattle.agent_model.proofs.RaisedLemmas.{Fewer, fewer-closed, fewer-removed, 
 use Rattle.agent_model.proofs.ServeLemmas.{serve-ends}
 use Rattle.agent_model.proofs.TiedLemmas.{assemble, tied-fewer, tied-quiet}
 use Rattle.agent_model.proofs.WaitLemmas.{told-close_confirmer, told-close_helper, waits-quiet}
-use Rattle.agent_model.proofs.TieLemmas.{found_joined, tied-asked, tied-silent, found_known}
+use Rattle.agent_model.proofs.TieLemmas.{found_joined, found_known, tied-asked, tied-silent}
 use Rattle.agent_model.proofs.FatedServeLemmas.{Fated, fated-served, linked-begun, new_asker}
 
 -- ---- the helper answers, or is lost

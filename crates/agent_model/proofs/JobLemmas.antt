@@ -5,9 +5,9 @@ use Rattle.std.specs.Option.{option_map}
 use Rattle.std.proofs.lemmas.Bool.{eqb-true}
 use Rattle.std.proofs.lemmas.Bool.Decides.{nat_tests}
 use Rattle.lists.specs.Keyed.{has_key}
-use Rattle.lists.proofs.FirstLemmas.{find-change_either, find-change_found, found_passes}
+use Rattle.lists.proofs.FirstLemmas.{find-change_either, find-change_found, found_passes, some_or_later}
 use Rattle.lists.proofs.KeyedLemmas as keyed
-use Rattle.lists.proofs.KeyedLemmas.{differ, find_by-change_apart, find_by-push, find_by-remove, found_above, found_key, found_within, rise-change, rise-higher, rise-only, rise-push, rise-remove}
+use Rattle.lists.proofs.KeyedLemmas.{differ, find_by-change_apart, find_by-push, find_by-remove, found_above, found_key, found_within, keeps_key, rise-change, rise-higher, rise-only, rise-push, rise-remove}
 use Rattle.confirm_desk.specs.Confirmations.{Confirmation, asker_of, came_to, change_job, find_asker, find_job, find_linked, is_at, job_of, remove_job}
 use Rattle.agent_model.specs.Asking.{JobsRise}
 
@@ -63,6 +63,11 @@ changed_forth job at f confirmations was keeps found = keyed.changed_forth job_o
 pub change-apart : (job at : ℕ) (f : Confirmation → Confirmation) (confirmations : List Confirmation) → ((c : Confirmation) → (f c).job ≡ c.job) → job ≢ at → find_job job (change_job at f confirmations) ≡ find_job job confirmations
 change-apart job at f confirmations keeps differs = find_by-change_apart job_of job at f confirmations keeps differs
 
+-- what is found after a change is what was found, or that changed
+pub job-change : (job at : ℕ) (f : Confirmation → Confirmation) (confirmations : List Confirmation) → ((c : Confirmation) → (f c).job ≡ c.job) → (find_job job (change_job at f confirmations) ≡ find_job job confirmations) ⊎ (find_job job (change_job at f confirmations) ≡ option_map f (find_job job confirmations))
+job-change job at f confirmations keeps =
+    find-change_either (has_key job_of job) (has_key job_of at) f confirmations (keeps_key job_of job f keeps)
+
 -- ---- which are there
 
 -- a confirmation is one of these
@@ -78,6 +83,12 @@ in-found_by test (first ∷ others) one found = by_test (test first) found (in-f
     by_test : (is : Bool) → cond is (Some first) (find test others) ≡ Some one → (find test others ≡ Some one → IsIn one others) → IsIn one (first ∷ others)
     by_test true some rest = let equal : first ≡ one = cc in subst (λ c. IsIn c (first ∷ others)) equal (here others)
     by_test false some rest = behind first others (rest some)
+
+-- where a search finds nothing, nothing that is there passes
+pub none_passes : (test : Confirmation → Bool) (one : Confirmation) {confirmations : List Confirmation} → IsIn one confirmations → find test confirmations ≡ None → test one ≡ false
+none_passes test one (here others) none = (some_or_later (test one) one (find test others) none).0
+none_passes test one (behind other others there) none =
+    none_passes test one there (some_or_later (test other) other (find test others) none).1
 
 pub in-by_job : (job : ℕ) (confirmations : List Confirmation) (one : Confirmation) → find_job job confirmations ≡ Some one → IsIn one confirmations
 in-by_job job confirmations one found = in-found_by (has_key job_of job) confirmations one found

@@ -55,11 +55,9 @@ found_before ask other (first ∷ all) one found = by_tests (first.ask == ask) (
 -- a session that is in no chain is in none with another binding at its end
 absent_behind : (session : List ℕ) (chain : List Binding) (binding : Binding) → find_session session chain ≡ None → bytes_eq binding.session session ≡ false → find_session session (bound binding chain) ≡ None
 absent_behind session [] binding none other = ap (λ b. cond b (Some binding) None) other
-absent_behind session (first ∷ chain) binding none other = by_test (bytes_eq first.session session) none (absent_behind session chain binding)
-  where
-    by_test : (same : Bool) → cond same (Some first) (find_session session chain) ≡ None → (find_session session chain ≡ None → bytes_eq binding.session session ≡ false → find_session session (bound binding chain) ≡ None) → cond same (Some first) (find_session session (bound binding chain)) ≡ None
-    by_test true nowhere later = absurd (cc)
-    by_test false nowhere later = later nowhere other
+absent_behind session (first ∷ chain) binding none other =
+    let later = absent_behind session chain binding in
+    grind (arith, nat_tests)
 
 -- texts differ whichever comes first
 other_way : (a b : List ℕ) (same : Bool) → bytes_eq b a ≡ same → bytes_eq a b ≡ false → bytes_eq b a ≡ false

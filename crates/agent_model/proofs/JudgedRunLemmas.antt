@@ -25,7 +25,7 @@ use Rattle.agent_model.proofs.FatedMakeLemmas.{fated-makes, tied-taken}
 use Rattle.agent_model.proofs.JudgeLemmas.{KeepsChains, keeps-absent, keeps-in_turn, keeps-same, no_bindings}
 use Rattle.agent_model.proofs.JudgedLemmas.{Judges, judges-makes, silent_served}
 use Rattle.agent_model.proofs.MakeLemmas.{Makes, by_event, loses, overs}
-use Rattle.agent_model.proofs.PortsLemmas.{found_number, absent_above}
+use Rattle.agent_model.proofs.PortsLemmas.{absent_above, found_number}
 use Rattle.agent_model.proofs.RunLemmas.{at_moment-follows, handle-unused, leads-found, run-unused, step-rises}
 use Rattle.agent_model.proofs.ServeLemmas.{serve-ends}
 use Rattle.agent_model.proofs.TieLemmas.{found_joined, found_known}

@@ -21,7 +21,7 @@ use Rattle.agent_model.specs.Grants.{IsAmong}
 use Rattle.agent_model.specs.Sound.{IsSteady}
 use Rattle.agent_model.specs.State.{State, UnderWay, limit_from, next_limit, second_of}
 use Rattle.agent_model.specs.Time.{IsReached, all_over, end_late, first_late, has_lasted, is_helper_late, is_late, is_one_late, taken_in, time_passes}
-use Rattle.agent_model.proofs.JobLemmas.{IsIn, behind, find_job-remove, here, in-by_job, in-found, in-found_by, jobs-remove}
+use Rattle.agent_model.proofs.JobLemmas.{IsIn, find_job-remove, in-by_job, in-found, in-found_by, jobs-remove, none_passes}
 use Rattle.agent_model.proofs.OnTimeLemmas.{removed_one}
 
 -- ---- once a limit is reached, something is late
@@ -160,19 +160,6 @@ lost-exactly moment state = (only (is_helper_late begun.under_way), exact)
 
 -- ---- a confirmation ends exactly where it is late
 
--- where none is found that passes, none that is there does
-none_passes : (test : Confirmation → Bool) (one : Confirmation) (all : List Confirmation) → IsIn one all → find test all ≡ None → test one ≡ false
-none_passes test one all (here others) none = by_test (test one) none
-  where
-    by_test : (is : Bool) → cond is (Some one) (find test others) ≡ None → is ≡ false
-    by_test true some = absurd (cc)
-    by_test false some = refl
-none_passes test one all (behind first others there) none = by_test (test first) none (none_passes test one others there)
-  where
-    by_test : (is : Bool) → cond is (Some first) (find test others) ≡ None → (find test others ≡ None → test one ≡ false) → test one ≡ false
-    by_test true some rest = absurd (cc)
-    by_test false some rest = rest some
-
 module _ (job last : ℕ) (one : Confirmation) where
   -- it is there, under its job
   abbrev Stands : State → Type 0
@@ -220,7 +207,7 @@ module _ (job last : ℕ) (one : Confirmation) where
     where
       by_found : (found : Option Confirmation) → first_late state.under_way ≡ found → ((s : State) → Stands s → length s.under_way.confirmations ≤ length others → is_late s.under_way one ≡ true → IsAmong (Over job) (all_over others s).actions) → IsAmong (Over job) (and_then (over_if found state) (all_over others)).actions
       by_found None is rest =
-          let no : true ≡ false = sym late ∙ none_passes (is_late state.under_way) one state.under_way.confirmations (in-by_job job state.under_way.confirmations one stands.1) is in
+          let no : true ≡ false = sym late ∙ none_passes (is_late state.under_way) one (in-by_job job state.under_way.confirmations one stands.1) is in
           absurd (cc)
       by_found (Some ending) is rest = elim (cases_eq ending.job job) [
         | inl same ↦ inl (ap Over same)

@@ -33,6 +33,7 @@ use Rattle.agent_model.specs.Step.{asker_at, handle, step}
 use Rattle.agent_model.specs.Time.{at_moment, taken_in, time_passes}
 use Rattle.agent_model.proofs.FateLemmas.{answer-fate, answers_as, fate-append}
 use Rattle.agent_model.proofs.FatedLemmas.{step-fated, tied-opened}
+use Rattle.agent_model.proofs.PartBudgetLemmas.{one_or_none}
 use Rattle.agent_model.proofs.TiedLemmas.{tied-quiet}
 use Rattle.agent_model.proofs.MakeLemmas.{Makes, Quiet, alters, by_event, closes, first, goes_on, grants, links, loses, names, overs, serves, stays, tells}
 use Rattle.agent_model.proofs.ServeLemmas.{IsServed, answered, asked, raised, refused, serve-ends}
@@ -60,18 +61,12 @@ open_most None = omega arith
 open_most (Some one) = omega arith
 
 pub answerable_most : (ask : ℕ) (link : HelperLink) → answerable ask link ≤ 1
-answerable_most ask link = by_test (nat_lt link.last ask)
-  where
-    by_test : (new : Bool) → (if new then 1 else open_by (find_ask ask link.asks)) ≤ 1
-    by_test true = omega arith
-    by_test false = open_most (find_ask ask link.asks)
+answerable_most ask link =
+    let most = open_most (find_ask ask link.asks) in
+    grind (arith, nat_tests)
 
 pub unused_most : (ask last : ℕ) → unused ask last ≤ 1
-unused_most ask last = by_test (nat_lt last ask)
-  where
-    by_test : (above : Bool) → (if above then 1 else 0) ≤ 1
-    by_test true = omega arith
-    by_test false = omega arith
+unused_most ask last = one_or_none (nat_lt last ask)
 
 -- an event spends no more than that
 pub record Spends (ask : ℕ) (old : HelperLink) (actions : List Action) (new : HelperLink) : Type 0 where

@@ -4,7 +4,7 @@ use Rattle.std.specs.Option.{option_map}
 use Rattle.std.proofs.lemmas.Bool.{cases_eq}
 use Rattle.std.proofs.lemmas.Bool.Decides.{nat_tests}
 use Rattle.lists.specs.Keyed.{has_key}
-use Rattle.lists.proofs.FirstLemmas.{length-change, length-remove, some_or_later}
+use Rattle.lists.proofs.FirstLemmas.{length-change, length-remove}
 use Rattle.confirm_desk.specs.Confirmations.{Confirmation, change_job, find_asker, find_job, find_linked, is_at, linked_at, remove_job, job_of, came_to}
 use Rattle.helper_link.specs.declared.answer.Settled.{Settled}
 use Rattle.helper_link.specs.declared.state.LinkState.{LinkState}
@@ -15,10 +15,9 @@ use Rattle.agent_model.specs.Children.{changed}
 use Rattle.agent_model.specs.State.{Port, change_port, find_port, remove_port}
 use Rattle.agent_model.specs.Verdicts.{Verdict, tell}
 use Rattle.agent_model.proofs.FateLemmas.{answers_as}
-use Rattle.agent_model.proofs.JobLemmas.{IsIn, change-apart, changed_back, find_job-push, find_job-remove, here, behind}
+use Rattle.agent_model.proofs.JobLemmas.{IsIn, change-apart, changed_back, find_job-push, find_job-remove, none_passes}
 use Rattle.agent_model.proofs.MakeLemmas.{Kept, altered, unchanged}
 use Rattle.agent_model.proofs.PortsLemmas.{find_port-apart, find_port-change_port, find_port-removed_apart}
-use Rattle.std.specs.List.{find}
 
 -- ---- open ports
 
@@ -65,12 +64,6 @@ pub removed-apart : (number at : ℕ) (ports : List Port) → number ≢ at → 
 removed-apart number at ports other some = subst IsSome (sym (find_port-removed_apart number at ports other)) some
 
 -- ---- confirmations that are linked
-
--- where a search finds nothing, nothing that is there passes
-none_passes : (test : Confirmation → Bool) (one : Confirmation) {confirmations : List Confirmation} → IsIn one confirmations → find test confirmations ≡ None → test one ≡ false
-none_passes test one (here others) none = (some_or_later (test one) one (find test others) none).0
-none_passes test one (behind other others there) none =
-    none_passes test one there (some_or_later (test other) other (find test others) none).1
 
 -- where nothing is found at a port, none is linked to it
 pub none_linked : (number : ℕ) (one : Confirmation) {confirmations : List Confirmation} → IsIn one confirmations → find_linked number confirmations ≡ None → one.port ≢ Some number

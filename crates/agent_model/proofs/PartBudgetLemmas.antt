@@ -1,6 +1,5 @@
 -- The budget of ports: what one port has of it, and what it takes with it.
-use Rattle.std.proofs.Common.{inl, inr, ◌≡◌, ◌≢◌, ℕ, ◌+◌, ◌<◌, ◌≤◌, List, [], ◌∷◌, length, refl, ap, arith, ◌∙◌, ◌==◌, Option, Some, None, Bool, true, false, if◌then◌else◌}
-use Rattle.std.proofs.lemmas.Bool.{cases_eq}
+use Rattle.std.proofs.Common.{◌≡◌, ◌≢◌, ℕ, ◌+◌, ◌<◌, ◌≤◌, List, [], ◌∷◌, length, refl, ap, arith, ◌∙◌, ◌==◌, Option, Some, None, Bool, true, false, if◌then◌else◌}
 use Rattle.std.proofs.lemmas.Bool.Decides.{nat_tests}
 use Rattle.std.specs.Option.{option_map}
 use Rattle.lists.proofs.FirstLemmas.{some_or_later}
@@ -14,51 +13,23 @@ use Rattle.agent_model.specs.State.{Helper, Port, Role, UnderWay, change_port, f
 -- a change of the port of this number changes its part of the budget alone
 pub budget-change : (under_way : UnderWay) (number : ℕ) (f : Port → Port) (ports : List Port) (port : Port) → find_port number ports ≡ Some port → ports_budget under_way (change_port number f ports) + port_budget under_way port ≡ ports_budget under_way ports + port_budget under_way (f port)
 budget-change under_way number f [] port found = absurd (cc)
-budget-change under_way number f (first ∷ ports) port found = by_test (first.number == number) refl (budget-change under_way number f ports port)
-  where
-    by_test : (same : Bool) → (first.number == number) ≡ same → (find_port number ports ≡ Some port → ports_budget under_way (change_port number f ports) + port_budget under_way port ≡ ports_budget under_way ports + port_budget under_way (f port)) → ports_budget under_way (change_port number f (first ∷ ports)) + port_budget under_way port ≡ ports_budget under_way (first ∷ ports) + port_budget under_way (f port)
-    by_test true is later =
-        let here : first ≡ port = grind (arith, nat_tests) in
-        let front : change_port number f (first ∷ ports) ≡ f first ∷ ports = grind (arith, nat_tests) in
-        let budget_is : ports_budget under_way (change_port number f (first ∷ ports)) ≡ port_budget under_way (f first) + ports_budget under_way ports = ap (ports_budget under_way) front in
-        let a : port_budget under_way first ≡ port_budget under_way port = ap (port_budget under_way) here in
-        let b : port_budget under_way (f first) ≡ port_budget under_way (f port) = ap (λ q. port_budget under_way (f q)) here in
-        omega (arith, budget_is, a, b)
-    by_test false is later =
-        let there : find_port number ports ≡ Some port = grind (arith, nat_tests) in
-        let front : change_port number f (first ∷ ports) ≡ first ∷ change_port number f ports = grind (arith, nat_tests) in
-        let budget_is : ports_budget under_way (change_port number f (first ∷ ports)) ≡ port_budget under_way first + ports_budget under_way (change_port number f ports) = ap (ports_budget under_way) front in
-        omega (arith, budget_is, later there)
+budget-change under_way number f (first ∷ ports) port found =
+    let later = budget-change under_way number f ports port in
+    grind (arith, nat_tests)
 
 -- the port of this number takes its part of the budget with it
 pub budget-remove : (under_way : UnderWay) (number : ℕ) (ports : List Port) → ports_budget under_way (remove_port number ports) ≤ ports_budget under_way ports
 budget-remove under_way number [] = omega arith
-budget-remove under_way number (first ∷ ports) = by_test (first.number == number) refl (budget-remove under_way number ports)
-  where
-    by_test : (same : Bool) → (first.number == number) ≡ same → ports_budget under_way (remove_port number ports) ≤ ports_budget under_way ports → ports_budget under_way (remove_port number (first ∷ ports)) ≤ ports_budget under_way (first ∷ ports)
-    by_test true is later =
-        let front : remove_port number (first ∷ ports) ≡ ports = grind (arith, nat_tests) in
-        omega (arith, ap (ports_budget under_way) front)
-    by_test false is later =
-        let front : remove_port number (first ∷ ports) ≡ first ∷ remove_port number ports = grind (arith, nat_tests) in
-        let budget_is : ports_budget under_way (remove_port number (first ∷ ports)) ≡ port_budget under_way first + ports_budget under_way (remove_port number ports) = ap (ports_budget under_way) front in
-        omega (arith, budget_is, later)
+budget-remove under_way number (first ∷ ports) =
+    let later : ports_budget under_way (remove_port number ports) ≤ ports_budget under_way ports = budget-remove under_way number ports in
+    grind (arith, nat_tests)
 
 -- exactly that, where it is there
 pub budget-removed : (under_way : UnderWay) (number : ℕ) (ports : List Port) (port : Port) → find_port number ports ≡ Some port → ports_budget under_way (remove_port number ports) + port_budget under_way port ≡ ports_budget under_way ports
 budget-removed under_way number [] port found = absurd (cc)
-budget-removed under_way number (first ∷ ports) port found = by_test (first.number == number) refl (budget-removed under_way number ports port)
-  where
-    by_test : (same : Bool) → (first.number == number) ≡ same → (find_port number ports ≡ Some port → ports_budget under_way (remove_port number ports) + port_budget under_way port ≡ ports_budget under_way ports) → ports_budget under_way (remove_port number (first ∷ ports)) + port_budget under_way port ≡ ports_budget under_way (first ∷ ports)
-    by_test true is later =
-        let here : first ≡ port = grind (arith, nat_tests) in
-        let front : remove_port number (first ∷ ports) ≡ ports = grind (arith, nat_tests) in
-        omega (arith, ap (ports_budget under_way) front, ap (port_budget under_way) here)
-    by_test false is later =
-        let there : find_port number ports ≡ Some port = grind (arith, nat_tests) in
-        let front : remove_port number (first ∷ ports) ≡ first ∷ remove_port number ports = grind (arith, nat_tests) in
-        let budget_is : ports_budget under_way (remove_port number (first ∷ ports)) ≡ port_budget under_way first + ports_budget under_way (remove_port number ports) = ap (ports_budget under_way) front in
-        omega (arith, budget_is, later there)
+budget-removed under_way number (first ∷ ports) port found =
+    let later = budget-removed under_way number ports port in
+    grind (arith, nat_tests)
 
 -- the port that was changed is found so, where its number stays
 pub found_changed : (number : ℕ) (f : Port → Port) (ports : List Port) (port : Port) → ((p : Port) → (f p).number ≡ p.number) → find_port number ports ≡ Some port → find_port number (change_port number f ports) ≡ Some (f port)
@@ -99,16 +70,11 @@ all_lower (port ∷ ports) old new lower = omega (arith, lower port, all_lower p
 -- and it falls where one port's part does
 pub one_lower : (number : ℕ) (ports : List Port) (port : Port) (old new : UnderWay) → ((p : Port) → port_budget new p ≤ port_budget old p) → find_port number ports ≡ Some port → port_budget new port < port_budget old port → ports_budget new ports < ports_budget old ports
 one_lower number [] port old new all found lower = absurd (cc)
-one_lower number (first ∷ ports) port old new all found lower = elim (cases_eq number first.number) [
-  | inl here ↦
-      (let is : first ≡ port = grind (arith, nat_tests) in
-      let a : port_budget old first ≡ port_budget old port = ap (port_budget old) is in
-      let b : port_budget new first ≡ port_budget new port = ap (port_budget new) is in
-      omega (arith, a, b, lower, all_lower ports old new all))
-  | inr apart ↦
-      (let later : find_port number ports ≡ Some port = grind (arith, nat_tests) in
-      omega (arith, all first, one_lower number ports port old new all later lower))
-]
+one_lower number (first ∷ ports) port old new all found lower =
+    let here = all first in
+    let others = all_lower ports old new all in
+    let later = one_lower number ports port old new all in
+    grind (arith, nat_tests)
 
 apart_not_same : {a b : ℕ} → (a == b) ≡ false → b ≡ a → ⊥
 apart_not_same {a} {b} apart same = let equal : (a == b) ≡ true = grind (arith, nat_tests) in absurd (cc)

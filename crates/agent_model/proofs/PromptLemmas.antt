@@ -1,6 +1,7 @@
 -- What an event begins isn't late in its own second.
 use Rattle.std.proofs.Common.{◌≡◌, ℕ, ◌+◌, ◌<◌, List, [], ◌∷◌, ◌++◌, refl, ap, arith, sym, ◌∙◌, ◌==◌, cond, max, Option, Some, None, Bool, true, false}
 use Rattle.std.proofs.Math.Nat.{max-eq_left, le-max_right}
+use Rattle.std.proofs.lemmas.Bool.{or_from, or_parts}
 use Rattle.std.proofs.lemmas.Bool.Decides.{nat_tests}
 use Rattle.std.specs.List.{find}
 use Rattle.lists.specs.Keyed.{has_key}
@@ -32,9 +33,8 @@ use Rattle.agent_model.proofs.GrantLemmas.{IsGranted, allowed, disallowed, grant
 use Rattle.agent_model.proofs.MakeLemmas.{Kept, Makes, Quiet, altered, alters, by_event, closes, first, goes_on, grants, links, loses, names, overs, serves, stays, tells, unchanged}
 use Rattle.agent_model.proofs.OnTimeLemmas.{at_moment-moment, at_moment-on_time, taken_in-at_moment}
 use Rattle.agent_model.proofs.ServeLemmas.{IsServed, answered, asked, raised, refused, serve-ends}
-use Rattle.agent_model.proofs.TimeLemmas.{at_moment-keeps}
 use Rattle.agent_model.proofs.TimeKeptLemmas.{keeps_time-handle}
-use Rattle.std.proofs.lemmas.Bool.{or_from, or_parts}
+use Rattle.agent_model.proofs.TimeLemmas.{at_moment-keeps}
 
 -- what has just begun isn't late
 not_at_once : (limit : Option ℕ) (since second : ℕ) → GivesTime limit → since ≡ second → has_lasted limit since second ≡ false

@@ -22,7 +22,7 @@ use Rattle.agent_model.proofs.FateLemmas.{answers_as, one_answer, one_lost}
 use Rattle.agent_model.proofs.JobLemmas.{changed_back, changed_forth, find_job-push, find_job-remove, job_within, jobs-change, jobs-higher, jobs-push, jobs-remove}
 use Rattle.agent_model.proofs.MakeLemmas.{IsMild, Kept, altered, unchanged}
 use Rattle.agent_model.proofs.PortsLemmas.{find_port-left}
-use Rattle.agent_model.proofs.TieLemmas.{IsOf, apart, found_after, found_joined, here, found_known}
+use Rattle.agent_model.proofs.TieLemmas.{IsOf, apart, found_after, found_joined, found_known, here}
 
 -- ---- ports that go on waiting for what they waited for
 

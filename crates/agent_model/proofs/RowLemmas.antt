@@ -11,8 +11,8 @@ use Rattle.agent_model.specs.State.{State, TimeLimits, first_state, no_limits, n
 use Rattle.agent_model.specs.Step.{handle, step}
 use Rattle.agent_model.specs.Time.{taken_in}
 use Rattle.agent_model.proofs.OnTimeLemmas.{unlimited-on_time}
-use Rattle.agent_model.proofs.TimeLemmas.{on_time-step}
 use Rattle.agent_model.proofs.TimeKeptLemmas.{keeps_time-handle}
+use Rattle.agent_model.proofs.TimeLemmas.{on_time-step}
 
 -- ---- events that end nothing
 

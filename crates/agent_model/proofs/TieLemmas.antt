@@ -3,6 +3,7 @@ use Rattle.std.proofs.Common.{◌≡◌, ◌≢◌, ℕ, suc, ◌+◌, ◌<◌, 
 use Rattle.std.specs.Option.{option_map, option_or}
 use Rattle.std.proofs.lemmas.Bool.{cases_eq}
 use Rattle.std.proofs.lemmas.Bool.Decides.{nat_tests}
+use Rattle.std.proofs.lemmas.List.Folds.{find-append}
 use Rattle.helper_link.specs.Settling as helper
 use Rattle.world_ports.specs.declared.Door.{Door}
 use Rattle.world_ports.specs.declared.Door.TheVariants.{Clients}
@@ -13,14 +14,13 @@ use Rattle.helper_link.specs.Sound.{RiseTo}
 use Rattle.helper_link.specs.declared.ask.Ask.{Ask}
 use Rattle.helper_link.specs.declared.ask.AskKind.{AskKind}
 use Rattle.lists.proofs.KeyedLemmas.{differ, found_above, found_within}
+use Rattle.lists.specs.Keyed.{has_key}
 use Rattle.helper_link.proofs.OrderLemmas.{find-push, find-remove}
 use Rattle.agent_model.specs.Fates.{IsTold}
 use Rattle.agent_model.specs.Sound.{AreTied, IsWaiting}
 use Rattle.agent_model.specs.State.{OnAsk, Port, change_port, find_port, new_port, number_of}
 use Rattle.agent_model.specs.Verdicts.{Verdict, verdict_waits}
 use Rattle.agent_model.proofs.PortsLemmas.{find_port-apart, find_port-change_port, found_number}
-use Rattle.std.proofs.lemmas.List.Folds.{find-append}
-use Rattle.lists.specs.Keyed.{has_key}
 
 -- ---- ports
 

@@ -1,14 +1,13 @@
 -- A key that the asker doesn't see makes no difference to what comes of what it sends.
 use Rattle.std.proofs.Common.{◌≡◌, ◌≢◌, ℕ, List, [], ◌∷◌, ◌++◌, refl, ap, sym, subst, ◌∙◌, max, Option, Some, None, Bool, true, false, cond, Result, Ok, Err}
-use Rattle.std.specs.Str.{bytes_eq}
 use Rattle.std.proofs.lemmas.List.Elements.{filter-append}
 use Rattle.std.specs.Option.{option_map}
 use Rattle.lists.specs.Keyed.{has_key}
-use Rattle.lists.proofs.FirstLemmas.{changed_nowhere}
+use Rattle.lists.proofs.FirstLemmas.{changed_nowhere, find-filter_none}
 use Rattle.world_ports.specs.declared.Door.TheVariants.{Clients}
 use Rattle.world_ports.specs.declared.Moment.{Moment}
 use Rattle.wire_text.specs.Frames.{Front, Whole, Bad, More, front_body}
-use Rattle.identity_table.specs.Identities.{HeldKey, alive_at, find_identity}
+use Rattle.identity_table.specs.Identities.{HeldKey, alive_at, find_identity, has_blob}
 use Rattle.identity_table.specs.Deaths.{lives_at}
 use Rattle.agent_msg.specs.declared.fault.MsgFault.{MsgFault}
 use Rattle.agent_msg.specs.Requests.{Add, Addition, ClientRequest}
@@ -91,13 +90,7 @@ alive-cons second key keys = refl
 -- a blob that finds nothing finds nothing among those that stay
 alive-absent : (blob : List ℕ) (second : ℕ) (keys : List HeldKey) → find_identity blob keys ≡ None → find_identity blob (alive_at second keys) ≡ None
 unfolding alive_at find_identity
-alive-absent blob second [] none = refl
-alive-absent blob second (key ∷ keys) none = by_tests (lives_at second key.death) (bytes_eq key.blob blob) refl none (alive-absent blob second keys)
-  where
-    by_tests : (lives same : Bool) → bytes_eq key.blob blob ≡ same → cond same (Some key) (find_identity blob keys) ≡ None → (find_identity blob keys ≡ None → find_identity blob (alive_at second keys) ≡ None) → find_identity blob (cond lives (key ∷ alive_at second keys) (alive_at second keys)) ≡ None
-    by_tests lives true is nowhere later = absurd (cc)
-    by_tests true false is nowhere later = ap (λ b. cond b (Some key) (find_identity blob (alive_at second keys))) is ∙ later nowhere
-    by_tests false false is nowhere later = later nowhere
+alive-absent blob second keys none = find-filter_none (has_blob blob) (λ key. lives_at second key.death) keys none
 
 -- those that stay of the lists with the key and without: the key is one more, or it left
 pub data Stays (key : HeldKey) : (with without : List HeldKey) → Type 0 where

@@ -1,6 +1,8 @@
 -- A key that the asker doesn't see makes no difference to what it is replied.
 use Rattle.std.proofs.Common.{◌≡◌, ◌≢◌, ℕ, List, [], ◌∷◌, ◌++◌, map, filter, refl, ap, sym, subst, ◌∙◌, Option, Some, None, Bool, true, false, cond, Ok}
+use Rattle.std.specs.Option.{option_or}
 use Rattle.std.specs.Str.{bytes_eq}
+use Rattle.std.proofs.lemmas.List.Folds.{find-append}
 use Rattle.std.proofs.lemmas.Slice.Eq.{bytes_eq-Decides}
 use Rattle.identity_table.specs.Identities.{HeldKey, find_identity, has_blob}
 use Rattle.agent_msg.specs.Requests.{Addition, ClientRequest, Signing, ListIdentities, Sign, Add, Remove, RemoveAll, Lock, Unlock, Bind, OtherExtension, Unsupported}
@@ -15,8 +17,6 @@ use Rattle.agent_model.specs.KeyStates.{KeyState, shown}
 use Rattle.agent_model.specs.State.{UnderWay}
 use Rattle.agent_model.specs.Unseen.{IsSameReply}
 use Rattle.agent_model.specs.Verdicts.{Cause, Identities, Refuses, Replies, verdict_text}
-use Rattle.std.specs.Option.{option_or}
-use Rattle.std.proofs.lemmas.List.Folds.{find-append}
 
 -- ---- lists of keys
 

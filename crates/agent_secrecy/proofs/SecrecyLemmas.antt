@@ -15,7 +15,7 @@ use Rattle.agent_model.specs.State.{Fits, Port, Settings, State, UnderWay, clien
 use Rattle.agent_model.specs.Step.{handle, in_order, step}
 use Rattle.agent_model.specs.Time.{at_moment, time_passes}
 use Rattle.agent_model.proofs.PortsLemmas.{found_within}
-use Rattle.agent_model.proofs.RunLemmas.{first_is_sound, at_moment-follows, last_after-le, step-last_port}
+use Rattle.agent_model.proofs.RunLemmas.{at_moment-follows, first_is_sound, last_after-le, step-last_port}
 use Rattle.agent_secrecy.specs.Secrets.{hidden}
 use Rattle.agent_secrecy.specs.Hiding.{Seen, hide_message, hide_port}
 use Rattle.agent_secrecy.specs.Alike.{AreAlike, AreAlikeStreams, AreOfOneShape, JoinThrough, JoinsThrough, heard_in, stream_of}

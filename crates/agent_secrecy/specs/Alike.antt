@@ -5,9 +5,9 @@ use Rattle.world_ports.specs.declared.Door.TheVariants.{Clients, Children}
 use Rattle.wire_text.specs.Frames.{Split, split}
 use Rattle.key_blob.specs.declared.added.AddedKey.{AddedKey}
 use Rattle.agent_model.specs.Events.{Happening, Timed, Joined, Heard, Ended, Took, Started, StartFailed, Tick}
+use Rattle.agent_model.specs.Runs.{last_after}
 use Rattle.wire_text.specs.Bounds.{longest_body}
 use Rattle.agent_secrecy.specs.Secrets.{AreAlikeKeys, blank}
-use Rattle.agent_model.specs.Runs.{last_after}
 
 -- ---- bodies
 

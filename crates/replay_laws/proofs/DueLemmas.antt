@@ -25,6 +25,7 @@ use Rattle.agent_model.proofs.JobLemmas.{IsIn}
 use Rattle.agent_model.proofs.LeadLemmas.{follows-makes, same as led}
 use Rattle.agent_model.proofs.MakeLemmas.{loses, makes-handle, overs}
 use Rattle.agent_model.proofs.PortsLemmas.{find_port-apart, find_port-change_port, find_port-left, find_port-remove_port, found_number, rising-change_port}
+use Rattle.agent_model.proofs.RunLemmas.{rising_behind}
 use Rattle.agent_model.proofs.ServeLemmas.{serve-ends}
 use Rattle.agent_model.proofs.TimeLemmas.{at_moment-keeps}
 use Rattle.agent_secrecy.proofs.EventLemmas.{IsChild}
@@ -33,7 +34,6 @@ use Rattle.agent_secrecy.proofs.QuietLemmas.{IsQuiet, moment_keeps, quiet_keeps}
 use Rattle.agent_secrecy.proofs.TrackLemmas.{WasAt, admitted_found, another, that, was_at}
 use Rattle.replay_laws.proofs.EventLemmas.{no_client}
 use Rattle.replay_laws.proofs.BusyLemmas.{Busies, Left, left_then, lose_left, makes_left, over_left, same_left, served_busy}
-use Rattle.agent_model.proofs.RunLemmas.{rising_behind}
 
 -- ---- nothing is to be taken
 

@@ -10,6 +10,7 @@ use Rattle.helper_link.specs.declared.state.LinkState.TheVariants as states
 use Rattle.confirm_desk.specs.Confirmations.{Confirmation, find_linked}
 use Rattle.agent_model.specs.Events.{Happening, Joined, Heard, Ended, Took, Started, StartFailed, Tick}
 use Rattle.agent_model.specs.NumberLists.{without}
+use Rattle.agent_model.specs.Runs.{last_after}
 use Rattle.agent_model.specs.Sound.{IsSound, IsSteady}
 use Rattle.agent_model.specs.State.{Fits, Port, State, UnderWay, find_port, find_to_start, is_linked_to, numbers, owed_as, owed_by, owed_by_port, role_by_helper, role_by_link, role_of}
 use Rattle.agent_model.specs.Step.{handle, step}
@@ -18,6 +19,7 @@ use Rattle.agent_model.proofs.BudgetLemmas.{step_keeps-steady}
 use Rattle.agent_model.proofs.RunLemmas.{at_moment-twice, step_keeps-sound}
 use Rattle.agent_secrecy.specs.Hiding.{Seen, hide_under_way}
 use Rattle.agent_secrecy.proofs.BlankLemmas.{length-blank}
+use Rattle.agent_secrecy.proofs.SecrecyLemmas.{owed_at_client}
 use Rattle.record_world.specs.Recording.{Left as Told, find_port as find_kept}
 use Rattle.replay_laws.specs.Lines.{events_of}
 use Rattle.replay_laws.specs.Naming.{IsFrontOf, name_in}
@@ -33,8 +35,6 @@ use Rattle.replay_laws.proofs.LaterLemmas.{later_same, taken_same}
 use Rattle.replay_laws.proofs.PieceLemmas.{IsFresh}
 use Rattle.replay_laws.proofs.RecordedLemmas.{AreTracked, moment_tracked}
 use Rattle.replay_laws.proofs.SightLemmas.{looks_alike}
-use Rattle.agent_model.specs.Runs.{last_after}
-use Rattle.agent_secrecy.proofs.SecrecyLemmas.{owed_at_client}
 
 -- ---- between two events
 

@@ -18,13 +18,13 @@ use Rattle.agent_model.proofs.ClientLemmas.{looked-found}
 use Rattle.agent_secrecy.specs.Hiding.{Seen, bare, hide_heard, hide_held, hide_port, hide_read, hide_state, hide_under_way, seen, served_bare, served_seen}
 use Rattle.agent_secrecy.specs.Secrets.{hidden}
 use Rattle.agent_secrecy.proofs.LengthLemmas.{length-hidden_bytes}
+use Rattle.agent_secrecy.proofs.LookLemmas.{concluded_seen, taken_of}
 use Rattle.agent_secrecy.proofs.PortLemmas.{tell-hidden}
 use Rattle.agent_secrecy.proofs.ServeLemmas.{serve-hidden}
 use Rattle.agent_secrecy.proofs.StateLemmas.{changed-hidden, exactly, shut-hidden}
 use Rattle.replay_laws.specs.Redacting.{IsRenaming, as_is, blanked_seen, blanked_state, redacted_seen, redacted_state, relocked_outcome, relocked_state, renamed_read, told_at}
 use Rattle.replay_laws.proofs.ReadLemmas.{Reads, as_read, unread_both}
 use Rattle.replay_laws.proofs.RelockedLemmas.{serve-relocked}
-use Rattle.agent_secrecy.proofs.LookLemmas.{concluded_seen, taken_of}
 
 -- ---- what comes of a request, in a state without secrets
 

@@ -19,9 +19,9 @@ use Rattle.agent_model.proofs.LeadLemmas.{follows-makes, same}
 use Rattle.agent_model.proofs.MakeLemmas.{loses, overs}
 use Rattle.agent_model.proofs.PortsLemmas.{find_port-left, find_port-remove_port, found_number}
 use Rattle.agent_model.proofs.RunLemmas.{rising_behind}
+use Rattle.agent_model.proofs.TimeBudgetLemmas.{elsewhere, helper-closed, helper_at, linked-removed, not_helper}
 use Rattle.agent_model.proofs.TimeLemmas.{time_passes-brings}
 use Rattle.agent_secrecy.proofs.TrackLemmas.{WasAt, another, that, was_at}
-use Rattle.agent_model.proofs.TimeBudgetLemmas.{helper_at, helper-closed, linked-removed, not_helper, elsewhere}
 
 -- ---- who is at a port of a child process
 

@@ -29,9 +29,9 @@ use Rattle.agent_secrecy.specs.Alike.{AreAlikeBodies}
 use Rattle.agent_secrecy.specs.Hiding.{hide_read}
 use Rattle.agent_secrecy.specs.Secrets.{AreAlikeKeys, AreOfEqualLengths, hidden}
 use Rattle.agent_secrecy.proofs.BodyLemmas.{bodies_read}
+use Rattle.agent_secrecy.proofs.ExactLemmas.{fit_by_length, private_is_free}
 use Rattle.agent_secrecy.proofs.KeyLemmas.{parts_of}
 use Rattle.replay_laws.specs.Redacting.{renamed, renamed_as, renamed_read, renamed_request}
-use Rattle.agent_secrecy.proofs.ExactLemmas.{fit_by_length, private_is_free}
 
 -- ---- zeros for private fields
 

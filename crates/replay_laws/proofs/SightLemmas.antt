@@ -8,12 +8,12 @@ use Rattle.agent_model.specs.State.{Port, State, find_port, numbers, owed_by}
 use Rattle.agent_model.specs.Step.{handle}
 use Rattle.agent_secrecy.proofs.PortLemmas.{numbers-hidden}
 use Rattle.agent_secrecy.proofs.QuietLemmas.{IsQuiet}
+use Rattle.agent_secrecy.proofs.SecrecyLemmas.{owed_at_client}
 use Rattle.replay_laws.specs.Redacting.{IsRenaming, as_is, told_at}
 use Rattle.replay_laws.specs.Replaying.{LooksAlike}
 use Rattle.replay_laws.specs.Telling.{AreToldAlike, BringsAlike, IsOfNoClient, IsShort, told_bytes}
 use Rattle.replay_laws.proofs.EventLemmas.{heard-told, joined-told, pair_of, quiet-told, took-told}
 use Rattle.replay_laws.proofs.TellLemmas.{told-nothing, told_fronts}
-use Rattle.agent_secrecy.proofs.SecrecyLemmas.{owed_at_client}
 
 quiet_is : (event : Happening) (state : State) → IsOfNoClient event state → IsQuiet event state
 quiet_is (Joined door) state quiet = quiet
