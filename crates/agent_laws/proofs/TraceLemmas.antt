@@ -77,6 +77,16 @@ endable_most job under_way =
     let most = noted_most (noted job under_way.confirmations) in
     grind (arith, nat_tests)
 
+-- and not more often where no number falls and what is noted stays
+unused_falls : (job old new : ℕ) → old ≤ new → unused job new ≤ unused job old
+unused_falls job old new rises = grind (arith, nat_tests)
+
+endable_falls : (job : ℕ) (old new : UnderWay) → old.last_job ≤ new.last_job → noted job new.confirmations ≡ noted job old.confirmations → endable job new ≤ endable job old
+endable_falls job old new rises same =
+    let most = noted_most (noted job new.confirmations) in
+    let alike = ap noted_by same in
+    grind (arith, nat_tests)
+
 pub record Traces (job : ℕ) (old : UnderWay) (actions : List Action) (new : UnderWay) : Type 0 where
   pub pending : (before : Option Raising) → noted job old.confirmations ≡ option_map wanted before → noted job new.confirmations ≡ option_map wanted (pending_after job actions before)
   pub ended : times_ended job actions + endable job new ≤ endable job old
@@ -88,26 +98,11 @@ pub record Traces (job : ℕ) (old : UnderWay) (actions : List Action) (new : Un
 traces-plain : (job : ℕ) (old new : UnderWay) (actions : List Action) → ArePlain actions → old.last_job ≤ new.last_job → noted job new.confirmations ≡ noted job old.confirmations → Traces job old actions new
 traces-plain job old new actions plain rises same = record {
   pending = λ before is. same ∙ is ∙ ap (option_map wanted) (sym (pending-plain job actions before plain));
-  ended = omega (arith, (ended-plain job actions plain).0, by_tests (nat_lt old.last_job job) (nat_lt new.last_job job) refl refl);
-  raised = omega (arith, (ended-plain job actions plain).1, by_numbers (nat_lt old.last_job job) (nat_lt new.last_job job) refl refl);
+  ended = omega (arith, (ended-plain job actions plain).0, endable_falls job old new rises same);
+  raised = omega (arith, (ended-plain job actions plain).1, unused_falls job old.last_job new.last_job rises);
   granted = λ among. absurd (among-each IsPlain (Granted job) actions (λ is. is) plain among);
   over = λ among. absurd (among-each IsPlain (Over job) actions (λ is. is) plain among);
 }
-  where
-    fewer : ℕ
-    fewer = noted_by (noted job new.confirmations)
-
-    by_tests : (above later : Bool) → nat_lt old.last_job job ≡ above → nat_lt new.last_job job ≡ later → (if later then 1 else noted_by (noted job new.confirmations)) ≤ (if above then 1 else noted_by (noted job old.confirmations))
-    by_tests true true a l = omega arith
-    by_tests true false a l = noted_most (noted job new.confirmations)
-    by_tests false true a l = absurd (grind (arith, nat_tests))
-    by_tests false false a l = omega (arith, ap noted_by same)
-
-    by_numbers : (above later : Bool) → nat_lt old.last_job job ≡ above → nat_lt new.last_job job ≡ later → (if later then 1 else 0) ≤ (if above then 1 else 0)
-    by_numbers true true a l = omega arith
-    by_numbers true false a l = omega arith
-    by_numbers false true a l = absurd (grind (arith, nat_tests))
-    by_numbers false false a l = omega arith
 
 -- one is raised
 traces-raised : (job : ℕ) (old new : UnderWay) (requesting : Requesting) (raising : Raising) (one : Confirmation) → JobsRise 0 old.confirmations old.last_job → new.last_job ≡ old.last_job + 1 → new.confirmations ≡ old.confirmations ++ one ∷ [] → one.job ≡ old.last_job + 1 → raising.job ≡ old.last_job + 1 → wanted_of one ≡ wanted raising → Traces job old (Requested requesting ∷ Raised raising ∷ []) new
@@ -156,7 +151,7 @@ traces-ended job old new end actions one leaves ends raises whose rise there ris
       found ∙ by_pending (one.job == job) before is ∙ ap (option_map wanted) (sym (leaves job before))
       ∙ ap (option_map wanted) (sym (pending-plain job actions (pending_by job end before) plain));
   ended = omega (arith, sum_by-cons (ends_by job) end actions, ends job, (ended-plain job actions plain).0, by_ends (one.job == job) refl);
-  raised = omega (arith, sum_by-cons (raises_by job) end actions, raises job, (ended-plain job actions plain).1, by_numbers (nat_lt old.last_job job) (nat_lt new.last_job job) refl refl);
+  raised = omega (arith, sum_by-cons (raises_by job) end actions, raises job, (ended-plain job actions plain).1, unused_falls job old.last_job new.last_job rises);
   granted = λ among. by_among (Granted job) among (λ is. whose job (inl is)) (λ is. is);
   over = λ among. by_among (Over job) among (λ is. whose job (inr is)) (λ is. is);
 }
@@ -175,12 +170,6 @@ traces-ended job old new end actions one leaves ends raises whose rise there ris
     by_among action (inl is) own other = subst IsSome (sym (is_noted (own is))) refl
     by_among action (inr later) own other = absurd (among-each IsPlain action actions other plain later)
 
-    by_numbers : (above later : Bool) → nat_lt old.last_job job ≡ above → nat_lt new.last_job job ≡ later → (if later then 1 else 0) ≤ (if above then 1 else 0)
-    by_numbers true true a l = omega arith
-    by_numbers true false a l = omega arith
-    by_numbers false true a l = absurd (grind (arith, nat_tests))
-    by_numbers false false a l = omega arith
-
     by_ends : (is : Bool) → (one.job == job) ≡ is → (if is then 1 else 0) + endable job new ≤ endable job old
     by_ends true is =
         let same : job ≡ one.job = grind (arith, nat_tests) in
@@ -195,14 +184,8 @@ traces-ended job old new end actions one leaves ends raises whose rise there ris
           ap (λ b. noted_by (option_map wanted_of (cond b None (find_job job old.confirmations)))) is,
           ap noted_by (is_noted same),
         )
-    by_ends false is = by_tests (nat_lt old.last_job job) (nat_lt new.last_job job) refl refl
-      where
-        by_tests : (above later : Bool) → nat_lt old.last_job job ≡ above → nat_lt new.last_job job ≡ later → 0 + (if later then 1 else noted_by (noted job new.confirmations)) ≤ (if above then 1 else noted_by (noted job old.confirmations))
-        by_tests true true a l = omega arith
-        by_tests true false a l = omega (arith, noted_most (noted job new.confirmations))
-        by_tests false true a l = absurd (grind (arith, nat_tests))
-        by_tests false false a l =
-            omega (arith, ap noted_by found, ap (λ b. noted_by (option_map wanted_of (cond b None (find_job job old.confirmations)))) is)
+    by_ends false is =
+        omega (arith, endable_falls job old new rises (found ∙ ap (λ b. option_map wanted_of (cond b None (find_job job old.confirmations))) is))
 
 -- ---- events
 

@@ -1,7 +1,6 @@
 -- A taking of all that a port is owed lowers the budget, at any moment.
-use Rattle.std.proofs.Common.{drop, inl, inr, ◌≡◌, ℕ, ◌+◌, ◌<◌, ◌≤◌, List, [], ◌∷◌, length, refl, ap, sym, arith, ◌∙◌, Option, Some, None, Bool, true, false, if◌then◌else◌, length-drop, ◌==◌, ◌⊎◌}
+use Rattle.std.proofs.Common.{drop, inl, inr, ◌≡◌, ℕ, ◌+◌, ◌<◌, ◌≤◌, List, [], ◌∷◌, length, refl, ap, sym, arith, ◌∙◌, Option, Some, None, Bool, true, false, if◌then◌else◌, length-drop, ◌⊎◌}
 use Rattle.std.proofs.Math.Seq.{drop-length}
-use Rattle.std.proofs.lemmas.Bool.{cases_eq}
 use Rattle.std.proofs.lemmas.Bool.Decides.{nat_tests}
 use Rattle.std.proofs.lemmas.List.{drop_all}
 use Rattle.std.specs.Option.{option_map}
@@ -67,16 +66,10 @@ no_helper-above low high number (port ∷ ports) below rising =
 
 one_helper-linked : (low high number : ℕ) (ports : List Port) → IsRising low high ports → helpers (states.Linked number) ports ≤ 1
 one_helper-linked low high number [] rising = omega arith
-one_helper-linked low high number (port ∷ ports) rising = elim (cases_eq number port.number) [
-  | inl here ↦
-      (let rest : helpers (states.Linked number) ports ≡ 0 = no_helper-above port.number high number ports (omega arith) rising.1 in
-      let most = one_or_none (number == port.number) in
-      omega (arith, rest, most))
-  | inr apart ↦
-      (let rest : helpers (states.Linked number) ports ≤ 1 = one_helper-linked port.number high number ports rising.1 in
-      let none : helper_unit port.number (states.Linked number) ≡ 0 = grind (arith, nat_tests) in
-      omega (arith, rest, none))
-]
+one_helper-linked low high number (port ∷ ports) rising =
+    let none : number ≡ port.number → helpers (states.Linked number) ports ≡ 0 = λ here. no_helper-above port.number high number ports (omega (arith, here)) rising.1 in
+    let rest = one_helper-linked port.number high number ports rising.1 in
+    grind (arith, nat_tests)
 
 no_helpers : (state : LinkState) (ports : List Port) → ((number : ℕ) → is_linked_to number state ≡ false) → helpers state ports ≡ 0
 no_helpers state [] none = refl

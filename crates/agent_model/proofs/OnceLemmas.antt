@@ -129,11 +129,7 @@ module _ (ask : ℕ) where
 
   -- the loss
   spent_loss : (old new : HelperLink) → new.asks ≡ [] → new.last ≡ old.last → Spends ask old (Lost ∷ []) new
-  spent_loss old new none last = rw (last, none) record { answered = by_test (nat_lt old.last ask); asked = omega arith }
-    where
-      by_test : (above : Bool) → 0 + 0 + (if above then 1 else 0) ≤ (if above then 1 else open_by (find_ask ask old.asks))
-      by_test true = omega arith
-      by_test false = omega arith
+  spent_loss old new none last = rw (last, none) record { answered = grind (arith, nat_tests); asked = omega arith }
 
   -- an ask is put
   spent_put : (link new : HelperLink) (one : Ask) → RiseTo 0 link.asks link.last → one.number ≡ link.last + 1 → new.asks ≡ link.asks ++ one ∷ [] → new.last ≡ link.last + 1 → (answerable ask new ≤ answerable ask link) × ((if link.last + 1 == ask then 1 else 0) + unused ask new.last ≤ unused ask link.last)
