@@ -21,12 +21,8 @@ pub found_passes : {A : Type 0} (test : A → Bool) (all : List A) (one : A) →
     find test all ≡ Some one → test one ≡ true
 found_passes test [] one found = absurd cc
 found_passes test (first ∷ all) one found =
-    by_test (test first) refl (found_passes test all one) found
-  where
-    by_test : (is : Bool) → test first ≡ is → (find test all ≡ Some one → test one ≡ true) →
-        cond is (Some first) (find test all) ≡ Some one → test one ≡ true
-    by_test true passes later there = let same : first ≡ one = cc in ap test (sym same) ∙ passes
-    by_test false fails later there = later there
+    let later = found_passes test all one in
+    grind (arith, nat_tests)
 
 -- ---- without the first that passes
 
@@ -45,12 +41,9 @@ pub find-remove_apart : {A : Type 0} (test other : A → Bool) (all : List A) �
     find test (remove_first other all) ≡ find test all
 find-remove_apart test other [] apart = refl
 find-remove_apart test other (one ∷ all) apart =
-    by_test (other one) refl (find-remove_apart test other all apart)
-  where
-    by_test : (is : Bool) → other one ≡ is → find test (remove_first other all) ≡ find test all →
-        find test (cond is all (one ∷ remove_first other all)) ≡ find test (one ∷ all)
-    by_test true is rest = rw (apart one is) refl
-    by_test false is rest = ap (cond (test one) (Some one)) rest
+    let rest = find-remove_apart test other all apart in
+    let here = apart one in
+    grind (arith, nat_tests)
 
 pub removed_nowhere : {A : Type 0} (test : A → Bool) (all : List A) → find test all ≡ None →
     remove_first test all ≡ all
@@ -70,13 +63,10 @@ length-remove test (one ∷ all) =
 pub find-removed : {A : Type 0} (test : A → Bool) (all : List A) → IsOnly test all →
     find test (remove_first test all) ≡ None
 find-removed test [] only = refl
-find-removed test (one ∷ all) only = by_test (test one) refl only.0 (find-removed test all only.1)
-  where
-    by_test : (is : Bool) → test one ≡ is → (test one ≡ true → find test all ≡ None) →
-        find test (remove_first test all) ≡ None →
-        find test (cond is all (one ∷ remove_first test all)) ≡ None
-    by_test true is behind rest = behind is
-    by_test false is behind rest = rw is rest
+find-removed test (one ∷ all) only =
+    let behind = only.0 in
+    let rest = find-removed test all only.1 in
+    grind (arith, nat_tests)
 
 -- ---- with the first that passes changed
 
@@ -85,13 +75,10 @@ pub find-change : {A : Type 0} (test : A → Bool) (f : A → A) (all : List A) 
     ((one : A) → test (f one) ≡ test one) →
     find test (change_first test f all) ≡ option_map f (find test all)
 find-change test f [] keeps = refl
-find-change test f (one ∷ all) keeps = by_test (test one) refl (find-change test f all keeps)
-  where
-    by_test : (is : Bool) → test one ≡ is →
-        find test (change_first test f all) ≡ option_map f (find test all) →
-        find test (cond is (f one ∷ all) (one ∷ change_first test f all)) ≡ option_map f (cond is (Some one) (find test all))
-    by_test true is rest = rw (keeps one, is) refl
-    by_test false is rest = rw is rest
+find-change test f (one ∷ all) keeps =
+    let same = keeps one in
+    let rest = find-change test f all keeps in
+    grind (arith, nat_tests)
 
 -- what is changed passes no more than before
 pub find-change_none : {A : Type 0} (test other : A → Bool) (f : A → A) (all : List A) →
@@ -100,13 +87,11 @@ pub find-change_none : {A : Type 0} (test other : A → Bool) (f : A → A) (all
 find-change_none test other f [] keeps none = refl
 find-change_none test other f (one ∷ all) keeps none =
     let both = some_or_later (test one) one (find test all) none in
-    by_test (other one) (keeps one both.0) both.0 both.1 (find-change_none test other f all keeps both.1)
-  where
-    by_test : (is : Bool) → test (f one) ≡ false → test one ≡ false → find test all ≡ None →
-        find test (change_first other f all) ≡ None →
-        find test (cond is (f one ∷ all) (one ∷ change_first other f all)) ≡ None
-    by_test true changed fails behind rest = rw changed behind
-    by_test false changed fails behind rest = rw fails rest
+    let fails : test one ≡ false = both.0 in
+    let changed : test (f one) ≡ false = keeps one both.0 in
+    let behind : find test all ≡ None = both.1 in
+    let rest = find-change_none test other f all keeps both.1 in
+    grind (arith, nat_tests)
 
 -- what is changed passes neither before nor after
 pub find-change_apart : {A : Type 0} (test other : A → Bool) (f : A → A) (all : List A) →
@@ -115,12 +100,10 @@ pub find-change_apart : {A : Type 0} (test other : A → Bool) (f : A → A) (al
     find test (change_first other f all) ≡ find test all
 find-change_apart test other f [] apart keeps = refl
 find-change_apart test other f (one ∷ all) apart keeps =
-    by_test (other one) refl (find-change_apart test other f all apart keeps)
-  where
-    by_test : (is : Bool) → other one ≡ is → find test (change_first other f all) ≡ find test all →
-        find test (cond is (f one ∷ all) (one ∷ change_first other f all)) ≡ cond (test one) (Some one) (find test all)
-    by_test true is rest = rw (apart one is, keeps one is) refl
-    by_test false is rest = ap (cond (test one) (Some one)) rest
+    let here = apart one in
+    let changed = keeps one in
+    let rest = find-change_apart test other f all apart keeps in
+    grind (arith, nat_tests)
 
 pub changed_nowhere : {A : Type 0} (test : A → Bool) (f : A → A) (all : List A) → find test all ≡ None →
     change_first test f all ≡ all
@@ -172,38 +155,28 @@ pub change-pointwise : {A : Type 0} (test : A → Bool) (f g : A → A) (all : L
     ((one : A) → f one ≡ g one) → change_first test f all ≡ change_first test g all
 change-pointwise test f g [] same = refl
 change-pointwise test f g (one ∷ all) same =
-    by_test (test one) (change-pointwise test f g all same)
-  where
-    by_test : (is : Bool) → change_first test f all ≡ change_first test g all →
-        cond is (f one ∷ all) (one ∷ change_first test f all)
-        ≡ cond is (g one ∷ all) (one ∷ change_first test g all)
-    by_test true rest = ap (λ here. here ∷ all) (same one)
-    by_test false rest = ap (λ rest. one ∷ rest) rest
+    let here = same one in
+    let rest = change-pointwise test f g all same in
+    grind (arith, nat_tests)
 
 pub change-twice : {A : Type 0} (test : A → Bool) (f g : A → A) (all : List A) →
     ((one : A) → test (f one) ≡ test one) →
     change_first test g (change_first test f all) ≡ change_first test (λ one. g (f one)) all
 change-twice test f g [] keeps = refl
-change-twice test f g (one ∷ all) keeps = by_test (test one) refl (change-twice test f g all keeps)
-  where
-    by_test : (is : Bool) → test one ≡ is →
-        change_first test g (change_first test f all) ≡ change_first test (λ one. g (f one)) all →
-        change_first test g (cond is (f one ∷ all) (one ∷ change_first test f all)) ≡ cond is (g (f one) ∷ all) (one ∷ change_first test (λ one. g (f one)) all)
-    by_test true is rest = rw (keeps one, is) refl
-    by_test false is rest = rw is (ap (λ rest. one ∷ rest) rest)
+change-twice test f g (one ∷ all) keeps =
+    let same = keeps one in
+    let rest = change-twice test f g all keeps in
+    grind (arith, nat_tests)
 
 -- what is removed may be changed before
 pub remove-change : {A : Type 0} (test : A → Bool) (f : A → A) (all : List A) →
     ((one : A) → test (f one) ≡ test one) →
     remove_first test (change_first test f all) ≡ remove_first test all
 remove-change test f [] keeps = refl
-remove-change test f (one ∷ all) keeps = by_test (test one) refl (remove-change test f all keeps)
-  where
-    by_test : (is : Bool) → test one ≡ is →
-        remove_first test (change_first test f all) ≡ remove_first test all →
-        remove_first test (cond is (f one ∷ all) (one ∷ change_first test f all)) ≡ cond is all (one ∷ remove_first test all)
-    by_test true is rest = rw (keeps one, is) refl
-    by_test false is rest = rw is (ap (λ rest. one ∷ rest) rest)
+remove-change test f (one ∷ all) keeps =
+    let same = keeps one in
+    let rest = remove-change test f all keeps in
+    grind (arith, nat_tests)
 
 pub length-change : {A : Type 0} (test : A → Bool) (f : A → A) (all : List A) →
     length (change_first test f all) ≡ length all
@@ -217,12 +190,10 @@ pub map-change : {A B : Type 0} (test : A → Bool) (f : A → A) (part : A → 
     ((one : A) → part (f one) ≡ part one) →
     map part (change_first test f all) ≡ map part all
 map-change test f part [] keeps = refl
-map-change test f part (one ∷ all) keeps = by_test (test one) (map-change test f part all keeps)
-  where
-    by_test : (is : Bool) → map part (change_first test f all) ≡ map part all →
-        map part (cond is (f one ∷ all) (one ∷ change_first test f all)) ≡ part one ∷ map part all
-    by_test true rest = ap (λ here. here ∷ map part all) (keeps one)
-    by_test false rest = ap (λ rest. part one ∷ rest) rest
+map-change test f part (one ∷ all) keeps =
+    let same = keeps one in
+    let rest = map-change test f part all keeps in
+    grind (arith, nat_tests)
 
 -- ---- with one more at the end
 
@@ -246,12 +217,9 @@ pub find-filter_none : {A : Type 0} (test keep : A → Bool) (all : List A) → 
 find-filter_none test keep [] none = refl
 find-filter_none test keep (one ∷ all) none =
     let both = some_or_later (test one) one (find test all) none in
-    by_test (keep one) both.0 (find-filter_none test keep all both.1)
-  where
-    by_test : (kept : Bool) → test one ≡ false → find test (filter keep all) ≡ None →
-        find test (cond kept (one ∷ filter keep all) (filter keep all)) ≡ None
-    by_test true fails rest = rw fails rest
-    by_test false fails rest = rest
+    let fails : test one ≡ false = both.0 in
+    let rest = find-filter_none test keep all both.1 in
+    grind (arith, nat_tests)
 
 -- what was found, where it is kept
 abbrev pub if_kept : {A : Type 0} → (A → Bool) → Option A → Option A
@@ -262,16 +230,9 @@ pub find-filter : {A : Type 0} (test keep : A → Bool) (all : List A) → IsOnl
     find test (filter keep all) ≡ if_kept keep (find test all)
 find-filter test keep [] only = refl
 find-filter test keep (one ∷ all) only =
-    by_tests (keep one) (test one) refl refl only.0 (find-filter test keep all only.1)
-  where
-    by_tests : (kept is : Bool) → keep one ≡ kept → test one ≡ is →
-        (test one ≡ true → find test all ≡ None) →
-        find test (filter keep all) ≡ if_kept keep (find test all) →
-        find test (cond kept (one ∷ filter keep all) (filter keep all)) ≡ if_kept keep (cond is (Some one) (find test all))
-    by_tests true true k is behind rest = rw (is, k) refl
-    by_tests true false k is behind rest = rw is rest
-    by_tests false true k is behind rest = rw k (rest ∙ ap (if_kept keep) (behind is))
-    by_tests false false k is behind rest = rest
+    let behind = only.0 in
+    let rest = find-filter test keep all only.1 in
+    grind (arith, nat_tests)
 
 -- without the only one that passes, those are left that fail
 pub remove-filter : {A : Type 0} (test : A → Bool) (all : List A) → IsOnly test all →
@@ -298,23 +259,9 @@ pub found_too : {A : Type 0} (test other : A → Bool) (all : List A) (one : A) 
     find test all ≡ Some one → other one ≡ true → find other all ≡ Some one
 found_too test other [] one only found passes = absurd cc
 found_too test other (first ∷ all) one only found passes =
-    by_tests (test first) (other first) refl only.0 found
-    (λ there. found_too test other all one only.1 there passes)
-  where
-    by_tests : (is too : Bool) → other first ≡ too → (other first ≡ true → find other all ≡ None) →
-        cond is (Some first) (find test all) ≡ Some one →
-        (find test all ≡ Some one → find other all ≡ Some one) →
-        cond too (Some first) (find other all) ≡ Some one
-    by_tests true true passed behind there later = there
-    by_tests true false passed behind there later =
-        let same : first ≡ one = cc in
-        let is : other first ≡ true = ap other same ∙ passes in
-        absurd cc
-    by_tests false true passed behind there later =
-        let found : find other all ≡ Some one = later there in
-        let none : find other all ≡ None = behind passed in
-        absurd cc
-    by_tests false false passed behind there later = later there
+    let behind = only.0 in
+    let later = λ (there : find test all ≡ Some one). found_too test other all one only.1 there passes in
+    grind (arith, nat_tests)
 
 -- what is found by one test and changed by another that it alone passes is found changed
 pub find-change_found : {A : Type 0} (test other : A → Bool) (f : A → A) (all : List A) (one : A) →
