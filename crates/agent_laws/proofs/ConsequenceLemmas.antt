@@ -1,5 +1,5 @@
 -- What a signature that is put to the helper tells of the actions before.
-use Rattle.std.proofs.Common.{◌≡◌, ◌≢◌, ℕ, ◌<◌, List, [], ◌∷◌, ◌++◌, length, refl, ap, arith, sym, subst, ◌∙◌, Option, Some, None, IsSomeAnd, Bool, true, false, cond, nat_lt, not, ◌&&◌, inl, inr}
+use Rattle.std.proofs.Common.{◌≡◌, ◌≢◌, ℕ, ◌<◌, List, [], ◌∷◌, ◌++◌, length, refl, ap, arith, sym, subst, ◌∙◌, Option, Some, None, IsSomeAnd, Bool, true, false, cond, nat_lt, not, inl, inr}
 use Rattle.std.specs.Option.{option_map}
 use Rattle.std.specs.Str.{bytes_eq}
 use Rattle.std.proofs.lemmas.Bool.Decides.{nat_tests}
@@ -12,7 +12,7 @@ use Rattle.agent_model.specs.Runs.{Stamped, run}
 use Rattle.agent_model.specs.State.{Settings, first_state}
 use Rattle.agent_laws.specs.Dues.{Claim, claim_of, due_signing, is_consented, is_met, is_permitted, met_by, open_asks, proved_of}
 use Rattle.agent_laws.specs.History.{HasNumbers, IsDue, IsLawful, IsPutBehind, NoneAdds, NoneUnlocks, Removes, StandsAt, onto}
-use Rattle.agent_laws.specs.Past.{DidAdd, DidLock, DidNothing, DidRemove, DidRemoveAll, DidUnlock, DidUse, Done, PastAddition, added_by, done_of, has_uses, held_by, is_alive, last_addition, locked_by, used_again, was_locked}
+use Rattle.agent_laws.specs.Past.{DidAdd, DidLock, DidNothing, DidRemove, DidRemoveAll, DidUnlock, DidUse, Done, PastAddition, added_by, done_of, held_by, last_addition, locked_by, used_again, was_locked}
 use Rattle.agent_laws.proofs.GrantedLemmas.{all_parts, none_if_permitted}
 use Rattle.agent_laws.proofs.HistoryLemmas.{first-lawful}
 use Rattle.agent_laws.proofs.PastLemmas.{onto-append}
@@ -35,11 +35,7 @@ pub record IsMetAt (life : Option ℕ) (past : List Stamped) (claim : Claim) : T
 -- what is held at a second was added last
 held_last : (last : Option PastAddition) (life : Option ℕ) (now : ℕ) (added : PastAddition) → held_by last life now ≡ Some added → last ≡ Some added
 held_last None life now added is = absurd (cc)
-held_last (Some past) life now added is = by_test (is_alive life now past && has_uses past.addition.terms.uses past.uses) is
-  where
-    by_test : (lives : Bool) → cond lives (Some past) None ≡ Some added → Some past ≡ Some added
-    by_test true some = some
-    by_test false some = absurd (cc)
+held_last (Some past) life now added is = grind (arith, nat_tests)
 
 not_true : (b : Bool) → not b ≡ true → b ≡ false
 not_true false is = refl

@@ -139,19 +139,11 @@ same_numbers old new same = record { last = rw same (omega arith); found = λ nu
 
 pub of_alive : (second : ℕ) (found : Option HeldKey) (key : HeldKey) → if_alive second found ≡ Some key → found ≡ Some key
 of_alive second None key is = absurd (cc)
-of_alive second (Some first) key is = by_test (lives_at second first.death) is
-  where
-    by_test : (lives : Bool) → cond lives (Some first) None ≡ Some key → Some first ≡ Some key
-    by_test true some = some
-    by_test false some = absurd (cc)
+of_alive second (Some first) key is = grind (arith, nat_tests)
 
 pub of_unless : (blob : List ℕ) (found : Option HeldKey) (key : HeldKey) → unless_blob blob found ≡ Some key → found ≡ Some key
 of_unless blob None key is = absurd (cc)
-of_unless blob (Some first) key is = by_test (bytes_eq first.blob blob) is
-  where
-    by_test : (same : Bool) → cond same None (Some first) ≡ Some key → Some first ≡ Some key
-    by_test true some = absurd (cc)
-    by_test false some = some
+of_unless blob (Some first) key is = grind (arith, nat_tests)
 
 pub numbers-expired : (life : Option ℕ) (old new : ℕ) (facts : Facts) (held : KeyState) → Holds life old facts held → NumbersKept held (expired new held)
 numbers-expired life old new facts held holds = record {

@@ -1,5 +1,6 @@
 -- What the helper answers agrees with the past, and so does all that an event makes.
-use Rattle.std.proofs.Common.{◌≡◌, ℕ, List, [], ◌∷◌, ◌++◌, refl, ap, sym, subst, ◌∙◌, Option, Some, None, Bool, true, false, cond, ◌==◌}
+use Rattle.std.proofs.Common.{◌≡◌, ℕ, List, [], ◌∷◌, ◌++◌, refl, ap, sym, subst, ◌∙◌, Option, Some, None, arith}
+use Rattle.std.proofs.lemmas.Bool.Decides.{nat_tests}
 use Rattle.world_ports.specs.declared.Moment.{Moment}
 use Rattle.helper_link.specs.Answered.{LeadTo}
 use Rattle.helper_link.specs.Settling.{remove_ask}
@@ -33,11 +34,9 @@ use Rattle.agent_laws.proofs.StepLemmas.{Agrees, Goes, Opened, calm-quiet, numbe
 -- the numbers of the asks that are left
 numbers-removed : (number : ℕ) (pending : List Ask) → without_number number (numbers_of pending) ≡ numbers_of (remove_ask number pending)
 numbers-removed number [] = refl
-numbers-removed number (one ∷ pending) = by_test (one.number == number) (numbers-removed number pending)
-  where
-    by_test : (same : Bool) → without_number number (numbers_of pending) ≡ numbers_of (remove_ask number pending) → cond same (numbers_of pending) (one.number ∷ without_number number (numbers_of pending)) ≡ numbers_of (cond same pending (one ∷ remove_ask number pending))
-    by_test true rest = refl
-    by_test false rest = ap (λ numbers. one.number ∷ numbers) rest
+numbers-removed number (one ∷ pending) =
+    let rest = numbers-removed number pending in
+    grind (arith, nat_tests)
 
 -- more is done, and agrees
 pub agrees-more : {N : Type 0} (life : Option ℕ) (moment : Moment) (past : List Stamped) (some more : List Action) (held : KeyState) (pending : List Ask) (confirmations : List Confirmation) → Agrees N life moment.mono (onto (onto past (stamps moment some)) (stamps moment more)) held pending confirmations → Agrees N life moment.mono (onto past (stamps moment (some ++ more))) held pending confirmations

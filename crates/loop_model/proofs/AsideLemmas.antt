@@ -166,14 +166,9 @@ is_among-filter test (other ∷ ports) port =
 accepts-filter : (test : Thing → Bool) (doors : List Door)
     → accepts_of (filter (λ door. test (Accept door)) doors) ≡ filter test (accepts_of doors)
 accepts-filter test [] = refl
-accepts-filter test (door ∷ doors) = by_test (test (Accept door)) door (accepts-filter test doors)
-  where
-    by_test : (b : Bool) (door : Door)
-        → accepts_of (filter (λ door. test (Accept door)) doors) ≡ filter test (accepts_of doors)
-        → accepts_of (cond b (door ∷ filter (λ door. test (Accept door)) doors) (filter (λ door. test (Accept door)) doors))
-        ≡ cond b (Accept door ∷ filter test (accepts_of doors)) (filter test (accepts_of doors))
-    by_test true door rest = ap (λ (ts : List Thing). Accept door ∷ ts) rest
-    by_test false door rest = rest
+accepts-filter test (door ∷ doors) =
+    let rest = accepts-filter test doors in
+    grind (arith, nat_tests)
 
 accepts-more : (doors : List Door) (door : Door) (thing : Thing)
     → set_of (accepts_of (doors ++ door ∷ [])) thing ≡ (same_thing (Accept door) thing || set_of (accepts_of doors) thing)

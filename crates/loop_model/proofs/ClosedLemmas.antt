@@ -1,6 +1,5 @@
 -- The ports that an event closed, and what is open after it.
-use Rattle.std.proofs.Common.{◌≡◌, ◌∙◌, ℕ, Bool, true, false, List, [], ◌∷◌, ◌++◌, refl, sym, ap, not, ◌&&◌, ◌||◌, ◌==◌, if◌then◌else◌}
-use Rattle.std.proofs.lemmas.Bool.{eqb-true}
+use Rattle.std.proofs.Common.{◌≡◌, ◌∙◌, ℕ, Bool, true, false, List, [], ◌∷◌, ◌++◌, refl, sym, ap, not, ◌&&◌, ◌||◌, ◌==◌, arith}
 use Rattle.lists.specs.Rising.{is_among}
 use Rattle.world_ports.specs.declared.events.Moment.{Moment}
 use Rattle.agent_model.specs.Closings.{joined_between}
@@ -11,6 +10,7 @@ use Rattle.agent_model.specs.State.{State, is_open, numbers}
 use Rattle.agent_model.specs.Step.{step}
 use Rattle.agent_model.proofs.ClosesLemmas.{closes-closed, is_among-open}
 use Rattle.loop_model.proofs.TestLemmas.{and_both, not_true, or_assoc, or_left}
+use Rattle.std.proofs.lemmas.Bool.Decides.{nat_tests}
 
 among-append : (number : ℕ) (first later : List ℕ)
     → is_among number (first ++ later) ≡ (is_among number first || is_among number later)
@@ -25,28 +25,7 @@ among-without number [] left = refl
 among-without number (other ∷ all) left =
     let rest : is_among number (without all left) ≡ (is_among number all && not (is_among number left)) =
     among-without number all left in
-    by_test (is_among other left) (number == other) refl refl rest
-  where
-    by_test : (gone same : Bool) → is_among other left ≡ gone → (number == other) ≡ same
-        → is_among number (without all left) ≡ (is_among number all && not (is_among number left))
-        → is_among number (if gone then without all left else other ∷ without all left)
-        ≡ ((same || is_among number all) && not (is_among number left))
-    by_test true true gone same rest =
-        let equal : number ≡ other = eqb-true number other same in
-        let there : is_among number left ≡ true = ap (λ (n : ℕ). is_among n left) equal ∙ gone in
-        rest ∙ ap (λ (b : Bool). is_among number all && not b) there ∙ none (is_among number all)
-        ∙ ap not (sym there)
-      where
-        none : (a : Bool) → (a && false) ≡ false
-        none true = refl
-        none false = refl
-    by_test true false gone same rest = rest
-    by_test false true gone same rest =
-        let equal : number ≡ other = eqb-true number other same in
-        let absent : is_among number left ≡ false = ap (λ (n : ℕ). is_among n left) equal ∙ gone in
-        ap (λ (b : Bool). b || is_among number (without all left)) same ∙ ap not (sym absent)
-    by_test false false gone same rest =
-        ap (λ (b : Bool). b || is_among number (without all left)) same ∙ rest
+    grind (arith, nat_tests)
 
 -- a port that was closed was open or joined, and isn't open
 closed-is : (state : State) (moment : Moment) (event : Happening) (port : ℕ) → IsRising 0 state.last_port state.ports

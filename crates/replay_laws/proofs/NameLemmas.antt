@@ -1,8 +1,9 @@
 -- Names of passphrases are theirs alone, and those that a recorder gives.
-use Rattle.std.proofs.Common.{◌≡◌, ℕ, suc, ◌+◌, ◌<◌, ◌≤◌, ◌^◌, List, [], ◌∷◌, ◌++◌, length, drop, replicate, refl, sym, ap, ◌∙◌, arith, append_assoc, Bool, true, false, cond, Option, Some, None, get_or}
+use Rattle.std.proofs.Common.{◌≡◌, ℕ, suc, ◌+◌, ◌<◌, ◌≤◌, ◌^◌, List, [], ◌∷◌, ◌++◌, length, drop, replicate, refl, sym, ap, ◌∙◌, arith, append_assoc, Bool, true, cond, Option, Some, None, get_or}
 use Rattle.std.specs.Fmt.{decimal}
 use Rattle.std.specs.List.{position, position_from}
 use Rattle.std.specs.Str.{bytes_eq}
+use Rattle.std.proofs.lemmas.Bool.Decides.{nat_tests}
 use Rattle.std.proofs.lemmas.Fmt.{decimal_injective, decimal_nonempty, length-decimal-le}
 use Rattle.std.proofs.lemmas.Iterator.Adapters.{position_from-zero}
 use Rattle.std.proofs.lemmas.List.{drop_at, length-append, length-replicate}
@@ -21,25 +22,18 @@ position_is p xs = position_from-zero p xs
 from_front : {X : Type 0} (p : X → Bool) (i k : ℕ) (xs ys : List X) → position_from p i xs ≡ Some k
     → position_from p i (xs ++ ys) ≡ Some k
 from_front p i k [] ys found = absurd (cc)
-from_front p i k (x ∷ xs) ys found = by_test (p x) found (λ there. from_front p (i + 1) k xs ys there)
-  where
-    by_test : (is : Bool) → cond is (Some i) (position_from p (i + 1) xs) ≡ Some k
-        → (position_from p (i + 1) xs ≡ Some k → position_from p (i + 1) (xs ++ ys) ≡ Some k)
-        → cond is (Some i) (position_from p (i + 1) (xs ++ ys)) ≡ Some k
-    by_test true here later = here
-    by_test false here later = later here
+from_front p i k (x ∷ xs) ys found =
+    let later = from_front p (i + 1) k xs ys in
+    grind (arith, nat_tests)
 
 -- what stands nowhere in front is found behind it
 from_behind : {X : Type 0} (p : X → Bool) (i : ℕ) (xs ys : List X) (y : X) → position_from p i xs ≡ None → p y ≡ true
     → position_from p i (xs ++ y ∷ ys) ≡ Some (i + length xs)
 from_behind p i [] ys y none is = ap (λ b. cond b (Some i) (position_from p (i + 1) ys)) is ∙ ap Some (omega arith)
-from_behind p i (x ∷ xs) ys y none is = by_test (p x) none (λ there. from_behind p (i + 1) xs ys y there is)
-  where
-    by_test : (b : Bool) → cond b (Some i) (position_from p (i + 1) xs) ≡ None
-        → (position_from p (i + 1) xs ≡ None → position_from p (i + 1) (xs ++ y ∷ ys) ≡ Some ((i + 1) + length xs))
-        → cond b (Some i) (position_from p (i + 1) (xs ++ y ∷ ys)) ≡ Some (i + suc (length xs))
-    by_test true here later = absurd (cc)
-    by_test false here later = later here ∙ ap Some (omega arith)
+from_behind p i (x ∷ xs) ys y none is =
+    let later : position_from p (i + 1) xs ≡ None → position_from p (i + 1) (xs ++ y ∷ ys) ≡ Some ((i + 1) + length xs) =
+    λ there. from_behind p (i + 1) xs ys y there is in
+    grind (arith, nat_tests)
 
 position-front : {X : Type 0} (p : X → Bool) (k : ℕ) (xs ys : List X) → position p xs ≡ Some k
     → position p (xs ++ ys) ≡ Some k

@@ -283,13 +283,9 @@ module _ (all : List (List ℕ)) where
   behind_last : (number : ℕ) (door : Door) (recorded : List Kept) → find_kept number recorded ≡ None
       → find_kept number (recorded ++ new_kept number door ∷ []) ≡ Some (new_kept number door)
   behind_last number door [] none = let own : (number == number) ≡ true = grind (arith, nat_tests) in ap (λ b. cond b (Some (new_kept number door)) None) own
-  behind_last number door (kept ∷ others) none = by_test (kept.number == number) none (behind_last number door others)
-    where
-      by_test : (is : Bool) → cond is (Some kept) (find_kept number others) ≡ None
-          → (find_kept number others ≡ None → find_kept number (others ++ new_kept number door ∷ []) ≡ Some (new_kept number door))
-          → cond is (Some kept) (find_kept number (others ++ new_kept number door ∷ [])) ≡ Some (new_kept number door)
-      by_test true there later = absurd (cc)
-      by_test false there later = later there
+  behind_last number door (kept ∷ others) none =
+      let later = behind_last number door others in
+      grind (arith, nat_tests)
 
   before_last : (number at : ℕ) (door which : Door) (heard : List ℕ) (recorded : List Kept) (found : Option Kept)
       → find_kept number recorded ≡ found → Tracked all which heard found

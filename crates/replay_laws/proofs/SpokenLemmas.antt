@@ -1,6 +1,6 @@
 -- The events of the lines that tell of a piece.
-use Rattle.std.proofs.Common.{◌≡◌, ℕ, zero, suc, ◌<◌, ◌≤◌, List, [], ◌∷◌, ◌++◌, length, take, drop, refl, sym, ap, subst, ◌∙◌, arith, append-nil, Bool, true, false, cond, Some}
-use Rattle.std.specs.Prelude.{◌==◌}
+use Rattle.std.proofs.Common.{◌≡◌, ℕ, zero, suc, ◌<◌, ◌≤◌, List, [], ◌∷◌, ◌++◌, length, take, drop, refl, sym, ap, subst, ◌∙◌, arith, append-nil, Bool, true, false, Some}
+use Rattle.std.proofs.lemmas.Bool.Decides.{nat_tests}
 use Rattle.std.proofs.lemmas.List.{drop_all, take_all}
 use Rattle.lists.specs.Rising.{is_among}
 use Rattle.world_ports.specs.declared.Door.{Door}
@@ -88,12 +88,9 @@ all_passed moment number (suc count) (byte ∷ bytes) ports state passed =
 
 same_ports : (number : ℕ) (ports : List Port) → change_port number (λ port. port) ports ≡ ports
 same_ports number [] = refl
-same_ports number (port ∷ ports) = by_test (port.number == number) (same_ports number ports)
-  where
-    by_test : (is : Bool) → change_port number (λ port. port) ports ≡ ports
-        → cond is (port ∷ ports) (port ∷ change_port number (λ port. port) ports) ≡ port ∷ ports
-    by_test true rest = refl
-    by_test false rest = ap (λ others. port ∷ others) rest
+same_ports number (port ∷ ports) =
+    let rest = same_ports number ports in
+    grind (arith, nat_tests)
 
 pub nothing_heard : (number : ℕ) (port : Port) (state : State) → find_port number state.ports ≡ Some port
     → port.door ≡ Clients → due port ≡ More → (handle (Heard number []) state).state ≡ state
