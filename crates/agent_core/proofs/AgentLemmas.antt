@@ -1,5 +1,5 @@
 -- What a change of the agent's parts is in its state.
-use Rattle.std.proofs.Common.{◌≡◌, ℕ, List, [], length, drop, arith, refl, ap, sym, ◌∙◌, Option, Some, None, IsSome, Bool, true, false, max, min}
+use Rattle.std.proofs.Common.{◌≡◌, ℕ, List, [], length, drop, refl, ap, sym, ◌∙◌, Option, Some, None, IsSome, Bool, true, false, max, min}
 use Rattle.world_ports.specs.declared.Moment.{Moment}
 use Rattle.agent_model.specs.NumberLists.{put_all}
 use Rattle.wire_text.specs.Frames.{Bad, More, Whole, front_body}
@@ -15,7 +15,7 @@ use Rattle.agent_model.specs.Looks.{due, due_at, due_by}
 use Rattle.agent_model.specs.State.{Client, Confirmer, Helper, Nothing, OnAsk, OnConfirmation, Port, State, UnderWay, Unnamed, Waits, change_port, find_port, remove_port, role_of}
 use Rattle.agent_model.specs.Step.{asker_at, attempts, handle, look_port, looked, step, take_frame}
 use Rattle.agent_model.specs.Step.{took_some as port_took}
-use Rattle.agent_model.specs.Time.{at_moment, end_late, is_helper_late, lose_late, taken_in, time_passes}
+use Rattle.agent_model.specs.Time.{end_late, is_helper_late, lose_late, taken_in, time_passes}
 use Rattle.agent_model.specs.Verdicts.{tell}
 use Rattle.agent_model.proofs.ClientLemmas.{looked-found, looked-whole}
 use Rattle.agent_model.proofs.PortsLemmas.{found_number}
@@ -268,29 +268,23 @@ agent_begins moment wall now keys kept going left old new now_is kept_is left_is
     ∙ ap (λ (v : OpenPorts). parts_of moment.wall (expired now keys) (record going { second = now }) v) new_is
     ∙ ap (λ n. parts_of moment.wall (expired n keys) (record going { second = n }) (record old { closed = [] })) now_is
 
--- then waits end, and then the event is handled
-pub agent_steps : (moment : Moment) (event : Happening) (state : State) (first second third new : Stepped)
+-- then waits end
+pub agent_passed : (moment : Moment) (state : State) (first second third : Stepped)
     → first ≡ record { state = taken_in moment state; closes = [] }
     → second ≡ after first.closes (lose_late first.state) → third ≡ after second.closes (end_late second.state)
-    → new ≡ after third.closes (handle event third.state)
-    → new ≡ stepped (step state moment event)
-agent_steps moment event state first second third new first_is second_is third_is new_is =
-    let passed = time_passes moment state in
+    → third ≡ after [] (time_passes moment state)
+agent_passed moment state first second third first_is second_is third_is =
     let lost = second_is ∙ ap (λ (s : Stepped). after s.closes (lose_late s.state)) first_is in
-    let ended : third ≡ after [] passed =
     third_is ∙ ap (λ (s : Stepped). after s.closes (end_late s.state)) lost
-    ∙ sym (after-behind [] (lose_late (taken_in moment state)) end_late) in
-    new_is ∙ ap (λ (s : Stepped). after s.closes (handle event s.state)) ended
-    ∙ sym (after-behind [] passed (handle event))
+    ∙ sym (after-behind [] (lose_late (taken_in moment state)) end_late)
 
--- what the moment leaves
-pub agent_opened : (moment : Moment) (state : State) (first second third : Stepped)
-    → first ≡ record { state = taken_in moment state; closes = [] }
-    → second ≡ after first.closes (lose_late first.state) → third ≡ after second.closes (end_late second.state)
-    → third.state ≡ at_moment moment state
-agent_opened moment state first second third first_is second_is third_is =
-    let lost = second_is ∙ ap (λ (s : Stepped). after s.closes (lose_late s.state)) first_is in
-    ap (λ (s : Stepped). s.state) (third_is ∙ ap (λ (s : Stepped). after s.closes (end_late s.state)) lost)
+-- and then the event is handled
+pub agent_steps : (moment : Moment) (event : Happening) (state : State) (passed new : Stepped)
+    → passed ≡ after [] (time_passes moment state) → new ≡ after passed.closes (handle event passed.state)
+    → new ≡ stepped (step state moment event)
+agent_steps moment event state passed new passed_is new_is =
+    new_is ∙ ap (λ (s : Stepped). after s.closes (handle event s.state)) passed_is
+    ∙ sym (after-behind [] (time_passes moment state) (handle event))
 
 -- the helper is lost where it is late
 pub tied-lost : (state : State) → IsTied state → IsTied (lose_late state).state

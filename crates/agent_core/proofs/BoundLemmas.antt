@@ -1,7 +1,5 @@
 -- Who waits stays tied to the asks while ports change a little, and is owed nothing when the helper is lost.
-use Rattle.std.specs.Result.{is_err}
-use Rattle.std.proofs.Common.{◌≡◌, ℕ, List, [], ◌∷◌, refl, ap, sym, subst, ◌∙◌, ◌++◌, Some, Result, Ok, Err, false, arith}
-use Rattle.std.specs.Prelude.{OnOk}
+use Rattle.std.proofs.Common.{◌≡◌, ℕ, List, [], ◌∷◌, refl, ap, sym, subst, ◌∙◌, ◌++◌, Some, arith}
 use Rattle.std.proofs.lemmas.Bool.Decides.{nat_tests}
 use Rattle.helper_link.specs.HelperLink.{askers, linked_to}
 use Rattle.helper_link.specs.Settling.{find_ask, remove_ask}
@@ -136,8 +134,3 @@ bound-answered piece ports mid going told left settled bound told_is settled_is 
     ap (λ s. answered s going.verifications ports.ports) (sym settled_is) ∙ ap (λ (u : UnderWay). answered settled u.verifications ports.ports) (sym told_is) ∙ sym (ap (λ (v : OpenPorts). v.ports) mid_is) in
     let left_are : to telling_is.settled heard ≡ left = ap (λ s. to s heard) (sym settled_is) ∙ ap (to settled) (sym told_is) ∙ sym left_is in
     subst (λ u. IsBound mid.ports u) left_are (subst (λ ps. IsBound ps (to telling_is.settled heard)) ports_are after)
-
--- what stands after success stands where there was one
-pub when_ok : {A B : Type 0} {P : Type 0} (r : Result A B) → is_err r ≡ false → OnOk r P → P
-when_ok (Ok a) none p = p
-when_ok (Err e) none p = absurd (cc)

@@ -132,11 +132,6 @@ pub value_ok : {A B : Type 0} (P Q : A → Type 0) (r : Result A B) → ((a : A)
 value_ok P Q (Ok a) f p = f a p
 value_ok P Q (Err e) f p = p
 
--- and of three
-pub all_ok : {A B : Type 0} {P Q R X : Type 0} (r : Result A B) → (P → Q → R → X) → OnOk r P → OnOk r Q → OnOk r R → OnOk r X
-all_ok (Ok a) f p q s = f p q s
-all_ok (Err e) f p q s = p
-
 -- ---- requests
 
 -- what comes of a body is what comes of the request that it reads as

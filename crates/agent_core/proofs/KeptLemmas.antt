@@ -23,7 +23,7 @@ use Rattle.agent_model.specs.Verdicts.{tell}
 use Rattle.agent_core.specs.Served.{served_at}
 use Rattle.wire_text.specs.Frames.{front_body}
 use Rattle.agent_model.specs.State.{Port, UnderWay, change_port, find_port, new_port, remove_port, number_of}
-use Rattle.agent_model.proofs.PortsLemmas.{rising-append, rising-change_port, rising-remove_port, rising_higher}
+use Rattle.agent_model.proofs.PortsLemmas.{find_port-change_port, rising-append, rising-change_port, rising-remove_port, rising_higher}
 
 -- edits of the slots are edits of the ports
 pub ports_of-remove : (slots : List Slot) (place : ℕ) → ports_of (remove slots place) ≡ remove (ports_of slots) place
@@ -80,6 +80,14 @@ same_port slot old number door =
 set_bytes : (slots : List Slot) (number place : ℕ) (slot old : Slot) → IsPlace number (ports_of slots) place → find_port number (ports_of slots) ≡ Some (port_of old) → slot.number ≡ old.number → slot.door ≡ old.door → ports_of (set slots place slot) ≡ change_port number (with_bytes slot) (ports_of slots)
 set_bytes slots number place slot old is found same door =
     set_changed slots number place slot (port_of old) (with_bytes slot) is found (same_port slot old same door)
+
+-- and found as the slot then
+pub found_set : (slots : List Slot) (number place : ℕ) (slot old : Slot) → IsPlace number (ports_of slots) place → find_port number (ports_of slots) ≡ Some (port_of old) → slot.number ≡ old.number → slot.door ≡ old.door → find_port number (ports_of (set slots place slot)) ≡ Some (port_of slot)
+found_set slots number place slot old is found same door =
+    ap (find_port number) (set_bytes slots number place slot old is found same door)
+    ∙ find_port-change_port number (with_bytes slot) (ports_of slots) (λ _. refl)
+    ∙ ap (option_map (with_bytes slot)) found
+    ∙ ap Some (sym (same_port slot old same door))
 
 length-set_slots : (slots : List Slot) (number place : ℕ) (slot : Slot) (ports : List Port) → ports_of (set slots place slot) ≡ ports → length (set slots place slot) ≡ length ports
 length-set_slots slots number place slot ports same =

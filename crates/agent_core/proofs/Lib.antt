@@ -3,6 +3,7 @@ pub mod BoundLemmas
 pub mod ChildLemmas
 pub mod ConfirmerLemmas
 pub mod CountLemmas
+pub mod DueLemmas
 pub mod FailLemmas
 pub mod HeldLemmas
 pub mod HelperLemmas

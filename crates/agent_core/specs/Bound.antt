@@ -5,7 +5,7 @@ use Rattle.helper_link.specs.Sound.{RiseTo}
 use Rattle.agent_model.specs.Looks.{due}
 use Rattle.agent_model.specs.Events.{Happening, Joined, Heard, Ended, Took, Started, StartFailed, Tick}
 use Rattle.agent_model.specs.Sound.{AreJudged, AreTied, IsJudged, IsTied}
-use Rattle.agent_model.specs.State.{Client, Confirmer, Helper, Port, Role, State, UnderWay, Unnamed, change_port, find_port, find_to_start, role_of}
+use Rattle.agent_model.specs.State.{Client, Confirmer, Helper, Port, Role, State, UnderWay, Unnamed, change_port, find_port, find_to_start, next_due, role_of}
 use Rattle.agent_model.specs.Step.{took_some}
 use Rattle.confirm_desk.specs.Confirmations.{Confirmation, find_job}
 use Rattle.agent_model.specs.Asking.{IsAttended}
@@ -32,6 +32,11 @@ pub record IsAtRest (state : State) : Type 0 where
   pub attended : IsAttended state
   pub judged : IsJudged state
   pub second : state.under_way.second ≡ state.moment.mono
+
+-- so is the agent, and this is the first second at which something ends by itself
+pub record IsCurrent (second : Option ℕ) (state : State) : Type 0 where
+  pub rest : IsAtRest state
+  pub next : second ≡ next_due state
 
 -- the client of each confirmation is open, and owed nothing
 abbrev pub AreHeldFor : List Confirmation → List Port → Type 0

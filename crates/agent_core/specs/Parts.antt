@@ -23,6 +23,13 @@ abbrev pub parts_of : ℕ → KeyState → UnderWay → OpenPorts → Stepped
 parts_of wall held under_way ports =
     record { state = state_of wall held under_way ports; closes = ports.closed }
 
+-- a state in which an event begins in the same second, with the wall clock at this one, and no port closed by it
+abbrev pub begun : ℕ → State → Stepped
+begun wall state = record {
+  state = record state { moment = record { mono = state.moment.mono; wall = wall } };
+  closes = [];
+}
+
 -- what an outcome leaves, with the ports that it closed among those that were closed before it
 abbrev pub after : List ℕ → Outcome → Stepped
 after closed outcome = record { state = outcome.state; closes = put_all closed outcome.closes }

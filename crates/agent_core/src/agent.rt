@@ -25,7 +25,7 @@ use crate::{Awaited, CoreMemory, Event, Settings};
 use confirm_desk::Pending;
 use std::alloc::Global;
 use std::marker::Model;
-use under_way::{TimeLimits, UnderWay, earlier};
+use under_way::{TimeLimits, UnderWay};
 use world_ports::{Job, Moment};
 
 /// An SSH agent without its outside: it is told what happens, and tells what is owed to whom.
@@ -36,17 +36,19 @@ use world_ports::{Job, Moment};
 pub struct Agent {
     alloc: Global,
     parts: Parts,
+    // The first second at which something ends by itself: each step brings it up to date.
+    due: Option<u64>,
 }
 
 impl Model for Agent {
     ghost use Rattle.agent_model.specs.Actions.{Stepped};
-    ghost use Rattle.agent_core.specs.Bound.{IsAtRest};
+    ghost use Rattle.agent_core.specs.Bound.{IsCurrent};
 
     ghost Value = { Stepped };
 
     ghost view = { λ a. a.parts };
 
-    ghost invariant = { λ a. IsAtRest a.parts.state };
+    ghost invariant = { λ a. IsCurrent a.due a.parts.state };
 }
 
 impl Agent {
@@ -62,6 +64,7 @@ impl Agent {
                 under_way: UnderWay::new(alloc, limits_of(settings)),
                 ports: Ports::new(alloc),
             },
+            due: None,
         }
     }
 
@@ -97,11 +100,12 @@ impl Agent {
         ensures wiped { OnErr result (self.new ≡ opening (settings_in self.old.state)) }
     {
         let settings = self.settings();
-        let stepped = self.parts.take(moment, event);
-        if stepped.is_err() {
+        let Ok(moved) = self.parts.take(moment, event, self.due) else {
             *self = Agent::new(self.alloc, settings);
-        }
-        stepped
+            return Err(CoreMemory);
+        };
+        self.due = self.parts.next_due(moved, self.due);
+        Ok(())
     }
 
     /// What the port is owed: nothing where it isn't open.
@@ -168,10 +172,7 @@ impl Agent {
     pub fn next_due(&self) -> Option<u64>
         ensures { result ≡ next_due self.now.state }
     {
-        earlier(
-            self.parts.keys.next_death(),
-            self.parts.under_way.next_limit(),
-        )
+        self.due
     }
 
     /// The greatest second of the monotonic clock so far, 0 before the first event.

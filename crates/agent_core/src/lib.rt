@@ -25,6 +25,7 @@ mod seen;
 mod serving;
 mod signing;
 mod slot;
+mod time;
 mod waits;
 
 pub use agent::Agent;

@@ -1,23 +1,24 @@
 //! The agent's state in storage, and what each event does to it.
 
-ghost use Rattle.std.specs.Prelude.{◌≡◌, ℕ, [], IsOk, IsSome, OnOk};
+ghost use Rattle.std.specs.Prelude.{◌≡◌, ℕ, IfOk, IsFalse, IsOk, IsSome, OnOk};
 ghost use Rattle.wire_text.specs.Frames.{Whole};
+ghost use Rattle.frame_core.specs.Looks.{front_of};
 ghost use Rattle.agent_model.specs.Actions.{stepped};
 ghost use Rattle.agent_model.specs.Answers.{lose_where};
 ghost use Rattle.agent_model.specs.Children.{changed, heard_more, is_started_by};
 ghost use Rattle.agent_model.specs.Looks.{due_by};
 ghost use Rattle.agent_model.specs.Events.{Ended, Heard, Joined, StartFailed, Started, Took};
 ghost use Rattle.agent_model.specs.Sound.{IsSteady, IsTied};
-ghost use Rattle.agent_model.specs.State.{Fits, find_port, next_owed, owed_of};
+ghost use Rattle.agent_model.specs.State.{Fits, find_port, next_due, next_owed, owed_of};
 ghost use Rattle.agent_model.specs.Step.{handle, looked, step};
-ghost use Rattle.agent_model.specs.Time.{at_moment, end_late, lose_late, taken_in};
+ghost use Rattle.agent_model.specs.Time.{at_moment};
 ghost use Rattle.agent_core.specs.Bound.{IsAtRest, IsBound, StillFits, WantsNoMemory};
 ghost use Rattle.agent_core.specs.Happenings.{happening};
 ghost use Rattle.agent_core.specs.Owing.{next_child_owed};
 ghost use Rattle.agent_core.specs.Parts.{after};
 
 use crate::children::hear_unnamed;
-use crate::confirmer::{end_confirmation, end_if, hear_confirmer, lose_client, lose_confirmer};
+use crate::confirmer::{end_if, hear_confirmer, lose_client, lose_confirmer};
 use crate::helper::{hear_helper, lose_helper};
 use crate::keys::Keys;
 use crate::ports::Ports;
@@ -25,7 +26,7 @@ use crate::role::{Role, lesser, owed_helper_above, role_at};
 use crate::{CoreMemory, Event};
 use frame_core::Look;
 use std::marker::Model;
-use under_way::UnderWay;
+use under_way::{UnderWay, earlier};
 use world_ports::{Door, JobKind, Moment};
 
 /// The most clients that may be open at once.
@@ -53,19 +54,38 @@ impl Model for Parts {
 }
 
 impl Parts {
-    /// Takes one event at a moment.
-    pub fn take(&mut self, moment: Moment, event: &Event<'_>) -> Result<(), CoreMemory>
+    /// Takes one event at a moment, where `due` is what `next_due` gives, and tells whether it may give another second
+    /// from then on.
+    pub fn take(
+        &mut self,
+        moment: Moment,
+        event: &Event<'_>,
+        due: Option<u64>,
+    ) -> Result<bool, CoreMemory>
         requires fits { Fits (happening event.now) self.old.state }
         requires rest { IsAtRest self.old.state }
+        requires due { due ≡ next_due self.old.state }
 
         ensures stepped { OnOk result
             (self.new ≡ stepped (step self.old.state moment (happening event.now))) }
+        ensures same { IfOk result (λ moved. IsFalse moved → next_due self.new.state ≡ next_due self.old.state) }
         ensures succeeds { WantsNoMemory (at_moment moment self.old.state) (happening event.now) → IsOk result }
     {
-        self.take_in(moment);
-        self.lose_late();
-        self.end_late();
-        self.handle(event)
+        let passed = self.pass(moment, due);
+        let moved = self.handle(event)?;
+        Ok(passed || moved)
+    }
+
+    /// The first second at which something ends by itself. It is looked for where it may have moved, and was `before`
+    /// otherwise.
+    pub fn next_due(&self, moved: bool, before: Option<u64>) -> Option<u64>
+        requires { IsFalse moved → before ≡ next_due self.now.state }
+        ensures { result ≡ next_due self.now.state }
+    {
+        if !moved {
+            return before;
+        }
+        earlier(self.keys.next_death(), self.under_way.next_limit())
     }
 
     /// What the port is owed: nothing where it isn't open.
@@ -103,67 +123,39 @@ impl Parts {
         lesser(helper, confirmer)
     }
 
-    // The moment is taken in: identities whose lifetime has run out leave.
-    fn take_in(&mut self, moment: Moment)
-        requires { self.old.state.under_way.second ≡ self.old.state.moment.mono }
-
-        ensures { self.new ≡ record { state = taken_in moment self.old.state; closes = [] } }
-    {
-        let now = self.keys.second().max(moment.mono);
-        self.wall = moment.wall;
-        self.keys.expire(now);
-        self.under_way.pass(now);
-        self.ports.begin();
-    }
-
-    // A helper that hasn't answered in time is lost.
-    fn lose_late(&mut self)
-        requires { IsBound self.old.state.ports self.old.state.under_way }
-
-        ensures { self.new ≡ after self.old.closes (lose_late self.old.state) }
-    {
-        if self.under_way.is_helper_late() {
-            lose_helper(&mut self.ports, &mut self.under_way);
-        }
-    }
-
-    // What the user hasn't answered in time is over, in the order of the jobs.
-    fn end_late(&mut self)
-        requires { IsTied self.old.state }
-
-        ensures { self.new ≡ after self.old.closes (end_late self.old.state) }
-    {
-        'late: while let Some(job) = self.under_way.late_confirmation() {
-            end_confirmation(&mut self.ports, &mut self.under_way, job);
-        }
-    }
-
-    // Takes one event after its moment.
-    fn handle(&mut self, event: &Event<'_>) -> Result<(), CoreMemory>
+    // Takes one event after its moment, and tells whether what is due may have changed.
+    fn handle(&mut self, event: &Event<'_>) -> Result<bool, CoreMemory>
         requires fits { StillFits (happening event.now) self.old.state }
         requires rest { IsAtRest self.old.state }
 
         ensures handled { OnOk result
             (self.new ≡ after self.old.closes (handle (happening event.now) self.old.state)) }
+        ensures same { IfOk result (λ moved. IsFalse moved → next_due self.new.state ≡ next_due self.old.state) }
         ensures succeeds { WantsNoMemory self.old.state (happening event.now) → IsOk result }
     {
         match *event {
-            Event::Joined(door) => self.join(door),
-            Event::Heard { port, piece } => self.hear(port, piece),
+            Event::Joined(door) => {
+                self.join(door)?;
+                Ok(true)
+            }
+            Event::Heard { port, piece } => {
+                self.hear(port, piece)?;
+                Ok(true)
+            }
             Event::Ended { port } => {
                 self.end(port);
-                Ok(())
+                Ok(true)
             }
             Event::Took { port, count } => self.send(port, count),
             Event::Started { job, ticket } => {
                 self.start(job, ticket);
-                Ok(())
+                Ok(true)
             }
             Event::StartFailed { job } => {
                 self.fail(job);
-                Ok(())
+                Ok(true)
             }
-            Event::Tick => Ok(()),
+            Event::Tick => Ok(false),
         }
     }
 
@@ -219,36 +211,39 @@ impl Parts {
         ensures { OnOk result (self.new ≡ after self.old.closes
             (looked port (changed port (heard_more piece.now) self.old.state))) }
     {
-        self.ports.push(port, piece)?;
-        self.look(port)
+        let front = self.ports.push(port, piece)?;
+        self.look(port, front)?;
+        Ok(())
     }
 
-    // A port took some of what it is owed, or all: nothing comes of it where its moment closed the port.
-    fn send(&mut self, port: u64, count: usize) -> Result<(), CoreMemory>
+    // A port took some of what it is owed, or all: nothing comes of it where its moment closed the port. Tells whether
+    // what is due may have changed.
+    fn send(&mut self, port: u64, count: usize) -> Result<bool, CoreMemory>
         requires rest { IsAtRest self.old.state }
 
         ensures sent { OnOk result
             (self.new ≡ after self.old.closes (handle (Took port count) self.old.state)) }
+        ensures same { IfOk result (λ moved. IsFalse moved → next_due self.new.state ≡ next_due self.old.state) }
         ensures succeeds { WantsNoMemory self.old.state (Took port count) → IsOk result }
     {
         match role_at(&self.ports, &self.under_way, port) {
             Some(Role::Client) => {
-                self.ports.drop_sent(port, count);
-                self.look(port)
+                let front = self.ports.drop_sent(port, count);
+                self.look(port, front)
             }
             Some(Role::Helper) => {
                 let count = count.min(self.under_way.owed().len());
                 self.under_way.helper_took(count);
-                Ok(())
+                Ok(true)
             }
             Some(Role::Confirmer) => {
                 let count = count.min(self.under_way.confirmer_owed(port).len());
                 self.under_way.confirmer_took(port, count);
-                Ok(())
+                Ok(true)
             }
             // It is owed nothing.
-            Some(Role::Unnamed) => Ok(()),
-            None => Ok(()),
+            Some(Role::Unnamed) => Ok(false),
+            None => Ok(false),
         }
     }
 
@@ -301,23 +296,28 @@ impl Parts {
         }
     }
 
-    // Takes the first request of a client where it is whole, and closes its port where its length is bad.
-    fn look(&mut self, port: u64) -> Result<(), CoreMemory>
+    // Takes the first request of a client where it is whole, and tells whether it is; closes its port where its length
+    // is bad.
+    fn look(&mut self, port: u64, front: Look) -> Result<bool, CoreMemory>
         requires tied { IsTied self.old.state }
+        requires front { front_of front ≡ due_by (find_port port self.old.state.ports) }
 
         ensures looked { OnOk result (self.new ≡ after self.old.closes (looked port self.old.state)) }
+        ensures same { IfOk result (λ taken. IsFalse taken → next_due self.new.state ≡ next_due self.old.state) }
         ensures succeeds { ((body_len : ℕ) → due_by (find_port port self.old.state.ports) ≡ Whole body_len → ⊥)
             → IsOk result }
     {
-        match self.ports.due(port) {
-            Look::Whole { body } => self
-                .ports
-                .serve(&mut self.keys, &mut self.under_way, self.wall, port, body),
+        match front {
+            Look::Whole { body } => {
+                self.ports
+                    .serve(&mut self.keys, &mut self.under_way, self.wall, port, body)?;
+                Ok(true)
+            }
             Look::Bad { .. } => {
                 self.ports.close(port);
-                Ok(())
+                Ok(false)
             }
-            Look::More => Ok(()),
+            Look::More => Ok(false),
         }
     }
 }

@@ -1,8 +1,6 @@
 //! The open ports.
 
 ghost use Rattle.std.specs.Prelude.{◌≡◌, ◌↔◌, ◌≤◌, [], None, Some, IsSome, IsTrue, MatchOption, length};
-ghost use Rattle.frame_core.specs.Looks.{front_of};
-ghost use Rattle.agent_model.specs.Looks.{due_by};
 ghost use Rattle.agent_model.specs.Sound.{IsRising};
 ghost use Rattle.agent_model.specs.State.{Port, client_count, find_port, unnamed_count, wants_by};
 ghost use Rattle.agent_core.specs.Owing.{is_client_at};
@@ -13,7 +11,6 @@ use crate::counting;
 use crate::places::{next_owing, place_near};
 use crate::slot::{self, Slot};
 use dest_rule::Chain;
-use frame_core::Look;
 use std::alloc::Global;
 use std::marker::Model;
 use under_way::UnderWay;
@@ -132,16 +129,6 @@ impl Ports {
         match self.find(number) {
             Some(slot) => slot::wants(slot),
             None => false,
-        }
-    }
-
-    /// What is to be taken of a port.
-    pub fn due(&self, number: u64) -> Look
-        ensures { front_of result ≡ due_by (find_port number self.now.ports) }
-    {
-        match self.find(number) {
-            Some(slot) => slot::due(slot),
-            None => Look::More,
         }
     }
 

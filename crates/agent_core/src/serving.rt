@@ -1,7 +1,8 @@
 //! What an open port sends and takes, and what it is told.
 
-ghost use Rattle.std.specs.Prelude.{◌≡◌, [], None, Some, IsSome, OnOk};
+ghost use Rattle.std.specs.Prelude.{◌≡◌, [], None, Some, IfOk, IsSome, OnOk};
 ghost use Rattle.wire_text.specs.Frames.{Whole, front_body};
+ghost use Rattle.frame_core.specs.Looks.{front_of};
 ghost use Rattle.agent_model.specs.Answers.{prove};
 ghost use Rattle.agent_model.specs.Children.{heard_more, unheard};
 ghost use Rattle.agent_model.specs.Looks.{due_by};
@@ -18,18 +19,20 @@ use crate::keys::Keys;
 use crate::places::place_near;
 use crate::ports::Ports;
 use crate::{CoreMemory, slot};
+use frame_core::Look;
 use helper_link::Answer;
 use secret_buf::ScrubBuf;
 use under_way::{UnderWay, Verification};
 
 impl Ports {
-    /// Appends the piece to what was heard of an open port.
-    pub fn push(&mut self, number: u64, piece: &[u8]) -> Result<(), CoreMemory>
+    /// Appends the piece to what was heard of an open port, and tells what is to be taken of it then.
+    pub fn push(&mut self, number: u64, piece: &[u8]) -> Result<Look, CoreMemory>
         requires { IsSome (find_port number self.old.ports) }
 
         ensures ports { OnOk result (self.new ≡ record self.old {
           ports = change_port number (heard_more piece.now) self.old.ports;
         }) }
+        ensures front { IfOk result (λ look. front_of look ≡ due_by (find_port number self.new.ports)) }
     {
         let Some(place) = place_near(&self.slots, self.near, number) else {
             unreachable!()
@@ -51,19 +54,21 @@ impl Ports {
         slot::take_heard(&mut self.slots[place])
     }
 
-    /// Drops the first `count` bytes that an open port is owed: all where it is owed fewer.
-    pub fn drop_sent(&mut self, number: u64, count: usize)
+    /// Drops the first `count` bytes that an open port is owed, all where it is owed fewer, and tells what is to be
+    /// taken of it then.
+    pub fn drop_sent(&mut self, number: u64, count: usize) -> Look
         requires { IsSome (find_port number self.old.ports) }
 
         ensures ports { self.new ≡ record self.old {
           ports = change_port number (took_some count) self.old.ports;
         } }
+        ensures front { front_of result ≡ due_by (find_port number self.new.ports) }
     {
         let Some(place) = place_near(&self.slots, self.near, number) else {
             unreachable!()
         };
         self.near = place;
-        slot::drop_sent(&mut self.slots[place], count);
+        slot::drop_sent(&mut self.slots[place], count)
     }
 
     /// Takes the request with a body of this length, and owes its reply or lets the client wait.

@@ -1,6 +1,6 @@
 //! One open port.
 
-ghost use Rattle.std.specs.Prelude.{◌≡◌, ◌+◌, ◌≤◌, ◌||◌, [], true, None, OnOk, length};
+ghost use Rattle.std.specs.Prelude.{◌≡◌, ◌+◌, ◌≤◌, ◌||◌, [], true, None, IfOk, OnOk, length};
 ghost use Rattle.wire_text.specs.Frames.{after_front, front, front_body, More, Whole};
 ghost use Rattle.frame_core.specs.Looks.{front_of};
 ghost use Rattle.agent_model.specs.Answers.{chain_with, prove};
@@ -63,28 +63,31 @@ impl Slot {
     }
 }
 
-/// Appends the piece to what was heard.
-pub fn push(slot: &mut Slot, piece: &[u8]) -> Result<(), CoreMemory>
+/// Appends the piece to what was heard, and tells what is to be taken then.
+pub fn push(slot: &mut Slot, piece: &[u8]) -> Result<Look, CoreMemory>
     ensures port { OnOk result (port_of slot.new ≡ heard_more piece.now (port_of slot.old)) }
+    ensures front { IfOk result (λ look. front_of look ≡ due (port_of slot.new)) }
     ensures number { slot.new.number ≡ slot.old.number }
     ensures door { slot.new.door ≡ slot.old.door }
     ensures owed { slot.new.owed ≡ slot.old.owed }
 {
     slot.heard.push_slice(piece)?;
-    Ok(())
+    Ok(due(slot))
 }
 
-/// Drops the first `count` bytes that are owed: all where fewer are.
-pub fn drop_sent(slot: &mut Slot, count: usize)
+/// Drops the first `count` bytes that are owed, all where fewer are, and tells what is to be taken then.
+pub fn drop_sent(slot: &mut Slot, count: usize) -> Look
     ensures port { port_of slot.new ≡ took_some count (port_of slot.old) }
+    ensures front { front_of result ≡ due (port_of slot.new) }
     ensures number { slot.new.number ≡ slot.old.number }
     ensures door { slot.new.door ≡ slot.old.door }
 {
     slot.owed.consume(count.min(slot.owed.bytes().len()));
+    due(slot)
 }
 
-/// What is to be taken of a client: nothing while it waits or bytes are owed.
-pub fn due(slot: &Slot) -> Look
+// What is to be taken of a client: nothing while it waits or bytes are owed.
+fn due(slot: &Slot) -> Look
     ensures { front_of result ≡ due (port_of slot.now) }
 {
     match slot.waits {

@@ -2,5 +2,5 @@ use Rattle.agent_core.proofs.agent.Agent.is_client.Goals as goal
 
 pub returns-clause-steady : goal.returns-clause-steady
 returns-clause-steady c =
-    let tied = c.self.invariant.tied in
+    let tied = c.self.invariant.rest.tied in
     rw (← c.self.view_is) (record { rising = tied.rising; order = tied.raised.order })

@@ -6,18 +6,23 @@ use Rattle.agent_model.specs.Asking.{IsAttended}
 use Rattle.agent_model.proofs.AttendedLemmas.{step-attended}
 use Rattle.agent_model.proofs.JudgedRunLemmas.{step-judged}
 use Rattle.agent_core.specs.Happenings.{happening}
-use Rattle.agent_core.proofs.BoundLemmas.{when_ok}
 use Rattle.agent_core.proofs.PaceLemmas.{IsPaced, paced-step}
 use Rattle.agent_core.proofs.agent.Agent.step.Goals as goal
 
-pub invariant_of-self-else-is_err : goal.invariant_of-self-else-is_err
-invariant_of-self-else-is_err c =
-    let none = sym c.is_err.ensures.value ∙ c.if-is_err.false in
-    let stepped = ap (λ (s : Stepped). s.state) (when_ok c.take-stepped.result none c.take-stepped.ensures.stepped) in
-    let fated = step-fated _ c.args.moment (happening c.args.event.now) c.self.invariant.tied in
+pub next_due-self-inside-requires : goal.next_due-self-inside-requires
+next_due-self-inside-requires c = λ still. c.self.invariant.next ∙ sym (c.in-Ok.ensures.same still)
+
+pub invariant_of-self-2 : goal.invariant_of-self-2
+invariant_of-self-2 c =
+    let stepped = ap (λ (s : Stepped). s.state) c.in-Ok.ensures.stepped in
+    let rest = c.self.invariant.rest in
+    let fated = step-fated _ c.args.moment (happening c.args.event.now) rest.tied in
     record {
-      tied = subst IsTied (sym stepped) fated.tied;
-      attended = subst IsAttended (sym stepped) (step-attended _ c.args.moment (happening c.args.event.now) c.self.invariant.tied c.self.invariant.attended);
-      judged = subst IsJudged (sym stepped) (step-judged _ c.args.moment (happening c.args.event.now) c.self.invariant.tied c.self.invariant.judged).judged;
-      second = subst IsPaced (sym stepped) (paced-step c.self.inside.parts.state c.args.moment (happening c.args.event.now));
+      rest = record {
+        tied = subst IsTied (sym stepped) fated.tied;
+        attended = subst IsAttended (sym stepped) (step-attended _ c.args.moment (happening c.args.event.now) rest.tied rest.attended);
+        judged = subst IsJudged (sym stepped) (step-judged _ c.args.moment (happening c.args.event.now) rest.tied rest.judged).judged;
+        second = subst IsPaced (sym stepped) (paced-step c.self.inside.parts.state c.args.moment (happening c.args.event.now));
+      };
+      next = c.next_due-self-inside.ensures;
     }

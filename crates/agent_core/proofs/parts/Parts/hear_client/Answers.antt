@@ -5,20 +5,18 @@ use Rattle.agent_model.specs.Step.{looked}
 use Rattle.agent_core.specs.Parts.{after, state_of}
 use Rattle.agent_core.specs.Slots.{OpenPorts}
 use Rattle.agent_core.proofs.AgentLemmas.{tied-heard}
-use Rattle.agent_core.proofs.HeldLemmas.{after_ok}
 use Rattle.agent_core.proofs.parts.Parts.hear_client.Goals as goal
 
 pub returns : goal.returns
 returns c =
     let parts = c.self.inside in
-    rw (← c.self.view_is) (after_ok c.look.result (λ is.
-    is ∙ ap (λ (v : OpenPorts). after v.closed (looked c.args.port (state_of parts.wall parts.keys parts.under_way v))) c.in_ok-push.ensures.ports)
-    c.look.ensures.looked)
+    rw (← c.self.view_is) (c.in_ok-look.ensures.looked
+    ∙ ap (λ (v : OpenPorts). after v.closed (looked c.args.port (state_of parts.wall parts.keys parts.under_way v))) c.in_ok-front.ensures.ports)
 
-pub look-requires : goal.look-requires
-look-requires c =
+pub look-requires-clause-tied : goal.look-requires-clause-tied
+look-requires-clause-tied c =
     let rest = rw (← c.self.view_is) at c.requires.rest in
     let parts = c.self.inside in
     let state : State = state_of parts.wall parts.keys parts.under_way parts.ports in
     let P : OpenPorts → Type 0 = λ v. IsTied (state_of parts.wall parts.keys parts.under_way v) in
-    record { tied = subst P (sym c.in_ok-push.ensures.ports) (tied-heard c.args.port c.args.piece.now state rest.tied) }
+    subst P (sym c.in_ok-front.ensures.ports) (tied-heard c.args.port c.args.piece.now state rest.tied)

@@ -11,8 +11,8 @@ use Rattle.agent_core.proofs.HeldLemmas.{after_ok}
 use Rattle.agent_core.proofs.RoleLemmas.{client-kind, confirmer-kind, helper-kind, none-kind, some_of_role, unnamed-kind}
 use Rattle.agent_core.proofs.parts.Parts.send.Goals as goal
 
-pub drop_sent-requires : goal.drop_sent-requires
-drop_sent-requires c =
+pub drop_sent-front-requires : goal.drop_sent-front-requires
+drop_sent-front-requires c =
     let is = client-kind _ (sym c.role_at.ensures ∙ c.in-Some-Client.is ∙ ap Some c.in-Some-Client.field-0-is) in
     some_of_role c.args.port c.self.inside.ports.ports c.self.inside.under_way Client is
 
@@ -21,7 +21,7 @@ returns-in-Some-Client-clause-sent c =
     let is = client-kind _ (sym c.role_at.ensures ∙ c.in-Some-Client.is ∙ ap Some c.in-Some-Client.field-0-is) in
     let parts = c.self.inside in
     rw (← c.self.view_is) (after_ok c.look.result (λ looked.
-    looked ∙ agent_sends parts.wall parts.keys parts.under_way parts.ports c.drop_sent.new.self c.args.port c.args.count is c.drop_sent.ensures.ports)
+    looked ∙ agent_sends parts.wall parts.keys parts.under_way parts.ports c.drop_sent-front.new.self c.args.port c.args.count is c.drop_sent-front.ensures.ports)
     c.look.ensures.looked)
 
 pub returns-in-Some-Client-clause-succeeds : goal.returns-in-Some-Client-clause-succeeds
@@ -30,7 +30,7 @@ returns-in-Some-Client-clause-succeeds c =
     let parts = c.self.inside in
     let state : State = state_of parts.wall parts.keys parts.under_way parts.ports in
     rw (← c.self.view_is) (λ wants.
-    c.look.ensures.succeeds (none_whole c.args.port c.args.count state parts.ports c.drop_sent.new.self refl is c.drop_sent.ensures.ports wants))
+    c.look.ensures.succeeds (none_whole c.args.port c.args.count state parts.ports c.drop_sent-front.new.self refl is c.drop_sent-front.ensures.ports wants))
 
 pub returns-in-Some-Helper-clause-sent : goal.returns-in-Some-Helper-clause-sent
 returns-in-Some-Helper-clause-sent c =
@@ -41,13 +41,13 @@ returns-in-Some-Helper-clause-sent c =
     rw (← c.self.view_is) (
     agent_pays parts.wall parts.keys parts.under_way c.helper_took.new.self parts.ports c.args.port c.args.count c.min-count.result is linked least c.helper_took.ensures)
 
-pub look-requires : goal.look-requires
-look-requires c =
+pub look-requires-clause-tied : goal.look-requires-clause-tied
+look-requires-clause-tied c =
     let rest = rw (← c.self.view_is) at c.requires.rest in
     let parts = c.self.inside in
     let state : State = state_of parts.wall parts.keys parts.under_way parts.ports in
     let P : OpenPorts → Type 0 = λ v. IsTied (state_of parts.wall parts.keys parts.under_way v) in
-    record { tied = subst P (sym c.drop_sent.ensures.ports) (tied-took c.args.port c.args.count state rest.tied) }
+    subst P (sym c.drop_sent-front.ensures.ports) (tied-took c.args.port c.args.count state rest.tied)
 
 pub confirmer_took-requires-clause-there : goal.confirmer_took-requires-clause-there
 confirmer_took-requires-clause-there c =
@@ -77,3 +77,6 @@ returns-in-None-clause-sent c =
     let parts = c.self.inside in
     let state : State = state_of parts.wall parts.keys parts.under_way parts.ports in
     rw (← c.self.view_is) (ap (after parts.ports.closed) (absent_takes c.args.port c.args.count state (none-kind _ parts.under_way (sym c.role_at.ensures ∙ c.in-None.is))))
+
+pub returns-in-Some-Client-clause-same : goal.returns-in-Some-Client-clause-same
+returns-in-Some-Client-clause-same c = rw (← c.self.view_is) c.look.ensures.same

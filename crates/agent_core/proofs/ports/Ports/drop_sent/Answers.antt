@@ -1,8 +1,9 @@
-use Rattle.std.proofs.Common.{ap}
+use Rattle.std.proofs.Common.{◌∙◌, ap, sym}
+use Rattle.agent_model.specs.Looks.{due_by}
 use Rattle.agent_model.specs.Step.{took_some}
 use Rattle.agent_model.proofs.PortsLemmas.{found_number}
 use Rattle.agent_core.specs.Slots.{OpenPorts, port_of, ports_of}
-use Rattle.agent_core.proofs.KeptLemmas.{found_slot, kept-changed, kept_rising, set_changed}
+use Rattle.agent_core.proofs.KeptLemmas.{found_set, found_slot, kept-changed, kept_rising, set_changed}
 use Rattle.agent_core.proofs.ports.Ports.drop_sent.Goals as goal
 
 pub place_near-requires : goal.place_near-requires
@@ -15,11 +16,17 @@ invariant_of-self c =
     let same = found_number c.args.number (ports_of c.self.inside.slots.items) (port_of c.index_mut.result.now) found in
     kept-changed _ _ _ _ c.args.number c.in-Some.place c.drop_sent.new.slot c.index_mut.result.now c.self.invariant is found c.drop_sent.ensures.number c.drop_sent.ensures.door
 
-pub returns : goal.returns
-returns c =
+pub returns-clause-ports : goal.returns-clause-ports
+returns-clause-ports c =
     let is = rw c.deref.ensures.value at c.in-Some.ensures in
     let found = found_slot _ _ _ _ is c.index_mut.ensures.value in
-    record {
-      ports = rw (← c.self.view_is) (ap (λ ports. let v : OpenPorts = record { ports = ports; last = c.self.inside.last; closed = c.self.inside.closed.items } in v)
-          (set_changed c.self.inside.slots.items c.args.number c.in-Some.place c.drop_sent.new.slot (port_of c.index_mut.result.now) (took_some c.args.count) is found c.drop_sent.ensures.port));
-    }
+    rw (← c.self.view_is) (
+    ap (λ ports. let v : OpenPorts = record { ports = ports; last = c.self.inside.last; closed = c.self.inside.closed.items } in v)
+    (set_changed c.self.inside.slots.items c.args.number c.in-Some.place c.drop_sent.new.slot (port_of c.index_mut.result.now) (took_some c.args.count) is found c.drop_sent.ensures.port))
+
+pub returns-clause-front : goal.returns-clause-front
+returns-clause-front c =
+    let is = rw c.deref.ensures.value at c.in-Some.ensures in
+    let found = found_slot _ _ _ _ is c.index_mut.ensures.value in
+    c.drop_sent.ensures.front
+    ∙ sym (ap due_by (found_set c.self.inside.slots.items c.args.number c.in-Some.place c.drop_sent.new.slot c.index_mut.result.now is found c.drop_sent.ensures.number c.drop_sent.ensures.door))
