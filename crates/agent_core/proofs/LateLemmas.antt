@@ -1,5 +1,5 @@
 -- What a moment brings, one after another in the agent's parts.
-use Rattle.std.proofs.Common.{◌≡◌, ◌∙◌, ℕ, ◌+◌, ◌<◌, ◌^◌, ◌-◌, suc, List, [], ◌∷◌, ◌++◌, length, Option, Some, None, IsSome, refl, ap, arith, subst, sym, cond, eqb, Bool, true, false}
+use Rattle.std.proofs.Common.{◌≡◌, ◌∙◌, ℕ, ◌+◌, ◌-◌, suc, List, [], ◌∷◌, ◌++◌, length, Option, Some, None, IsSome, refl, ap, arith, subst, sym, cond, eqb, Bool, true, false}
 use Rattle.world_ports.specs.declared.Moment.{Moment}
 use Rattle.std.specs.Option.{IsSomeAnd, option_map}
 use Rattle.confirm_desk.specs.Confirmations.{Confirmation, find_job, job_of, remove_job}
@@ -9,8 +9,7 @@ use Rattle.agent_model.specs.Events.{Ended, Happening, Heard, Joined, StartFaile
 use Rattle.agent_model.specs.NumberLists.{put_all}
 use Rattle.agent_model.specs.Sound.{IsTied}
 use Rattle.agent_model.specs.State.{Fits, Port, State, find_port, find_to_start}
-use Rattle.agent_model.specs.Step.{handle, step}
-use Rattle.agent_model.specs.Time.{all_over, at_moment, end_late, first_late, is_late, taken_in}
+use Rattle.agent_model.specs.Time.{all_over, at_moment, end_late, first_late, is_late}
 use Rattle.agent_model.proofs.AttendedLemmas.{step-attended}
 use Rattle.agent_model.proofs.FatedLemmas.{step-fated}
 use Rattle.agent_model.proofs.FatedMakeLemmas.{fated-makes}

@@ -1,5 +1,5 @@
 -- The second of what is under way stays that of the moment.
-use Rattle.std.proofs.Common.{◌≡◌, ◌∙◌, ℕ, List, Option, Some, None, refl, sym}
+use Rattle.std.proofs.Common.{◌≡◌, ◌∙◌, ℕ, List, Option, Some, None, refl}
 use Rattle.world_ports.specs.declared.Moment.{Moment}
 use Rattle.helper_link.specs.Telling.{telling}
 use Rattle.helper_link.specs.declared.fault.LinkFault.{LinkFault}
@@ -12,7 +12,7 @@ use Rattle.agent_model.specs.Dispatch.{Asker, Served}
 use Rattle.agent_model.specs.Events.{Happening}
 use Rattle.agent_model.specs.KeyStates.{KeyState}
 use Rattle.agent_model.specs.State.{State, UnderWay}
-use Rattle.agent_model.specs.Step.{asker_at, handle, step}
+use Rattle.agent_model.specs.Step.{asker_at, step}
 use Rattle.agent_model.specs.Time.{at_moment}
 use Rattle.agent_model.proofs.GrantLemmas.{IsGranted, allowed, disallowed, grant-ends, unasked}
 use Rattle.agent_model.proofs.MakeLemmas.{Makes, Quiet, alters, by_event, closes, first, goes_on, grants, links, loses, names, overs, serves, stays, tells}

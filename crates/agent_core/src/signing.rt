@@ -24,6 +24,12 @@ struct Signing {
     used: Option<u64>,
 }
 
+// It is refused, and uses no key.
+const REFUSED: Signing = Signing {
+    waits: None,
+    used: None,
+};
+
 /// Has a signature made, where the key is held and its constraints permit it, and then counts a use of the key. Gives
 /// what the client waits for.
 pub fn sign(
@@ -90,19 +96,13 @@ fn put_signing(
         (keys_of table.now lock.now) under_way.old).work.verdict signing.waits) }
 {
     if lock.is_locked() {
-        return Ok(Signing {
-            waits: None,
-            used: None,
-        });
+        return Ok(REFUSED);
     }
     match table.find(blob) {
         Some(key) if permits(key.rules(), blob, asker.chain, message, asker.wall) => {
             sign_with(asker.port, under_way, key, message, flags)
         }
-        _ => Ok(Signing {
-            waits: None,
-            used: None,
-        }),
+        _ => Ok(REFUSED),
     }
 }
 

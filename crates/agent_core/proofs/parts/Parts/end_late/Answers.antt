@@ -1,4 +1,4 @@
-use Rattle.std.proofs.Common.{◌≡◌, ◌∙◌, Some, arith, length, suc, sym}
+use Rattle.std.proofs.Common.{◌≡◌, ◌∙◌, arith, length, suc, sym}
 use Rattle.agent_model.specs.State.{State}
 use Rattle.agent_core.specs.Parts.{state_of}
 use Rattle.agent_core.proofs.LateLemmas.{end_late-none, late_fewer, late_found, late_none, late_silent, late_tied, late_turn}

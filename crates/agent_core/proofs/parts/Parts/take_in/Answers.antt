@@ -1,4 +1,4 @@
-use Rattle.std.proofs.Common.{◌∙◌, ◌≡◌, ◌≤◌, max, ap, arith, sym}
+use Rattle.std.proofs.Common.{◌∙◌, ◌≡◌, max, ap, arith}
 use Rattle.agent_model.specs.Actions.{Stepped}
 use Rattle.agent_core.proofs.AgentLemmas.{agent_begins}
 use Rattle.agent_core.proofs.parts.Parts.take_in.Goals as goal

@@ -1,4 +1,4 @@
-use Rattle.std.proofs.Common.{◌≡◌, ◌∙◌, ◌<◌, ◌^◌, ◌+◌, suc, ap, add-one, arith, sym, true, false, Bool, List, ℕ}
+use Rattle.std.proofs.Common.{◌∙◌, ◌<◌, ◌^◌, ◌+◌, suc, ap, add-one, arith, sym, true, false, Bool, List, ℕ}
 use Rattle.agent_model.specs.NumberLists.{put_all}
 use Rattle.agent_model.specs.Step.{admitted, turned_away}
 use Rattle.lists.specs.Rising.{inserted}
