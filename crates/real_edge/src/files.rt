@@ -1,11 +1,11 @@
 // Files of the system.
-ghost use Rattle.std.specs.Prelude.{◌≡◌, ◌≤◌, IfOk, IfSome, None, length};
+ghost use Rattle.std.specs.Prelude.{◌≡◌, ◌<◌, ◌≤◌, IfOk, IfSome, None, length};
 
 use crate::errors::is_own_want;
 use crate::room::Room;
-use secret_buf::ScrubBuf;
 use std::alloc::Global;
 use std::fs;
+use std::fs::OpenFile;
 use std::io::{Error, ErrorKind, Read, Result as IoResult};
 use std::rt::Files as SystemFiles;
 use world_ports::{FileFault, Files};
@@ -53,11 +53,12 @@ impl<R: SystemFiles> Files for RealFiles<'_, R> {
     }
 }
 
-/// How many bytes a read brings at most.
-const ROOM: usize = 4096;
+/// How many bytes there is room for at least, where a file tells of less or of none.
+const LEAST_ROOM: u64 = 4096;
 
 // The bytes of a file, or `None` where it has more than `max`. They may be those of a key: what the
-// caller isn't given is zero before its memory is given back.
+// caller isn't given is zero before its memory is given back. Room is taken for as many as the file tells of,
+// and for one more, so that its end is met with no more room: the bytes are handed on where they were read.
 fn read_file<R: SystemFiles>(
     rt: &R,
     alloc: Global,
@@ -67,29 +68,29 @@ fn read_file<R: SystemFiles>(
     ensures { IfOk result (λ read. IfSome read (λ bytes. length bytes.items ≤ max)) }
 {
     let mut file = fs::open(rt, path)?;
-    let mut room = Room::zeros(alloc, ROOM)?;
-    read_all(alloc, &mut file, room.as_mut_slice(), max)
+    let told = file.metadata()?.len().min(max);
+    let room = Room::zeros(alloc, told.max(LEAST_ROOM).saturating_add(1) as usize)?;
+    read_all(&mut file, room, max)
 }
 
-// The bytes of a reader, or `None` where it has more than `max`. The buffer wipes what it grows out of
-// and what it leaves.
-fn read_all<F: Read>(
-    alloc: Global,
-    file: &mut F,
-    room: &mut [u8],
-    max: u64,
-) -> IoResult<Option<Vec<u8>>>
+// The bytes of a reader, or `None` where it has more than `max`. The room grows where there are more than it has.
+fn read_all<F: Read>(file: &mut F, room: Room, max: u64) -> IoResult<Option<Vec<u8>>>
+    requires { 0 < length room.bytes.items }
     ensures { IfOk result (λ read. IfSome read (λ bytes. length bytes.items ≤ max)) }
 {
-    let mut bytes = ScrubBuf::new(alloc);
+    let mut room = room;
+    let mut len = 0;
     'pieces: for _ in 0..u64::MAX {
-        match file.read(room) {
-            Ok(0) => return Ok(Some(Vec::from_slice(alloc, bytes.live())?)),
+        if len == room.len() {
+            room.grow()?;
+        }
+        match room.read_from(len, file) {
+            Ok(0) => return Ok(Some(room.into_front(len))),
             Ok(n) => {
-                if n as u64 > max - bytes.live().len() as u64 {
+                if n as u64 > max - len as u64 {
                     return Ok(None);
                 }
-                bytes.push_slice(&room[..n])?;
+                len += n;
             }
             Err(error) => {
                 if error.kind() != ErrorKind::Interrupted {

@@ -1,6 +1,6 @@
--- what was read so far has no more bytes than were asked for
-use Rattle.std.proofs.Common.{◌≤◌, length}
+-- what was read so far has no more bytes than were asked for, and than there is room for
+use Rattle.std.proofs.Common.{◌<◌, ◌≤◌, length}
 use Rattle.real_edge.proofs.files.read_all.Given as goal
 
 abbrev pub invariant-pieces : goal.invariant-pieces
-invariant-pieces g l = length l.bytes.live ≤ l.max
+invariant-pieces g l = (l.len ≤ l.max) × ((l.len ≤ length l.room.bytes.items) × (0 < length l.room.bytes.items))
