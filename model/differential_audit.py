@@ -23,11 +23,11 @@ from random import Random
 
 from . import audit
 from .audit import BAD_RECORD, DIFFERS, FILE_FAULT, USAGE, WRITE_FAULT, YES
-from .differential import Result, read_wrong, rows_agree, show, tell_found, wrong_module
+from .differential import Result, rows_agree, show, wrong_module
 from .generate import Schedule, garbled_text
 from .record import record
 from .replay import LONGEST_SCHEDULE, replay
-from .replays import JOBS, Played, attempt
+from .replays import JOBS, Played, attempt, try_each
 from .rows_audit import ROWS
 
 WRONG = "wrong_audits.txt"
@@ -264,12 +264,8 @@ def first_found(edit: dict[str, str]) -> tuple[int, str | None]:
 
 
 def try_wrong(count: int, seed: str) -> bool:
-    edits = read_wrong(WRONG)
-    with multiprocessing.Pool(JOBS) as pool:
-        CASES.extend(pool.imap(Case, [f"{seed}/{place}" for place in range(count)], 4))
-    with multiprocessing.Pool(JOBS, maxtasksperchild=1) as pool:
-        found = pool.map(first_found, edits, 1)
-    return tell_found("audits", edits, found)
+    seeds = [f"{seed}/{place}" for place in range(count)]
+    return try_each("audits", WRONG, CASES, Case, first_found, seeds)
 
 
 def main(program: str = "", count: str = "", seed: str = "") -> int:

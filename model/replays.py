@@ -253,13 +253,26 @@ def attempt(find: Callable[[], Any]) -> Any:
         return f"raises {raised!r}"
 
 
-def try_wrong(count: int, seed: str) -> bool:
-    edits = read_wrong(WRONG)
+def try_each(
+    kind: str,
+    name: str,
+    cases: list[Any],
+    draw: Callable[[str], Any],
+    find: Callable[[dict[str, str]], tuple[int, str | None]],
+    seeds: list[str],
+) -> bool:
+    """Whether each wrong program of a file is found by a row and by a case. The processes that find share the cases."""
+    edits = read_wrong(name)
     with multiprocessing.Pool(JOBS) as pool:
-        RUNS.extend(pool.imap(Played, [f"{seed}/{place}" for place in range(count)], 4))
+        cases.extend(pool.imap(draw, seeds, 4))
     with multiprocessing.Pool(JOBS, maxtasksperchild=1) as pool:
-        found = pool.map(first_found, edits, 1)
-    return tell_found("recorders", edits, found)
+        found = pool.map(find, edits, 1)
+    return tell_found(kind, edits, found)
+
+
+def try_wrong(count: int, seed: str) -> bool:
+    seeds = [f"{seed}/{place}" for place in range(count)]
+    return try_each("recorders", WRONG, RUNS, Played, first_found, seeds)
 
 
 def main() -> int:
