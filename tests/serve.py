@@ -761,6 +761,13 @@ class Hanging:
     def answer(self, child, ask):
         child.socket.sendall(string(struct.pack(">BQ", 101, ask) + string(b"signed")))
 
+    def asks(self, job):
+        """The client asks, and what takes the place of this job's helper has the request."""
+        self.ask()
+        child = self.hello(job)
+        self.request(child, job)
+        return child
+
     def refused(self):
         """The client is refused by the limit; others are served meanwhile."""
         time.sleep(ASK_LIMIT / 2)
@@ -773,10 +780,7 @@ class Hanging:
     def goes_on(self):
         """The next request has a helper of its own, which signs."""
         assert [blob for blob, _ in self.client.blobs()] == [self.blob]
-        self.ask()
-        child = self.hello(2)
-        self.request(child, 2)
-        self.answer(child, 2)
+        self.answer(self.asks(2), 2)
         assert self.client.reply() == bytes([SIGNATURE]) + string(b"signed")
         assert len(self.helpers()) == 2
 
@@ -793,9 +797,7 @@ def a_helper_that_never_says_hello_is_given_up(folder):
 @check.beside
 def a_helper_that_hangs_is_given_up(folder):
     with Hanging(folder, "hanging") as run:
-        run.ask()
-        child = run.hello(1)
-        run.request(child, 1)
+        child = run.asks(1)
         run.refused()
         assert child.has_ended()
         run.goes_on()
@@ -804,9 +806,7 @@ def a_helper_that_hangs_is_given_up(folder):
 @check.beside
 def a_helper_that_answers_after_61_seconds_answers_nobody(folder):
     with Hanging(folder, "late") as run:
-        run.ask()
-        child = run.hello(1)
-        run.request(child, 1)
+        child = run.asks(1)
         run.refused()
         time.sleep(max(0, ASK_LIMIT + 1 - run.waited()))
         with contextlib.suppress(BrokenPipeError, ConnectionResetError):
