@@ -74,7 +74,7 @@ fn read_file<R: SystemFiles>(
 }
 
 // The bytes of a reader, or `None` where it has more than `max`. The room grows where there are more than it has.
-fn read_all<F: Read>(file: &mut F, room: Room, max: u64) -> IoResult<Option<Vec<u8>>>
+pub fn read_all<F: Read>(file: &mut F, room: Room, max: u64) -> IoResult<Option<Vec<u8>>>
     requires { 0 < length room.bytes.items }
     ensures { IfOk result (λ read. IfSome read (λ bytes. length bytes.items ≤ max)) }
 {

@@ -1,4 +1,6 @@
 //! Each adapter once over the real thing.
+use crate::files::read_all;
+use crate::room::Room;
 use crate::{Peer, RealFiles, RealSpawner, connect};
 use std::fs;
 use std::os::unix::net::{UnixListener, UnixStream};
@@ -25,6 +27,18 @@ fn a_file_is_read_up_to_its_bound(rt: HostRuntime) -> Result<(), Fail> {
             Err(FileFault::Failed)
         )
     );
+    Ok(())
+}
+
+#[test]
+fn the_room_grows_for_a_file_that_tells_of_no_size(rt: HostRuntime) -> Result<(), Fail> {
+    let alloc = rt.alloc();
+    let mut pipe = b"more bytes".as_slice();
+    let read = read_all(&mut pipe, Room::zeros(alloc, 1)?, 10)?;
+    assert!(rt; matches!(read, Some(bytes) if bytes.as_slice() == b"more bytes".as_slice()));
+    let mut pipe = b"more bytes".as_slice();
+    let read = read_all(&mut pipe, Room::zeros(alloc, 1)?, 9)?;
+    assert!(rt; read.is_none());
     Ok(())
 }
 
