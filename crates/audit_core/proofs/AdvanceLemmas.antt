@@ -3,7 +3,7 @@ use Rattle.std.proofs.Common.{◌≡◌, ℕ, ◌+◌, List, [], ◌∷◌, ◌+
 use Rattle.std.proofs.lemmas.List.{append-nil}
 use Rattle.agent_core.specs.declared.event.CoreMemory.{CoreMemory}
 use Rattle.schedule_text.specs.declared.fault.LineFault.{LineFault}
-use Rattle.audit_core.specs.Passes.{Ends, GoesOn}
+use Rattle.audit_core.specs.Passes.{EndsPrinting, NotesOn, PrintsOn}
 use Rattle.audit_core.specs.Puts.{puts_from, puts_of}
 use Rattle.audit_core.specs.declared.put.Put.{Put}
 use Rattle.replay_run.specs.Brought.{events_by, last_events, whole_events}
@@ -50,9 +50,12 @@ puts-last run part none = ap (puts_from run) (parts_of-part part none)
 
 -- ---- a line
 
-module _ (run : Run) (left : List ℕ) (place : ℕ) (at : IsLineEnd left place) (new : Run) (text : List ℕ) (puts : List Put)
-    (run_is : new ≡ (turned (take place left) (place + 1) run).run) (text_is : text ≡ (turned (take place left) (place + 1) run).output)
-    (puts_are : puts ≡ puts_of run (events_by run.refused (take place left) (place + 1) run)) where
+none_of : (found : Option LineFault) → is_some found ≡ false → found ≡ None
+none_of None is = refl
+none_of (Some fault) is = absurd (cc)
+
+module _ (run : Run) (left : List ℕ) (place : ℕ) (at : IsLineEnd left place) (new : Run)
+    (run_is : new ≡ (turned (take place left) (place + 1) run).run) where
   abbrev line : List ℕ
   line = take place left
 
@@ -62,21 +65,10 @@ module _ (run : Run) (left : List ℕ) (place : ℕ) (at : IsLineEnd left place)
   size : length line + 1 ≡ place + 1
   size = omega (arith, at.within, length-take place left)
 
-  printed_is : printed true run (parts_of left) ≡ text ++ printed true new (parts_of rest)
-  printed_is =
-      ap (λ l. printed true run (parts_of l)) (sym at.split)
-      ∙ printed-line true run line rest at.front
-      ∙ ap (λ n. (turned line n run).output ++ printed true (turned line n run).run (parts_of rest)) size
-      ∙ ap (λ t. t ++ printed true (turned line (place + 1) run).run (parts_of rest)) (sym text_is)
-      ∙ ap (λ r. text ++ printed true r (parts_of rest)) (sym run_is)
-
-  put_is : puts_from run (parts_of left) ≡ puts ++ puts_from new (parts_of rest)
-  put_is =
-      ap (λ l. puts_from run (parts_of l)) (sym at.split)
-      ∙ puts-line run line rest at.front
-      ∙ ap (λ n. puts_of run (events_by run.refused line n run) ++ puts_from (turned line n run).run (parts_of rest)) size
-      ∙ ap (λ p. p ++ puts_from (turned line (place + 1) run).run (parts_of rest)) (sym puts_are)
-      ∙ ap (λ r. puts ++ puts_from r (parts_of rest)) (sym run_is)
+  counted_next : IsCounted run → new.refused ≡ None → IsCounted new
+  counted_next counted accepted =
+      subst IsCounted (sym run_is)
+      (turned-next line (place + 1) run (omega arith) counted (sym (ap (λ (r : Run). r.refused) run_is) ∙ accepted)).counted
 
   ran_is : ran true run (parts_of left) ≡ ran true new (parts_of rest)
   ran_is =
@@ -85,64 +77,78 @@ module _ (run : Run) (left : List ℕ) (place : ℕ) (at : IsLineEnd left place)
       ∙ ap (λ n. ran true (turned line n run).run (parts_of rest)) size
       ∙ ap (λ r. ran true r (parts_of rest)) (sym run_is)
 
-  -- one that isn't refused
-  pub goes_on_line : IsCounted run → new.refused ≡ None → GoesOn run left new (place + 1) text puts
-  goes_on_line counted accepted = record {
-    some = omega arith;
-    within = omega (arith, at.within);
-    text_is = printed_is;
-    puts_are = put_is;
-    run_is = ran_is;
-    counted = subst IsCounted (sym run_is) (turned-next line (place + 1) run (omega arith) counted (sym (ap (λ (r : Run). r.refused) run_is) ∙ accepted)).counted;
-  }
+  -- what it prints, where nothing was printed before
+  module _ (before text : List ℕ) (empty : before ≡ []) (appended : text ≡ before ++ (turned line (place + 1) run).output) where
+    text_is : text ≡ (turned line (place + 1) run).output
+    text_is = appended ∙ ap (λ b. b ++ (turned line (place + 1) run).output) empty
 
-  -- one that is refused
-  pub ends_line : (fault : LineFault) → new.refused ≡ Some fault → Ends run left new text puts
-  ends_line fault refused = record {
-    text_is = printed_is ∙ ap (λ t. text ++ t) (printed-refused true new fault (parts_of rest) refused) ∙ append-nil text;
-    puts_are = put_is ∙ ap (λ p. puts ++ p) (puts-refused new fault (parts_of rest) refused) ∙ append-nil puts;
-    run_is = ran_is ∙ ran-refused true new fault (parts_of rest) refused;
-  }
+    printed_is : printed true run (parts_of left) ≡ text ++ printed true new (parts_of rest)
+    printed_is =
+        ap (λ l. printed true run (parts_of l)) (sym at.split)
+        ∙ printed-line true run line rest at.front
+        ∙ ap (λ n. (turned line n run).output ++ printed true (turned line n run).run (parts_of rest)) size
+        ∙ ap (λ t. t ++ printed true (turned line (place + 1) run).run (parts_of rest)) (sym text_is)
+        ∙ ap (λ r. text ++ printed true r (parts_of rest)) (sym run_is)
 
-none_of : (found : Option LineFault) → is_some found ≡ false → found ≡ None
-none_of None is = refl
-none_of (Some fault) is = absurd (cc)
+    -- one that isn't refused
+    pub line_prints : IsCounted run → is_some new.refused ≡ false → PrintsOn run left new (place + 1) text
+    line_prints counted none = record {
+      some = omega arith;
+      within = omega (arith, at.within);
+      text_is = printed_is;
+      run_is = ran_is;
+      counted = counted_next counted (none_of new.refused none);
+    }
 
--- the same of a log that was empty
-module _ (run : Run) (left : List ℕ) (place : ℕ) (at : IsLineEnd left place) (new : Run) (before text : List ℕ) (first puts : List Put)
-    (empty : before ≡ []) (nothing : first ≡ []) (run_is : new ≡ (turned (take place left) (place + 1) run).run)
-    (text_is : text ≡ before ++ (turned (take place left) (place + 1) run).output)
-    (puts_are : puts ≡ first ++ puts_of run (events_by run.refused (take place left) (place + 1) run)) where
-  text_only : text ≡ (turned (take place left) (place + 1) run).output
-  text_only = text_is ∙ ap (λ b. b ++ (turned (take place left) (place + 1) run).output) empty
+    -- one that is refused
+    pub line_ends : (found : Option LineFault) → new.refused ≡ found → is_some found ≡ true → EndsPrinting run left new text
+    line_ends None is some = absurd (cc)
+    line_ends (Some fault) is some = record {
+      text_is = printed_is ∙ ap (λ t. text ++ t) (printed-refused true new fault (parts_of rest) is) ∙ append-nil text;
+      run_is = ran_is ∙ ran-refused true new fault (parts_of rest) is;
+    }
 
-  puts_only : puts ≡ puts_of run (events_by run.refused (take place left) (place + 1) run)
-  puts_only = puts_are ∙ ap (λ f. f ++ puts_of run (events_by run.refused (take place left) (place + 1) run)) nothing
+  -- what it puts, where nothing was put before
+  module _ (before puts : List Put) (nothing : before ≡ []) (noted : puts ≡ before ++ puts_of run (events_by run.refused line (place + 1) run)) where
+    puts_are : puts ≡ puts_of run (events_by run.refused line (place + 1) run)
+    puts_are = noted ∙ ap (λ b. b ++ puts_of run (events_by run.refused line (place + 1) run)) nothing
 
-  pub line_goes_on : IsCounted run → is_some new.refused ≡ false → GoesOn run left new (place + 1) text puts
-  line_goes_on counted none =
-      goes_on_line run left place at new text puts run_is text_only puts_only counted (none_of new.refused none)
+    put_is : puts_from run (parts_of left) ≡ puts ++ puts_from new (parts_of rest)
+    put_is =
+        ap (λ l. puts_from run (parts_of l)) (sym at.split)
+        ∙ puts-line run line rest at.front
+        ∙ ap (λ n. puts_of run (events_by run.refused line n run) ++ puts_from (turned line n run).run (parts_of rest)) size
+        ∙ ap (λ p. p ++ puts_from (turned line (place + 1) run).run (parts_of rest)) (sym puts_are)
+        ∙ ap (λ r. puts ++ puts_from r (parts_of rest)) (sym run_is)
 
-  pub line_ends : (found : Option LineFault) → new.refused ≡ found → is_some found ≡ true → Ends run left new text puts
-  line_ends None is some = absurd (cc)
-  line_ends (Some fault) is some = ends_line run left place at new text puts run_is text_only puts_only fault is
+    -- one that isn't refused
+    pub line_puts : IsCounted run → is_some new.refused ≡ false → NotesOn run left new (place + 1) puts
+    line_puts counted none = record {
+      some = omega arith;
+      within = omega (arith, at.within);
+      puts_are = put_is;
+      counted = counted_next counted (none_of new.refused none);
+    }
+
+    -- one that is refused
+    pub line_put : (found : Option LineFault) → new.refused ≡ found → is_some found ≡ true → puts_from run (parts_of left) ≡ puts
+    line_put None is some = absurd (cc)
+    line_put (Some fault) is some = put_is ∙ ap (λ p. puts ++ p) (puts-refused new fault (parts_of rest) is) ∙ append-nil puts
 
 -- ---- what stands behind the last LF
 
-pub ends_last : (run : Run) (part : List ℕ) (new : Run) (text : List ℕ) (puts : List Put) → HasNoLf part → new ≡ (last_turned part run).run → text ≡ (last_turned part run).output ++ ending true new.refused → puts ≡ puts_of run (last_events part run) → Ends run part new text puts
-ends_last run part new text puts none run_is text_is puts_are = record {
+-- what it prints, where nothing was printed before
+pub last_prints : (run : Run) (part : List ℕ) (new : Run) (before mid text : List ℕ) (result : Result (Unit {0}) CoreMemory) → HasNoLf part → before ≡ [] → new ≡ (last_turned part run).run → mid ≡ before ++ (last_turned part run).output → OnOk result (text ≡ mid ++ ending true new.refused) → OnOk result (EndsPrinting run part new text)
+last_prints run part new before mid text (Ok done) none empty run_is mid_is ended = record {
   text_is =
       printed-last run part none
       ∙ ap (λ r. (last_turned part run).output ++ ending true r.refused) (sym run_is)
-      ∙ sym text_is;
-  puts_are = puts-last run part none ∙ sym puts_are;
+      ∙ sym (ended ∙ ap (λ t. t ++ ending true new.refused) (mid_is ∙ ap (λ b. b ++ (last_turned part run).output) empty));
   run_is = ran-last run part none ∙ sym run_is;
 }
+last_prints run part new before mid text (Err memory) none empty run_is mid_is ended = tt
 
--- the same of a log that was empty
-pub last_ends : (run : Run) (part : List ℕ) (new : Run) (before mid text : List ℕ) (first some puts : List Put) (result : Result (Unit {0}) CoreMemory) → HasNoLf part → before ≡ [] → first ≡ [] → new ≡ (last_turned part run).run → mid ≡ before ++ (last_turned part run).output → some ≡ first ++ puts_of run (last_events part run) → OnOk result (text ≡ mid ++ ending true new.refused) → OnOk result (puts ≡ some) → OnOk result (Ends run part new text puts)
-last_ends run part new before mid text first some puts (Ok done) none empty nothing run_is mid_is some_is text_is puts_are =
-    ends_last run part new text puts none run_is
-    (text_is ∙ ap (λ t. t ++ ending true new.refused) (mid_is ∙ ap (λ b. b ++ (last_turned part run).output) empty))
-    (puts_are ∙ some_is ∙ ap (λ f. f ++ puts_of run (last_events part run)) nothing)
-last_ends run part new before mid text first some puts (Err memory) none empty nothing run_is mid_is some_is text_is puts_are = tt
+-- what it puts, where nothing was put before
+pub last_puts : (run : Run) (part : List ℕ) (before puts : List Put) → HasNoLf part → before ≡ [] → puts ≡ before ++ puts_of run (last_events part run) → puts_from run (parts_of part) ≡ puts
+last_puts run part before puts none nothing noted =
+    puts-last run part none ∙ sym (noted ∙ ap (λ b. b ++ puts_of run (last_events part run)) nothing)

@@ -1,8 +1,8 @@
 -- A record that is compared line by line.
-use Rattle.std.proofs.Common.{◌≡◌, ℕ, List, [], ◌++◌, drop, refl, ap, sym, subst, ◌∙◌, arith, Option, None, Some, true, false}
+use Rattle.std.proofs.Common.{◌≡◌, ℕ, List, [], ◌++◌, refl, ap, sym, subst, ◌∙◌, arith, Option, None, Some, true, false}
 use Rattle.std.proofs.lemmas.List.{append-nil}
 use Rattle.schedule_text.specs.declared.fault.LineFault.{LineFault}
-use Rattle.audit_core.specs.Passes.{Ends, GoesOn, Turns, difference, finding_by, finding_of, mismatch}
+use Rattle.audit_core.specs.Passes.{EndsPrinting, Prints, difference, finding_by, finding_of, mismatch}
 use Rattle.audit_core.specs.Reports.{first_difference, verdict_by, verdict_of}
 use Rattle.audit_core.specs.Puts.{puts}
 use Rattle.audit_core.proofs.MismatchLemmas.{first_by_bytes}
@@ -16,16 +16,9 @@ use Rattle.replay_run.specs.Replay.{Run, output_of, parts_of, printed, ran, run_
 pub counted_start : (life : Option ℕ) → IsCounted (start_run life)
 counted_start life = record { accepted = refl; ports = omega arith; lines = omega arith; within = omega arith }
 
--- a line was compared
-pub same_on : (old new : Matching) (run after : Run) (left : List ℕ) (size : ℕ) (text deeds : List ℕ) (puts : List Put) (all : Option ℕ) → GoesOn run left after size text puts → ((more : List ℕ) → difference new more deeds ≡ difference old (text ++ more) deeds) → difference old (printed true run (parts_of left)) deeds ≡ all → difference new (printed true after (parts_of (drop size left))) deeds ≡ all
-same_on old new run after left size text deeds puts all goes same before =
-    same (printed true after (parts_of (drop size left)))
-    ∙ ap (λ t. difference old t deeds) (sym goes.text_is)
-    ∙ before
-
--- and the last one
-pub same_end : (old new : Matching) (run after : Run) (left text deeds : List ℕ) (puts : List Put) (all : Option ℕ) → Ends run left after text puts → ((more : List ℕ) → difference new more deeds ≡ difference old (text ++ more) deeds) → difference old (printed true run (parts_of left)) deeds ≡ all → difference new [] deeds ≡ all
-same_end old new run after left text deeds puts all ends same before =
+-- the last line was compared
+pub same_end : (old new : Matching) (run after : Run) (left text deeds : List ℕ) (all : Option ℕ) → EndsPrinting run left after text → ((more : List ℕ) → difference new more deeds ≡ difference old (text ++ more) deeds) → difference old (printed true run (parts_of left)) deeds ≡ all → difference new [] deeds ≡ all
+same_end old new run after left text deeds all ends same before =
     same []
     ∙ ap (λ t. difference old t deeds) (append-nil text ∙ sym ends.text_is)
     ∙ before
@@ -51,9 +44,9 @@ same_start life text deeds run matching run_is is =
     ∙ first_by_bytes (output_of life text) deeds
 
 -- behind the last line
-pub found_last : (life : Option ℕ) (all text deeds left : List ℕ) (puts : List Put) (old new : Matching) (run after : Run) (turn : Option ℕ) (found : Option ℕ) (result : Finding) → turn ≡ None → Turns turn run left after text puts → ((more : List ℕ) → difference new more deeds ≡ difference old (text ++ more) deeds) → difference old (printed true run (parts_of left)) deeds ≡ first_difference (output_of life all) deeds → ran true run (parts_of left) ≡ run_of life all → found ≡ difference new [] deeds → result ≡ finding_by after.refused found after.line → result ≡ finding_of (verdict_of life all deeds)
-found_last life all text deeds left puts old new run after turn found result none turns same before run_is found_by is =
-    let ends : Ends run left after text puts = subst (λ t. Turns t run left after text puts) none turns in
+pub found_last : (life : Option ℕ) (all text deeds left : List ℕ) (old new : Matching) (run after : Run) (turn : Option ℕ) (found : Option ℕ) (result : Finding) → turn ≡ None → Prints turn run left after text → ((more : List ℕ) → difference new more deeds ≡ difference old (text ++ more) deeds) → difference old (printed true run (parts_of left)) deeds ≡ first_difference (output_of life all) deeds → ran true run (parts_of left) ≡ run_of life all → found ≡ difference new [] deeds → result ≡ finding_by after.refused found after.line → result ≡ finding_of (verdict_of life all deeds)
+found_last life all text deeds left old new run after turn found result none turns same before run_is found_by is =
+    let ends : EndsPrinting run left after text = subst (λ t. Prints t run left after text) none turns in
     found_is life all deeds after found result is
-    (found_by ∙ same_end old new run after left text deeds puts (first_difference (output_of life all) deeds) ends same before)
+    (found_by ∙ same_end old new run after left text deeds (first_difference (output_of life all) deeds) ends same before)
     (sym ends.run_is ∙ run_is)

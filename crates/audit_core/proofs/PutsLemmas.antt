@@ -41,16 +41,14 @@ events-too_long line size run accepted late =
     ∙ ap (λ late. line_events (if late then Err TooLong else step_of line) run) (lt-true longest_schedule (run.read + size) late)
 
 -- where nothing happens, nothing is put
-nothing : (run : Run) (events : List Timed) (before after : List Put) → events ≡ [] → after ≡ before → after ≡ before ++ puts_of run events
-nothing run events before after none same = same ∙ sym (append-nil before) ∙ ap (λ e. before ++ puts_of run e) (sym none)
+nothing : (run : Run) (events : List Timed) (before : List Put) → events ≡ [] → before ≡ before ++ puts_of run events
+nothing run events before none = sym (append-nil before) ∙ ap (λ e. before ++ puts_of run e) (sym none)
 
 -- nor by a line that is refused
-pub puts-too_long : (line : List ℕ) (size : ℕ) (run : Run) (result : Result (Unit {0}) CoreMemory) (before after : List Put) → run.refused ≡ None → longest_schedule < run.read + size → OnOk result (after ≡ before) → OnOk result (after ≡ before ++ puts_of run (events_by run.refused line size run))
-puts-too_long line size run (Ok done) before after accepted late same =
-    nothing run _ before after (events-too_long line size run accepted late) same
-puts-too_long line size run (Err memory) before after accepted late same = tt
+pub puts-too_long : (line : List ℕ) (size : ℕ) (run : Run) (before : List Put) → run.refused ≡ None → longest_schedule < run.read + size → before ≡ before ++ puts_of run (events_by run.refused line size run)
+puts-too_long line size run before accepted late = nothing run _ before (events-too_long line size run accepted late)
 
-pub puts-fault : (line : List ℕ) (size : ℕ) (run : Run) (fault : LineFault) (result : Result (Unit {0}) CoreMemory) (before after : List Put) → run.refused ≡ None → run.read + size ≤ longest_schedule → IsFaultOf (step_of line) fault → OnOk result (fault ≢ Memory) → OnOk result (after ≡ before) → OnOk result (after ≡ before ++ puts_of run (events_by run.refused line size run))
-puts-fault line size run fault (Ok done) before after accepted within exact other same =
-    nothing run _ before after (events-fault line size run fault accepted within (fault_is line fault exact other)) same
-puts-fault line size run fault (Err memory) before after accepted within exact other same = tt
+pub puts-fault : (line : List ℕ) (size : ℕ) (run : Run) (fault : LineFault) (result : Result (Unit {0}) CoreMemory) (before : List Put) → run.refused ≡ None → run.read + size ≤ longest_schedule → IsFaultOf (step_of line) fault → OnOk result (fault ≢ Memory) → OnOk result (before ≡ before ++ puts_of run (events_by run.refused line size run))
+puts-fault line size run fault (Ok done) before accepted within exact other =
+    nothing run _ before (events-fault line size run fault accepted within (fault_is line fault exact other))
+puts-fault line size run fault (Err memory) before accepted within exact other = tt

@@ -1,5 +1,5 @@
 -- Lemmas on what the end of an audit says.
-use Rattle.std.proofs.Common.{◌≡◌, ◌==◌, ℕ, suc, List, [], ◌∷◌, ◌++◌, length, refl, ap, sym, subst, ◌∙◌, arith, Option, Some, None, Bool, true, false, cond, Result, Ok, Err, inr}
+use Rattle.std.proofs.Common.{◌≡◌, ◌==◌, ℕ, suc, List, [], ◌∷◌, refl, ap, sym, subst, ◌∙◌, arith, Option, Some, None, Bool, true, false, cond, Result, Ok, Err, inr}
 use Rattle.std.proofs.lemmas.Bool.Decides.{nat_tests}
 use Rattle.std.proofs.lemmas.Option.{same_Some}
 use Rattle.world_ports.specs.Streams.{StreamView}
@@ -15,11 +15,11 @@ use Rattle.audit_core.specs.declared.status.AuditStatus.TheVariants as status
 use Rattle.audit_core.specs.declared.writing.Stop.{Stop}
 use Rattle.audit_core.specs.declared.writing.Stop.TheVariants as stops
 use Rattle.audit_core.specs.Passes.{finding_of, mismatch}
-use Rattle.audit_core.specs.Program.{Audits, EndsAudit, HasAudited, IsAgreed, IsFound, IsLawfulRecord, IsTextOf, status_by, status_of}
+use Rattle.audit_core.specs.Program.{Audits, EndsAudit, IsLawfulRecord, IsTextOf, status_by, status_of}
 use Rattle.audit_core.specs.Puts.{puts}
 use Rattle.audit_core.specs.Reports.{Agrees, Differs, IsBad, Verdict, first_difference, report, verdict_by, verdict_of}
 use Rattle.audit_core.specs.Words.{Asked}
-use Rattle.audit_core.specs.Writing.{Stops, Writes, report_by, yes_report}
+use Rattle.audit_core.specs.Writing.{Stops, Writes, report_by}
 use Rattle.audit_core.proofs.HistoryLemmas.{all_signed}
 use Rattle.audit_core.proofs.MismatchLemmas.{first_by_bytes}
 

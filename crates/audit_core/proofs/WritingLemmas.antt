@@ -1,21 +1,21 @@
 -- Lemmas on a report that is written in parts, and on what its end says.
-use Rattle.std.proofs.Common.{◌≡◌, ◌+◌, ℕ, List, [], ◌++◌, length, drop, codes, refl, ap, sym, subst, ◌∙◌, arith, append_assoc, length-append, Result, Ok, Err}
-use Rattle.std.proofs.lemmas.List.{append-nil}
+use Rattle.std.proofs.Common.{◌≡◌, ℕ, List, [], ◌++◌, length, drop, codes, refl, ap, sym, subst, ◌∙◌, arith, append_assoc, length-append, Result, Ok, Err}
 use Rattle.std.proofs.lemmas.Grind.{flat_map-append}
 use Rattle.std.proofs.KnownBytes.{Appends-nil, Appends-trans}
 use Rattle.std.specs.List.{flat_map}
+use Rattle.std.specs.Result.{IsErrAnd}
 use Rattle.world_ports.specs.Causes.{Rose}
 use Rattle.world_ports.specs.Streams.{StreamView, WritesPart}
 use Rattle.replay_run.specs.Feeding.{Wrote}
 use Rattle.replay_run.specs.Replay.{Run, parts_of}
-use Rattle.replay_run.proofs.FeedsLemmas.{Wrote-nil, Wrote-then}
+use Rattle.replay_run.proofs.FeedsLemmas.{Wrote-then}
 use Rattle.audit_core.specs.declared.put.Put.{Put}
 use Rattle.audit_core.specs.declared.writing.Stop.{Stop}
 use Rattle.audit_core.specs.declared.writing.Stop.TheVariants as stops
-use Rattle.audit_core.specs.Passes.{Ends, GoesOn}
+use Rattle.audit_core.specs.Passes.{NotesOn}
 use Rattle.audit_core.specs.Puts.{puts_from}
 use Rattle.audit_core.specs.Reports.{number_line, put_line}
-use Rattle.audit_core.specs.Writing.{IsListing, Lists, ListsAll, Stops, StopsAtWrite, Writes, yes_report}
+use Rattle.audit_core.specs.Writing.{IsListing, Lists, ListsAll, Stops, Writes, yes_report}
 
 -- ---- a front of a text
 
@@ -65,10 +65,6 @@ memory_behind text more before after wrote = part_behind text more before after 
 
 -- ---- requests
 
--- before the first line
-pub listing_start : (all : List Put) (seen : StreamView) → IsListing all all 0 seen seen
-listing_start all seen = record { done = []; whole = refl; listed = record { count_is = refl; wrote = Wrote-nil seen } }
-
 -- the lines of one more part of them
 lines_two : (puts more : List Put) → flat_map put_line (puts ++ more) ≡ flat_map put_line puts ++ flat_map put_line more
 lines_two puts more = flat_map-append put_line puts more
@@ -97,11 +93,33 @@ listing_memory all from count before mid listing =
     subst (λ (t : List ℕ). WritesPart t before mid) (lines_all all from count before mid listing)
     (memory_behind (flat_map put_line listing.done) (flat_map put_line from) before mid listing.listed.wrote)
 
+-- the last of them were
+pub listing_last : (result : Result ℕ Stop) (all from logged : List Put) (count : ℕ) (before mid after : StreamView) → from ≡ logged → IsListing all from count before mid → Lists result count logged mid after → Lists result 0 all before after
+listing_last (Ok next) all from logged count before mid after is listing more =
+    subst (λ (l : List Put). ListsAll 0 next l before after) (ap (λ (l : List Put). listing.done ++ l) (sym is) ∙ listing.whole)
+    (lists_then listing.done logged count next before mid after listing.listed more)
+listing_last (Err stop) all from logged count before mid after is listing stopped =
+    subst (λ (t : List ℕ). Stops stop t before after)
+    (ap (λ (l : List Put). flat_map put_line listing.done ++ flat_map put_line l) (sym is) ∙ lines_all all from count before mid listing)
+    (stops_behind stop (flat_map put_line listing.done) (flat_map put_line logged) before mid after listing.listed.wrote stopped)
+
+-- some of them weren't
+pub listing_stops : (result : Result ℕ Stop) (stop : Stop) (all from logged later : List Put) (count : ℕ) (before mid after : StreamView) → IsErrAnd result (λ own. own ≡ stop) → from ≡ logged ++ later → IsListing all from count before mid → Stops stop (flat_map put_line logged) mid after → Lists result 0 all before after
+listing_stops (Ok next) stop all from logged later count before mid after own_is is listing stopped = absurd own_is
+listing_stops (Err own) stop all from logged later count before mid after own_is is listing stopped =
+    subst (λ (t : List ℕ). Stops own t before after)
+    (ap (λ (t : List ℕ). flat_map put_line listing.done ++ t) (sym (lines_two logged later))
+    ∙ ap (λ (l : List Put). flat_map put_line listing.done ++ flat_map put_line l) (sym is)
+    ∙ lines_all all from count before mid listing)
+    (stops_behind own (flat_map put_line listing.done) (flat_map put_line logged ++ flat_map put_line later) before mid after listing.listed.wrote
+    (stops_before own (flat_map put_line logged) (flat_map put_line later) mid after
+    (subst (λ (s : Stop). Stops s (flat_map put_line logged) mid after) (sym own_is) stopped)))
+
 -- ---- the record
 
 -- a line of the record was run, and what it put was listed
-pub listing_goes : (all logged puts : List Put) (run after : Run) (left rest text : List ℕ) (size count next : ℕ) (before mid now : StreamView) → GoesOn run left after size text puts → rest ≡ drop size left → logged ≡ puts → IsListing all (puts_from run (parts_of left)) count before mid → ListsAll count next logged mid now → IsListing all (puts_from after (parts_of rest)) next before now
-listing_goes all logged puts run after left rest text size count next before mid now goes is same listing more =
+pub listing_goes : (all logged puts : List Put) (run after : Run) (left rest : List ℕ) (size count next : ℕ) (before mid now : StreamView) → NotesOn run left after size puts → rest ≡ drop size left → logged ≡ puts → IsListing all (puts_from run (parts_of left)) count before mid → ListsAll count next logged mid now → IsListing all (puts_from after (parts_of rest)) next before now
+listing_goes all logged puts run after left rest size count next before mid now goes is same listing more =
     subst (λ (r : List ℕ). IsListing all (puts_from after (parts_of r)) next before now) (sym is)
     (listing_next all (puts_from run (parts_of left)) (puts_from after (parts_of (drop size left))) puts count next before mid now goes.puts_are listing
     (subst (λ (l : List Put). ListsAll count next l mid now) same more))

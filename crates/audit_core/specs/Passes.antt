@@ -12,25 +12,35 @@ use Rattle.replay_run.specs.Replay.{Run, parts_of, printed, ran}
 
 -- ---- a record, line by line
 
--- a line of so many bytes was run, which printed this and put this, and the rest goes on from there
-pub record GoesOn (run : Run) (left : List ℕ) (new : Run) (size : ℕ) (text : List ℕ) (puts : List Put) : Type 0 where
+-- a line of so many bytes was run, which printed this, and the rest goes on from there
+pub record PrintsOn (run : Run) (left : List ℕ) (new : Run) (size : ℕ) (text : List ℕ) : Type 0 where
   pub some : 0 < size
   pub within : size ≤ length left
   pub text_is : printed true run (parts_of left) ≡ text ++ printed true new (parts_of (drop size left))
-  pub puts_are : puts_from run (parts_of left) ≡ puts ++ puts_from new (parts_of (drop size left))
   pub run_is : ran true run (parts_of left) ≡ ran true new (parts_of (drop size left))
   pub counted : IsCounted new
 
 -- the last line was run, or one that is refused, which is the end
-pub record Ends (run : Run) (left : List ℕ) (new : Run) (text : List ℕ) (puts : List Put) : Type 0 where
+pub record EndsPrinting (run : Run) (left : List ℕ) (new : Run) (text : List ℕ) : Type 0 where
   pub text_is : printed true run (parts_of left) ≡ text
-  pub puts_are : puts_from run (parts_of left) ≡ puts
   pub run_is : ran true run (parts_of left) ≡ new
 
 -- by whether the rest goes on
-abbrev pub Turns : Option ℕ → Run → List ℕ → Run → List ℕ → List Put → Type 0
-Turns None run left new text puts = Ends run left new text puts
-Turns (Some size) run left new text puts = GoesOn run left new size text puts
+abbrev pub Prints : Option ℕ → Run → List ℕ → Run → List ℕ → Type 0
+Prints None run left new text = EndsPrinting run left new text
+Prints (Some size) run left new text = PrintsOn run left new size text
+
+-- a line of so many bytes was run, which put these requests, and the rest goes on from there
+pub record NotesOn (run : Run) (left : List ℕ) (new : Run) (size : ℕ) (puts : List Put) : Type 0 where
+  pub some : 0 < size
+  pub within : size ≤ length left
+  pub puts_are : puts_from run (parts_of left) ≡ puts ++ puts_from new (parts_of (drop size left))
+  pub counted : IsCounted new
+
+-- by whether the rest goes on
+abbrev pub Notes : Option ℕ → Run → List ℕ → Run → List Put → Type 0
+Notes None run left new puts = puts_from run (parts_of left) ≡ puts
+Notes (Some size) run left new puts = NotesOn run left new size puts
 
 -- ---- texts
 

@@ -1,5 +1,5 @@
 // What an event may put, as the agent's public calls tell it beforehand.
-ghost use Rattle.std.specs.Prelude.{◌≡◌, ◌++◌, IfOk, IsSome, OnOk, false};
+ghost use Rattle.std.specs.Prelude.{◌≡◌, ◌++◌, ℕ, List, IfOk, IsSome, OnOk, false};
 ghost use Rattle.std.specs.Option.{option_copied};
 ghost use Rattle.wire_text.specs.Bounds.{longest_body};
 ghost use Rattle.wire_text.specs.Frames.{Whole, front, front_body};
@@ -8,6 +8,7 @@ ghost use Rattle.confirm_desk.specs.Sound as desk;
 ghost use Rattle.identity_table.specs.Identities.{IsSound};
 ghost use Rattle.agent_core.specs.Happenings.{happening};
 ghost use Rattle.agent_core.specs.Owing.{is_client_at};
+ghost use Rattle.agent_core.specs.Slots.{heard_in};
 ghost use Rattle.agent_model.specs.Sound.{IsSteady};
 ghost use Rattle.agent_model.specs.State.{Fits, find_port};
 ghost use Rattle.audit_core.specs.Claims.{Foresees, awaited_claim, blob_in, child_claim, claim_for, client_claim, job_at};
@@ -134,7 +135,29 @@ fn child_claim(
     }
 }
 
-// What a piece that comes at a port may put.
+// What a piece that comes at a port may put, which these are the bytes of behind what is unread there.
+fn claim_in(
+    alloc: Global,
+    agent: &Agent,
+    port: u64,
+    bytes: &[u8],
+) -> Result<Option<Claim>, CoreMemory>
+    requires { IsSome (find_port port agent.now.state.ports) }
+    ensures claim { (piece : List ℕ) → bytes.now ≡ heard_in (find_port port agent.now.state.ports) ++ piece
+        → IfOk result (λ claim. claim ≡ claim_for (find_port port agent.now.state.ports) piece agent.now.state) }
+    ensures steady { OnOk result (IsSteady agent.now.state) }
+    ensures desk { OnOk result (desk.IsSound agent.now.state.under_way.confirmations) }
+    ensures sound { IfOk result (λ claim. (is_client_at (find_port port agent.now.state.ports) ≡ false) → IsSome claim
+        → IsSound agent.now.state.held.table.identities agent.now.state.held.table.last) }
+{
+    let awaited = agent.awaited_at(port);
+    if agent.is_client(port) {
+        return client_claim(alloc, port, bytes);
+    }
+    child_claim(alloc, agent, awaited, bytes)
+}
+
+// What a piece that comes at a port may put. It is copied only where it comes behind bytes that are unread there.
 fn claim_at(
     alloc: Global,
     agent: &Agent,
@@ -149,12 +172,15 @@ fn claim_at(
     ensures sound { IfOk result (λ claim. (is_client_at (find_port port agent.now.state.ports) ≡ false) → IsSome claim
         → IsSound agent.now.state.held.table.identities agent.now.state.held.table.last) }
 {
-    let bytes = joined(alloc, agent.unread(port), piece)?;
-    let awaited = agent.awaited_at(port);
-    if agent.is_client(port) {
-        return client_claim(alloc, port, &bytes);
+    let unread = agent.unread(port);
+    if unread.is_empty() {
+        return claim_in(alloc, agent, port, piece);
     }
-    child_claim(alloc, agent, awaited, &bytes)
+    if piece.is_empty() {
+        return claim_in(alloc, agent, port, unread);
+    }
+    let bytes = joined(alloc, unread, piece)?;
+    claim_in(alloc, agent, port, &bytes)
 }
 
 /// What the event may put, which counts where the number of asks rises.

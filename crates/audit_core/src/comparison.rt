@@ -3,10 +3,9 @@ ghost use Rattle.std.specs.Prelude.{◌≡◌, ◌≤◌, ◌<◌, ◌+◌, ◌-
 ghost use Rattle.audit_core.specs.Passes.{difference, finding_by, finding_of};
 ghost use Rattle.audit_core.specs.Reports.{verdict_of};
 
-use crate::event::Log;
-use crate::lines::run_next;
-use crate::rerun::Rerun;
+use crate::lines::print_next;
 use agent_core::CoreMemory;
+use replay_run::Replay;
 use std::alloc::Global;
 
 /// What a record and deeds were found to be.
@@ -100,7 +99,7 @@ fn take_all(matching: Matching, bytes: &[u8], deeds: &[u8]) -> Matching
 }
 
 // What was found, at the end of a run.
-fn found(run: &Rerun, difference: Option<u64>) -> Finding
+fn found(run: &Replay, difference: Option<u64>) -> Finding
     ensures { result ≡ finding_by run.now.refused difference run.now.line }
 {
     match run.refused() {
@@ -121,15 +120,15 @@ pub fn compare(
 ) -> Result<Finding, CoreMemory>
     ensures { IfOk result (λ found. found ≡ finding_of (verdict_of life text.now deeds.now)) }
 {
-    let mut run = Rerun::new(alloc, life);
-    let mut log = Log::new(alloc);
+    let mut run = Replay::new(alloc, life);
+    let mut out = Vec::new(alloc);
     let mut matching = Matching::new();
     let mut rest = text;
-    'lines: while let Some(size) = run_next(&mut run, rest, &mut log)? {
-        matching = take_all(matching, &log.out, deeds);
-        log.clear();
+    'lines: while let Some(size) = print_next(&mut run, rest, &mut out)? {
+        matching = take_all(matching, &out, deeds);
+        out.clear();
         rest = &rest[size..];
     }
-    let matching = take_all(matching, &log.out, deeds);
+    let matching = take_all(matching, &out, deeds);
     Ok(found(&run, matching.end(deeds)))
 }

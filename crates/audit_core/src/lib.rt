@@ -7,10 +7,9 @@
 mod claim;
 mod comparison;
 mod event;
-mod held;
 mod laws;
-mod limits;
 mod lines;
+mod notes;
 mod put;
 mod report;
 mod rerun;
@@ -22,9 +21,9 @@ mod words;
 mod writing;
 
 pub use comparison::{Finding, compare};
-pub use event::Log;
 pub use laws::{all_that_is_put_is_listed, an_event_puts_what_was_foreseen};
-pub use lines::run_next;
+pub use lines::print_next;
+pub use notes::note_next;
 pub use put::Put;
 pub use report::{put_sign, put_total};
 pub use rerun::Rerun;

@@ -1,4 +1,4 @@
-// A record that is run again, a line at a time.
+// A record that is run again, a line at a time, for what it puts.
 ghost use Rattle.std.specs.Prelude.{◌≡◌, ◌≢◌, ◌+◌, ◌<◌, ◌≤◌, ◌++◌, ◌^◌, OnOk, []};
 ghost use Rattle.agent_core.specs.Happenings.{happening};
 ghost use Rattle.agent_model.specs.State.{Fits};
@@ -11,11 +11,11 @@ ghost use Rattle.audit_core.specs.Puts.{puts_of};
 
 mod steps;
 
-use crate::event::{Log, run_event, settle};
-use crate::held::Held;
-use crate::limits::LONGEST_SCHEDULE;
+use crate::Put;
+use crate::event::{run_event, settle};
 use agent_core::{Agent, CoreMemory, Event, Settings};
-use schedule_text::{Deed, LineFault, Step, put_deed, read_line};
+use replay_run::{Held, LONGEST_SCHEDULE};
+use schedule_text::{LineFault, Step, read_line};
 use std::alloc::Global;
 use std::marker::Model;
 use world_ports::Moment;
@@ -89,35 +89,37 @@ impl Rerun {
     }
 
     // Runs one line, which takes `size` bytes of the schedule, its LF among them.
-    pub(crate) fn turn(&mut self, line: &[u8], size: u64, log: &mut Log) -> Result<(), CoreMemory>
+    pub(crate) fn turn(
+        &mut self,
+        line: &[u8],
+        size: u64,
+        puts: &mut Vec<Put>,
+    ) -> Result<(), CoreMemory>
         requires counted { IsCounted self.old }
         requires some { 0 < size }
         requires fits { size + self.old.read < 2 ^ 64 }
         ensures run { OnOk result (self.new ≡ (turned line.now size self.old).run) }
-        ensures out { OnOk result
-            (log.new.out.items ≡ log.old.out.items ++ (turned line.now size self.old).output) }
-        ensures puts { OnOk result (log.new.puts.items ≡ log.old.puts.items
+        ensures puts { OnOk result (puts.new.items ≡ puts.old.items
             ++ puts_of self.old (events_by self.old.refused line.now size self.old)) }
     {
         if self.read + size > LONGEST_SCHEDULE {
-            return self.refuse(LineFault::TooLong, log);
+            self.refuse(LineFault::TooLong);
+            return Ok(());
         }
         match read_line(self.alloc, line) {
-            Ok(step) => self.take_step(&step, size, log),
-            Err(fault) => self.refuse_for(fault, log),
+            Ok(step) => self.take_step(&step, size, puts),
+            Err(fault) => self.refuse_for(fault),
         }
     }
 
     // Does what a line asks for.
-    fn take_step(&mut self, step: &Step, size: u64, log: &mut Log) -> Result<(), CoreMemory>
+    fn take_step(&mut self, step: &Step, size: u64, puts: &mut Vec<Put>) -> Result<(), CoreMemory>
         requires counted { IsCounted self.old }
         requires some { 0 < size }
         requires within { self.old.read + size ≤ longest_schedule }
         requires says { SaysSome step.now }
         ensures run { OnOk result (self.new ≡ (step_turned step.now size self.old).run) }
-        ensures out { OnOk result (log.new.out.items ≡ log.old.out.items
-            ++ (step_turned step.now size self.old).output) }
-        ensures puts { OnOk result (log.new.puts.items ≡ log.old.puts.items
+        ensures puts { OnOk result (puts.new.items ≡ puts.old.items
             ++ puts_of self.old (step_events step.now self.old)) }
     {
         match step {
@@ -125,53 +127,62 @@ impl Rerun {
                 self.skip(size);
                 Ok(())
             }
-            Step::Format2 => self.set_format(size, log),
-            Step::At(moment) => self.set_moment(*moment, size, log),
-            Step::Join(door) => self.happen(&Event::Joined(*door), size, log),
+            Step::Format2 => {
+                self.set_format(size);
+                Ok(())
+            }
+            Step::At(moment) => self.set_moment(*moment, size, puts),
+            Step::Join(door) => self.happen(&Event::Joined(*door), size, puts),
             Step::Hear { port, bytes } => {
                 let piece = bytes.as_slice();
-                self.happen_at(*port, &Event::Heard { port: *port, piece }, size, log)
+                self.happen_at(*port, &Event::Heard { port: *port, piece }, size, puts)
             }
-            Step::End(port) => self.happen_at(*port, &Event::Ended { port: *port }, size, log),
-            Step::Hold(port) => self.hold(*port, size, log),
-            Step::Free(port) => self.free(*port, size, log),
-            Step::Take { port, count } => self.take(*port, *count, size, log),
+            Step::End(port) => self.happen_at(*port, &Event::Ended { port: *port }, size, puts),
+            Step::Hold(port) => self.hold(*port, size, puts),
+            Step::Free(port) => self.free(*port, size, puts),
+            Step::Take { port, count } => self.take(*port, *count, size, puts),
             Step::Started { job, ticket } => {
                 let event = Event::Started {
                     job: *job,
                     ticket: *ticket,
                 };
-                self.happen_to(*job, &event, size, log)
+                self.happen_to(*job, &event, size, puts)
             }
-            Step::Failed(job) => self.happen_to(*job, &Event::StartFailed { job: *job }, size, log),
+            Step::Failed(job) => self.happen_to(
+                *job,
+                &Event::StartFailed { job: *job },
+                size,
+                puts,
+            ),
         }
     }
 
     // The event, and the settling after it.
-    fn happen(&mut self, event: &Event<'_>, size: u64, log: &mut Log) -> Result<(), CoreMemory>
+    fn happen(
+        &mut self,
+        event: &Event<'_>,
+        size: u64,
+        puts: &mut Vec<Put>,
+    ) -> Result<(), CoreMemory>
         requires counted { IsCounted self.old }
         requires some { 0 < size }
         requires within { self.old.read + size ≤ longest_schedule }
         requires fits { Fits (happening event.now) self.old.agent }
         ensures run { OnOk result (self.new ≡ (happened (happening event.now) size self.old).run) }
-        ensures out { OnOk result (log.new.out.items ≡ log.old.out.items
-            ++ (happened (happening event.now) size self.old).output) }
-        ensures puts { OnOk result (log.new.puts.items ≡ log.old.puts.items
+        ensures puts { OnOk result (puts.new.items ≡ puts.old.items
             ++ puts_of self.old (brought (happening event.now) self.old)) }
     {
         let line = self.line + 1;
-        run_event(self.alloc, &mut self.agent, self.moment, event, line, log)?;
-        self.end_turn(size, log)
+        run_event(self.alloc, &mut self.agent, self.moment, event, line, puts)?;
+        self.end_turn(size, puts)
     }
 
     // Settles, and counts the line.
-    fn end_turn(&mut self, size: u64, log: &mut Log) -> Result<(), CoreMemory>
+    fn end_turn(&mut self, size: u64, puts: &mut Vec<Put>) -> Result<(), CoreMemory>
         requires lines { self.old.line ≤ longest_schedule }
         requires within { self.old.read + size ≤ longest_schedule }
         ensures run { OnOk result (self.new ≡ (settling_turn [] size self.old).run) }
-        ensures out { OnOk result (log.new.out.items ≡ log.old.out.items
-            ++ (settling_turn [] size self.old).output) }
-        ensures puts { OnOk result (log.new.puts.items ≡ log.old.puts.items
+        ensures puts { OnOk result (puts.new.items ≡ puts.old.items
             ++ puts_of self.old (takings self.old.moment self.old.held self.old.agent)) }
     {
         let line = self.line + 1;
@@ -181,7 +192,7 @@ impl Rerun {
             self.moment,
             &self.held,
             line,
-            log,
+            puts,
         )?;
         self.skip(size);
         Ok(())
@@ -199,38 +210,26 @@ impl Rerun {
     }
 
     // Refuses the next line, unless its fault only says that memory ran out.
-    fn refuse_for(&mut self, fault: LineFault, log: &mut Log) -> Result<(), CoreMemory>
-        requires counted { IsCounted self.old }
+    fn refuse_for(&mut self, fault: LineFault) -> Result<(), CoreMemory>
+        requires { IsCounted self.old }
         ensures fault { OnOk result (fault ≢ LineFault.Memory) }
         ensures run { OnOk result (self.new ≡ (refuse fault self.old).run) }
-        ensures out { OnOk result
-            (log.new.out.items ≡ log.old.out.items ++ (refuse fault self.old).output) }
-        ensures puts { OnOk result (log.new.puts.items ≡ log.old.puts.items) }
     {
         match fault {
             LineFault::Memory => Err(CoreMemory),
-            _ => self.refuse(fault, log),
+            _ => {
+                self.refuse(fault);
+                Ok(())
+            }
         }
     }
 
     // Refuses the next line.
-    pub(crate) fn refuse(&mut self, fault: LineFault, log: &mut Log) -> Result<(), CoreMemory>
-        requires counted { IsCounted self.old }
-        requires printable { fault ≢ LineFault.Memory }
-        ensures run { OnOk result (self.new ≡ (refuse fault self.old).run) }
-        ensures out { OnOk result
-            (log.new.out.items ≡ log.old.out.items ++ (refuse fault self.old).output) }
-        ensures puts { OnOk result (log.new.puts.items ≡ log.old.puts.items) }
+    fn refuse(&mut self, fault: LineFault)
+        requires { IsCounted self.old }
+        ensures { self.new ≡ (refuse fault self.old).run }
     {
         self.line += 1;
         self.refused = Some(fault);
-        put_deed(
-            &mut log.out,
-            &Deed::Refused {
-                line: self.line,
-                fault,
-            },
-        )?;
-        Ok(())
     }
 }

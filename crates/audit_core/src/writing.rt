@@ -11,8 +11,7 @@ ghost use Rattle.world_ports.specs.Streams.{OnlyWrites};
 
 use crate::Put;
 use crate::comparison::Finding;
-use crate::event::Log;
-use crate::lines::run_next;
+use crate::notes::note_next;
 use crate::report::{put_sign, put_total};
 use crate::rerun::Rerun;
 use std::alloc::{AllocError, Global};
@@ -97,27 +96,25 @@ fn list_puts<O: Sink>(alloc: Global, puts: &[Put], count: u64, output: &mut O) -
 fn list_run<O: Sink>(
     alloc: Global,
     run: &mut Rerun,
-    log: &mut Log,
     recording: &[u8],
     output: &mut O,
 ) -> Result<u64, Stop>
-    requires counted { IsCounted run.old }
-    requires out { log.old.out.items ≡ [] }
-    requires puts { log.old.puts.items ≡ [] }
+    requires { IsCounted run.old }
     ensures lists { Lists result 0 (puts_from run.old (parts_of recording.now))
         (O.seen output.old) (O.seen output.new) }
     ensures only { OnlyWrites (O.seen output.old) (O.seen output.new) }
 {
+    let mut puts = Vec::new(alloc);
     let mut rest = recording;
     let mut count = 0;
     'lines: loop {
-        match run_next(run, rest, log) {
+        match note_next(run, rest, &mut puts) {
             Ok(Some(size)) => {
-                count = list_puts(alloc, &log.puts, count, output)?;
-                log.clear();
+                count = list_puts(alloc, &puts, count, output)?;
+                puts.clear();
                 rest = &rest[size..];
             }
-            Ok(None) => return list_puts(alloc, &log.puts, count, output),
+            Ok(None) => return list_puts(alloc, &puts, count, output),
             Err(_) => return Err(Stop::Memory),
         }
     }
@@ -135,8 +132,7 @@ fn write_yes<O: Sink>(
     ensures only { OnlyWrites (O.seen output.old) (O.seen output.new) }
 {
     let mut run = Rerun::new(alloc, life);
-    let mut log = Log::new(alloc);
-    match list_run(alloc, &mut run, &mut log, recording, output) {
+    match list_run(alloc, &mut run, recording, output) {
         Ok(count) => write_total(alloc, b"yes ", count, output),
         Err(stop) => Err(stop),
     }

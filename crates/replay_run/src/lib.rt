@@ -17,8 +17,10 @@ mod settle;
 
 pub use drill::run_drill;
 use feed::Feed;
+pub use held::Held;
 pub use lawful::a_schedule_is_lawful;
 pub use laws::{a_moment_without_limits_closes_nothing, nothing_is_owed_after_settling};
-use replay::Replay;
+pub use limits::{ASK_LIMIT, CONFIRM_LIMIT, LONGEST_SCHEDULE};
+pub use replay::Replay;
 pub use run::run_replay;
 pub use run_end::RunEnd;

@@ -1,27 +1,23 @@
-use Rattle.std.proofs.Common.{◌≡◌, ℕ, List, ◌++◌, ap, ◌∙◌, arith, true, false}
-use Rattle.std.proofs.lemmas.Bool.Decides.{nat_tests}
-use Rattle.std.proofs.lemmas.Result.{IfOk-weaker}
-use Rattle.agent_core.specs.Owing.{is_client_at}
-use Rattle.agent_core.specs.Slots.{heard_in}
-use Rattle.agent_model.specs.State.{find_port}
-use Rattle.audit_core.specs.Claims.{child_claim}
-use Rattle.audit_core.proofs.ClaimLemmas.{child_is, client_is}
+use Rattle.std.proofs.Common.{◌≡◌, ◌∙◌, [], List, ℕ, ◌++◌, ap, refl, sym}
+use Rattle.std.proofs.lemmas.List.{append-nil}
+use Rattle.replay_run.proofs.FeedLemmas.{is_nothing}
 use Rattle.audit_core.proofs.claim.claim_at.Goals as goal
 
-pub returns-then-is_client-clause-claim : goal.returns-then-is_client-clause-claim
-returns-then-is_client-clause-claim c =
-    let state = c.args.agent.now.state in
-    let heard : c.deref.result.now ≡ heard_in (find_port c.args.port state.ports) ++ c.args.piece.now =
-    c.deref.ensures.value ∙ c.in_ok-bytes.ensures ∙ ap (λ (h : List ℕ). h ++ c.args.piece.now) c.unread.ensures in
-    let client : is_client_at (find_port c.args.port state.ports) ≡ true = grind (arith, nat_tests, c.is_client.ensures.value, c.if-is_client.true) in
-    IfOk-weaker c.client_claim.result _ _ (λ claim is. is ∙ client_is c.args.port c.args.piece.now c.deref.result.now state c.requires client heard) c.client_claim.ensures
+pub returns-then-is_empty-clause-claim : goal.returns-then-is_empty-clause-claim
+returns-then-is_empty-clause-claim c =
+    let piece = c.args.piece.now in
+    let none : c.unread-unread.result.now ≡ [] = is_nothing c.unread-unread.result.now c.unread-unread.result.now c.if-is_empty.ensures refl in
+    c.claim_in.ensures.claim piece (ap (λ (h : List ℕ). h ++ piece) (sym none ∙ c.unread-unread.ensures))
+
+pub returns-then-is_empty-2-clause-claim : goal.returns-then-is_empty-2-clause-claim
+returns-then-is_empty-2-clause-claim c =
+    let unread = c.unread-unread.result.now in
+    let none : c.args.piece.now ≡ [] = is_nothing c.args.piece.now c.args.piece.now c.if-is_empty-2.ensures refl in
+    c.claim_in-then-is_empty-2.ensures.claim c.args.piece.now
+    (sym (append-nil unread) ∙ ap (λ (p : List ℕ). unread ++ p) (sym none) ∙ ap (λ (h : List ℕ). h ++ c.args.piece.now) c.unread-unread.ensures)
 
 pub returns-clause-claim : goal.returns-clause-claim
 returns-clause-claim c =
-    let state = c.args.agent.now.state in
-    let heard : c.deref-2.result.now ≡ heard_in (find_port c.args.port state.ports) ++ c.args.piece.now =
-    c.deref-2.ensures.value ∙ c.in_ok-bytes.ensures ∙ ap (λ (h : List ℕ). h ++ c.args.piece.now) c.unread.ensures in
-    let client : is_client_at (find_port c.args.port state.ports) ≡ false = grind (arith, nat_tests, c.is_client.ensures.value, c.if-is_client.false) in
-    IfOk-weaker c.child_claim.result _ _ (λ claim is. is
-    ∙ ap (λ a. child_claim a c.deref-2.result.now state) c.awaited_at-awaited.ensures.value
-    ∙ child_is c.args.port c.args.piece.now c.deref-2.result.now state c.requires client heard) c.child_claim.ensures.claim
+    let piece = c.args.piece.now in
+    c.claim_in-2.ensures.claim piece
+    (c.deref.ensures.value ∙ c.in_ok-bytes.ensures ∙ ap (λ (h : List ℕ). h ++ piece) c.unread-unread.ensures)

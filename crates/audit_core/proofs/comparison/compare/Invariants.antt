@@ -9,8 +9,7 @@ use Rattle.replay_run.specs.Replay.{output_of, parts_of, printed, ran, run_of}
 abbrev pub invariant-lines : goal.invariant-lines
 invariant-lines l = record {
   counted : IsCounted l.run;
-  out : l.log.out.items ≡ [];
-  puts : l.log.puts.items ≡ [];
+  out : l.out.items ≡ [];
   line : l.matching.line ≤ l.matching.at + 1;
   same : difference l.matching (printed true l.run (parts_of l.rest)) l.deeds ≡ first_difference (output_of l.fn.life l.text) l.deeds;
   run : ran true l.run (parts_of l.rest) ≡ run_of l.fn.life l.text;

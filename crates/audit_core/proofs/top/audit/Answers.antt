@@ -1,4 +1,4 @@
-use Rattle.std.proofs.Common.{◌≡◌, subst, sym}
+use Rattle.std.proofs.Common.{subst, sym}
 use Rattle.audit_core.specs.declared.status.AuditStatus.{AuditStatus}
 use Rattle.audit_core.specs.Program.{EndsAudit, status_by}
 use Rattle.audit_core.specs.Reports.{report, verdict_of}

@@ -1,4 +1,4 @@
-use Rattle.std.proofs.Common.{◌≡◌, List, ℕ, subst}
+use Rattle.std.proofs.Common.{List, ℕ, subst}
 use Rattle.audit_core.specs.Program.{Audits, EndsAudit}
 use Rattle.audit_core.specs.Words.{Asked, asked_in, asked_of, texts_of}
 use Rattle.audit_core.proofs.ReportLemmas.{asked_once, audits_by}

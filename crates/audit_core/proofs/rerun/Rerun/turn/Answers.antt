@@ -2,7 +2,7 @@ use Rattle.std.proofs.Common.{◌+◌, ◌<◌, ◌≤◌, ap, arith, inr}
 use Rattle.schedule_text.proofs.Theorems.{step_says_some}
 use Rattle.replay_run.specs.Replay.{Run, longest_schedule}
 use Rattle.replay_run.proofs.RunLemmas.{turned-too_long, turned-step}
-use Rattle.replay_run.proofs.TurnLemmas.{fault_run, fault_out}
+use Rattle.replay_run.proofs.TurnLemmas.{fault_run}
 use Rattle.audit_core.proofs.PutsLemmas.{events-step, puts-fault, puts-too_long}
 use Rattle.audit_core.proofs.rerun.Rerun.turn.Goals as goal
 
@@ -11,14 +11,7 @@ pub returns-then-self-size-gt-LONGEST_SCHEDULE-clause-run :
 returns-then-self-size-gt-LONGEST_SCHEDULE-clause-run c =
     let read_is = ap (λ (r : Run). r.read) c.self.view_is in
     let late : longest_schedule < c.args.self.now.read + c.args.size = omega arith in
-    rw (turned-too_long c.args.line.now c.args.size c.args.self.now c.requires.counted.accepted (inr late)) c.refuse.ensures.run
-
-pub returns-then-self-size-gt-LONGEST_SCHEDULE-clause-out :
-    goal.returns-then-self-size-gt-LONGEST_SCHEDULE-clause-out
-returns-then-self-size-gt-LONGEST_SCHEDULE-clause-out c =
-    let read_is = ap (λ (r : Run). r.read) c.self.view_is in
-    let late : longest_schedule < c.args.self.now.read + c.args.size = omega arith in
-    rw (turned-too_long c.args.line.now c.args.size c.args.self.now c.requires.counted.accepted (inr late)) c.refuse.ensures.out
+    rw (turned-too_long c.args.line.now c.args.size c.args.self.now c.requires.counted.accepted (inr late)) c.refuse.ensures
 
 pub take_step-requires-clause-says : goal.take_step-requires-clause-says
 take_step-requires-clause-says c = step_says_some c.args.line.now c.in-Ok.step c.in-Ok.ensures.found
@@ -29,12 +22,6 @@ returns-in-Ok-clause-run c =
     let within : c.args.self.now.read + c.args.size ≤ longest_schedule = omega arith in
     rw (turned-step c.args.line.now c.args.size c.args.self.now c.in-Ok.step c.requires.counted.accepted within c.in-Ok.ensures.found) c.take_step.ensures.run
 
-pub returns-in-Ok-clause-out : goal.returns-in-Ok-clause-out
-returns-in-Ok-clause-out c =
-    let read_is = ap (λ (r : Run). r.read) c.self.view_is in
-    let within : c.args.self.now.read + c.args.size ≤ longest_schedule = omega arith in
-    rw (turned-step c.args.line.now c.args.size c.args.self.now c.in-Ok.step c.requires.counted.accepted within c.in-Ok.ensures.found) c.take_step.ensures.out
-
 pub returns-in-Err-clause-run : goal.returns-in-Err-clause-run
 returns-in-Err-clause-run c =
     let read_is = ap (λ (r : Run). r.read) c.self.view_is in
@@ -42,20 +29,12 @@ returns-in-Err-clause-run c =
     fault_run c.args.line.now c.args.size c.args.self.now c.in-Err.fault c.refuse_for.result c.refuse_for.new.self
     c.requires.counted.accepted within c.in-Err.ensures.exact c.refuse_for.ensures.fault c.refuse_for.ensures.run
 
-pub returns-in-Err-clause-out : goal.returns-in-Err-clause-out
-returns-in-Err-clause-out c =
-    let read_is = ap (λ (r : Run). r.read) c.self.view_is in
-    let within : c.args.self.now.read + c.args.size ≤ longest_schedule = omega arith in
-    fault_out c.args.line.now c.args.size c.args.self.now c.in-Err.fault c.refuse_for.result c.args.log.now.out.items c.refuse_for.new.log.out.items
-    c.requires.counted.accepted within c.in-Err.ensures.exact c.refuse_for.ensures.fault c.refuse_for.ensures.out
-
 pub returns-then-self-size-gt-LONGEST_SCHEDULE-clause-puts :
     goal.returns-then-self-size-gt-LONGEST_SCHEDULE-clause-puts
 returns-then-self-size-gt-LONGEST_SCHEDULE-clause-puts c =
     let read_is = ap (λ (r : Run). r.read) c.self.view_is in
     let late : longest_schedule < c.args.self.now.read + c.args.size = omega arith in
-    puts-too_long c.args.line.now c.args.size c.args.self.now c.refuse.result c.args.log.now.puts.items c.refuse.new.log.puts.items
-    c.requires.counted.accepted late c.refuse.ensures.puts
+    puts-too_long c.args.line.now c.args.size c.args.self.now c.args.puts.now.items c.requires.counted.accepted late
 
 pub returns-in-Ok-clause-puts : goal.returns-in-Ok-clause-puts
 returns-in-Ok-clause-puts c =
@@ -67,5 +46,5 @@ pub returns-in-Err-clause-puts : goal.returns-in-Err-clause-puts
 returns-in-Err-clause-puts c =
     let read_is = ap (λ (r : Run). r.read) c.self.view_is in
     let within : c.args.self.now.read + c.args.size ≤ longest_schedule = omega arith in
-    puts-fault c.args.line.now c.args.size c.args.self.now c.in-Err.fault c.refuse_for.result c.args.log.now.puts.items c.refuse_for.new.log.puts.items
-    c.requires.counted.accepted within c.in-Err.ensures.exact c.refuse_for.ensures.fault c.refuse_for.ensures.puts
+    puts-fault c.args.line.now c.args.size c.args.self.now c.in-Err.fault c.refuse_for.result c.args.puts.now.items
+    c.requires.counted.accepted within c.in-Err.ensures.exact c.refuse_for.ensures.fault

@@ -1,7 +1,0 @@
-use Rattle.std.proofs.Common.{◌≡◌, ◌++◌, drop}
-use Rattle.replay_run.specs.Settling.{start_lines}
-use Rattle.audit_core.proofs.event.put_starts.Given as goal
-
--- what is printed, and the lines of the jobs that are left, are all lines
-abbrev pub invariant-jobs : goal.invariant-jobs
-invariant-jobs l = l.out.items ++ start_lines l.before (drop l.job-index l.jobs) ≡ l.fn.out.items ++ start_lines l.before l.jobs
