@@ -111,14 +111,6 @@ written_by is_short one sink later false true failed kept text goes puts is = ab
 written_by true one sink later false false failed kept text goes puts is = absurd cc
 written_by false one sink later false false failed kept text goes puts is = put_one failed one sink later kept text puts is
 
--- memory ran out behind the call
-pub ran_out : (is_short : Bool) (one : Entry) (sink : StreamView) (broken short : Bool) (kept left : Recording) → not (broken || (short || is_short)) ≡ true
-    → WritesOf is_short one (taped sink broken short kept) (taped sink broken true left)
-ran_out is_short one sink true short kept left goes = absurd cc
-ran_out is_short one sink false true kept left goes = absurd cc
-ran_out true one sink false false kept left goes = absurd cc
-ran_out false one sink false false kept left goes = writes-stopped (one ∷ []) sink false false true kept left refl
-
 -- ---- no call on the inner world, since memory was wanted for it
 
 pub leads-lacking : (lacks : Bool) (journal : Option (List Entry)) (sink : StreamView) (broken short : Bool) (kept : Recording) → lacks ≡ true
