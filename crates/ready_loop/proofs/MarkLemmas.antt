@@ -1,14 +1,15 @@
 -- Marks by their ports, which rise: where one stands, and which ports pass a test once one is put or taken.
-use Rattle.std.proofs.Common.{◌≡◌, ◌∙◌, ℕ, zero, suc, ◌<◌, ◌≤◌, Bool, true, false, List, [], ◌∷◌, length, get_or, not, filter, refl, sym, ap, subst, arith, Result, Ok, Err, MatchResult, inl, inr, ◌==◌, nat_lt, if◌then◌else◌}
+use Rattle.std.proofs.Common.{◌≡◌, ◌∙◌, ℕ, zero, suc, ◌<◌, ◌≤◌, Bool, true, false, List, [], ◌∷◌, length, get_or, slice_index_or, slice_set, not, filter, refl, sym, ap, subst, arith, Result, Ok, Err, MatchResult, inl, inr, ◌==◌, nat_lt, if◌then◌else◌}
 use Rattle.std.proofs.lemmas.Bool.{cases_eq, cases_lt}
 use Rattle.std.proofs.lemmas.Bool.Decides.{nat_tests}
 use Rattle.std.proofs.lemmas.Cmp.{ranked}
 use Rattle.std.proofs.lemmas.List.Sorted.{IsNonDecreasingBy-from_default}
+use Rattle.std.specs.List.{insert}
 use Rattle.std.specs.List.Sorted.{IsBinarySearchResult, IsSearchInRange, IsNonDecreasingBy}
 use Rattle.std.specs.Ordering.{nat_cmp, ordering_index}
 use Rattle.lists.specs.Rising.{IsRisingList, IsRisingNumbers, inserted, is_among, removed}
 use Rattle.lists.proofs.RisingLemmas.{inserted-among, inserted_below, is_among-below, removed-filter, removed-not_among, removed_below, rising_list, rising_list-inserted, rising_list-removed, rising_lower}
-use Rattle.ready_loop.specs.Marks.{HasPort, IsGap, IsPlace, mark_of, marked, no_mark, ports_at, ports_of, unmarked}
+use Rattle.ready_loop.specs.Marks.{HasPort, IsGap, IsPlace, changed, mark_of, marked, no_mark, ports_at, ports_of, unmarked}
 use Rattle.ready_loop.specs.declared.marks.Mark.{Mark}
 
 -- ---- where a mark stands
@@ -105,6 +106,16 @@ searched_marks port marks (Err place) within answer rise =
     gap-at port marks place within
     (λ k other before. ranked _ port _ (sym (parted.0 k other (omega arith) before)))
     (λ k other behind inside. ranked _ port _ (sym (parted.1 k other behind inside)))
+
+-- the port's mark is of the port
+pub mark_of-port : (port : ℕ) (marks : List Mark) → (mark_of port marks).port ≡ port
+mark_of-port port [] = refl
+mark_of-port port (mark ∷ marks) = by_test (port == mark.port) refl (mark_of-port port marks)
+  where
+    by_test : (same : Bool) → (port == mark.port) ≡ same → (mark_of port marks).port ≡ port
+        → (if same then mark else mark_of port marks).port ≡ port
+    by_test true here rest = grind (arith, nat_tests)
+    by_test false here rest = rest
 
 -- a port without a mark has the mark that says so
 pub absent-mark : (port : ℕ) (marks : List Mark) → is_among port (ports_of marks) ≡ false
@@ -275,3 +286,36 @@ rise-marked new marks rise =
 pub rise-unmarked : (port : ℕ) (marks : List Mark) → IsRisingList (ports_of marks) → IsRisingList (ports_of (unmarked port marks))
 rise-unmarked port marks rise =
     subst IsRisingList (sym (at-taken (λ mark. true) port marks rise)) (rising_list-removed port (ports_of marks) rise)
+
+-- ---- a mark is changed where it stands, or put where it goes
+
+module _ (port place : ℕ) (marks seen : List Mark) (found : Mark) (change : Mark → Mark) (same : seen ≡ marks)
+    (at : IsPlace port seen place) (value : found ≡ slice_index_or marks place found)
+    (keeps : (mark : Mark) → (change mark).port ≡ mark.port) where
+  here : IsPlace port marks place
+  here = subst (λ (ms : List Mark). IsPlace port ms place) same at
+
+  own : (change (mark_of port marks)).port ≡ port
+  own = keeps (mark_of port marks) ∙ mark_of-port port marks
+
+  pub marked-in_place : slice_set marks place (change found) ≡ marked (change (mark_of port marks)) marks
+  marked-in_place =
+      ap (λ (mark : Mark). slice_set marks place (change mark)) (value ∙ here.is found)
+      ∙ sym (here.put (change (mark_of port marks)) own)
+
+  pub changed-in_place : slice_set marks place (change found) ≡ changed (change (mark_of port marks)) marks
+  changed-in_place =
+      marked-in_place
+      ∙ sym (ap (λ (b : Bool). if b then marked (change (mark_of port marks)) marks else marks)
+      (ap (λ (p : ℕ). is_among p (ports_of marks)) own ∙ here.there))
+
+  pub rise-in_place : IsRisingList (ports_of marks) → IsRisingList (ports_of (slice_set marks place (change found)))
+  rise-in_place rise =
+      subst (λ (ms : List Mark). IsRisingList (ports_of ms)) (sym marked-in_place)
+      (rise-marked (change (mark_of port marks)) marks rise)
+
+pub rise-put : (new : Mark) (place : ℕ) (marks seen : List Mark) → seen ≡ marks → IsGap new.port seen place
+    → IsRisingList (ports_of marks) → IsRisingList (ports_of (insert marks place new))
+rise-put new place marks seen same gap rise =
+    let here : IsGap new.port marks place = subst (λ (ms : List Mark). IsGap new.port ms place) same gap in
+    subst (λ (ms : List Mark). IsRisingList (ports_of ms)) (here.put new refl) (rise-marked new marks rise)

@@ -7,11 +7,11 @@ use Rattle.loop_model.specs.Things.{set_of}
 use Rattle.loop_model.specs.declared.thing.Thing.{Thing}
 use Rattle.loop_model.specs.declared.thing.Thing.TheVariants.{Accept, Read, Write}
 use Rattle.loop_model.proofs.AsideLemmas.{aside-accept, aside-read, aside-write}
-use Rattle.ready_loop.specs.Marks.{Standings, changed, forgotten, is_aside, is_listed, mark_of, marked, no_mark, ports_at, ports_of, standings_of, stood, unmarked}
+use Rattle.ready_loop.specs.Marks.{Standings, changed, forgotten, is_aside, is_listed, mark_of, marked, no_mark, ports_at, ports_of, standings_of, stood, unmarked, with_read, with_write}
 use Rattle.ready_loop.specs.declared.marks.Mark.{Mark}
 use Rattle.ready_loop.specs.declared.marks.Standing.{Standing}
 use Rattle.ready_loop.specs.declared.marks.Standing.TheVariants as at
-use Rattle.ready_loop.proofs.MarkLemmas.{absent-mark, among-at, at-marked, at-marked_same, at-unmarked, put_if}
+use Rattle.ready_loop.proofs.MarkLemmas.{absent-mark, among-at, at-marked, at-marked_same, at-unmarked, mark_of-port, put_if}
 
 -- the parts of a mark, by what they tell
 abbrev pub reads_listed : Mark → Bool
@@ -25,13 +25,6 @@ reads_aside mark = is_aside mark.read
 
 abbrev pub writes_aside : Mark → Bool
 writes_aside mark = is_aside mark.write
-
--- a port's mark with what is to be read, or written, standing there
-abbrev pub with_read : ℕ → Standing → Mark → Mark
-with_read port standing mark = record { port = port; read = standing; write = mark.write }
-
-abbrev pub with_write : ℕ → Standing → Mark → Mark
-with_write port standing mark = record { port = port; read = mark.read; write = standing }
 
 -- what is asked of standings
 abbrev pub is_ready : Standings → Thing → Bool
@@ -106,19 +99,35 @@ module _ (listed aside : List Door) where
 
   -- ---- a mark is put
 
-  module _ (port : ℕ) (standing : Standing) (mark : Mark) (before : List Mark) (rise : IsRisingList (ports_of before))
-      (is : mark ≡ mark_of port before) where
-    stood_read : (marks : List Mark) → marks ≡ marked (with_read port standing mark) before
+  module _ (port : ℕ) (standing : Standing) (before : List Mark) (rise : IsRisingList (ports_of before)) where
+    own : (mark_of port before).port ≡ port
+    own = mark_of-port port before
+
+    -- the ports at which a test passes that looks at what was put
+    put_at : (test : Mark → Bool) (new : Mark) → new.port ≡ (mark_of port before).port
+        → ports_at test (marked new before) ≡ put_if (test new) port (ports_at test before)
+    put_at test new same =
+        at-marked test new before rise ∙ ap (λ (p : ℕ). put_if (test new) p (ports_at test before)) (same ∙ own)
+
+    -- those at which one passes that doesn't
+    kept_at : (test : Mark → Bool) (new : Mark) → new.port ≡ (mark_of port before).port
+        → test (no_mark new.port) ≡ false → test new ≡ test (mark_of port before)
+        → ports_at test (marked new before) ≡ ports_at test before
+    kept_at test new same none is =
+        at-marked_same test new before rise none
+        (is ∙ ap (λ (p : ℕ). test (mark_of p before)) (sym (same ∙ own)))
+
+    stood_read : (marks : List Mark) → marks ≡ marked (with_read standing (mark_of port before)) before
         → standings_of listed aside marks ≡ stood (Read port) standing (standings_of listed aside before)
     stood_read marks put =
-        let new = with_read port standing mark in
+        let new = with_read standing (mark_of port before) in
         lists-same (ports_at reads_listed marks) (ports_at writes_listed marks) (ports_at reads_aside marks) (ports_at writes_aside marks)
         (put_if (is_listed standing) port (ports_at reads_listed before)) (ports_at writes_listed before)
         (put_if (is_aside standing) port (ports_at reads_aside before)) (ports_at writes_aside before)
-        (ap (ports_at reads_listed) put ∙ at-marked reads_listed new before rise)
-        (ap (ports_at writes_listed) put ∙ at-marked_same writes_listed new before rise refl (ap writes_listed is))
-        (ap (ports_at reads_aside) put ∙ at-marked reads_aside new before rise)
-        (ap (ports_at writes_aside) put ∙ at-marked_same writes_aside new before rise refl (ap writes_aside is))
+        (ap (ports_at reads_listed) put ∙ put_at reads_listed new refl)
+        (ap (ports_at writes_listed) put ∙ kept_at writes_listed new refl refl refl)
+        (ap (ports_at reads_aside) put ∙ put_at reads_aside new refl)
+        (ap (ports_at writes_aside) put ∙ kept_at writes_aside new refl refl refl)
         ∙ by_standing standing
       where
         by_standing : (s : Standing)
@@ -129,17 +138,17 @@ module _ (listed aside : List Door) where
         by_standing at.Listed = refl
         by_standing at.Aside = refl
 
-    stood_write : (marks : List Mark) → marks ≡ marked (with_write port standing mark) before
+    stood_write : (marks : List Mark) → marks ≡ marked (with_write standing (mark_of port before)) before
         → standings_of listed aside marks ≡ stood (Write port) standing (standings_of listed aside before)
     stood_write marks put =
-        let new = with_write port standing mark in
+        let new = with_write standing (mark_of port before) in
         lists-same (ports_at reads_listed marks) (ports_at writes_listed marks) (ports_at reads_aside marks) (ports_at writes_aside marks)
         (ports_at reads_listed before) (put_if (is_listed standing) port (ports_at writes_listed before))
         (ports_at reads_aside before) (put_if (is_aside standing) port (ports_at writes_aside before))
-        (ap (ports_at reads_listed) put ∙ at-marked_same reads_listed new before rise refl (ap reads_listed is))
-        (ap (ports_at writes_listed) put ∙ at-marked writes_listed new before rise)
-        (ap (ports_at reads_aside) put ∙ at-marked_same reads_aside new before rise refl (ap reads_aside is))
-        (ap (ports_at writes_aside) put ∙ at-marked writes_aside new before rise)
+        (ap (ports_at reads_listed) put ∙ kept_at reads_listed new refl refl refl)
+        (ap (ports_at writes_listed) put ∙ put_at writes_listed new refl)
+        (ap (ports_at reads_aside) put ∙ kept_at reads_aside new refl refl refl)
+        (ap (ports_at writes_aside) put ∙ put_at writes_aside new refl)
         ∙ by_standing standing
       where
         by_standing : (s : Standing)
@@ -163,38 +172,44 @@ module _ (listed aside : List Door) where
       sym (ap (λ (m : Mark). standings_of listed aside (marked m before)) is
       ∙ lists-same _ _ _ _ _ _ _ _ (same reads_listed refl) (same writes_listed refl) (same reads_aside refl) (same writes_aside refl))
 
-  module _ (port : ℕ) (mark : Mark) (before : List Mark) (rise : IsRisingList (ports_of before))
-      (is : mark ≡ mark_of port before) where
-    cleared_read : (marks : List Mark) → marks ≡ changed (with_read port at.Neither mark) before
+  module _ (port : ℕ) (before : List Mark) (rise : IsRisingList (ports_of before)) where
+    cleared_read : (marks : List Mark) → marks ≡ changed (with_read at.Neither (mark_of port before)) before
         → standings_of listed aside marks ≡ stood (Read port) at.Neither (standings_of listed aside before)
-    cleared_read marks put = by_there (is_among port (ports_of before)) refl put
+    cleared_read marks put =
+        by_there (is_among port (ports_of before)) refl
+        (put ∙ ap (λ (p : ℕ). if is_among p (ports_of before) then marked new before else before) (mark_of-port port before))
       where
         new : Mark
-        new = with_read port at.Neither mark
+        new = with_read at.Neither (mark_of port before)
 
         by_there : (there : Bool) → is_among port (ports_of before) ≡ there
-            → marks ≡ (if there then marked (with_read port at.Neither mark) before else before)
+            → marks ≡ (if there then marked (with_read at.Neither (mark_of port before)) before else before)
             → standings_of listed aside marks ≡ stood (Read port) at.Neither (standings_of listed aside before)
-        by_there true there put = stood_read port at.Neither mark before rise is marks put
+        by_there true there put = stood_read port at.Neither before rise marks put
         by_there false there put =
             ap (standings_of listed aside) put
-            ∙ said_nothing port (with_read port at.Neither mark) before rise there
-            (ap (with_read port at.Neither) (is ∙ absent-mark port before there))
-            ∙ stood_read port at.Neither mark before rise is (marked (with_read port at.Neither mark) before) refl
+            ∙ said_nothing port (with_read at.Neither (mark_of port before)) before rise there
+            (ap (with_read at.Neither) (absent-mark port before there))
+            ∙ stood_read port at.Neither before rise (marked (with_read at.Neither (mark_of port before)) before) refl
 
-    cleared_write : (marks : List Mark) → marks ≡ changed (with_write port at.Neither mark) before
+    cleared_write : (marks : List Mark) → marks ≡ changed (with_write at.Neither (mark_of port before)) before
         → standings_of listed aside marks ≡ stood (Write port) at.Neither (standings_of listed aside before)
-    cleared_write marks put = by_there (is_among port (ports_of before)) refl put
+    cleared_write marks put =
+        by_there (is_among port (ports_of before)) refl
+        (put ∙ ap (λ (p : ℕ). if is_among p (ports_of before) then marked new before else before) (mark_of-port port before))
       where
+        new : Mark
+        new = with_write at.Neither (mark_of port before)
+
         by_there : (there : Bool) → is_among port (ports_of before) ≡ there
-            → marks ≡ (if there then marked (with_write port at.Neither mark) before else before)
+            → marks ≡ (if there then marked (with_write at.Neither (mark_of port before)) before else before)
             → standings_of listed aside marks ≡ stood (Write port) at.Neither (standings_of listed aside before)
-        by_there true there put = stood_write port at.Neither mark before rise is marks put
+        by_there true there put = stood_write port at.Neither before rise marks put
         by_there false there put =
             ap (standings_of listed aside) put
-            ∙ said_nothing port (with_write port at.Neither mark) before rise there
-            (ap (with_write port at.Neither) (is ∙ absent-mark port before there))
-            ∙ stood_write port at.Neither mark before rise is (marked (with_write port at.Neither mark) before) refl
+            ∙ said_nothing port (with_write at.Neither (mark_of port before)) before rise there
+            (ap (with_write at.Neither) (absent-mark port before there))
+            ∙ stood_write port at.Neither before rise (marked (with_write at.Neither (mark_of port before)) before) refl
 
   -- ---- a mark is taken
 
@@ -207,28 +222,30 @@ module _ (listed aside : List Door) where
 
 -- ---- of a thing that is told, in standings that are told
 
-module _ (listed aside : List Door) (before marks : List Mark) (mark : Mark) (port : ℕ) (thing : Thing) (view : Standings)
-    (rise : IsRisingList (ports_of before)) (is : mark ≡ mark_of port before) (seen : standings_of listed aside before ≡ view) where
-  pub told-read : (standing : Standing) → thing ≡ Read port → marks ≡ marked (with_read port standing mark) before
+module _ (listed aside : List Door) (before marks : List Mark) (port : ℕ) (thing : Thing) (view : Standings)
+    (rise : IsRisingList (ports_of before)) (seen : standings_of listed aside before ≡ view) where
+  pub told-read : (standing : Standing) → thing ≡ Read port
+      → marks ≡ marked (with_read standing (mark_of port before)) before
       → standings_of listed aside marks ≡ stood thing standing view
   told-read standing here put =
-      stood_read listed aside port standing mark before rise is marks put
+      stood_read listed aside port standing before rise marks put
       ∙ ap (stood (Read port) standing) seen ∙ ap (λ (t : Thing). stood t standing view) (sym here)
 
-  pub told-write : (standing : Standing) → thing ≡ Write port → marks ≡ marked (with_write port standing mark) before
+  pub told-write : (standing : Standing) → thing ≡ Write port
+      → marks ≡ marked (with_write standing (mark_of port before)) before
       → standings_of listed aside marks ≡ stood thing standing view
   told-write standing here put =
-      stood_write listed aside port standing mark before rise is marks put
+      stood_write listed aside port standing before rise marks put
       ∙ ap (stood (Write port) standing) seen ∙ ap (λ (t : Thing). stood t standing view) (sym here)
 
-  pub told-cleared_read : thing ≡ Read port → marks ≡ changed (with_read port at.Neither mark) before
+  pub told-cleared_read : thing ≡ Read port → marks ≡ changed (with_read at.Neither (mark_of port before)) before
       → standings_of listed aside marks ≡ stood thing at.Neither view
   told-cleared_read here put =
-      cleared_read listed aside port mark before rise is marks put
+      cleared_read listed aside port before rise marks put
       ∙ ap (stood (Read port) at.Neither) seen ∙ ap (λ (t : Thing). stood t at.Neither view) (sym here)
 
-  pub told-cleared_write : thing ≡ Write port → marks ≡ changed (with_write port at.Neither mark) before
+  pub told-cleared_write : thing ≡ Write port → marks ≡ changed (with_write at.Neither (mark_of port before)) before
       → standings_of listed aside marks ≡ stood thing at.Neither view
   told-cleared_write here put =
-      cleared_write listed aside port mark before rise is marks put
+      cleared_write listed aside port before rise marks put
       ∙ ap (stood (Write port) at.Neither) seen ∙ ap (λ (t : Thing). stood t at.Neither view) (sym here)

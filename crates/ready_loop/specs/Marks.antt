@@ -53,6 +53,13 @@ marked mark (other ∷ marks) =
 abbrev pub changed : Mark → List Mark → List Mark
 changed mark marks = if is_among mark.port (ports_of marks) then marked mark marks else marks
 
+-- the mark with what is to be read, or written, standing there
+abbrev pub with_read : Standing → Mark → Mark
+with_read standing mark = record mark { read = standing }
+
+abbrev pub with_write : Standing → Mark → Mark
+with_write standing mark = record mark { write = standing }
+
 -- without this port's mark
 abbrev pub unmarked : ℕ → List Mark → List Mark
 unmarked port [] = []

@@ -3,7 +3,8 @@ ghost use Rattle.std.specs.Bool.{OnTrue};
 ghost use Rattle.std.specs.Prelude.{◌≡◌, [], MatchResult, OnErr, OnOk};
 ghost use Rattle.lists.specs.Rising.{IsRisingList};
 ghost use Rattle.ready_loop.specs.Marks.{HasPort, IsGap, IsPlace};
-ghost use Rattle.ready_loop.specs.Marks.{changed, mark_of, marked, no_mark, ports_of, unmarked};
+ghost use Rattle.ready_loop.specs.Marks.{changed, mark_of, marked, no_mark, ports_of, unmarked, with_read, with_write};
+ghost use Rattle.ready_loop.specs.declared.marks.Standing.TheVariants.{Neither};
 
 use std::alloc::{AllocError, Global};
 use std::marker::Model;
@@ -67,6 +68,7 @@ impl Marks {
     }
 
     /// The port's mark.
+    #[inline(always)]
     pub fn of(&mut self, port: u64) -> Mark
         ensures mark { result ≡ mark_of port self.old }
         ensures same { self.new ≡ self.old }
@@ -81,31 +83,81 @@ impl Marks {
         }
     }
 
-    /// Marks the port.
-    pub fn put(&mut self, mark: Mark) -> Result<(), AllocError>
-        ensures put { OnOk result (self.new ≡ marked mark self.old) }
+    /// What is to be read at the port stands there from here on.
+    #[inline(always)]
+    pub fn set_read(&mut self, port: u64, standing: Standing) -> Result<(), AllocError>
+        ensures set { OnOk result (self.new ≡ marked (with_read standing (mark_of port self.old)) self.old) }
         ensures err { OnErr result (self.new ≡ self.old) }
+        ensures rising { IsRisingList (ports_of self.old) }
     {
-        match find(&self.marks, self.hint, mark.port) {
+        match find(&self.marks, self.hint, port) {
             Ok(place) => {
                 self.hint = place;
-                self.marks[place] = mark;
+                self.marks[place].read = standing;
             }
             Err(place) => {
                 self.hint = place;
-                self.marks.insert(place, mark)?;
+                self.marks.insert(
+                    place,
+                    Mark {
+                        port,
+                        read: standing,
+                        write: Standing::Neither,
+                    },
+                )?;
             }
         }
         Ok(())
     }
 
-    /// Changes the port's mark, where it has one.
-    pub fn change(&mut self, mark: Mark)
-        ensures { self.new ≡ changed mark self.old }
+    /// What is to be written at the port stands there from here on.
+    #[inline(always)]
+    pub fn set_write(&mut self, port: u64, standing: Standing) -> Result<(), AllocError>
+        ensures set { OnOk result (self.new ≡ marked (with_write standing (mark_of port self.old)) self.old) }
+        ensures err { OnErr result (self.new ≡ self.old) }
+        ensures rising { IsRisingList (ports_of self.old) }
     {
-        if let Ok(place) = find(&self.marks, self.hint, mark.port) {
+        match find(&self.marks, self.hint, port) {
+            Ok(place) => {
+                self.hint = place;
+                self.marks[place].write = standing;
+            }
+            Err(place) => {
+                self.hint = place;
+                self.marks.insert(
+                    place,
+                    Mark {
+                        port,
+                        read: Standing::Neither,
+                        write: standing,
+                    },
+                )?;
+            }
+        }
+        Ok(())
+    }
+
+    /// What is to be read at the port isn't ready any more.
+    #[inline(always)]
+    pub fn clear_read(&mut self, port: u64)
+        ensures cleared { self.new ≡ changed (with_read Neither (mark_of port self.old)) self.old }
+        ensures rising { IsRisingList (ports_of self.old) }
+    {
+        if let Ok(place) = find(&self.marks, self.hint, port) {
             self.hint = place;
-            self.marks[place] = mark;
+            self.marks[place].read = Standing::Neither;
+        }
+    }
+
+    /// What is to be written at the port isn't ready any more.
+    #[inline(always)]
+    pub fn clear_write(&mut self, port: u64)
+        ensures cleared { self.new ≡ changed (with_write Neither (mark_of port self.old)) self.old }
+        ensures rising { IsRisingList (ports_of self.old) }
+    {
+        if let Ok(place) = find(&self.marks, self.hint, port) {
+            self.hint = place;
+            self.marks[place].write = Standing::Neither;
         }
     }
 
@@ -133,7 +185,8 @@ fn none(port: u64) -> Mark
     }
 }
 
-// Where the port's mark stands, or else where it goes: at the hint, as far from it as its port is, or anywhere.
+// Where the port's mark stands, or else where it goes: at the hint, or elsewhere.
+#[inline(always)]
 fn find(marks: &[Mark], hint: usize, port: u64) -> Result<usize, usize>
     requires { IsRisingList (ports_of marks.now) }
     ensures { MatchResult result (IsPlace port marks.now) (IsGap port marks.now) }
@@ -141,6 +194,15 @@ fn find(marks: &[Mark], hint: usize, port: u64) -> Result<usize, usize>
     if is_at(marks, hint, port) {
         return Ok(hint);
     }
+    find_from(marks, hint, port)
+}
+
+// The same: as far from the hint as its port is, or anywhere.
+#[inline(never)]
+fn find_from(marks: &[Mark], hint: usize, port: u64) -> Result<usize, usize>
+    requires { IsRisingList (ports_of marks.now) }
+    ensures { MatchResult result (IsPlace port marks.now) (IsGap port marks.now) }
+{
     let place = guess(marks, hint, port);
     if is_at(marks, place, port) {
         return Ok(place);
@@ -157,6 +219,7 @@ fn guess(marks: &[Mark], hint: usize, port: u64) -> usize {
 }
 
 // Whether the port's mark stands there.
+#[inline(always)]
 fn is_at(marks: &[Mark], place: usize, port: u64) -> bool
     ensures { OnTrue result (HasPort port marks.now place) }
 {

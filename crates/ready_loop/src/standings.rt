@@ -8,7 +8,7 @@ ghost use Rattle.ready_loop.specs.Marks.{forgotten, is_aside, is_listed, none_st
 ghost use Rattle.ready_loop.specs.declared.marks.Mark.{Mark};
 ghost use Rattle.ready_loop.specs.declared.marks.Standing.TheVariants.{Neither};
 
-use crate::marks::{Mark, Marks, Standing};
+use crate::marks::{Marks, Standing};
 use crate::things::is_same_door;
 use loop_model::Thing;
 use std::alloc::{AllocError, Global};
@@ -51,6 +51,7 @@ impl Standings {
     }
 
     /// Whether the thing is ready.
+    #[inline(always)]
     pub fn has(&mut self, thing: Thing) -> bool
         ensures there { result
             ≡ (set_of (things_aside self.old.listed) thing || set_of (things_aside self.old.aside) thing) }
@@ -64,6 +65,7 @@ impl Standings {
     }
 
     /// Whether the thing is set aside.
+    #[inline(always)]
     pub fn is_aside(&mut self, thing: Thing) -> bool
         ensures there { result ≡ set_of (things_aside self.old.aside) thing }
         ensures same { self.new ≡ self.old }
@@ -76,34 +78,21 @@ impl Standings {
     }
 
     /// The thing stands there from here on.
+    #[inline(always)]
     pub fn set(&mut self, thing: Thing, standing: Standing) -> Result<(), AllocError>
         ensures set { OnOk result (self.new ≡ stood thing standing self.old) }
         ensures err { OnErr result (self.new ≡ self.old) }
     {
         match thing {
-            Thing::Accept(door) => set_door(&mut self.listed, &mut self.aside, door, standing),
-            Thing::Read(port) => {
-                let mark = self.marks.of(port);
-                self.marks.put(Mark {
-                    port,
-                    read: standing,
-                    write: mark.write,
-                })?;
-                Ok(())
-            }
-            Thing::Write(port) => {
-                let mark = self.marks.of(port);
-                self.marks.put(Mark {
-                    port,
-                    read: mark.read,
-                    write: standing,
-                })?;
-                Ok(())
-            }
+            Thing::Accept(door) => set_door(&mut self.listed, &mut self.aside, door, standing)?,
+            Thing::Read(port) => self.marks.set_read(port, standing)?,
+            Thing::Write(port) => self.marks.set_write(port, standing)?,
         }
+        Ok(())
     }
 
     /// The thing isn't ready any more. Takes no memory.
+    #[inline(always)]
     pub fn clear(&mut self, thing: Thing)
         ensures { self.new ≡ stood thing Neither self.old }
     {
@@ -112,22 +101,8 @@ impl Standings {
                 drop_door(&mut self.listed, door);
                 drop_door(&mut self.aside, door);
             }
-            Thing::Read(port) => {
-                let mark = self.marks.of(port);
-                self.marks.change(Mark {
-                    port,
-                    read: Standing::Neither,
-                    write: mark.write,
-                });
-            }
-            Thing::Write(port) => {
-                let mark = self.marks.of(port);
-                self.marks.change(Mark {
-                    port,
-                    read: mark.read,
-                    write: Standing::Neither,
-                });
-            }
+            Thing::Read(port) => self.marks.clear_read(port),
+            Thing::Write(port) => self.marks.clear_write(port),
         }
     }
 

@@ -3,6 +3,3 @@ use Rattle.ready_loop.proofs.marks.find.Goals as goal
 
 pub returns-then-is_at : goal.returns-then-is_at
 returns-then-is_at c = place-at c.args.port c.args.marks.now c.args.hint c.requires c.if-is_at.ensures
-
-pub returns-then-is_at-2 : goal.returns-then-is_at-2
-returns-then-is_at-2 c = place-at c.args.port c.args.marks.now c.guess-place.result c.requires c.if-is_at-2.ensures
