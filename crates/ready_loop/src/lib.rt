@@ -4,6 +4,7 @@
 #![tactic(auto)]
 
 mod agent;
+mod events;
 mod hub;
 mod listeners;
 mod look;

@@ -7,13 +7,14 @@ ghost use Rattle.loop_model.specs.Orderly.{IsOrderly};
 ghost use Rattle.ready_loop.specs.Moves.{PollsOr, Turns};
 ghost use Rattle.world_ports.specs.Causes.{Rose};
 
+use crate::events::{close_all, tell};
 use crate::queue::Queue;
-use crate::turn::{close_all, tell};
 use crate::{Core, HubFault, Turn};
 use agent_core::Event;
 use world_ports::{Polled, Ready, World, WorldFault};
 
 // Whether nothing can be served, and no job waits.
+#[inline(always)]
 pub fn is_idle<A: Core>(queue: &Queue, agent: &A) -> bool
     requires { IsOrdered (A.state agent.now) queue.now }
     ensures { result ≡ is_idle (A.state agent.now) queue.now }
@@ -22,6 +23,7 @@ pub fn is_idle<A: Core>(queue: &Queue, agent: &A) -> bool
 }
 
 // How long a poll waits: until something is due.
+#[inline(always)]
 fn wait_of<A: Core>(agent: &A) -> Option<u64>
     ensures { result ≡ wait_of (A.state agent.now) }
 {

@@ -6,7 +6,7 @@ use Rattle.loop_model.specs.Lines.{after_event}
 use Rattle.loop_model.specs.declared.thing.Thing.{Thing}
 use Rattle.ready_loop.specs.Standing.{IsCold}
 use Rattle.ready_loop.proofs.TellLemmas.{kept-after, last-stepped, stirs}
-use Rattle.ready_loop.proofs.turn.tell.Goals as goal
+use Rattle.ready_loop.proofs.events.tell.Goals as goal
 
 pub turn-requires-clause-kept : goal.turn-requires-clause-kept
 turn-requires-clause-kept g c =

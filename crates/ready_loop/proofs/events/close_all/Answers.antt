@@ -5,7 +5,7 @@ use Rattle.loop_model.specs.Dues.{Closing, Due, due_of}
 use Rattle.loop_model.specs.LegalJournal.{in_state, led}
 use Rattle.ready_loop.proofs.CallLemmas.{close-any, close-taken, due-drop}
 use Rattle.ready_loop.proofs.TurningLemmas.{goes_on, lands_at, one_call, stops_later, stops_short}
-use Rattle.ready_loop.proofs.turn.close_all.Goals as goal
+use Rattle.ready_loop.proofs.events.close_all.Goals as goal
 
 pub returns-in_default-clause-legal : goal.returns-in_default-clause-legal
 returns-in_default-clause-legal g c =

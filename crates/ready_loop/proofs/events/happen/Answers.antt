@@ -12,7 +12,7 @@ use Rattle.ready_loop.proofs.MomentLemmas.{second-within}
 use Rattle.ready_loop.proofs.KeepingLemmas.{on_ok}
 use Rattle.ready_loop.proofs.CallLemmas.{now-any, now-taken}
 use Rattle.ready_loop.proofs.TurningLemmas.{goes_then, one_call, stops_short, stops_there}
-use Rattle.ready_loop.proofs.turn.happen.Goals as goal
+use Rattle.ready_loop.proofs.events.happen.Goals as goal
 
 pub returns-in_default-clause-legal : goal.returns-in_default-clause-legal
 returns-in_default-clause-legal g c =

@@ -2,7 +2,7 @@ use Rattle.std.proofs.Common.{◌≡◌, ◌≤◌, drop}
 use Rattle.loop_model.specs.Dues.{due_of}
 use Rattle.loop_model.specs.LegalJournal.{in_state}
 use Rattle.ready_loop.specs.Moves.{Continues}
-use Rattle.ready_loop.proofs.turn.close_all.Given as goal
+use Rattle.ready_loop.proofs.events.close_all.Given as goal
 
 -- the ports from the index on are to be closed
 abbrev pub invariant-ports : goal.invariant-ports
