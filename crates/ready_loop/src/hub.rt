@@ -43,6 +43,7 @@ impl Model for Hub {
 }
 
 // The turn served something, where memory sufficed.
+#[inline(always)]
 fn served(outcome: Result<(), CoreMemory>) -> Result<Turn, HubFault>
     ensures { result ≡ served_by outcome }
 {
@@ -53,6 +54,7 @@ fn served(outcome: Result<(), CoreMemory>) -> Result<Turn, HubFault>
 }
 
 // The first job that waits.
+#[inline(always)]
 fn next_job<A: Core>(agent: &A) -> Option<Job>
     ensures { MatchOption result (starts (A.state agent.now) ≡ [])
         (λ job. is_first_job job (starts (A.state agent.now)) ≡ true) }
@@ -126,6 +128,7 @@ impl Hub {
     }
 
     // The turn.
+    #[inline(always)]
     fn serve<A: Core, W: World>(&mut self, agent: &mut A, world: &mut W) -> Result<Turn, HubFault>
         requires orderly { IsOrderly (A.state agent.old) }
         requires ordered { IsOrdered (A.state agent.old) self.old }

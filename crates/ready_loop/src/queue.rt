@@ -1,4 +1,7 @@
 // What is ready, in the order in which it is served.
+//
+// What an event asks several times is inlined, here and in what stands below: at a call, things and results go through
+// memory, which costs more than what is done with them.
 ghost use Rattle.std.specs.Bool.{OnTrue};
 ghost use Rattle.std.specs.Prelude.{◌≡◌, ◌&&◌, ◌||◌, ◌==◌, None, OnOk, Some, false, length};
 ghost use Rattle.agent_model.specs.Sound.{IsRising};
@@ -62,6 +65,7 @@ impl Queue {
     }
 
     // The first thing of the list.
+    #[inline(always)]
     pub fn first(&self) -> Option<Thing>
         ensures { result ≡ front_of self.now.queue }
     {
@@ -76,6 +80,7 @@ impl Queue {
     }
 
     // The thing stands first and is served: it is in hand until its event has happened.
+    #[inline(always)]
     pub fn take(&mut self, thing: Thing)
         requires { IsFront thing self.old.queue }
         ensures { self.new ≡ in_hand thing self.old }
@@ -190,6 +195,7 @@ impl Queue {
     }
 
     // What was served stands last, or is set aside; it isn't ready where its port was closed.
+    #[inline(always)]
     fn put_back<A: Core>(&mut self, agent: &A, hand: Option<Thing>) -> Result<(), AllocError>
         requires { IsCold hand self.old }
         ensures { OnOk result (self.new ≡ returned (A.state agent.now) hand self.old) }
@@ -214,6 +220,7 @@ impl Queue {
     }
 
     // The same, where it is at a port that is open. What can be served is at one.
+    #[inline(always)]
     fn place_open<A: Core>(&mut self, agent: &A, thing: Thing) -> Result<(), AllocError>
         requires { hot_of self.old thing ≡ false }
         ensures { OnOk result (self.new ≡ returned (A.state agent.now) (Some thing) self.old) }
@@ -227,6 +234,7 @@ impl Queue {
     }
 
     // The thing stands last, and not aside.
+    #[inline(always)]
     fn list(&mut self, thing: Thing) -> Result<(), AllocError>
         requires { set_of self.old.queue thing ≡ false }
         ensures { OnOk result (self.new ≡ listed_last thing self.old) }
@@ -240,6 +248,7 @@ impl Queue {
     }
 
     // The thing is set aside.
+    #[inline(always)]
     fn set_aside(&mut self, thing: Thing) -> Result<(), AllocError>
         requires { set_of self.old.queue thing ≡ false }
         ensures { OnOk result (self.new ≡ record self.old { aside = put_aside thing self.old.aside }) }
@@ -259,6 +268,7 @@ impl Queue {
     }
 
     // Whether the thing is ready.
+    #[inline(always)]
     fn has(&mut self, thing: Thing) -> bool
         ensures there { result ≡ hot_of self.old thing }
         ensures same { self.new ≡ self.old }
@@ -267,6 +277,7 @@ impl Queue {
     }
 
     // The thing is ready where the test holds, and it isn't at a port that isn't open.
+    #[inline(always)]
     fn add_if<A: Core>(&mut self, agent: &A, test: bool, thing: Thing) -> Result<(), AllocError>
         ensures { OnOk result (self.new
             ≡ queued_if (test && stands thing (A.state agent.now)) (A.state agent.now) thing self.old) }
@@ -292,6 +303,7 @@ impl Queue {
     }
 
     // The thing comes back where it was set aside and can be served.
+    #[inline(always)]
     fn call<A: Core>(&mut self, agent: &A, thing: Thing) -> Result<(), AllocError>
         ensures { OnOk result (self.new ≡ called (A.state agent.now) thing self.old) }
     {
@@ -302,6 +314,7 @@ impl Queue {
     }
 
     // Both directions of the event's port come back where they were set aside and can be served.
+    #[inline(always)]
     fn call_own<A: Core>(&mut self, agent: &A, own: Option<u64>) -> Result<(), AllocError>
         ensures { OnOk result (self.new ≡ called_own (A.state agent.now) own self.old) }
     {
@@ -313,6 +326,7 @@ impl Queue {
     }
 
     // The thing comes back where it was set aside.
+    #[inline(always)]
     fn bring(&mut self, thing: Thing) -> Result<(), AllocError>
         ensures { OnOk result (self.new ≡ brought thing self.old) }
     {
@@ -323,6 +337,7 @@ impl Queue {
     }
 
     // Whether the thing is set aside, and so not in the list.
+    #[inline(always)]
     fn is_aside(&mut self, thing: Thing) -> bool
         ensures there { result ≡ set_of (things_aside self.old.aside) thing }
         ensures apart { OnTrue result (set_of self.old.queue thing ≡ false) }

@@ -35,6 +35,7 @@ impl Room {
     }
 
     // The room is there from here on.
+    #[inline(always)]
     pub fn take(&mut self) -> Result<(), AllocError>
         ensures { OnOk result (length self.new.bytes.items ≡ read_room) }
     {

@@ -46,6 +46,7 @@ pub fn has_thing(things: &VecDeque<Thing>, thing: Thing) -> bool
 }
 
 // Whether the thing can be served.
+#[inline(always)]
 pub fn can_serve<A: Core>(agent: &A, thing: Thing) -> bool
     ensures { result ≡ is_servable (A.state agent.now) thing }
 {
@@ -57,6 +58,7 @@ pub fn can_serve<A: Core>(agent: &A, thing: Thing) -> bool
 }
 
 // Whether the thing is a listener, or its port is open.
+#[inline(always)]
 pub fn stands<A: Core>(agent: &A, thing: Thing) -> bool
     ensures { result ≡ stands thing (A.state agent.now) }
 {
