@@ -39,6 +39,7 @@ impl Port {
 
     /// Asks the system for bytes, by way of `inbox`, so that the rest of `room` stays whatever the system does to a
     /// buffer.
+    #[inline(always)]
     pub fn read(&mut self, round: u64, inbox: &mut [u8], room: &mut [u8]) -> io::Result<Got>
         requires { 0 < length room.old }
         ensures within { IfOk result (λ got. GotWithin (Ok got) (length room.old)) }
@@ -69,6 +70,7 @@ impl Port {
     }
 
     /// Writes from the front of `bytes`. Where there is no room, epoll reports it once there is.
+    #[inline(always)]
     pub fn write(&mut self, registry: &Registry, token: Token, bytes: &[u8]) -> io::Result<Wrote>
         requires { 0 < length bytes.now }
         ensures within { IfOk result (λ wrote. TookWithin (Ok wrote) (length bytes.now)) }

@@ -207,6 +207,7 @@ impl<R: Files<File = File> + Net + Processes + RandomSource + Clock> UnixWorld<'
         Ok(())
     }
 
+    #[inline(always)]
     fn read_from(&mut self, port: u64, room: &mut [u8]) -> io::Result<Got>
         requires { 0 < length room.old }
         ensures within { IfOk result (λ got. GotWithin (Ok got) (length room.old)) }
@@ -237,6 +238,7 @@ impl<R: Files<File = File> + Net + Processes + RandomSource + Clock> UnixWorld<'
         }
     }
 
+    #[inline(always)]
     fn write_to(&mut self, port: u64, bytes: &[u8]) -> io::Result<Wrote>
         requires { 0 < length bytes.now }
         ensures within { IfOk result (λ wrote. TookWithin (Ok wrote) (length bytes.now)) }

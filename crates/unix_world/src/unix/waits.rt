@@ -15,12 +15,8 @@ use std::random::RandomSource;
 use std::time::{Clock, Duration};
 use world_ports::{Door, Ready, Spot};
 
-fn item_of(event: &mio::event::Event) -> Ready {
-    let spot = match event.token() {
-        CLIENTS => Spot::Door(Door::Clients),
-        CHILDREN => Spot::Door(Door::Children),
-        Token(number) => Spot::Port(number as u64),
-    };
+// What epoll tells of a port or of a listener.
+fn told_at(spot: Spot, event: &mio::event::Event) -> Ready {
     Ready {
         spot,
         readable: event.is_readable() || event.is_read_closed() || event.is_error(),
@@ -68,40 +64,43 @@ impl<R: Files<File = File> + Net + Processes + RandomSource + Clock> UnixWorld<'
         wait
     }
 
-    // What epoll told of a port or of a child process is kept.
-    fn note(&mut self)
+    // Tells of what epoll told of ports and of listeners, and keeps it; what it told of child processes is kept alone.
+    fn tell_told(&mut self, out: &mut Vec<Ready>) -> Result<(), AllocError>
         ensures faults { self.new.faults ≡ self.old.faults }
         ensures ports { self.new.last_port ≡ self.old.last_port }
         ensures moment { self.new.moment ≡ self.old.moment }
     {
         for event in self.events.iter() {
-            let Token(number) = event.token();
-            let number = number as u64;
             let has_ended = event.is_read_closed() || event.is_error();
-            if let Some(port) = self.ports.get_mut(number) {
-                if has_ended {
-                    port.marks.shut();
-                } else if event.is_readable() {
-                    port.marks.wake();
+            match event.token() {
+                CLIENTS => out.push(told_at(Spot::Door(Door::Clients), event))?,
+                CHILDREN => out.push(told_at(Spot::Door(Door::Children), event))?,
+                Token(number) if number as u64 >= STARTED => {
+                    if has_ended {
+                        self.started.hang_up(number as u64 - STARTED);
+                    }
                 }
-            } else if has_ended && number >= STARTED {
-                self.started.hang_up(number - STARTED);
+                Token(number) => {
+                    if let Some(port) = self.ports.get_mut(number as u64) {
+                        if has_ended {
+                            port.marks.shut();
+                        } else if event.is_readable() {
+                            port.marks.wake();
+                        }
+                    }
+                    out.push(told_at(Spot::Port(number as u64), event))?;
+                }
             }
         }
+        Ok(())
     }
 
-    // Tells of what epoll told, and of what is owed; a round begins.
-    fn tell(&mut self, out: &mut Vec<Ready>) -> io::Result<()>
+    // Tells of what is owed; a round begins.
+    fn tell_owed(&mut self, out: &mut Vec<Ready>) -> Result<(), AllocError>
         ensures faults { self.new.faults ≡ self.old.faults }
         ensures ports { self.new.last_port ≡ self.old.last_port }
         ensures moment { self.new.moment ≡ self.old.moment }
     {
-        for event in self.events.iter() {
-            let Token(number) = event.token();
-            if number == 0 || (number as u64) < STARTED || number == usize::MAX {
-                out.push(item_of(event))?;
-            }
-        }
         for number in self.owed.iter() {
             out.push(ready_at(Spot::Port(*number)))?;
         }
@@ -121,10 +120,11 @@ impl<R: Files<File = File> + Net + Processes + RandomSource + Clock> UnixWorld<'
         let most = self.wait_of(wait);
         self.poll
             .poll(&mut self.events, most.map(Duration::from_secs))?;
-        self.note();
+        self.tell_told(out)?;
         if self.started.reap(false) {
             owe(&mut self.children);
         }
-        self.tell(out)
+        self.tell_owed(out)?;
+        Ok(())
     }
 }
