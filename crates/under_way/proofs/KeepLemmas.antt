@@ -1,5 +1,5 @@
 -- What each call keeps of what is under way.
-use Rattle.std.proofs.Common.{◌≡◌, ℕ, ◌+◌, ◌≤◌, Bool, true, false, List, [], ◌∷◌, ◌++◌, length, Option, Some, None, is_some, refl, sym, ap, ◌∙◌, subst, arith}
+use Rattle.std.proofs.Common.{◌≡◌, ℕ, ◌+◌, ◌≤◌, true, false, List, [], ◌∷◌, ◌++◌, length, Option, Some, None, is_some, refl, sym, ap, ◌∙◌, subst, arith}
 use Rattle.std.specs.Prelude.{IsSomeAnd, OnErr, OnOk, Result, Ok, Err}
 use Rattle.std.specs.Option.{option_map}
 use Rattle.std.proofs.lemmas.Bool.{eqb-true}
@@ -17,14 +17,15 @@ use Rattle.confirm_desk.specs.Calls.{given_back, telling, telling_by, telling_if
 use Rattle.confirm_desk.specs.Confirmations.{Confirmation, Consent, Held, NotYet, Yes, No, change_job, confirmation_of, consent, find_job, find_linked, heard_more, job_of as desk_job, linked, lose, raise, remove_job, second_of as raised_second, took_some}
 use Rattle.confirm_desk.specs.declared.held.Held.{Held as CodeHeld}
 use Rattle.agent_model.specs.Answers.{forget_helper}
-use Rattle.agent_model.specs.Children.{is_started_by, remove_to_start}
+use Rattle.agent_model.specs.Children.{is_started_by, is_wanted, remove_to_start}
 use Rattle.agent_model.specs.Consents.{find_started, remove_started, without_confirmation}
 use Rattle.agent_model.specs.Errands.{job_of}
 use Rattle.wire_text.specs.Bounds.{longest_body}
 use Rattle.agent_model.specs.State.{StartedJob, UnderWay, Verification, find_to_start}
 use Rattle.agent_model.proofs.JobLemmas.{in-by_port, in-found, linked_port}
-use Rattle.under_way.specs.Parts.{AreKept, AreStartedFor, FitsStarted, IsAwaited, IsFor, IsKept, IsShortIn, IsStartedFor, confirmer_told, is_wanted_by, jobs_of, the_job, told_by, told_if}
-use Rattle.under_way.proofs.KeptLemmas.{for-any, for-push, for-remove, for_at, given-gone, given_at, kept-changed, kept-confirm, kept-helper, kept-left, kept-linked, kept-lost, kept-moved, kept-named, linked_not_begun, linked_not_due, none_by, pushed-jobs, removed-jobs, short-change, short-push, short-remove, short_at, started-jobs, started-none}
+use Rattle.under_way.specs.Parts.{AreKept, AreStartedFor, FitsStarted, IsAwaited, IsFor, IsKept, IsShortIn, IsStartedFor, confirmer_told, jobs_of, the_job, told_by, told_if}
+use Rattle.under_way.proofs.KeptLemmas.{for-any, for-push, for-remove, for_at, given-gone, given_at, kept-changed, kept-confirm, kept-helper, kept-left, kept-linked, kept-lost, kept-moved, kept-named, linked_not_begun, linked_not_due, none_by, pushed-jobs, removed-jobs, started-jobs, started-none}
+use Rattle.under_way.proofs.ShortLemmas.{short-change, short-push, short-remove, short_at}
 
 -- ---- the jobs change
 
@@ -72,21 +73,21 @@ starting_is states.None number is = absurd cc
 starting_is (states.Starting job) number is = ap (λ (n : ℕ). states.Starting n) (eqb-true job number is)
 starting_is (states.Linked port) number is = absurd cc
 
-wanted_for : (kind : JobKind) (number : ℕ) (state : LinkState) (desk : List Confirmation) → is_wanted_by kind number state desk ≡ true → IsStartedFor kind number state
-wanted_for kinds.Helper number state desk is = starting_is state number is
-wanted_for kinds.Confirm number state desk is = tt
+wanted_for : (kind : JobKind) (number : ℕ) (u : UnderWay) → is_wanted kind number u ≡ true → IsStartedFor kind number u.link.state
+wanted_for kinds.Helper number u is = starting_is u.link.state number is
+wanted_for kinds.Confirm number u is = tt
 
-wanted_there : (kind : JobKind) (number : ℕ) (state : LinkState) (desk : List Confirmation) → is_wanted_by kind number state desk ≡ true →
-    kind ≡ kinds.Confirm → find_job number desk ≡ None → ⊥
-wanted_there kinds.Helper number state desk is same none = absurd cc
-wanted_there kinds.Confirm number state desk is same none = no_one (sym (ap is_some none) ∙ is)
+wanted_there : (kind : JobKind) (number : ℕ) (u : UnderWay) → is_wanted kind number u ≡ true → kind ≡ kinds.Confirm →
+    find_job number u.confirmations ≡ None → ⊥
+wanted_there kinds.Helper number u is same none = absurd cc
+wanted_there kinds.Confirm number u is same none = no_one (sym (ap is_some none) ∙ is)
   where
     no_one : false ≡ true → ⊥
     no_one e = absurd cc
 
 -- a job that was started
 pub keeps-moved : (u : UnderWay) (number : ℕ) (job : Job) (ticket : List ℕ) → IsKept u → find_to_start number u.to_start ≡ Some job →
-    is_wanted_by job.kind job.number u.link.state u.confirmations ≡ true → IsKept (record u {
+    is_wanted job.kind job.number u ≡ true → IsKept (record u {
       to_start = remove_to_start number u.to_start;
       started = u.started ++ record { job = job; ticket = ticket } ∷ [];
     })
@@ -96,9 +97,9 @@ keeps-moved u number job ticket kept found wanted =
     record {
       jobs = subst (AreKept u.last_job u.confirmations (remove_to_start number u.to_start)) (sym same)
           (kept-moved u.last_job number u.confirmations u.to_start (jobs_of u.started) job kept.jobs found
-          (wanted_there job.kind job.number u.link.state u.confirmations wanted));
+          (wanted_there job.kind job.number u wanted));
       coming = subst (AreStartedFor u.link.state) (sym same)
-          (for-push u.link.state (jobs_of u.started) job kept.coming (wanted_for job.kind job.number u.link.state u.confirmations wanted));
+          (for-push u.link.state (jobs_of u.started) job kept.coming (wanted_for job.kind job.number u wanted));
       short = kept.short;
       asked = kept.asked;
       raised = kept.raised;

@@ -1,5 +1,5 @@
 -- Jobs to start and started jobs: their numbers, and the confirmations that they are for.
-use Rattle.std.proofs.Common.{◌≡◌, ℕ, ◌+◌, ◌<◌, ◌≤◌, Bool, true, false, cond, eqb, List, [], ◌∷◌, ◌++◌, length, Option, Some, None, refl, sym, ap, ◌∙◌, subst, arith}
+use Rattle.std.proofs.Common.{◌≡◌, ℕ, ◌+◌, ◌<◌, ◌≤◌, Bool, true, false, cond, eqb, List, [], ◌∷◌, ◌++◌, Option, Some, None, refl, sym, ap, ◌∙◌, subst, arith}
 use Rattle.std.specs.Option.{option_map}
 use Rattle.std.proofs.lemmas.Bool.{eqb-false, eqb-true, eq-eqb, false_from_ne_true}
 use Rattle.std.proofs.lemmas.Option.{none-some, same_Some}
@@ -13,14 +13,13 @@ use Rattle.helper_link.specs.declared.state.LinkState.{LinkState}
 use Rattle.helper_link.specs.declared.state.LinkState.TheVariants as states
 use Rattle.confirm_desk.specs.Confirmations.{Confirmation, change_job, find_job, linked, linked_at, remove_job}
 use Rattle.agent_model.specs.Asking.{JobsRise}
-use Rattle.wire_text.specs.Bounds.{longest_body}
 use Rattle.agent_model.specs.Children.{remove_to_start}
 use Rattle.agent_model.specs.Consents.{find_started, remove_started, started_number}
 use Rattle.agent_model.specs.State.{StartedJob, find_to_start, job_number}
 use Rattle.agent_model.proofs.JobLemmas.{change-apart, find_job-push, find_job-remove, jobs-change, jobs-higher, jobs-push, jobs-remove, job_within}
 use Rattle.under_way.specs.Jobs.{all_started}
 use Rattle.under_way.specs.declared.jobs.Started.{Started}
-use Rattle.under_way.specs.Parts.{AreGiven, AreKept, AreShort, AreStartedFor, FitsStarted, FitsToStart, IsStartedFor, IsUnlinked, jobs_of, the_job}
+use Rattle.under_way.specs.Parts.{AreGiven, AreKept, AreStartedFor, FitsStarted, FitsToStart, IsStartedFor, IsUnlinked, jobs_of, the_job}
 
 -- ---- numbers
 
@@ -43,10 +42,6 @@ none-remove number other jobs none = find-remove_none (has_key job_number number
 pub none-push : (number : ℕ) (jobs : List Job) (last : Job) → eqb last.number number ≡ false → find_to_start number jobs ≡ None →
     find_to_start number (jobs ++ last ∷ []) ≡ None
 none-push number jobs last other none = find-push_other (has_key job_number number) jobs last other ∙ none
-
--- what isn't there isn't removed
-pub remove-none : (number : ℕ) (jobs : List Job) → find_to_start number jobs ≡ None → remove_to_start number jobs ≡ jobs
-remove-none number jobs none = removed_nowhere (has_key job_number number) jobs none
 
 -- by whether there is one
 pub none_by : {A : Type 0} (found : Option A) → ((one : A) → found ≡ Some one → ⊥) → found ≡ None
@@ -371,35 +366,3 @@ kept-lost last job desk due begun kept =
           ∙ ap (λ (here : Bool). cond here None (find_job n desk)) (differs_back n job is))) fits) named.started;
       apart = named.apart;
     }
-
--- ---- messages are short
-
-pub short_at : (job : ℕ) (desk : List Confirmation) (one : Confirmation) → AreShort desk → find_job job desk ≡ Some one → length one.message ≤ longest_body
-short_at job [] one short found = absurd (none-some one found)
-short_at job (first ∷ others) one short found = by (eqb first.job job) found (short_at job others one short.1)
-  where
-    by : (here : Bool) → cond here (Some first) (find_job job others) ≡ Some one → (find_job job others ≡ Some one → length one.message ≤ longest_body) →
-        length one.message ≤ longest_body
-    by true some later = subst (λ (c : Confirmation). length c.message ≤ longest_body) (same_Some first one some) short.0
-    by false some later = later some
-
-pub short-push : (desk : List Confirmation) (new : Confirmation) → AreShort desk → length new.message ≤ longest_body → AreShort (desk ++ new ∷ [])
-short-push [] new short one = (one, tt)
-short-push (first ∷ others) new short one = (short.0, short-push others new short.1 one)
-
-pub short-change : (job : ℕ) (f : Confirmation → Confirmation) (desk : List Confirmation) → ((c : Confirmation) → (f c).message ≡ c.message) → AreShort desk →
-    AreShort (change_job job f desk)
-short-change job f [] keeps short = tt
-short-change job f (first ∷ others) keeps short = by (eqb first.job job) (short-change job f others keeps short.1)
-  where
-    by : (here : Bool) → AreShort (change_job job f others) → AreShort (cond here (f first ∷ others) (first ∷ change_job job f others))
-    by true later = (rw (keeps first) short.0, short.1)
-    by false later = (short.0, later)
-
-pub short-remove : (job : ℕ) (desk : List Confirmation) → AreShort desk → AreShort (remove_job job desk)
-short-remove job [] short = tt
-short-remove job (first ∷ others) short = by (eqb first.job job) (short-remove job others short.1)
-  where
-    by : (here : Bool) → AreShort (remove_job job others) → AreShort (cond here others (first ∷ remove_job job others))
-    by true later = short.1
-    by false later = (short.0, later)

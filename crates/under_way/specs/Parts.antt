@@ -1,5 +1,5 @@
 -- What is under way, from its parts in storage (ours).
-use Rattle.std.specs.Prelude.{◌≡◌, ℕ, ◌≤◌, Bool, List, [], ◌∷◌, length, map, Option, Some, None, is_some}
+use Rattle.std.specs.Prelude.{◌≡◌, ℕ, ◌≤◌, List, [], ◌∷◌, length, map, Option, Some, None}
 use Rattle.world_ports.specs.declared.Job.{Job}
 use Rattle.world_ports.specs.declared.JobKind.{JobKind}
 use Rattle.world_ports.specs.declared.JobKind.TheVariants as kinds
@@ -12,7 +12,6 @@ use Rattle.confirm_desk.specs.Confirmations.{AreRaisedBy, Confirmation, find_job
 use Rattle.confirm_desk.specs.declared.held.Verdict.{Verdict as DeskVerdict}
 use Rattle.confirm_desk.specs.declared.held.Verdict.TheVariants as verdicts
 use Rattle.agent_model.specs.Asking.{JobsRise}
-use Rattle.agent_model.specs.Children.{is_started_by}
 use Rattle.agent_model.specs.Consents.{without_confirmation}
 use Rattle.wire_text.specs.Bounds.{longest_body}
 use Rattle.agent_model.specs.State.{Nothing, OnAsk, OnConfirmation, StartedJob, TimeLimits, UnderWay, find_to_start}
@@ -80,11 +79,6 @@ pub record AreKept (last : ℕ) (confirmations : List Confirmation) (due begun :
   pub apart : (number : ℕ) (job : Job) → find_to_start number due ≡ Some job → find_to_start number begun ≡ None
 
 -- ---- the helper's job
-
--- a job that is still wanted: the link is starting by it, or its confirmation is waited for
-abbrev pub is_wanted_by : JobKind → ℕ → LinkState → List Confirmation → Bool
-is_wanted_by kinds.Helper number state confirmations = is_started_by number state
-is_wanted_by kinds.Confirm number state confirmations = is_some (find_job number confirmations)
 
 -- a started job of a helper is the one by which the link is starting
 abbrev pub IsStartedFor : JobKind → ℕ → LinkState → Type 0

@@ -3,17 +3,16 @@
 ghost use Rattle.std.specs.Prelude.{◌≡◌, ◌++◌, IsSome, IsSomeAnd, MatchOption, Some, None};
 ghost use Rattle.confirm_desk.specs.Confirmations.{find_linked, linked};
 ghost use Rattle.helper_link.specs.HelperLink.{linked_to};
-ghost use Rattle.agent_model.specs.Children.{is_started_by, remove_to_start, started_if};
+ghost use Rattle.agent_model.specs.Children.{is_started_by, is_wanted, remove_to_start, started_if};
 ghost use Rattle.agent_model.specs.Consents.{find_started, remove_started};
 ghost use Rattle.world_ports.specs.declared.Job.{Job as AJob};
 ghost use Rattle.under_way.specs.Jobs.{started_job};
 ghost use Rattle.agent_model.specs.State.{StartedJob as AStartedJob, find_to_start};
-ghost use Rattle.under_way.specs.Parts.{IsFor, is_wanted_by};
+ghost use Rattle.under_way.specs.Parts.{IsFor};
 
 use crate::jobs::{Started, forget, place_of, place_of_started};
 use crate::state::UnderWay;
-use confirm_desk::Desk;
-use helper_link::{Link, LinkState};
+use helper_link::LinkState;
 use world_ports::{Job, JobKind};
 
 impl UnderWay {
@@ -31,8 +30,10 @@ impl UnderWay {
         let Some(place) = place_of(&self.to_start, job) else {
             unreachable!()
         };
-        let job = self.to_start.remove(place);
-        if is_wanted(&self.link, &self.desk, job) {
+        let job = self.to_start[place];
+        let is_wanted = self.is_wanted(job);
+        self.to_start.remove(place);
+        if is_wanted {
             let Ok(()) = self.started.push(Started { job, ticket }) else {
                 unreachable!()
             };
@@ -58,7 +59,10 @@ impl UnderWay {
     pub fn is_starting(&self, job: u64) -> bool
         ensures { result ≡ is_started_by job self.now.link.state }
     {
-        is_starting(&self.link, job)
+        match self.link.state() {
+            LinkState::Starting { job: starting } => starting == job,
+            LinkState::None | LinkState::Linked { .. } => false,
+        }
     }
 
     /// The started job of this number, which a child process names.
@@ -100,23 +104,15 @@ impl UnderWay {
     }
 }
 
-// Whether a child process may name the job, once it is started: that of a confirmation that is over may not, nor that
-// of a helper that was lost.
-fn is_wanted(link: &Link, desk: &Desk, job: Job) -> bool
-    ensures { result ≡ is_wanted_by job.kind job.number link.now.state desk.now }
-{
-    match job.kind {
-        JobKind::Helper => is_starting(link, job.number),
-        JobKind::Confirm => desk.find_job(job.number).is_some(),
-    }
-}
-
-// Whether a helper is being started by the job of this number.
-fn is_starting(link: &Link, number: u64) -> bool
-    ensures { result ≡ is_started_by number link.now.state }
-{
-    match link.state() {
-        LinkState::Starting { job } => job == number,
-        LinkState::None | LinkState::Linked { .. } => false,
+impl UnderWay {
+    // Whether a child process may name the job, once it is started: that of a confirmation that is over may not, nor
+    // that of a helper that was lost.
+    fn is_wanted(&self, job: Job) -> bool
+        ensures { result ≡ is_wanted job.kind job.number self.now }
+    {
+        match job.kind {
+            JobKind::Helper => self.is_starting(job.number),
+            JobKind::Confirm => self.desk.find_job(job.number).is_some(),
+        }
     }
 }

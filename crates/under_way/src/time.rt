@@ -75,9 +75,9 @@ impl UnderWay {
 fn has_lasted(limit: Option<u32>, since: u64, now: u64) -> bool
     ensures { result ≡ has_lasted limit since now }
 {
-    match limit {
-        Some(limit) => since <= now && now - since >= u64::from(limit),
-        None => false,
+    match (limit, now.checked_sub(since)) {
+        (Some(limit), Some(lasted)) => lasted >= u64::from(limit),
+        _ => false,
     }
 }
 

@@ -1,4 +1,4 @@
-use Rattle.std.proofs.Common.{rules, ◌≡◌, ◌∙◌, Some, ap, slice_get, subst, sym}
+use Rattle.std.proofs.Common.{rules, ◌≡◌, ◌∙◌, Some, ap, slice_get, sym}
 use Rattle.std.specs.Option.{option_map}
 use Rattle.lists.specs.Keyed.{NeverFallBy}
 use Rattle.confirm_desk.specs.Confirmations.{Confirmation, job_of, second_of}
