@@ -10,19 +10,16 @@ use Rattle.agent_model.specs.Actions.{closing}
 use Rattle.agent_model.specs.Answers.{close_helper, helper_closes, tell_each}
 use Rattle.agent_model.specs.Children.{heard_more, unheard}
 use Rattle.agent_model.specs.Consents.{close_confirmer, confirmer_closes}
-use Rattle.agent_model.specs.State.{Port, UnderWay, change_port, client_count, find_port, is_client, is_unnamed, new_port, numbers, remove_port, role_of, unnamed_count}
+use Rattle.agent_model.specs.State.{Port, UnderWay, change_port, client_count, find_port, is_client, is_unnamed, new_port, number_of, numbers, remove_port, role_of, unnamed_count}
 use Rattle.agent_model.specs.Step.{admitted, has_room}
 use Rattle.agent_model.specs.Verdicts.{Verdict, tell}
 use Rattle.agent_secrecy.specs.Hiding.{hide_heard, hide_port, hide_ports, hide_under_way}
+use Rattle.lists.proofs.FirstLemmas.{find-map, remove-map}
+use Rattle.lists.specs.Keyed.{has_key}
 
 module _ (heard : ℕ → List ℕ → List ℕ) where
   pub find_port-hidden : (number : ℕ) (ports : List Port) → find_port number (hide_ports heard ports) ≡ option_map (hide_port heard) (find_port number ports)
-  find_port-hidden number [] = refl
-  find_port-hidden number (port ∷ ports) = by_test (port.number == number) (find_port-hidden number ports)
-    where
-      by_test : (same : Bool) → find_port number (hide_ports heard ports) ≡ option_map (hide_port heard) (find_port number ports) → cond same (Some (hide_port heard port)) (find_port number (hide_ports heard ports)) ≡ option_map (hide_port heard) (cond same (Some port) (find_port number ports))
-      by_test true rest = refl
-      by_test false rest = rest
+  find_port-hidden number ports = find-map (hide_port heard) (has_key number_of number) (has_key number_of number) (λ port. refl) ports
 
   -- one port changed
   pub change_port-hidden : (number : ℕ) (f g : Port → Port) (ports : List Port) → ((port : Port) → find_port number ports ≡ Some port → g (hide_port heard port) ≡ hide_port heard (f port)) → change_port number g (hide_ports heard ports) ≡ hide_ports heard (change_port number f ports)
@@ -34,12 +31,7 @@ module _ (heard : ℕ → List ℕ → List ℕ) where
       by_test false here later = ap (λ rest. hide_port heard port ∷ rest) (later here)
 
   pub remove_port-hidden : (number : ℕ) (ports : List Port) → remove_port number (hide_ports heard ports) ≡ hide_ports heard (remove_port number ports)
-  remove_port-hidden number [] = refl
-  remove_port-hidden number (port ∷ ports) = by_test (port.number == number) (remove_port-hidden number ports)
-    where
-      by_test : (is : Bool) → remove_port number (hide_ports heard ports) ≡ hide_ports heard (remove_port number ports) → cond is (hide_ports heard ports) (hide_port heard port ∷ remove_port number (hide_ports heard ports)) ≡ hide_ports heard (cond is ports (port ∷ remove_port number ports))
-      by_test true rest = refl
-      by_test false rest = ap (λ others. hide_port heard port ∷ others) rest
+  remove_port-hidden number ports = remove-map (hide_port heard) (has_key number_of number) (has_key number_of number) (λ port. refl) ports
 
   pub numbers-hidden : (ports : List Port) → numbers (hide_ports heard ports) ≡ numbers ports
   numbers-hidden [] = refl

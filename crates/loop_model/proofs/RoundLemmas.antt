@@ -1,5 +1,6 @@
 -- A turn of the list: what is served stood first, the others keep their order, and it stands last where it can be served.
-use Rattle.std.proofs.Common.{◌≡◌, ◌∙◌, ℕ, Bool, true, false, List, [], ◌∷◌, ◌++◌, Option, Some, None, refl, sym, ap, cond, is_some, not, ◌&&◌, ◌||◌, if◌then◌else◌}
+use Rattle.std.proofs.Common.{◌≡◌, ◌∙◌, ℕ, Bool, true, false, List, [], ◌∷◌, ◌++◌, Option, Some, None, refl, sym, ap, cond, is_some, not, ◌&&◌, ◌||◌, if◌then◌else◌, arith}
+use Rattle.std.proofs.lemmas.Bool.Decides.{nat_tests}
 use Rattle.std.proofs.lemmas.List.{append-nil}
 use Rattle.std.specs.List.{filter}
 use Rattle.agent_model.specs.State.{Port, State, UnderWay, find_port, is_some_bytes, owed_by, wants_by}
@@ -45,23 +46,14 @@ exact-listed state line is thing there =
 
 -- ---- what stood in the list and stands there yet
 
-filter_by : (here : Bool) (test other : Thing → Bool) (first : Thing) (queue : List Thing) → test first ≡ here
-    → other first ≡ here → filter test queue ≡ filter other queue
-    → cond (test first) (first ∷ filter test queue) (filter test queue)
-    ≡ cond (other first) (first ∷ filter other queue) (filter other queue)
-filter_by here test other first queue is also rest =
-    ap (λ (b : Bool). cond b (first ∷ filter test queue) (filter test queue)) (is ∙ sym also)
-    ∙ ap (λ (ts : List Thing). cond (other first) (first ∷ ts) ts) rest
-
 -- tests that agree on what stands there leave the same
 same_filter : (test other : Thing → Bool) (queue : List Thing)
     → ((thing : Thing) → set_of queue thing ≡ true → test thing ≡ other thing) → filter test queue ≡ filter other queue
 same_filter test other [] agree = refl
 same_filter test other (first ∷ queue) agree =
-    filter_by (other first) test other first queue
-    (agree first (or_left (same_thing first first) (set_of queue first) (same_thing-refl first))) refl
-    (same_filter test other queue
-    (λ thing there. agree thing (or_right (same_thing first thing) (set_of queue thing) there)))
+    let here = agree first (or_left (same_thing first first) (set_of queue first) (same_thing-refl first)) in
+    let rest = same_filter test other queue (λ thing there. agree thing (or_right (same_thing first thing) (set_of queue thing) there)) in
+    grind (arith, nat_tests)
 
 -- a test is another where each leads to the other
 agree_by : (a b : Bool) → (a ≡ true → b ≡ true) → (b ≡ true → a ≡ true) → a ≡ b
