@@ -11,7 +11,7 @@ use Rattle.agent_model.specs.Answers.{lose_where}
 use Rattle.agent_model.specs.Dispatch.{Served}
 use Rattle.agent_model.specs.Events.{Happening, Heard, Tick, Took}
 use Rattle.agent_model.specs.KeyStates.{KeyState, expired}
-use Rattle.agent_model.specs.Looks.{due, due_at, due_by}
+use Rattle.agent_model.specs.Looks.{due, due_front, due_by}
 use Rattle.agent_model.specs.State.{Client, Confirmer, Helper, Nothing, OnAsk, OnConfirmation, Port, State, UnderWay, Unnamed, Waits, change_port, find_port, remove_port, role_of}
 use Rattle.agent_model.specs.Step.{asker_at, attempts, handle, look_port, looked, step, take_frame}
 use Rattle.agent_model.specs.Step.{took_some as port_took}
@@ -199,7 +199,7 @@ agent_asked wall keys going left ports number count least one is there_is least_
 -- ---- what holds in between
 
 -- nobody waits for consent who is served
-due_waits : (waits : Waits) (owed heard : List ℕ) (body_len : ℕ) → due_at waits owed heard ≡ Whole body_len → waits ≡ Nothing
+due_waits : (waits : Waits) (owed heard : List ℕ) (body_len : ℕ) → due_front waits owed heard ≡ Whole body_len → waits ≡ Nothing
 due_waits Nothing owed heard body_len is = refl
 due_waits (OnAsk ask) owed heard body_len is = absurd (cc)
 due_waits (OnConfirmation job) owed heard body_len is = absurd (cc)

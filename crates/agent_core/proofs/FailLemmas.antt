@@ -9,7 +9,7 @@ use Rattle.helper_link.specs.declared.state.LinkState.TheVariants as states
 use Rattle.confirm_desk.specs.Confirmations.{Confirmation, find_asker, find_job}
 use Rattle.agent_model.specs.Actions.{stay}
 use Rattle.agent_model.specs.Answers.{lose, lose_where}
-use Rattle.agent_model.specs.Children.{failed_by, failed_if, is_started_by, job_left, remove_to_start, shut, shut_then}
+use Rattle.agent_model.specs.Children.{failed_by, start_failed, is_started_by, job_left, remove_to_start, shut, shut_then}
 use Rattle.agent_model.specs.Consents.{over, over_if}
 use Rattle.agent_model.specs.Events.{Ended, Heard, StartFailed, Took}
 use Rattle.agent_model.specs.KeyStates.{KeyState}
@@ -65,7 +65,7 @@ helper_ends number last state rising is =
 -- ---- a job could not be started
 
 -- by its kind
-failed_as : (job : ℕ) (kind : JobKind) (found : Option Job) (state : State) → IsSome found → ((one : Job) → found ≡ Some one → (one.kind ≡ kind) × (one.number ≡ job)) → failed_if found state ≡ failed_by kind job (job_left job state)
+failed_as : (job : ℕ) (kind : JobKind) (found : Option Job) (state : State) → IsSome found → ((one : Job) → found ≡ Some one → (one.kind ≡ kind) × (one.number ≡ job)) → start_failed found state ≡ failed_by kind job (job_left job state)
 failed_as job kind None state some is = absurd (cc)
 failed_as job kind (Some one) state some is =
     ap (λ k. failed_by k one.number (job_left one.number state)) (is one refl).0

@@ -7,7 +7,7 @@ ghost use Rattle.agent_model.specs.Answers.{chain_with, prove};
 ghost use Rattle.agent_model.specs.Children.{heard_more, unheard};
 ghost use Rattle.wire_text.specs.Bounds.{longest_body};
 ghost use Rattle.agent_model.specs.Looks.{due};
-ghost use Rattle.agent_model.specs.State.{wants_at};
+ghost use Rattle.agent_model.specs.State.{wants_more};
 ghost use Rattle.agent_model.specs.Step.{attempts, take_frame, took_some};
 ghost use Rattle.confirm_desk.specs.Confirmations.{find_asker};
 ghost use Rattle.agent_model.specs.Verdicts.{Verdict, tell};
@@ -98,7 +98,7 @@ fn due(slot: &Slot) -> Look
 
 /// Whether it is to be read: a client until a request of it is whole, a child process always.
 pub fn wants(slot: &Slot) -> bool
-    ensures { result ≡ wants_at slot.now.door slot.now.heard.live }
+    ensures { result ≡ wants_more slot.now.door slot.now.heard.live }
 {
     match slot.door {
         Door::Clients => matches!(look(slot.heard.live(), LONGEST_BODY), Look::More),

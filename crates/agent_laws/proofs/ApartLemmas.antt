@@ -17,7 +17,7 @@ use Rattle.child_msg.specs.declared.fault.ChildFault.{ChildFault}
 use Rattle.confirm_desk.specs.Confirmations.{Confirmation, find_asker, find_job, find_linked, linked}
 use Rattle.agent_model.specs.Actions.{Outcome}
 use Rattle.agent_model.specs.Binds.{agent_request_of}
-use Rattle.agent_model.specs.Children.{confirmer_goes_on, confirmer_named, failed_by, failed_if, first_frame, first_message, heard_more, hello_by, helper_named, is_started_by, job_left, job_started, named_by, ticket_by, unheard}
+use Rattle.agent_model.specs.Children.{confirmer_goes_on, confirmer_named, failed_by, start_failed, first_frame, first_message, heard_more, hello_heard, helper_named, is_started_by, job_left, job_started, named_by, ticket_shown, unheard}
 use Rattle.agent_model.specs.Consents.{find_started, over_if}
 use Rattle.agent_model.specs.Dispatch.{serve}
 use Rattle.agent_model.specs.Events.{Happening, Timed, Joined, Heard, Ended, Took, Started, StartFailed, Tick}
@@ -134,11 +134,11 @@ module _ (who : Insiders) where
     named-alike kinds.Confirm job rest =
         none_goes_on job rest (sides-linked job) (find_job job (confirmer_named job number state).under_way.confirmations) (ap (find_job job) (sides-linked job).calm)
 
-    ticket-alike : (same : Bool) (job : Job) (rest : List ℕ) → Here (ticket_by same job number rest)
+    ticket-alike : (same : Bool) (job : Job) (rest : List ℕ) → Here (ticket_shown same job number rest)
     ticket-alike true job rest = named-alike job.kind job.number rest
     ticket-alike false job rest = alike-shut sides number
 
-    hello-alike : (started : Option StartedJob) (ticket rest : List ℕ) → Here (hello_by started ticket number rest)
+    hello-alike : (started : Option StartedJob) (ticket rest : List ℕ) → Here (hello_heard started ticket number rest)
     hello-alike None ticket rest = alike-shut sides number
     hello-alike (Some one) ticket rest = ticket-alike (bytes_eq one.ticket ticket) one.job rest
 
@@ -274,7 +274,7 @@ module _ (who : Insiders) where
       put = refl;
     }
 
-  failed-found : (asked : Option Job) {state : State} {q : List Port} {k : KeyState} → Sides who state q k → Same who (failed_if asked state) (failed_if asked (other state q k))
+  failed-found : (asked : Option Job) {state : State} {q : List Port} {k : KeyState} → Sides who state q k → Same who (start_failed asked state) (start_failed asked (other state q k))
   failed-found None sides = alike-stay sides
   failed-found (Some job) {state = state} sides = failed-kind (sides-way sides (job_left job.number state).under_way sides.calm) job.kind job.number
 

@@ -11,7 +11,7 @@ use Rattle.helper_link.specs.declared.ask.Ask.{Ask}
 use Rattle.helper_link.specs.declared.fault.LinkFault.{LinkFault}
 use Rattle.helper_link.proofs.AnswerLemmas.{settling_leads}
 use Rattle.agent_model.specs.Actions.{Action, Answered, Lost, Outcome, acted, and_then}
-use Rattle.agent_model.specs.Answers.{Answering, answer_all, answer_by, lose, lose_if, proved_at, with_answers}
+use Rattle.agent_model.specs.Answers.{Answering, answer_all, answer_by, lose, lose_if, proved_where_open, with_answers}
 use Rattle.agent_model.specs.Events.{Happening}
 use Rattle.agent_model.specs.KeyStates.{KeyState}
 use Rattle.agent_model.specs.Runs.{Stamped}
@@ -61,7 +61,7 @@ module _ {N : Type 0} (life : Option ℕ) (moment : Moment) (held : KeyState) (o
     idle = λ n. refl;
   }
 
-  proved-agrees : (found : Option Port) (verification : Verification) → Agrees N life moment.mono (onto past (stamps moment (Answered one ∷ proved_at found verification))) held (remove_ask one.ask pending) confirmations
+  proved-agrees : (found : Option Port) (verification : Verification) → Agrees N life moment.mono (onto past (stamps moment (Answered one ∷ proved_where_open found verification))) held (remove_ask one.ask pending) confirmations
   proved-agrees None verification = answered-agrees
   proved-agrees (Some port) verification = record {
     holds = record { locked = holds.locked; count = holds.count; default = holds.default; own = holds.own; numbers = holds.numbers; found = holds.found };
@@ -70,7 +70,7 @@ module _ {N : Type 0} (life : Option ℕ) (moment : Moment) (held : KeyState) (o
     idle = λ n. refl;
   }
 
-  proved-lawful : (found : Option Port) (verification : Verification) → LawfulIf N life past (stamps moment (Answered one ∷ proved_at found verification))
+  proved-lawful : (found : Option Port) (verification : Verification) → LawfulIf N life past (stamps moment (Answered one ∷ proved_where_open found verification))
   proved-lawful None verification = (agrees.idle, λ n. refl)
   proved-lawful (Some port) verification = (agrees.idle, (λ n. refl, λ n. refl))
 
@@ -97,8 +97,8 @@ module _ {N : Type 0} (life : Option ℕ) (moment : Moment) (held : KeyState) (p
   told-is one before pending (proves verification noted) told =
       let found : Option Port = find_port one.asker before.ports in
       record {
-        lawful = lawful-more N life moment past before.actions (Answered one ∷ proved_at found verification) told.lawful (proved-lawful life moment held one (onto past (stamps moment before.actions)) pending confirmations told.agrees found verification);
-        agrees = agrees-more life moment past before.actions (Answered one ∷ proved_at found verification) held (remove_ask one.ask pending) confirmations (proved-agrees life moment held one (onto past (stamps moment before.actions)) pending confirmations told.agrees found verification);
+        lawful = lawful-more N life moment past before.actions (Answered one ∷ proved_where_open found verification) told.lawful (proved-lawful life moment held one (onto past (stamps moment before.actions)) pending confirmations told.agrees found verification);
+        agrees = agrees-more life moment past before.actions (Answered one ∷ proved_where_open found verification) held (remove_ask one.ask pending) confirmations (proved-agrees life moment held one (onto past (stamps moment before.actions)) pending confirmations told.agrees found verification);
       }
 
   told-all : (settled : List Settled) (before : Answering) (pending left : List Ask) → LeadTo settled pending left → Told N life moment held past before pending confirmations → Told N life moment held past (answer_all settled before) left confirmations

@@ -22,7 +22,7 @@ use Rattle.helper_link.specs.declared.fault.LinkFault.{LinkFault}
 use Rattle.helper_link.proofs.AnswerLemmas.{settling_leads}
 use Rattle.helper_link.proofs.OrderLemmas.{find-push, remove_rises}
 use Rattle.agent_model.specs.Actions.{Action, Answered, Asked, ForBinding, Lost, Outcome, Proved, Proving, Purpose, Work, acted, and_then, behind}
-use Rattle.agent_model.specs.Answers.{Answering, answer_all, answer_asker, answer_by, answer_true, find_verification, lose_if, proved_at, remove_verification, with_answers}
+use Rattle.agent_model.specs.Answers.{Answering, answer_all, answer_asker, answer_by, answer_true, find_verification, lose_if, proved_where_open, remove_verification, with_answers}
 use Rattle.agent_model.specs.Children.{changed}
 use Rattle.agent_model.specs.Consents.{grant_concluded, signing_of, without_confirmation}
 use Rattle.agent_model.specs.Dispatch.{Served}
@@ -155,7 +155,7 @@ module _ (past : List Action) (last : ℕ) (one : Settled) (before : Answering) 
   }
 
   module _ (right : one.answer ≡ answer.True) (verification : Verification) (noted : find_verification one.ask before.verifications ≡ Some verification) where
-    proves-right : (opened : Option Port) → find_port one.asker before.ports ≡ opened → AnswerTheirAsks (past ++ before.actions) (Answered one ∷ proved_at opened verification)
+    proves-right : (opened : Option Port) → find_port one.asker before.ports ≡ opened → AnswerTheirAsks (past ++ before.actions) (Answered one ∷ proved_where_open opened verification)
     proves-right None is = (tt, tt)
     proves-right (Some port) is =
         let was = holds.were one.ask (ask_of one.ask one.asker kind put_at) verification noted found in
@@ -178,8 +178,8 @@ module _ (past : List Action) (last : ℕ) (one : Settled) (before : Answering) 
         let opened : Option Port = find_port one.asker before.ports in
         record {
           rise = remove_rises one.ask 0 asks last holds.rise;
-          right = answer-append past before.actions (Answered one ∷ proved_at opened verification) holds.right (proves-right opened refl);
-          were = others (Answered one ∷ proved_at opened verification);
+          right = answer-append past before.actions (Answered one ∷ proved_where_open opened verification) holds.right (proves-right opened refl);
+          were = others (Answered one ∷ proved_where_open opened verification);
         }
 
   holds-true : one.answer ≡ answer.True → (noted : Option Verification) → find_verification one.ask before.verifications ≡ noted → HoldsSo past last (answer_true noted one before) (remove_ask one.ask asks)

@@ -7,7 +7,7 @@ use Rattle.helper_link.specs.declared.answer.Answer.TheVariants as answer
 use Rattle.helper_link.specs.declared.answer.Settled.{Settled}
 use Rattle.helper_link.specs.declared.fault.LinkFault.{LinkFault}
 use Rattle.agent_model.specs.Actions.{Action, Answered, Granted, Lost, Over, Proved, Proving, Raised}
-use Rattle.agent_model.specs.Answers.{Answering, answer_all, answer_by, answer_true, find_verification, helper_tells, lose_if, proved_at}
+use Rattle.agent_model.specs.Answers.{Answering, answer_all, answer_by, answer_true, find_verification, helper_tells, lose_if, proved_where_open}
 use Rattle.agent_model.specs.Grants.{IsAmong}
 use Rattle.agent_model.specs.State.{Port, State, Verification, find_port}
 
@@ -42,7 +42,7 @@ among-back action (one ∷ some) more among = inr (among-back action some more a
 -- ---- what the helper's answers and its loss bring
 
 module _ (P : Action → Type 0) (answered : (one : Settled) → P (Answered one)) (proved : (proving : Proving) → P (Proved proving)) where
-  each-proved : (found : Option Port) (verification : Verification) → Each P (proved_at found verification)
+  each-proved : (found : Option Port) (verification : Verification) → Each P (proved_where_open found verification)
   each-proved None verification = tt
   each-proved (Some port) verification = (proved _, tt)
 

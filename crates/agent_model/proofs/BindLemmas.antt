@@ -15,7 +15,7 @@ use Rattle.helper_link.specs.declared.answer.Settled.{Settled}
 use Rattle.helper_link.specs.declared.ask.Ask.{Ask}
 use Rattle.helper_link.proofs.OrderLemmas.{remove_rises}
 use Rattle.agent_model.specs.Actions.{Action, Answered}
-use Rattle.agent_model.specs.Answers.{Answering, answer_all, answer_asker, answer_by, answer_true, find_verification, prove, proved_at, remove_verification}
+use Rattle.agent_model.specs.Answers.{Answering, answer_all, answer_asker, answer_by, answer_true, find_verification, prove, proved_where_open, remove_verification}
 use Rattle.agent_model.specs.Bindings.{bound_after, bound_by, bound_once}
 use Rattle.agent_model.specs.Sound.{AreApart, AreChains, AreJudged, AreNoted, AreTied, IsRight}
 use Rattle.agent_model.specs.State.{Port, Verification, change_port, find_port}
@@ -98,7 +98,7 @@ module _ (low last : ℕ) (one : Settled) (before : Answering) (asks : List Ask)
   abbrev BoundIn : List Binding → Answering → ℕ → Type 0
   BoundIn chain answering number = chain_in chain (find_port number answering.ports) ≡ bound_after number answering.actions chain
 
-  bound_here : (chain : List Binding) (verification : Verification) (opened : Option Port) → find_verification one.ask before.verifications ≡ Some verification → find_port one.asker before.ports ≡ opened → chain_in chain opened ≡ bound_after one.asker before.actions chain → chain_in chain (option_map (prove verification) opened) ≡ bound_after one.asker (before.actions ++ Answered one ∷ proved_at opened verification) chain
+  bound_here : (chain : List Binding) (verification : Verification) (opened : Option Port) → find_verification one.ask before.verifications ≡ Some verification → find_port one.asker before.ports ≡ opened → chain_in chain opened ≡ bound_after one.asker before.actions chain → chain_in chain (option_map (prove verification) opened) ≡ bound_after one.asker (before.actions ++ Answered one ∷ proved_where_open opened verification) chain
   bound_here chain verification None noted is so_far =
       so_far ∙ sym (bound_after-append one.asker before.actions (Answered one ∷ []) chain)
   bound_here chain verification (Some port) noted is so_far =
@@ -108,9 +108,9 @@ module _ (low last : ℕ) (one : Settled) (before : Answering) (asks : List Ask)
       chain_with-once verification port.chain (of_asker verification port noted is).as_noted
       ∙ ap (bound_once verification.binding) so_far
       ∙ ap (λ b. if b then bound_once verification.binding old else old) (sym test)
-      ∙ sym (bound_after-append one.asker before.actions (Answered one ∷ proved_at (Some port) verification) chain)
+      ∙ sym (bound_after-append one.asker before.actions (Answered one ∷ proved_where_open (Some port) verification) chain)
 
-  bound_apart : (chain : List Binding) (verification : Verification) (number : ℕ) (opened : Option Port) → find_port one.asker before.ports ≡ opened → number ≢ one.asker → bound_after number before.actions chain ≡ bound_after number (before.actions ++ Answered one ∷ proved_at opened verification) chain
+  bound_apart : (chain : List Binding) (verification : Verification) (number : ℕ) (opened : Option Port) → find_port one.asker before.ports ≡ opened → number ≢ one.asker → bound_after number before.actions chain ≡ bound_after number (before.actions ++ Answered one ∷ proved_where_open opened verification) chain
   bound_apart chain verification number None is other =
       sym (bound_after-append number before.actions (Answered one ∷ []) chain)
   bound_apart chain verification number (Some port) is other =
@@ -118,7 +118,7 @@ module _ (low last : ℕ) (one : Settled) (before : Answering) (asks : List Ask)
       let test : (port.number == number) ≡ false = grind (arith, nat_tests) in
       let old : List Binding = bound_after number before.actions chain in
       ap (λ b. if b then bound_once verification.binding old else old) (sym test)
-      ∙ sym (bound_after-append number before.actions (Answered one ∷ proved_at (Some port) verification) chain)
+      ∙ sym (bound_after-append number before.actions (Answered one ∷ proved_where_open (Some port) verification) chain)
 
   bound_by_is : (chain : List Binding) (number : ℕ) {after : Answering} → AnswerIs one before after → BoundIn chain before number → BoundIn chain after number
   bound_by_is chain number (tells verdict) so_far =

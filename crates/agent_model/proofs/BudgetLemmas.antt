@@ -22,7 +22,7 @@ use Rattle.agent_model.specs.Children.{changed}
 use Rattle.agent_model.specs.Dispatch.{Served}
 use Rattle.agent_model.specs.Events.{Happening, Took}
 use Rattle.wire_text.specs.Bounds.{longest_body}
-use Rattle.agent_model.specs.Looks.{due, due_at, due_by}
+use Rattle.agent_model.specs.Looks.{due, due_front, due_by}
 use Rattle.agent_model.specs.Sound.{IsRising, IsSteady}
 use Rattle.agent_model.specs.State.{Client, Confirmer, Helper, Nothing, OnAsk, OnConfirmation, Port, Role, State, UnderWay, Unnamed, Waits, change_port, find_port, is_linked_to, is_some_bytes, owed_as, owed_by, owed_by_port, owed_of, role_of}
 use Rattle.agent_model.specs.Step.{asker_at, attempts, handle, looked, step, take_frame, took_at, took_by_role, took_some}
@@ -40,7 +40,7 @@ use Rattle.agent_model.proofs.ServeLemmas.{serve-ends}
 use Rattle.agent_model.proofs.TimeBudgetLemmas.{Ends, time_ends}
 
 -- a whole frame that is to be taken has four bytes of length
-due_whole : (waits : Waits) (owed heard : List ℕ) (body_len : ℕ) → due_at waits owed heard ≡ Whole body_len → 4 ≤ length heard
+due_whole : (waits : Waits) (owed heard : List ℕ) (body_len : ℕ) → due_front waits owed heard ≡ Whole body_len → 4 ≤ length heard
 due_whole Nothing [] heard body_len is = (front_says longest_body heard (Whole body_len) is).0.header
 due_whole Nothing (byte ∷ bytes) heard body_len is = absurd (cc)
 due_whole (OnAsk ask) owed heard body_len is = absurd (cc)

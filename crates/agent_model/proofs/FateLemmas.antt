@@ -13,8 +13,8 @@ use Rattle.helper_link.specs.declared.answer.Settled.{Settled}
 use Rattle.helper_link.specs.declared.ask.Ask.{Ask}
 use Rattle.helper_link.proofs.OrderLemmas.{remove_rises}
 use Rattle.agent_model.specs.Actions.{Action, Answered}
-use Rattle.agent_model.specs.Answers.{Answering, answer_all, answer_asker, answer_by, answer_true, find_verification, prove, proved_at, remove_verification, tell_each}
-use Rattle.agent_model.specs.Fates.{Fate, Fails, Gets, IsTold, Unanswered, answer_verdict, fate_by, fate_of, fate_verdict, or_later, settled_fate, times_answered, times_asked}
+use Rattle.agent_model.specs.Answers.{Answering, answer_all, answer_asker, answer_by, answer_true, find_verification, prove, proved_where_open, remove_verification, tell_each}
+use Rattle.agent_model.specs.Fates.{Fate, Fails, Gets, IsTold, Unanswered, answer_verdict, fate_in, fate_of, fate_verdict, or_later, settled_fate, times_answered, times_asked}
 use Rattle.agent_model.specs.Sound.{AreTied}
 use Rattle.agent_model.specs.State.{Nothing, OnAsk, Port, Verification, change_port, find_port}
 use Rattle.agent_model.specs.Verdicts.{Awaits, HelperLost, HelperRefused, Refuses, Replies, Signature, SignatureWrong, Success, Verdict, tell, verdict_text, verdict_waits}
@@ -48,7 +48,7 @@ or_later-assoc Fails two three = refl
 pub fate-append : (ask : ℕ) (some more : List Action) → fate_of ask (some ++ more) ≡ or_later (fate_of ask some) (fate_of ask more)
 fate-append ask [] more = refl
 fate-append ask (action ∷ some) more =
-    ap (or_later (fate_by ask action)) (fate-append ask some more) ∙ or_later-assoc (fate_by ask action) (fate_of ask some) (fate_of ask more)
+    ap (or_later (fate_in ask action)) (fate-append ask some more) ∙ or_later-assoc (fate_in ask action) (fate_of ask some) (fate_of ask more)
 
 -- an answer ends the waiting
 pub answer-waits : (what : Answer) → verdict_waits (answer_verdict what) ≡ Nothing
@@ -90,7 +90,7 @@ as_true : (found : Option Verification) (one : Settled) (before : Answering) →
 as_true None one before = as_told (Replies Success) one before refl
 as_true (Some verification) one before = record {
   change = prove verification;
-  rest = proved_at (find_port one.asker before.ports) verification;
+  rest = proved_where_open (find_port one.asker before.ports) verification;
   ports = refl;
   actions = refl;
   number = λ p. refl;
@@ -101,7 +101,7 @@ as_true (Some verification) one before = record {
   verifications = refl;
 }
   where
-    proved : (found : Option Port) (ask : ℕ) → (fate_of ask (proved_at found verification) ≡ Unanswered) × (times_answered ask (proved_at found verification) ≡ 0) × (times_asked ask (proved_at found verification) ≡ 0)
+    proved : (found : Option Port) (ask : ℕ) → (fate_of ask (proved_where_open found verification) ≡ Unanswered) × (times_answered ask (proved_where_open found verification) ≡ 0) × (times_asked ask (proved_where_open found verification) ≡ 0)
     proved None ask = (refl, refl, refl)
     proved (Some port) ask = (refl, refl, refl)
 
@@ -116,7 +116,7 @@ pub answer-fate : (ask : ℕ) (one : Settled) (before : Answering) → fate_of a
 answer-fate ask one before =
     let told_as = answers_as one.answer one before in
     ap (fate_of ask) told_as.actions ∙ fate-append ask before.actions (Answered one ∷ told_as.rest)
-    ∙ ap (λ later. or_later (fate_of ask before.actions) (or_later (fate_by ask (Answered one)) later)) (told_as.silent ask).0
+    ∙ ap (λ later. or_later (fate_of ask before.actions) (or_later (fate_in ask (Answered one)) later)) (told_as.silent ask).0
     ∙ ap (or_later (fate_of ask before.actions)) (ends (if one.ask == ask then Gets one.answer else Unanswered))
   where
     ends : (fate : Fate) → or_later fate Unanswered ≡ fate

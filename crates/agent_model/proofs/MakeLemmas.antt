@@ -20,7 +20,7 @@ use Rattle.confirm_desk.specs.Confirmations as desk
 use Rattle.helper_link.specs.Telling.{telling}
 use Rattle.agent_model.specs.Actions.{Outcome, closing, stay}
 use Rattle.agent_model.specs.Answers.{helper_tells, lose, lose_where}
-use Rattle.agent_model.specs.Children.{changed, closed, confirmer_goes_on, confirmer_named, failed_by, failed_if, first_frame, first_message, heard_more, hello_by, helper_named, is_started_by, job_left, job_started, named_by, shut, ticket_by, unheard}
+use Rattle.agent_model.specs.Children.{changed, closed, confirmer_goes_on, confirmer_named, failed_by, start_failed, first_frame, first_message, heard_more, hello_heard, helper_named, is_started_by, job_left, job_started, named_by, shut, ticket_shown, unheard}
 use Rattle.agent_model.specs.Consents.{consent_by, find_started, grant_concluded, grant_to, grant_work, over, over_if, with_heard}
 use Rattle.agent_model.specs.Events.{Happening, Joined, Heard, Ended, Took, Started, StartFailed, Tick}
 use Rattle.wire_text.specs.Bounds.{longest_body}
@@ -264,11 +264,11 @@ module _ (event : Happening) where
     makes-named kinds.Confirm job rest =
         first (links job number port found door free other) (makes-goes_on job _ rest (confirmer_named job number state) refl)
 
-    makes-ticket : (same : Bool) (job : Job) (rest : List ℕ) → Makes event state (ticket_by same job number rest state)
+    makes-ticket : (same : Bool) (job : Job) (rest : List ℕ) → Makes event state (ticket_shown same job number rest state)
     makes-ticket true job rest = makes-named job.kind job.number rest
     makes-ticket false job rest = makes-shut
 
-    makes-hello : (started : Option StartedJob) (ticket rest : List ℕ) → Makes event state (hello_by started ticket number rest state)
+    makes-hello : (started : Option StartedJob) (ticket rest : List ℕ) → Makes event state (hello_heard started ticket number rest state)
     makes-hello None ticket rest = makes-shut
     makes-hello (Some one) ticket rest = makes-ticket (bytes_eq one.ticket ticket) one.job rest
 
@@ -342,7 +342,7 @@ module _ (event : Happening) where
       makes-lose_where false = stays state
   makes-failed_by kinds.Confirm number state = makes-over_if (find_job number state.under_way.confirmations) state (in-by_job number state.under_way.confirmations)
 
-  makes-failed : (found : Option Job) (state : State) → Makes event state (failed_if found state)
+  makes-failed : (found : Option Job) (state : State) → Makes event state (start_failed found state)
   makes-failed None state = stays state
   makes-failed (Some job) state =
       first (goes_on (job_left job.number state).under_way record { state = refl; asks = refl; last = refl; jobs = refl; verifications = refl; second = refl; kept = unchanged; limits = refl }) (makes-failed_by job.kind job.number (job_left job.number state))

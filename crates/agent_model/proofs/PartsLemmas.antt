@@ -12,7 +12,7 @@ use Rattle.agent_model.specs.Children.{changed, heard_more, shut}
 use Rattle.agent_model.specs.Dispatch.{Served, serve}
 use Rattle.agent_model.specs.Events.{Heard}
 use Rattle.wire_text.specs.Bounds.{longest_body}
-use Rattle.agent_model.specs.Looks.{due, due_at}
+use Rattle.agent_model.specs.Looks.{due, due_front}
 use Rattle.agent_model.specs.Sound.{IsRising, IsSound}
 use Rattle.agent_model.specs.State.{Nothing, OnAsk, OnConfirmation, Port, State, Waits, change_port, find_port, remove_port}
 use Rattle.agent_model.specs.Step.{step, asker_at, attempts, handle, heard_at, take_frame, taken}
@@ -55,7 +55,7 @@ bad_longer heard a b announced bad =
 
 -- nothing else is to be taken of a client that waits for nothing and is owed nothing
 due-idle : (port : Port) → port.waits ≡ Nothing → port.owed ≡ [] → due port ≡ front longest_body port.heard
-due-idle port waits owed = ap (λ (w : Waits). due_at w port.owed port.heard) waits ∙ ap (λ (bytes : List ℕ). due_at Nothing bytes port.heard) owed
+due-idle port waits owed = ap (λ (w : Waits). due_front w port.owed port.heard) waits ∙ ap (λ (bytes : List ℕ). due_front Nothing bytes port.heard) owed
 
 after_request : (moment : Moment) (state : State) (number : ℕ) (a b : List ℕ) (port : Port) (body_len : ℕ) → find_port number state.ports ≡ Some port → port.door ≡ Clients → port.waits ≡ Nothing → port.owed ≡ [] → front longest_body (port.heard ++ a) ≡ Whole body_len →
     Agree moment (handle (Heard number (a ++ b)) state) (handle (Heard number a) state)
@@ -83,7 +83,7 @@ after_request moment state number a b port body_len found door waits owed whole 
     let there : find_port number next.ports ≡ Some (gave port) =
     find_port-change_port number gave state.ports (λ p. refl) ∙ ap (option_map gave) found in
     let still : due (heard_more b (gave port)) ≡ More =
-    ap (λ (bytes : List ℕ). due_at (gave port).waits (bytes ++ verdict_text served.work.verdict) ((gave port).heard ++ b)) owed
+    ap (λ (bytes : List ℕ). due_front (gave port).waits (bytes ++ verdict_text served.work.verdict) ((gave port).heard ++ b)) owed
     ∙ told_more (serve-ends (asker_at state.moment port) state.held state.under_way body) ((gave port).heard ++ b) in
     let second : handle (Heard number b) next ≡ stay (changed number (heard_more b) next) =
     handle-heard number b (gave port) next there door
@@ -162,11 +162,11 @@ by_port Nothing [] moment state number last a b port same rising found door wait
     by_front (front longest_body (port.heard ++ a)) moment state number last a b port same rising found door waits owed refl
 by_port Nothing (byte ∷ bytes) moment state number last a b port same rising found door waits owed =
     after_nothing moment state number a b port same found door
-    (ap (λ (w : Waits). due_at w port.owed (port.heard ++ a)) waits ∙ ap (λ (o : List ℕ). due_at Nothing o (port.heard ++ a)) owed)
+    (ap (λ (w : Waits). due_front w port.owed (port.heard ++ a)) waits ∙ ap (λ (o : List ℕ). due_front Nothing o (port.heard ++ a)) owed)
 by_port (OnAsk ask) owed moment state number last a b port same rising found door waits is =
-    after_nothing moment state number a b port same found door (ap (λ (w : Waits). due_at w port.owed (port.heard ++ a)) waits)
+    after_nothing moment state number a b port same found door (ap (λ (w : Waits). due_front w port.owed (port.heard ++ a)) waits)
 by_port (OnConfirmation job) owed moment state number last a b port same rising found door waits is =
-    after_nothing moment state number a b port same found door (ap (λ (w : Waits). due_at w port.owed (port.heard ++ a)) waits)
+    after_nothing moment state number a b port same found door (ap (λ (w : Waits). due_front w port.owed (port.heard ++ a)) waits)
 
 -- a port that isn't open hears nothing
 by_found : (is : Option Port) (moment : Moment) (state : State) (number last : ℕ) (a b : List ℕ) → taken_in moment state ≡ state → IsRising 0 last state.ports → find_port number state.ports ≡ is → IfSome is (λ port. port.door ≡ Clients) →

@@ -45,9 +45,9 @@ abbrev pub prove : Verification → Port → Port
 prove verification port = tell (Replies Success) (bind_port verification port)
 
 -- that a binding is right counts where the asker is open
-abbrev pub proved_at : Option Port → Verification → List Action
-proved_at None verification = []
-proved_at (Some port) verification =
+abbrev pub proved_where_open : Option Port → Verification → List Action
+proved_where_open None verification = []
+proved_where_open (Some port) verification =
     Proved (record { port = port.number; binding = verification.binding }) ∷ []
 
 -- ---- answers
@@ -73,7 +73,7 @@ answer_true (Some verification) one before = record {
   ports = change_port one.asker (prove verification) before.ports;
   verifications = remove_verification one.ask before.verifications;
   actions =
-      before.actions ++ Answered one ∷ proved_at (find_port one.asker before.ports) verification;
+      before.actions ++ Answered one ∷ proved_where_open (find_port one.asker before.ports) verification;
 }
 
 -- what one answer of the helper changes

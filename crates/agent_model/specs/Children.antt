@@ -70,13 +70,13 @@ failed_by kinds.Helper number state =
 failed_by kinds.Confirm number state = over_if (find_job number state.under_way.confirmations) state
 
 -- the start of a job failed, if it was to be started
-abbrev pub failed_if : Option Job → State → Outcome
-failed_if None state = stay state
-failed_if (Some job) state = failed_by job.kind job.number (job_left job.number state)
+abbrev pub start_failed : Option Job → State → Outcome
+start_failed None state = stay state
+start_failed (Some job) state = failed_by job.kind job.number (job_left job.number state)
 
 -- the start of the job of this number failed
 abbrev pub job_failed : ℕ → State → Outcome
-job_failed number state = failed_if (find_to_start number state.under_way.to_start) state
+job_failed number state = start_failed (find_to_start number state.under_way.to_start) state
 
 -- ---- how a child process names itself
 
@@ -143,20 +143,20 @@ named_by kinds.Confirm job number rest state =
     confirmer_hears job rest (confirmer_named job number state)
 
 -- a child process named this job, with the job's own ticket or with another: then its port is closed
-abbrev pub ticket_by : Bool → Job → ℕ → List ℕ → State → Outcome
-ticket_by true job number rest state = named_by job.kind job.number number rest state
-ticket_by false job number rest state = shut number state
+abbrev pub ticket_shown : Bool → Job → ℕ → List ℕ → State → Outcome
+ticket_shown true job number rest state = named_by job.kind job.number number rest state
+ticket_shown false job number rest state = shut number state
 
 -- a child process named a job, which was started or not: then its port is closed
-abbrev pub hello_by : Option StartedJob → List ℕ → ℕ → List ℕ → State → Outcome
-hello_by None ticket number rest state = shut number state
-hello_by (Some one) ticket number rest state =
-    ticket_by (bytes_eq one.ticket ticket) one.job number rest state
+abbrev pub hello_heard : Option StartedJob → List ℕ → ℕ → List ℕ → State → Outcome
+hello_heard None ticket number rest state = shut number state
+hello_heard (Some one) ticket number rest state =
+    ticket_shown (bytes_eq one.ticket ticket) one.job number rest state
 
 -- the first message of a child process: HELLO names it, and any other closes its port
 abbrev pub first_message : Result FromChildMessage ChildFault → ℕ → List ℕ → State → Outcome
 first_message (Ok (Hello job ticket)) number rest state =
-    hello_by (find_started job state.under_way.started) ticket number rest state
+    hello_heard (find_started job state.under_way.started) ticket number rest state
 first_message (Ok (Signed ask signature)) number rest state = shut number state
 first_message (Ok (Refused ask)) number rest state = shut number state
 first_message (Ok (True ask)) number rest state = shut number state

@@ -201,9 +201,9 @@ serve_by (Some passphrase) request asker held under_way =
 
 -- constraints that don't read, by the lock: what else doesn't read is malformed even where the
 -- agent is locked
-abbrev pub constraints_by : Option (List ℕ) → TermFault → Cause
-constraints_by None term_fault = Constraints term_fault
-constraints_by (Some passphrase) term_fault = Locked
+abbrev pub constraint_cause : Option (List ℕ) → TermFault → Cause
+constraint_cause None term_fault = Constraints term_fault
+constraint_cause (Some passphrase) term_fault = Locked
 
 -- why a body that doesn't read is refused
 abbrev pub unread : MsgFault → Option (List ℕ) → Cause
@@ -211,7 +211,7 @@ unread fault.Empty lock = Malformed fault.Empty
 unread fault.Short lock = Malformed fault.Short
 unread fault.Trailing lock = Malformed fault.Trailing
 unread (fault.Key key_fault) lock = Malformed (fault.Key key_fault)
-unread (fault.Terms term_fault) lock = constraints_by lock term_fault
+unread (fault.Terms term_fault) lock = constraint_cause lock term_fault
 unread fault.Memory lock = Malformed fault.Memory
 
 -- a request, as its body reads

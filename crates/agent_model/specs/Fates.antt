@@ -21,15 +21,15 @@ pub data Fate : Type 0 where
   Fails : Fate
 
 -- what an action is for the ask of this number
-abbrev pub fate_by : ℕ → Action → Fate
-fate_by ask (Requested requesting) = Unanswered
-fate_by ask (Asked asking) = Unanswered
-fate_by ask (Answered one) = if one.ask == ask then Gets one.answer else Unanswered
-fate_by ask (Proved proving) = Unanswered
-fate_by ask (Raised raising) = Unanswered
-fate_by ask (Granted job) = Unanswered
-fate_by ask (Over job) = Unanswered
-fate_by ask Lost = Fails
+abbrev pub fate_in : ℕ → Action → Fate
+fate_in ask (Requested requesting) = Unanswered
+fate_in ask (Asked asking) = Unanswered
+fate_in ask (Answered one) = if one.ask == ask then Gets one.answer else Unanswered
+fate_in ask (Proved proving) = Unanswered
+fate_in ask (Raised raising) = Unanswered
+fate_in ask (Granted job) = Unanswered
+fate_in ask (Over job) = Unanswered
+fate_in ask Lost = Fails
 
 -- of two fates of an ask the first that isn't open counts
 abbrev pub or_later : Fate → Fate → Fate
@@ -40,7 +40,7 @@ or_later Fails later = Fails
 -- what actions make of the ask of this number
 abbrev pub fate_of : ℕ → List Action → Fate
 fate_of ask [] = Unanswered
-fate_of ask (action ∷ later) = or_later (fate_by ask action) (fate_of ask later)
+fate_of ask (action ∷ later) = or_later (fate_in ask action) (fate_of ask later)
 
 -- what settlings of a piece of the helper's stream make of the ask of this number, in order
 abbrev pub settled_fate : ℕ → List Settled → Fate

@@ -5,15 +5,15 @@ use Rattle.wire_text.specs.Bounds.{longest_body}
 use Rattle.agent_model.specs.State.{Nothing, OnAsk, OnConfirmation, Port, Waits}
 
 -- nothing while the client waits or is owed bytes, else what stands at the front of its bytes
-abbrev pub due_at : Waits → List ℕ → List ℕ → Front
-due_at Nothing [] heard = front longest_body heard
-due_at Nothing (byte ∷ bytes) heard = More
-due_at (OnAsk ask) owed heard = More
-due_at (OnConfirmation job) owed heard = More
+abbrev pub due_front : Waits → List ℕ → List ℕ → Front
+due_front Nothing [] heard = front longest_body heard
+due_front Nothing (byte ∷ bytes) heard = More
+due_front (OnAsk ask) owed heard = More
+due_front (OnConfirmation job) owed heard = More
 
 -- what is to be taken of a client's port: nothing while it waits or is owed bytes
 abbrev pub due : Port → Front
-due port = due_at port.waits port.owed port.heard
+due port = due_front port.waits port.owed port.heard
 
 -- what is to be taken of a port: nothing where it isn't open
 abbrev pub due_by : Option Port → Front

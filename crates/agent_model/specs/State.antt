@@ -275,14 +275,14 @@ is_more (Bad announced) = false
 is_more More = true
 
 -- a client is read until a request of it is whole, a child process always
-abbrev pub wants_at : Door → List ℕ → Bool
-wants_at Clients heard = is_more (front longest_body heard)
-wants_at Children heard = true
+abbrev pub wants_more : Door → List ℕ → Bool
+wants_more Clients heard = is_more (front longest_body heard)
+wants_more Children heard = true
 
 -- the port is to be read
 abbrev pub wants_by : Option Port → Bool
 wants_by None = false
-wants_by (Some port) = wants_at port.door port.heard
+wants_by (Some port) = wants_more port.door port.heard
 
 -- the port of this number is to be read
 abbrev pub wants : ℕ → State → Bool

@@ -24,7 +24,7 @@ use Rattle.dest_rule.specs.declared.fault.Next.TheVariants.{New, Refuse, Same}
 use Rattle.confirm_desk.specs.Confirmations.{Confirmation, Consent, No, NotYet, Yes, consent, find_asker, find_job}
 use Rattle.agent_model.specs.Actions.{Outcome, Work, settles, stay}
 use Rattle.agent_model.specs.Answers.{helper_heard, lose, lose_if, lose_where}
-use Rattle.agent_model.specs.Children.{changed, closed, confirmer_goes_on, confirmer_named, failed_by, failed_if, first_frame, first_message, heard_more, hello_by, helper_named, is_started_by, job_left, named_by, shut, shut_then, ticket_by, unnamed_heard}
+use Rattle.agent_model.specs.Children.{changed, closed, confirmer_goes_on, confirmer_named, failed_by, start_failed, first_frame, first_message, heard_more, hello_heard, helper_named, is_started_by, job_left, named_by, shut, shut_then, ticket_shown, unnamed_heard}
 use Rattle.agent_model.specs.Consents.{confirmer_heard, consent_by, find_started, grant_by, grant_to, grant_unless, grant_with, grant_work, over, over_if, signing_of, without_confirmation}
 use Rattle.agent_model.specs.Dispatch.{Asker, add_by, add_fault, add_seen, add_unless, bind_by, length_with, lock_by, remove_by, remove_seen, sees, serve, serve_by, serve_locked, serve_unlocked, sign_by, sign_unless, sign_with, unlock_by}
 use Rattle.agent_model.specs.Errands.{Errand, Signs, Verifies, ask_fault, message_of, put_unless, raise_fault, raise_unless}
@@ -220,11 +220,11 @@ named-appends : (kind : JobKind) (job number : ℕ) (rest : List ℕ) (state : S
 named-appends kinds.Helper job number rest state = helper-appends rest state (helper_named job number state) refl
 named-appends kinds.Confirm job number rest state = goes_on (find_job job (confirmer_named job number state).under_way.confirmations) rest state (confirmer_named job number state) refl
 
-ticket-appends : (own : Bool) (job : Job) (number : ℕ) (rest : List ℕ) (state : State) → Appends state (ticket_by own job number rest state)
+ticket-appends : (own : Bool) (job : Job) (number : ℕ) (rest : List ℕ) (state : State) → Appends state (ticket_shown own job number rest state)
 ticket-appends true job number rest state = named-appends job.kind job.number number rest state
 ticket-appends false job number rest state = kept state (shut number state) refl refl
 
-hello-appends : (found : Option StartedJob) (ticket : List ℕ) (number : ℕ) (rest : List ℕ) (state : State) → Appends state (hello_by found ticket number rest state)
+hello-appends : (found : Option StartedJob) (ticket : List ℕ) (number : ℕ) (rest : List ℕ) (state : State) → Appends state (hello_heard found ticket number rest state)
 hello-appends None ticket number rest state = kept state (shut number state) refl refl
 hello-appends (Some one) ticket number rest state = ticket-appends (bytes_eq one.ticket ticket) one.job number rest state
 
@@ -286,7 +286,7 @@ failed-appends : (kind : JobKind) (number : ℕ) (before state : State) → stat
 failed-appends kinds.Helper number before state same = lost_where (is_started_by number state.under_way.link.state) before state same
 failed-appends kinds.Confirm number before state same = over-appends (find_job number state.under_way.confirmations) before state same
 
-failed_found : (found : Option Job) (state : State) → Appends state (failed_if found state)
+failed_found : (found : Option Job) (state : State) → Appends state (start_failed found state)
 failed_found None state = kept state (stay state) refl refl
 failed_found (Some job) state = failed-appends job.kind job.number state (job_left job.number state) refl
 

@@ -14,7 +14,7 @@ use Rattle.child_msg.specs.Reading.{from_child_of}
 use Rattle.child_msg.specs.declared.fault.ChildFault.{ChildFault}
 use Rattle.confirm_desk.specs.Confirmations.{Confirmation, find_asker, find_job, find_linked}
 use Rattle.agent_model.specs.Actions.{Outcome, stay}
-use Rattle.agent_model.specs.Children.{changed, closed, confirmer_goes_on, confirmer_hears, confirmer_named, failed_by, failed_if, first_frame, first_message, heard_more, hello_by, helper_named, job_failed, job_left, job_started, is_started_by, is_wanted, named_by, ticket_by, shut, started_if, started_where, unheard, unnamed_heard}
+use Rattle.agent_model.specs.Children.{changed, closed, confirmer_goes_on, confirmer_hears, confirmer_named, failed_by, start_failed, first_frame, first_message, heard_more, hello_heard, helper_named, job_failed, job_left, job_started, is_started_by, is_wanted, named_by, ticket_shown, shut, started_if, started_where, unheard, unnamed_heard}
 use Rattle.agent_model.specs.Answers.{helper_heard, lose}
 use Rattle.agent_model.specs.Consents.{find_started, over, over_if}
 use Rattle.agent_model.specs.State.{Client, Confirmer, Helper, Port, Role, StartedJob, State, UnderWay, Unnamed, find_port, find_to_start, is_linked_to, role_by_helper, role_by_link, role_of}
@@ -50,12 +50,12 @@ module _ (key : List ℕ → List ℕ) (keeps : (bytes : List ℕ) → length (k
   failed_by-hidden kinds.Helper number state = lose_where-hidden key keeps heard (is_started_by number state.under_way.link.state) state
   failed_by-hidden kinds.Confirm number state = over_if-hidden key keeps heard (find_job number state.under_way.confirmations) state
 
-  failed_if-hidden : (found : Option Job) (state : State) → failed_if found (hide state) ≡ hidden_outcome (failed_if found state)
-  failed_if-hidden None state = refl
-  failed_if-hidden (Some job) state = failed_by-hidden job.kind job.number (job_left job.number state)
+  start_failed-hidden : (found : Option Job) (state : State) → start_failed found (hide state) ≡ hidden_outcome (start_failed found state)
+  start_failed-hidden None state = refl
+  start_failed-hidden (Some job) state = failed_by-hidden job.kind job.number (job_left job.number state)
 
   pub job_failed-hidden : (number : ℕ) (state : State) → job_failed number (hide state) ≡ hidden_outcome (job_failed number state)
-  job_failed-hidden number state = failed_if-hidden (find_to_start number state.under_way.to_start) state
+  job_failed-hidden number state = start_failed-hidden (find_to_start number state.under_way.to_start) state
 
   is_wanted-hidden : (kind : JobKind) (number : ℕ) (under_way : UnderWay) → is_wanted kind number (hide_under_way under_way) ≡ is_wanted kind number under_way
   is_wanted-hidden kinds.Helper number under_way = refl
@@ -92,16 +92,16 @@ module _ (key : List ℕ → List ℕ) (keeps : (bytes : List ℕ) → length (k
       ap (λ new. bare (confirmer_hears job rest new)) (confirmer_named-hidden job number state child)
       ∙ goes_on-hidden (find_job job (confirmer_named job number state).under_way.confirmations) rest (confirmer_named job number state)
 
-  ticket_by-hidden : (own : Bool) (job : Job) (number : ℕ) (rest : List ℕ) (state : State) → IsChild number state → bare (ticket_by own job number rest (hide state)) ≡ seen key heard (ticket_by own job number rest state)
-  ticket_by-hidden true job number rest state child = named_by-hidden job.kind job.number number rest state child
-  ticket_by-hidden false job number rest state child = closes number state
+  ticket_shown-hidden : (own : Bool) (job : Job) (number : ℕ) (rest : List ℕ) (state : State) → IsChild number state → bare (ticket_shown own job number rest (hide state)) ≡ seen key heard (ticket_shown own job number rest state)
+  ticket_shown-hidden true job number rest state child = named_by-hidden job.kind job.number number rest state child
+  ticket_shown-hidden false job number rest state child = closes number state
 
-  hello_by-hidden : (found : Option StartedJob) (ticket : List ℕ) (number : ℕ) (rest : List ℕ) (state : State) → IsChild number state → bare (hello_by found ticket number rest (hide state)) ≡ seen key heard (hello_by found ticket number rest state)
-  hello_by-hidden None ticket number rest state child = closes number state
-  hello_by-hidden (Some one) ticket number rest state child = ticket_by-hidden (bytes_eq one.ticket ticket) one.job number rest state child
+  hello_heard-hidden : (found : Option StartedJob) (ticket : List ℕ) (number : ℕ) (rest : List ℕ) (state : State) → IsChild number state → bare (hello_heard found ticket number rest (hide state)) ≡ seen key heard (hello_heard found ticket number rest state)
+  hello_heard-hidden None ticket number rest state child = closes number state
+  hello_heard-hidden (Some one) ticket number rest state child = ticket_shown-hidden (bytes_eq one.ticket ticket) one.job number rest state child
 
   first_message-hidden : (message : Result FromChildMessage ChildFault) (number : ℕ) (rest : List ℕ) (state : State) → IsChild number state → bare (first_message message number rest (hide state)) ≡ seen key heard (first_message message number rest state)
-  first_message-hidden (Ok (Hello job ticket)) number rest state child = hello_by-hidden (find_started job state.under_way.started) ticket number rest state child
+  first_message-hidden (Ok (Hello job ticket)) number rest state child = hello_heard-hidden (find_started job state.under_way.started) ticket number rest state child
   first_message-hidden (Ok (Signed ask signature)) number rest state child = closes number state
   first_message-hidden (Ok (Refused ask)) number rest state child = closes number state
   first_message-hidden (Ok (True ask)) number rest state child = closes number state

@@ -10,7 +10,7 @@ use Rattle.agent_model.specs.Binds.{agent_request_of}
 use Rattle.agent_model.specs.Children.{changed, shut}
 use Rattle.agent_model.specs.Dispatch.{Served, serve}
 use Rattle.wire_text.specs.Bounds.{longest_body}
-use Rattle.agent_model.specs.Looks.{due, due_at}
+use Rattle.agent_model.specs.Looks.{due, due_front}
 use Rattle.agent_model.specs.State.{Nothing, OnAsk, OnConfirmation, Port, State, Waits, change_port, find_port}
 use Rattle.agent_model.specs.Step.{asker_at, attempts, concluded, look_front, looked, take_frame, taken}
 use Rattle.agent_model.specs.Verdicts.{tell}
@@ -107,7 +107,7 @@ module _ (keeps : (bytes : List ℕ) → length (hidden bytes) ≡ length bytes)
     look_front-alike one other both_more = ap (λ state. let new : Seen = record { state = state; put = []; closes = [] } in new) same
 
     -- what is due is the same, by whether the client waits and is owed bytes
-    due_by : {f g : List ℕ} (waits : Waits) (owed : List ℕ) → AreAlikeFronts p.heard q.heard f g (front longest_body p.heard) (front longest_body q.heard) → AreAlikeFronts p.heard q.heard f g (due_at waits owed p.heard) (due_at waits owed q.heard)
+    due_by : {f g : List ℕ} (waits : Waits) (owed : List ℕ) → AreAlikeFronts p.heard q.heard f g (front longest_body p.heard) (front longest_body q.heard) → AreAlikeFronts p.heard q.heard f g (due_front waits owed p.heard) (due_front waits owed q.heard)
     due_by Nothing [] fronts = fronts
     due_by Nothing (byte ∷ bytes) fronts = both_more
     due_by (OnAsk ask) owed fronts = both_more
@@ -115,7 +115,7 @@ module _ (keeps : (bytes : List ℕ) → length (hidden bytes) ≡ length bytes)
 
     pub due-alike : {f g : List ℕ} → AreAlikeFronts p.heard q.heard f g (front longest_body p.heard) (front longest_body q.heard) → AreAlikeFronts p.heard q.heard f g (due p) (due q)
     due-alike {f} {g} fronts =
-        subst (λ (port : Port). AreAlikeFronts p.heard q.heard f g (due p) (due_at port.waits port.owed q.heard)) same_port (due_by p.waits p.owed fronts)
+        subst (λ (port : Port). AreAlikeFronts p.heard q.heard f g (due p) (due_front port.waits port.owed q.heard)) same_port (due_by p.waits p.owed fronts)
 
     pub looked-alike : {f g : List ℕ} (number : ℕ) → find_port number s.ports ≡ Some p → find_port number t.ports ≡ Some q → AreAlikeFronts p.heard q.heard f g (front longest_body p.heard) (front longest_body q.heard) → seen_of (looked number s) ≡ seen_of (looked number t)
     looked-alike number here there fronts =

@@ -27,7 +27,7 @@ use Rattle.confirm_desk.specs.Confirmations.{Confirmation, Consent, No, NotYet, 
 use Rattle.agent_model.specs.Actions.{Outcome, stay}
 use Rattle.agent_model.specs.Answers.{Answering, answer_all, answer_by, answer_true, answers_in, close_helper, find_verification, helper_heard, lose, lose_if, lose_where, prove, tell_each, with_answers}
 use Rattle.agent_model.specs.Binds.{agent_request_of}
-use Rattle.agent_model.specs.Children.{changed, closed, confirmer_goes_on, confirmer_named, failed_by, failed_if, first_frame, first_message, heard_more, hello_by, helper_named, is_started_by, job_left, named_by, shut, ticket_by, unheard}
+use Rattle.agent_model.specs.Children.{changed, closed, confirmer_goes_on, confirmer_named, failed_by, start_failed, first_frame, first_message, heard_more, hello_heard, helper_named, is_started_by, job_left, named_by, shut, ticket_shown, unheard}
 use Rattle.agent_model.specs.Consents.{close_confirmer, confirmer_heard, consent_by, find_started, grant_to, grant_work, over, over_if, without_confirmation}
 use Rattle.agent_model.specs.Dispatch.{serve}
 use Rattle.agent_model.specs.Events.{Happening, Timed, Joined, Heard, Ended, Took, Started, StartFailed, Tick}
@@ -213,11 +213,11 @@ named kinds.Confirm job number rest state keeps =
     goes_on (find_job job (confirmer_named job number state).under_way.confirmations) rest (confirmer_named job number state)
     (record { keys = keeps.keys; sent = changed-sent number unheard state.ports (λ port is. no_bytes) keeps.sent })
 
-ticketed : (own : Bool) (job : Job) (number : ℕ) (rest : List ℕ) (state : State) → Keeps state → KeepsAfter (ticket_by own job number rest state)
+ticketed : (own : Bool) (job : Job) (number : ℕ) (rest : List ℕ) (state : State) → Keeps state → KeepsAfter (ticket_shown own job number rest state)
 ticketed true job number rest state keeps = named job.kind job.number number rest state keeps
 ticketed false job number rest state keeps = shuts number state keeps
 
-hello : (found : Option StartedJob) (ticket : List ℕ) (number : ℕ) (rest : List ℕ) (state : State) → Keeps state → KeepsAfter (hello_by found ticket number rest state)
+hello : (found : Option StartedJob) (ticket : List ℕ) (number : ℕ) (rest : List ℕ) (state : State) → Keeps state → KeepsAfter (hello_heard found ticket number rest state)
 hello None ticket number rest state keeps = shuts number state keeps
 hello (Some one) ticket number rest state keeps = ticketed (bytes_eq one.ticket ticket) one.job number rest state keeps
 
@@ -281,7 +281,7 @@ failed : (kind : JobKind) (number : ℕ) (state : State) → Keeps state → Kee
 failed kinds.Helper number state keeps = loses_where (is_started_by number state.under_way.link.state) state keeps
 failed kinds.Confirm number state keeps = ends_if (find_job number state.under_way.confirmations) state keeps
 
-failed_found : (found : Option Job) (state : State) → Keeps state → KeepsAfter (failed_if found state)
+failed_found : (found : Option Job) (state : State) → Keeps state → KeepsAfter (start_failed found state)
 failed_found None state keeps = stays state keeps
 failed_found (Some job) state keeps = failed job.kind job.number (job_left job.number state) (record { keys = keeps.keys; sent = keeps.sent })
 

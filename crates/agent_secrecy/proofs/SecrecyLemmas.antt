@@ -11,7 +11,7 @@ use Rattle.agent_model.specs.Actions.{Outcome, behind}
 use Rattle.agent_model.specs.Events.{Happening, Timed, Joined, Heard, Ended, Took, Started, StartFailed, Tick}
 use Rattle.agent_model.specs.Runs.{AllFit, outcomes}
 use Rattle.agent_model.specs.Sound.{IsSound}
-use Rattle.agent_model.specs.State.{Fits, Port, Settings, State, UnderWay, client_count, find_port, first_state, is_more, next_due, next_limit, numbers, owed_as, owed_by, role_of, wants, wants_at, wants_by}
+use Rattle.agent_model.specs.State.{Fits, Port, Settings, State, UnderWay, client_count, find_port, first_state, is_more, next_due, next_limit, numbers, owed_as, owed_by, role_of, wants, wants_more, wants_by}
 use Rattle.agent_model.specs.Step.{handle, in_order, step}
 use Rattle.agent_model.specs.Time.{at_moment, time_passes}
 use Rattle.agent_model.proofs.PortsLemmas.{found_within}
@@ -138,7 +138,7 @@ more_in one other (both_whole body_len bodies streams) = refl
 more_in one other (both_bad first second) = refl
 more_in one other both_more = refl
 
-wants_at_by : (door : ℕ → Door) (f g : ℕ → List ℕ) (s t : State) (number : ℕ) (p q : Port) (through : Door) → Tracks door f g s t → find_port number s.ports ≡ Some p → find_port number t.ports ≡ Some q → hide_port blanked p ≡ hide_port blanked q → p.door ≡ through → wants_at through p.heard ≡ wants_at through q.heard
+wants_at_by : (door : ℕ → Door) (f g : ℕ → List ℕ) (s t : State) (number : ℕ) (p q : Port) (through : Door) → Tracks door f g s t → find_port number s.ports ≡ Some p → find_port number t.ports ≡ Some q → hide_port blanked p ≡ hide_port blanked q → p.door ≡ through → wants_more through p.heard ≡ wants_more through q.heard
 wants_at_by door f g s t number p q Children tracks at_p at_q same is = refl
 wants_at_by door f g s t number p q Clients tracks at_p at_q same is =
     let client : door number ≡ Clients = sym (tracks.one.doors number p at_p) ∙ is in
@@ -157,7 +157,7 @@ wants-by door f g s t number (Some p) (Some q) tracks is other_is =
     let q_is : pair.0 ≡ q = (let e : Some pair.0 ≡ Some q = sym pair.1 ∙ other_is in cc) in
     let same : hide_port blanked p ≡ hide_port blanked q = pair.2 ∙ ap (hide_port blanked) q_is in
     wants_at_by door f g s t number p q p.door tracks is other_is same refl
-    ∙ ap (λ (x : Port). wants_at x.door q.heard) same
+    ∙ ap (λ (x : Port). wants_more x.door q.heard) same
 
 next_due-hidden : (state : State) → next_due (without_secrets state) ≡ next_due state
 next_due-hidden state = ap (λ death. earlier death (next_limit state.under_way)) (next_death-hidden hidden state.held.table.identities)

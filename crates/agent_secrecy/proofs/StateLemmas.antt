@@ -14,7 +14,7 @@ use Rattle.dest_rule.specs.declared.binding.Binding.{Binding}
 use Rattle.dest_rule.specs.declared.denial.Denial.{Denial}
 use Rattle.confirm_desk.specs.Confirmations.{Confirmation, Consent, No, NotYet, Yes, consent}
 use Rattle.agent_model.specs.Actions.{Action, Answered, Lost, Outcome, Over, Work, acted, and_then, behind, closing, stay}
-use Rattle.agent_model.specs.Answers.{Answering, answer_all, answer_asker, answer_by, answer_true, answers_in, close_helper, find_verification, helper_closes, helper_heard, helper_tells, lose, lose_if, lose_where, proved_at, prove, remove_verification, tell_each, with_answers}
+use Rattle.agent_model.specs.Answers.{Answering, answer_all, answer_asker, answer_by, answer_true, answers_in, close_helper, find_verification, helper_closes, helper_heard, helper_tells, lose, lose_if, lose_where, proved_where_open, prove, remove_verification, tell_each, with_answers}
 use Rattle.agent_model.specs.Children.{changed, closed, shut, shut_then}
 use Rattle.agent_model.specs.Consents.{close_confirmer, confirmer_closes, confirmer_heard, consent_by, grant, grant_by, grant_concluded, grant_to, grant_unless, grant_with, grant_work, over, over_if, signing_of, with_heard, without_confirmation}
 use Rattle.agent_model.specs.Errands.{Signs}
@@ -107,17 +107,17 @@ module _ (key : List ℕ → List ℕ) (keeps : (bytes : List ℕ) → length (k
   answer_asker-hidden verdict one before =
       ap (λ ports. let new : Answering = record (answer_asker verdict one before) { ports = ports } in new) (tell-hidden heard one.asker verdict before.ports)
 
-  proved_at-hidden : (found : Option Port) (verification : Verification) → proved_at (option_map (hide_port heard) found) verification ≡ proved_at found verification
-  proved_at-hidden None verification = refl
-  proved_at-hidden (Some port) verification = refl
+  proved_where_open-hidden : (found : Option Port) (verification : Verification) → proved_where_open (option_map (hide_port heard) found) verification ≡ proved_where_open found verification
+  proved_where_open-hidden None verification = refl
+  proved_where_open-hidden (Some port) verification = refl
 
   answer_true-hidden : (found : Option Verification) (one : Settled) (before : Answering) → answer_true found one (hide_answering before) ≡ hide_answering (answer_true found one before)
   answer_true-hidden None one before = answer_asker-hidden (Replies Success) one before
   answer_true-hidden (Some verification) one before =
-      ap (λ ports. let new : Answering = record { ports = ports; verifications = remove_verification one.ask before.verifications; actions = before.actions ++ Answered one ∷ proved_at (find_port one.asker (hide_ports heard before.ports)) verification } in new)
+      ap (λ ports. let new : Answering = record { ports = ports; verifications = remove_verification one.ask before.verifications; actions = before.actions ++ Answered one ∷ proved_where_open (find_port one.asker (hide_ports heard before.ports)) verification } in new)
       (change_port-hidden heard one.asker (prove verification) (prove verification) before.ports (λ port found. refl))
       ∙ ap (λ more. let new : Answering = record { ports = hide_ports heard (change_port one.asker (prove verification) before.ports); verifications = remove_verification one.ask before.verifications; actions = before.actions ++ Answered one ∷ more } in new)
-      (ap (λ found. proved_at found verification) (find_port-hidden heard one.asker before.ports) ∙ proved_at-hidden (find_port one.asker before.ports) verification)
+      (ap (λ found. proved_where_open found verification) (find_port-hidden heard one.asker before.ports) ∙ proved_where_open-hidden (find_port one.asker before.ports) verification)
 
   answer_by-hidden : (what : Answer) (one : Settled) (before : Answering) → answer_by what one (hide_answering before) ≡ hide_answering (answer_by what one before)
   answer_by-hidden (answer.Signed signature) one before = answer_asker-hidden (Replies (Signature signature)) one before

@@ -8,7 +8,7 @@ use Rattle.world_ports.specs.declared.entry.Entry.TheVariants as entry
 use Rattle.world_ports.specs.declared.events.Door.{Door}
 use Rattle.world_ports.specs.declared.events.Door.TheVariants.{Clients, Children}
 use Rattle.loop_model.specs.Fairness.{if_any, is_service, waits_on}
-use Rattle.loop_model.specs.LegalJournal.{Turning, taken, turned}
+use Rattle.loop_model.specs.LegalJournal.{LoopState, taken, turned}
 use Rattle.loop_model.specs.Lines.{IsQuiet}
 use Rattle.loop_model.specs.Things.{same_door, same_thing}
 use Rattle.loop_model.specs.declared.thing.Thing.{Thing}
@@ -34,31 +34,31 @@ ran-split setting from to first later legal =
 
 -- ---- turns
 
-mapped : (found : Option Turning) (to : Stage) → option_map Running found ≡ Some to
-    → (after : Turning) × (found ≡ Some after) × (Running after ≡ to)
+mapped : (found : Option LoopState) (to : Stage) → option_map Running found ≡ Some to
+    → (after : LoopState) × (found ≡ Some after) × (Running after ≡ to)
 mapped None to is = cc
 mapped (Some after) to is = let same : Running after ≡ to = cc in (after, refl, same)
 
-turns_by : (may : Bool) (from : Turning) (next : Entry) (to : Stage) → running_if may from next ≡ Some to
-    → (after : Turning) × (taken from next ≡ Some after) × (Running after ≡ to)
+turns_by : (may : Bool) (from : LoopState) (next : Entry) (to : Stage) → running_if may from next ≡ Some to
+    → (after : LoopState) × (taken from next ≡ Some after) × (Running after ≡ to)
 turns_by true from next to is = mapped (taken from next) to is
 turns_by false from next to is = cc
 
 -- a call of a loop that runs is one that comes in turn
-turns : (setting : Setting) (from : Turning) (next : Entry) (to : Stage) → gone_on setting (Running from) next ≡ Some to
-    → (after : Turning) × (taken from next ≡ Some after) × (Running after ≡ to)
+turns : (setting : Setting) (from : LoopState) (next : Entry) (to : Stage) → gone_on setting (Running from) next ≡ Some to
+    → (after : LoopState) × (taken from next ≡ Some after) × (Running after ≡ to)
 turns setting from next to is = turns_by (may_come setting.until_idle from next) from next to is
 
 -- and so are all of them
-turned-all : (setting : Setting) (from : Turning) (entries : List Entry) (to : Stage)
-    → ran setting (Running from) entries ≡ Some to → (after : Turning) × (turned from entries ≡ Some after)
+turned-all : (setting : Setting) (from : LoopState) (entries : List Entry) (to : Stage)
+    → ran setting (Running from) entries ≡ Some to → (after : LoopState) × (turned from entries ≡ Some after)
 turned-all setting from [] to legal = (from, refl)
 turned-all setting from (next ∷ later) to legal =
     let step = then_some (λ (after : Stage). ran setting after later) (gone_on setting (Running from) next) to legal in
     let one = turns setting from next step.0 step.1 in
     let rest = turned-all setting one.0 later to
     (ap (λ (stage : Stage). ran setting stage later) one.2 ∙ step.2) in
-    (rest.0, ap (option_and_then (λ (after : Turning). turned after later)) one.1 ∙ rest.1)
+    (rest.0, ap (option_and_then (λ (after : LoopState). turned after later)) one.1 ∙ rest.1)
 
 -- ---- a service comes of a loop that runs
 
@@ -74,7 +74,7 @@ unbound door path stage to thing (entry.Start job answer) service is = cc
 unbound door path stage to thing (entry.Now answer) service is = cc
 
 serving-runs : (setting : Setting) (stage to : Stage) (thing : Thing) (next : Entry) → is_service thing next ≡ true
-    → gone_on setting stage next ≡ Some to → (from : Turning) × (stage ≡ Running from)
+    → gone_on setting stage next ≡ Some to → (from : LoopState) × (stage ≡ Running from)
 serving-runs setting Unbound to thing next service is =
     absurd (unbound Clients setting.path HalfBound to thing next service is)
 serving-runs setting HalfBound to thing next service is =
@@ -128,7 +128,7 @@ still-all setting stage to (next ∷ later) still legal =
 -- ---- two services
 
 -- the first of them leads there
-leads_there : (setting : Setting) (from turning : Turning) (first : Entry)
+leads_there : (setting : Setting) (from turning : LoopState) (first : Entry)
     → ran setting (Running from) (first ∷ []) ≡ Some (Running turning) → taken from first ≡ Some turning
 leads_there setting from turning first legal =
     let step = then_some (λ (after : Stage). ran setting after []) (gone_on setting (Running from) first) (Running turning) legal in
@@ -137,7 +137,7 @@ leads_there setting from turning first legal =
     let is : one.0 ≡ turning = cc in
     one.1 ∙ ap Some is
 
-fair_by : (setting : Setting) (from turning : Turning) (to : Stage) (thing other : Thing) (between after : List Entry)
+fair_by : (setting : Setting) (from turning : LoopState) (to : Stage) (thing other : Thing) (between after : List Entry)
     (first last : Entry) → IsQuiet from.state from.line
     → ran setting (Running from) (first ∷ (between ++ last ∷ after)) ≡ Some to
     → ran setting (Running from) (first ∷ []) ≡ Some (Running turning)
@@ -150,7 +150,7 @@ fair_by setting from turning to thing other between after first last quiet legal
     (ap (ran setting (Running from)) more ∙ legal) in
     let front = turned-all setting from (first ∷ (between ++ last ∷ [])) up_to.0 up_to.1 in
     served_between from front.0 thing other first last between quiet front.1 service again apart
-    (ap (if_any (λ (t : Turning). waits_on other t between)) (leads_there setting from turning first reached) ∙ waits)
+    (ap (if_any (λ (t : LoopState). waits_on other t between)) (leads_there setting from turning first reached) ∙ waits)
 
 fair : (setting : Setting) (calls : List Entry) (to : Stage) → ran setting Unbound calls ≡ Some to → IsFair setting calls
 fair setting calls to legal = λ thing other before between after first last turning twice apart reached waits.

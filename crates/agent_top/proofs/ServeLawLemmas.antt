@@ -13,7 +13,7 @@ use Rattle.agent_model.specs.Events.{Timed}
 use Rattle.agent_model.specs.Runs.{run}
 use Rattle.agent_model.specs.State.{State, first_state}
 use Rattle.agent_model.specs.Step.{step}
-use Rattle.loop_model.specs.LegalJournal.{Turning, comes_next, events_at, taken_if}
+use Rattle.loop_model.specs.LegalJournal.{LoopState, comes_next, events_brought, taken_if}
 use Rattle.loop_model.specs.Things.{same_door}
 use Rattle.ready_loop.specs.Serving.{Setting, Stage, Unbound, HalfBound, Running, Refused, after_bind, begun, bound, children_path, gone_on, may_come, ran, running_if, stage_if}
 use Rattle.agent_top.specs.Words.{served_with}
@@ -25,13 +25,13 @@ use Rattle.agent_top.specs.ServeLaw.{IsLawfulServing, ServesLawfully, agent_at, 
 abbrev LeadsTo : Setting → State → Option Stage → Type 0
 LeadsTo setting state found = IfSome found (λ (stage : Stage). agent_at setting stage ≡ state)
 
-turn-leads : (setting : Setting) (may : Bool) (turning : Turning) (next : Entry)
-    → LeadsTo setting (run turning.state (events_at turning.due next)) (option_map Running (taken_if may turning next))
+turn-leads : (setting : Setting) (may : Bool) (turning : LoopState) (next : Entry)
+    → LeadsTo setting (run turning.state (events_brought turning.due next)) (option_map Running (taken_if may turning next))
 turn-leads setting true turning next = refl
 turn-leads setting false turning next = tt
 
-running-leads : (setting : Setting) (may : Bool) (turning : Turning) (next : Entry)
-    → LeadsTo setting (run turning.state (events_at turning.due next)) (running_if may turning next)
+running-leads : (setting : Setting) (may : Bool) (turning : LoopState) (next : Entry)
+    → LeadsTo setting (run turning.state (events_brought turning.due next)) (running_if may turning next)
 running-leads setting true turning next = turn-leads setting (comes_next turning next) turning next
 running-leads setting false turning next = tt
 

@@ -6,7 +6,7 @@ use Rattle.std.specs.List.{list_any}
 use Rattle.world_ports.specs.Journal.{Grows}
 use Rattle.world_ports.specs.declared.entry.Entry.{Entry}
 use Rattle.loop_model.specs.Fairness.{is_service, waits_on}
-use Rattle.loop_model.specs.LegalJournal.{Turning}
+use Rattle.loop_model.specs.LegalJournal.{LoopState}
 use Rattle.loop_model.specs.Things.{same_thing}
 use Rattle.loop_model.specs.declared.thing.Thing.{Thing}
 use Rattle.ready_loop.specs.Serving.{Setting, Stage, Unbound, Running, ran}
@@ -19,7 +19,7 @@ pub record ServeTwice (thing : Thing) (calls before between after : List Entry) 
 
 -- between two services of one thing each other thing is served that is ready and can be served all the while
 abbrev pub IsFair : Setting → List Entry → Type 0
-IsFair setting calls = (thing other : Thing) (before between after : List Entry) (first last : Entry) (turning : Turning)
+IsFair setting calls = (thing other : Thing) (before between after : List Entry) (first last : Entry) (turning : LoopState)
     → ServeTwice thing calls before between after first last → same_thing thing other ≡ false
     → ran setting Unbound (before ++ first ∷ []) ≡ Some (Running turning) → waits_on other turning between ≡ true
     → list_any (is_service other) between ≡ true

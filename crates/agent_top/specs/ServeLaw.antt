@@ -10,7 +10,7 @@ use Rattle.agent_laws.specs.History.{HasNumbers, IsLawful}
 use Rattle.agent_model.specs.Events.{Timed}
 use Rattle.agent_model.specs.Runs.{history, run}
 use Rattle.agent_model.specs.State.{State, first_state}
-use Rattle.loop_model.specs.LegalJournal.{events_at}
+use Rattle.loop_model.specs.LegalJournal.{events_brought}
 use Rattle.agent_top.specs.Words.{served_with}
 use Rattle.ready_loop.specs.Serving.{Setting, Stage, Unbound, HalfBound, Running, Refused, gone_on, ran}
 
@@ -18,7 +18,7 @@ use Rattle.ready_loop.specs.Serving.{Setting, Stage, Unbound, HalfBound, Running
 abbrev pub call_events : Stage → Entry → List Timed
 call_events Unbound next = []
 call_events HalfBound next = []
-call_events (Running turning) next = events_at turning.due next
+call_events (Running turning) next = events_brought turning.due next
 call_events Refused next = []
 
 -- what later calls bring, where this one may come

@@ -22,7 +22,7 @@ use Rattle.agent_core.specs.Awaiting.{awaited_of, blob_of}
 use Rattle.agent_core.specs.Owing.{is_client_at}
 use Rattle.agent_model.specs.Actions.{Outcome}
 use Rattle.agent_model.specs.Answers.{lose_where}
-use Rattle.agent_model.specs.Children.{changed, closed, confirmer_goes_on, confirmer_named, failed_by, failed_if, first_frame, first_message, heard_more, hello_by, is_started_by, job_left, named_by, ticket_by}
+use Rattle.agent_model.specs.Children.{changed, closed, confirmer_goes_on, confirmer_named, failed_by, start_failed, first_frame, first_message, heard_more, hello_heard, is_started_by, job_left, named_by, ticket_shown}
 use Rattle.agent_model.specs.Consents.{consent_by, find_started, grant_to, over_if, started_number}
 use Rattle.agent_model.specs.Events.{Ended, Happening, Heard, Joined, StartFailed, Started, Tick, Took}
 use Rattle.agent_model.specs.Sound.{IsSteady}
@@ -104,11 +104,11 @@ module _ (line : ℕ) where
       let back = changed_back job job (linked_at number) state.under_way.confirmations one (λ c. refl) found in
       gives-either claim number one back.0 state.held.table.identities back.2 (gives back.0 back.1))
 
-  sees-ticket : (claim : Option Claim) (same : Bool) (job : Job) (number : ℕ) (rest : List ℕ) (state : State) → GivesBy claim job.number state → Sees claim state (ticket_by same job number rest state)
+  sees-ticket : (claim : Option Claim) (same : Bool) (job : Job) (number : ℕ) (rest : List ℕ) (state : State) → GivesBy claim job.number state → Sees claim state (ticket_shown same job number rest state)
   sees-ticket claim true job number rest state gives = sees-named claim job.kind job.number number rest state gives
   sees-ticket claim false job number rest state gives = seen-none line claim _ _ [] refl refl
 
-  sees-hello : (claim : Option Claim) (found : Option StartedJob) (ticket : List ℕ) (number : ℕ) (rest : List ℕ) (state : State) → ((one : StartedJob) → found ≡ Some one → GivesBy claim one.job.number state) → Sees claim state (hello_by found ticket number rest state)
+  sees-hello : (claim : Option Claim) (found : Option StartedJob) (ticket : List ℕ) (number : ℕ) (rest : List ℕ) (state : State) → ((one : StartedJob) → found ≡ Some one → GivesBy claim one.job.number state) → Sees claim state (hello_heard found ticket number rest state)
   sees-hello claim None ticket number rest state gives = seen-none line claim _ _ [] refl refl
   sees-hello claim (Some one) ticket number rest state gives = sees-ticket claim (bytes_eq one.ticket ticket) one.job number rest state (gives one refl)
 
@@ -193,7 +193,7 @@ module _ (line : ℕ) where
   sees-failed_by claim kinds.Helper number state = sees-lose_where claim (is_started_by number state.under_way.link.state) state
   sees-failed_by claim kinds.Confirm number state = sees-over_if claim (find_job number state.under_way.confirmations) state
 
-  sees-failed : (claim : Option Claim) (found : Option Job) (state : State) → Sees claim state (failed_if found state)
+  sees-failed : (claim : Option Claim) (found : Option Job) (state : State) → Sees claim state (start_failed found state)
   sees-failed claim None state = seen-none line claim _ _ [] refl refl
   sees-failed claim (Some job) state = sees-failed_by claim job.kind job.number (job_left job.number state)
 

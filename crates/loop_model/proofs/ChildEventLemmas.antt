@@ -15,7 +15,7 @@ use Rattle.child_msg.specs.declared.fault.ChildFault.{ChildFault}
 use Rattle.confirm_desk.specs.Confirmations as desk
 use Rattle.confirm_desk.specs.Confirmations.{Confirmation, change_job, consent, find_asker, find_job, find_linked, linked, linked_at}
 use Rattle.helper_link.specs.declared.state.LinkState.TheVariants as states
-use Rattle.agent_model.specs.Children.{changed, closed, confirmer_named, failed_by, failed_if, first_frame, first_message, heard_more, hello_by, helper_named, is_started_by, job_left, job_started, named_by, ticket_by, unheard}
+use Rattle.agent_model.specs.Children.{changed, closed, confirmer_named, failed_by, start_failed, first_frame, first_message, heard_more, hello_heard, helper_named, is_started_by, job_left, job_started, named_by, ticket_shown, unheard}
 use Rattle.agent_model.specs.Consents.{find_started, started_number}
 use Rattle.agent_model.specs.Events.{Ended, Happening, Heard, Joined, StartFailed, Started, Tick, Took}
 use Rattle.agent_model.specs.State.{Client, Confirmer, Helper, Port, Role, StartedJob, State, UnderWay, Unnamed, find_port, find_to_start, job_number, role_of}
@@ -88,7 +88,7 @@ module _ (number high : ℕ) where
 
     keeps-ticket : (right : Bool) (job : ℕ) (one : StartedJob) (rest : List ℕ)
         → find_started job state.under_way.started ≡ Some one
-        → Keeps number high (ticket_by right one.job own rest state).state
+        → Keeps number high (ticket_shown right one.job own rest state).state
     keeps-ticket true job one rest found =
         let own_job : one.job.number ≡ job = found_key started_number job state.under_way.started one found in
         keeps-named one.job.kind one.job.number one rest
@@ -97,7 +97,7 @@ module _ (number high : ℕ) where
 
     keeps-hello : (found : Option StartedJob) (job : ℕ) (ticket rest : List ℕ)
         → find_started job state.under_way.started ≡ found
-        → Keeps number high (hello_by found ticket own rest state).state
+        → Keeps number high (hello_heard found ticket own rest state).state
     keeps-hello None job ticket rest found = keeps-shut
     keeps-hello (Some one) job ticket rest found = keeps-ticket (bytes_eq one.ticket ticket) job one rest found
 
@@ -286,7 +286,7 @@ module _ (number high : ℕ) where
       ∙ there) (keeps-left job.number state keeps)
 
   keeps-failed : (found : Option Job) (job : ℕ) (state : State) → find_to_start job state.under_way.to_start ≡ found
-      → Keeps number high state → Keeps number high (failed_if found state).state
+      → Keeps number high state → Keeps number high (start_failed found state).state
   keeps-failed None job state is keeps = keeps
   keeps-failed (Some one) job state is keeps =
       let own : one.number ≡ job = found_key job_number job state.under_way.to_start one is in

@@ -13,7 +13,7 @@ use Rattle.agent_model.specs.Children.{closed}
 use Rattle.agent_model.specs.Consents.{over_if}
 use Rattle.agent_model.specs.Events.{Happening, Joined, Heard, Ended, Took, Started, StartFailed, Tick}
 use Rattle.agent_model.specs.Sound.{IsRising}
-use Rattle.agent_model.specs.State.{Client, Port, State, UnderWay, Verification, change_port, find_port, find_to_start, is_client, is_some_bytes, new_port, owed_as, owed_by, owed_of, remove_port, role_of, wants, wants_at, wants_by}
+use Rattle.agent_model.specs.State.{Client, Port, State, UnderWay, Verification, change_port, find_port, find_to_start, is_client, is_some_bytes, new_port, owed_as, owed_by, owed_of, remove_port, role_of, wants, wants_more, wants_by}
 use Rattle.agent_model.specs.Step.{admitted, ended_at, ended_by_role, handle, has_room, heard_at, heard_by_role, step}
 use Rattle.agent_model.specs.Time.{at_moment, taken_in}
 use Rattle.agent_model.specs.Verdicts.{Verdict, tell}
@@ -65,7 +65,7 @@ wants-silent port number f ports keeps is = elim (cases_eq port number) [
   where
     by_found : (found : Option Port) → wants_by (option_map f found) ≡ wants_by found
     by_found None = refl
-    by_found (Some p) = ap (λ d. wants_at d (f p).heard) (is.door p) ∙ ap (wants_at p.door) (is.heard p)
+    by_found (Some p) = ap (λ d. wants_more d (f p).heard) (is.door p) ∙ ap (wants_more p.door) (is.heard p)
 
 -- one that is to be read after a removal was before
 wants-removed : (port number low high : ℕ) (ports : List Port) → IsRising low high ports

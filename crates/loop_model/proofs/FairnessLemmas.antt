@@ -3,7 +3,7 @@ use Rattle.std.proofs.Common.{◌≡◌, ◌∙◌, Bool, true, false, List, [],
 use Rattle.std.specs.Prelude.{option_and_then}
 use Rattle.std.specs.List.{list_any}
 use Rattle.world_ports.specs.declared.entry.Entry.{Entry}
-use Rattle.loop_model.specs.LegalJournal.{Turning, closed_by, comes_next, events_at, led, taken, taken_if, turned}
+use Rattle.loop_model.specs.LegalJournal.{LoopState, closed_by, comes_next, events_brought, led, taken, taken_if, turned}
 use Rattle.loop_model.specs.Servable.{is_servable}
 use Rattle.loop_model.specs.Things.{same_thing, set_of}
 use Rattle.loop_model.specs.declared.thing.Thing.{Thing}
@@ -21,7 +21,7 @@ use Rattle.loop_model.proofs.AheadCallLemmas.{ahead_after, ahead_of_served, out_
 -- ---- between two services
 
 -- what waits stands in the queue, since nothing that is set aside can be served
-waiting_queued : (other : Thing) (turning : Turning) → IsQuiet turning.state turning.line
+waiting_queued : (other : Thing) (turning : LoopState) → IsQuiet turning.state turning.line
     → is_waiting other turning ≡ true
     → (set_of turning.line.queue other ≡ true) × (is_servable turning.state other ≡ true)
 waiting_queued other turning quiet waits =
@@ -34,18 +34,18 @@ waiting_queued other turning quiet waits =
       both.1,
     )
 
-waiting_at_once : (other : Thing) (turning : Turning) (entries : List Entry) → waits_on other turning entries ≡ true
+waiting_at_once : (other : Thing) (turning : LoopState) (entries : List Entry) → waits_on other turning entries ≡ true
     → is_waiting other turning ≡ true
 waiting_at_once other turning [] waits = waits
 waiting_at_once other turning (next ∷ later) waits =
     (and_both (is_waiting other turning) (if_any (λ after. waits_on other after later) (taken turning next)) waits).0
 
-between_by : (served : Bool) (found : Option Turning) (other thing : Thing) (turning to : Turning) (next last : Entry)
+between_by : (served : Bool) (found : Option LoopState) (other thing : Thing) (turning to : LoopState) (next last : Entry)
     (later : List Entry) → is_service other next ≡ served → taken turning next ≡ found
     → option_and_then (λ after. turned after (later ++ last ∷ [])) found ≡ Some to → is_waiting other turning ≡ true
     → if_any (λ after. waits_on other after later) found ≡ true → IsQuiet turning.state turning.line
     → ahead other thing turning.line.queue ≡ true
-    → ((after : Turning) → IsQuiet after.state after.line → ahead other thing after.line.queue ≡ true
+    → ((after : LoopState) → IsQuiet after.state after.line → ahead other thing after.line.queue ≡ true
     → turned after (later ++ last ∷ []) ≡ Some to → waits_on other after later ≡ true
     → list_any (is_service other) later ≡ true) → (served || list_any (is_service other) later) ≡ true
 between_by true found other thing turning to next last later service is legal waits_now waits quiet first rest = refl
@@ -56,12 +56,12 @@ between_by false (Some after) other thing turning to next last later service is 
     let has = waiting_queued other after still_quiet (waiting_at_once other after later waits) in
     let led_there = led turning next in
     let able : is_servable led_there.state other ≡ true =
-    ap (λ (t : Turning). is_servable t.state other) there.left ∙ has.1 in
+    ap (λ (t : LoopState). is_servable t.state other) there.left ∙ has.1 in
     let still = ahead_after turning.state led_there.state turning.due
-    (closed_by turning.state (events_at turning.due next)) next other thing turning.line service able first in
-    rest after still_quiet (ap (λ (t : Turning). ahead other thing t.line.queue) (sym there.left) ∙ still) legal waits
+    (closed_by turning.state (events_brought turning.due next)) next other thing turning.line service able first in
+    rest after still_quiet (ap (λ (t : LoopState). ahead other thing t.line.queue) (sym there.left) ∙ still) legal waits
 
-never_last : (other thing : Thing) (turning to : Turning) (last : Entry) → is_service thing last ≡ true
+never_last : (other thing : Thing) (turning to : LoopState) (last : Entry) → is_service thing last ≡ true
     → same_thing thing other ≡ false → IsQuiet turning.state turning.line
     → ahead other thing turning.line.queue ≡ true → is_waiting other turning ≡ true
     → turned turning (last ∷ []) ≡ Some to → ⊥
@@ -70,12 +70,12 @@ never_last other thing turning to last service apart quiet first waits legal =
     let out = out_of_turn turning.state last other thing turning.line.queue service has.1 apart first in
     let never : comes_next turning last ≡ false = false_by (comes_next turning last)
     (λ may. let turn = in_turn turning last may in let both : false ≡ true = sym out ∙ turn in cc) in
-    let none : option_and_then (λ (after : Turning). turned after []) (taken_if false turning last) ≡ Some to =
-    ap (λ (b : Bool). option_and_then (λ (after : Turning). turned after []) (taken_if b turning last)) (sym never)
+    let none : option_and_then (λ (after : LoopState). turned after []) (taken_if false turning last) ≡ Some to =
+    ap (λ (b : Bool). option_and_then (λ (after : LoopState). turned after []) (taken_if b turning last)) (sym never)
     ∙ legal in
     cc
 
-between : (other thing : Thing) (turning to : Turning) (entries : List Entry) (last : Entry)
+between : (other thing : Thing) (turning to : LoopState) (entries : List Entry) (last : Entry)
     → is_service thing last ≡ true → same_thing thing other ≡ false → IsQuiet turning.state turning.line
     → ahead other thing turning.line.queue ≡ true → turned turning (entries ++ last ∷ []) ≡ Some to
     → waits_on other turning entries ≡ true → list_any (is_service other) entries ≡ true
@@ -89,7 +89,7 @@ between other thing turning to (next ∷ later) last service apart quiet first l
     (λ after quiet_there ahead_there legal_there waits_there.
     between other thing after to later last service apart quiet_there ahead_there legal_there waits_there)
 
-since_by : (found : Option Turning) (from to : Turning) (thing other : Thing) (first last : Entry)
+since_by : (found : Option LoopState) (from to : LoopState) (thing other : Thing) (first last : Entry)
     (entries : List Entry) → taken from first ≡ found → IsQuiet from.state from.line
     → option_and_then (λ after. turned after (entries ++ last ∷ [])) found ≡ Some to → is_service thing first ≡ true
     → is_service thing last ≡ true → same_thing thing other ≡ false
@@ -101,13 +101,13 @@ since_by (Some after) from to thing other first last entries is quiet legal serv
     let has = waiting_queued other after still_quiet (waiting_at_once other after entries waits) in
     let led_there = led from first in
     let queue_has : set_of led_there.line.queue other ≡ true =
-    ap (λ (t : Turning). set_of t.line.queue other) there.left ∙ has.0 in
-    let behind = ahead_of_served from.state led_there.state from.due (closed_by from.state (events_at from.due first)) first
+    ap (λ (t : LoopState). set_of t.line.queue other) there.left ∙ has.0 in
+    let behind = ahead_of_served from.state led_there.state from.due (closed_by from.state (events_brought from.due first)) first
     other thing from.line service queue_has in
     between other thing after to entries last again apart still_quiet
-    (ap (λ (t : Turning). ahead other thing t.line.queue) (sym there.left) ∙ behind) legal waits
+    (ap (λ (t : LoopState). ahead other thing t.line.queue) (sym there.left) ∙ behind) legal waits
 
-pub served_between : (from to : Turning) (thing other : Thing) (first last : Entry) (entries : List Entry)
+pub served_between : (from to : LoopState) (thing other : Thing) (first last : Entry) (entries : List Entry)
     → IsQuiet from.state from.line → turned from (first ∷ (entries ++ last ∷ [])) ≡ Some to
     → is_service thing first ≡ true → is_service thing last ≡ true → same_thing thing other ≡ false
     → if_any (λ after. waits_on other after entries) (taken from first) ≡ true

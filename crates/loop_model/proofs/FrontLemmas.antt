@@ -14,19 +14,19 @@ use Rattle.world_ports.specs.declared.entry.Entry.TheVariants as entry
 use Rattle.agent_model.specs.State.{State}
 use Rattle.loop_model.specs.Dues.{Closing, Due, Free, Nothing, NowFor, Polling, closes_later, due_event, due_look, due_of, is_polling, same_wait, wait_of}
 use Rattle.loop_model.specs.Fronts.{HasFront, IsAtRest, RestsAfter}
-use Rattle.loop_model.specs.LegalJournal.{Turning, closed_by, comes_next, events_at, in_state, led, taken, turned}
+use Rattle.loop_model.specs.LegalJournal.{LoopState, closed_by, comes_next, events_brought, in_state, led, taken, turned}
 use Rattle.loop_model.specs.Lines.{Line, is_idle}
 use Rattle.loop_model.proofs.JournalLemmas.{leads}
 use Rattle.loop_model.proofs.TestLemmas.{and_both}
 
 -- ---- fronts
 
-front_by : (found : Option Turning) (to : Turning) (first later : List Entry) → ((turning : Turning) → turned turning (first ++ later) ≡ Some to → HasFront turning to first later) → option_and_then (λ after. turned after (first ++ later)) found ≡ Some to → (reached : Turning) × (option_and_then (λ after. turned after first) found ≡ Some reached) × (turned reached later ≡ Some to)
+front_by : (found : Option LoopState) (to : LoopState) (first later : List Entry) → ((turning : LoopState) → turned turning (first ++ later) ≡ Some to → HasFront turning to first later) → option_and_then (λ after. turned after (first ++ later)) found ≡ Some to → (reached : LoopState) × (option_and_then (λ after. turned after first) found ≡ Some reached) × (turned reached later ≡ Some to)
 front_by None to first later rest legal = cc
 front_by (Some turning) to first later rest legal =
     let front = rest turning legal in (front.reached, front.front, front.rest)
 
-pub has_front : (from to : Turning) (first later : List Entry) → turned from (first ++ later) ≡ Some to → HasFront from to first later
+pub has_front : (from to : LoopState) (first later : List Entry) → turned from (first ++ later) ≡ Some to → HasFront from to first later
 has_front from to [] later legal = record { reached = from; front = refl; rest = legal }
 has_front from to (next ∷ first) later legal =
     let front = front_by (taken from next) to first later (λ turning rest. has_front turning to first later rest) legal in
@@ -41,7 +41,7 @@ Rests (Closing port later) state line = Unit {0}
 Rests Polling state line = is_idle state line ≡ true
 Rests Nothing state line = Unit {0}
 
-abbrev IsWell : Turning → Type 0
+abbrev IsWell : LoopState → Type 0
 IsWell turning = Rests turning.due turning.state turning.line
 
 well_due : (closes : List ℕ) (state : State) (line : Line) → Rests (due_of closes) state line
@@ -62,7 +62,7 @@ well_event (Closing port later) closes state line = tt
 well_event Polling closes state line = tt
 well_event Nothing closes state line = tt
 
-well_led : (turning : Turning) (next : Entry) → comes_next turning next ≡ true → IsWell (led turning next)
+well_led : (turning : LoopState) (next : Entry) → comes_next turning next ≡ true → IsWell (led turning next)
 well_led turning (entry.Bind door path answer) may = cc
 well_led turning (entry.Poll wait items (Ok polled.Some)) may = tt
 well_led turning (entry.Poll wait items (Ok polled.Over)) may = tt
@@ -87,22 +87,22 @@ well_led turning (entry.Start job (Err Failed)) may = tt
 well_led turning (entry.Start job (Err Memory)) may = tt
 well_led turning (entry.Now (Ok moment)) may =
     let after = led turning (entry.Now (Ok moment)) in
-    well_event turning.due (closed_by turning.state (events_at turning.due (entry.Now (Ok moment)))) after.state after.line
+    well_event turning.due (closed_by turning.state (events_brought turning.due (entry.Now (Ok moment)))) after.state after.line
 well_led turning (entry.Now (Err want)) may = tt
 
-well_taken : (from after : Turning) (next : Entry) → taken from next ≡ Some after → IsWell after
+well_taken : (from after : LoopState) (next : Entry) → taken from next ≡ Some after → IsWell after
 well_taken from after next is =
     let there = leads from after next is in subst IsWell there.left (well_led from next there.comes)
 
-well_by : (found : Option Turning) (to : Turning) (later : List Entry)
-    → ((after : Turning) → found ≡ Some after → IsWell after)
-    → ((after : Turning) → IsWell after → turned after later ≡ Some to → IsWell to)
+well_by : (found : Option LoopState) (to : LoopState) (later : List Entry)
+    → ((after : LoopState) → found ≡ Some after → IsWell after)
+    → ((after : LoopState) → IsWell after → turned after later ≡ Some to → IsWell to)
     → option_and_then (λ after. turned after later) found ≡ Some to → IsWell to
 well_by None to later here rest is = cc
 well_by (Some after) to later here rest is = rest after (here after refl) is
 
 -- every place of a legal journal is well
-well_on : (from to : Turning) (entries : List Entry) → IsWell from → turned from entries ≡ Some to → IsWell to
+well_on : (from to : LoopState) (entries : List Entry) → IsWell from → turned from entries ≡ Some to → IsWell to
 well_on from to [] well is = let same : from ≡ to = cc in subst IsWell same well
 well_on from to (next ∷ later) well is =
     well_by (taken from next) to later (λ after here. well_taken from after next here)
@@ -117,7 +117,7 @@ rests_by (Closing port closes) state line polls well = cc
 rests_by Polling state line polls well = record { due = refl; idle = well }
 rests_by Nothing state line polls well = cc
 
-rests_taken : (found : Option Turning) (turning to : Turning) (wait : Option ℕ) (items : List Ready)
+rests_taken : (found : Option LoopState) (turning to : LoopState) (wait : Option ℕ) (items : List Ready)
     (answer : Result Polled WorldFault) (later : List Entry)
     → taken turning (entry.Poll wait items answer) ≡ found → IsWell turning
     → option_and_then (λ after. turned after later) found ≡ Some to → IsAtRest turning
@@ -127,7 +127,7 @@ rests_taken (Some after) turning to wait items answer later is well legal =
     (and_both (is_polling turning.due) (same_wait wait (wait_of turning.state))
     (leads turning after (entry.Poll wait items answer) is).comes).0 well
 
-pub rests_after : (state : State) (line : Line) (to : Turning) (first later : List Entry) (wait : Option ℕ)
+pub rests_after : (state : State) (line : Line) (to : LoopState) (first later : List Entry) (wait : Option ℕ)
     (items : List Ready) (answer : Result Polled WorldFault)
     → turned (in_state state line Free) (first ++ entry.Poll wait items answer ∷ later) ≡ Some to
     → RestsAfter (in_state state line Free) first

@@ -6,7 +6,7 @@ use Rattle.world_ports.specs.declared.entry.Entry.{Entry}
 use Rattle.world_ports.specs.declared.entry.Entry.TheVariants as entry
 use Rattle.agent_model.specs.State.{State, owed_of}
 use Rattle.loop_model.specs.Dues.{is_free}
-use Rattle.loop_model.specs.LegalJournal.{Turning, comes_next, led, read_room, taken, taken_if, turned}
+use Rattle.loop_model.specs.LegalJournal.{LoopState, comes_next, led, read_room, taken, taken_if, turned}
 use Rattle.loop_model.specs.Queues.{is_next}
 use Rattle.loop_model.specs.declared.thing.Thing.{Thing}
 use Rattle.loop_model.specs.declared.thing.Thing.TheVariants.{Accept, Read, Write}
@@ -15,22 +15,22 @@ use Rattle.loop_model.proofs.TestLemmas.{and_both}
 -- ---- one entry
 
 -- how it reads after an entry that may come
-pub record Leads (turning after : Turning) (next : Entry) : Type 0 where
+pub record Leads (turning after : LoopState) (next : Entry) : Type 0 where
   pub comes : comes_next turning next ≡ true
   pub left : led turning next ≡ after
 
-leads_by : (may : Bool) (turning after : Turning) (next : Entry) → taken_if may turning next ≡ Some after
+leads_by : (may : Bool) (turning after : LoopState) (next : Entry) → taken_if may turning next ≡ Some after
     → (may ≡ true) × (led turning next ≡ after)
 leads_by true turning after next is = let same : led turning next ≡ after = cc in (refl, same)
 leads_by false turning after next is = cc
 
-pub leads : (turning after : Turning) (next : Entry) → taken turning next ≡ Some after → Leads turning after next
+pub leads : (turning after : LoopState) (next : Entry) → taken turning next ≡ Some after → Leads turning after next
 leads turning after next is =
     let parts = leads_by (comes_next turning next) turning after next is in
     record { comes = parts.0; left = parts.1 }
 
 -- an entry that may come leads on
-pub taken-is : (turning : Turning) (next : Entry) → comes_next turning next ≡ true
+pub taken-is : (turning : LoopState) (next : Entry) → comes_next turning next ≡ true
     → taken turning next ≡ Some (led turning next)
 taken-is turning next may = ap (λ (b : Bool). taken_if b turning next) may
 
@@ -46,7 +46,7 @@ is_in_turn state queue (entry.Close port answer) = true
 is_in_turn state queue (entry.Start job answer) = true
 is_in_turn state queue (entry.Now answer) = true
 
-pub in_turn : (turning : Turning) (next : Entry) → comes_next turning next ≡ true
+pub in_turn : (turning : LoopState) (next : Entry) → comes_next turning next ≡ true
     → is_in_turn turning.state turning.line.queue next ≡ true
 in_turn turning (entry.Bind door path answer) may = refl
 in_turn turning (entry.Poll wait items answer) may = refl
@@ -65,14 +65,14 @@ in_turn turning (entry.Now answer) may = refl
 
 -- ---- entries one after another
 
-turned_by : (taking : Option Turning) (first later : List Entry)
-    → ((turning : Turning) → turned turning (first ++ later) ≡ option_and_then (λ after. turned after later) (turned turning first))
+turned_by : (taking : Option LoopState) (first later : List Entry)
+    → ((turning : LoopState) → turned turning (first ++ later) ≡ option_and_then (λ after. turned after later) (turned turning first))
     → option_and_then (λ after. turned after (first ++ later)) taking
     ≡ option_and_then (λ after. turned after later) (option_and_then (λ after. turned after first) taking)
 turned_by None first later rest = refl
 turned_by (Some turning) first later rest = rest turning
 
-pub turned-append : (from : Turning) (first later : List Entry)
+pub turned-append : (from : LoopState) (first later : List Entry)
     → turned from (first ++ later) ≡ option_and_then (λ after. turned after later) (turned from first)
 turned-append from [] later = refl
 turned-append from (next ∷ first) later =

@@ -11,7 +11,7 @@ use Rattle.agent_model.specs.Answers.{prove}
 use Rattle.agent_model.specs.Children.{changed, closed}
 use Rattle.agent_model.specs.Events.{Ended, Happening, Heard, Joined, StartFailed, Started, Tick, Took}
 use Rattle.agent_model.specs.Sound.{IsRising}
-use Rattle.agent_model.specs.State.{Client, Confirmer, Helper, Nothing, OnAsk, OnConfirmation, Port, Role, State, Unnamed, Verification, Waits, change_port, find_port, find_to_start, is_client, is_more, is_open, remove_port, role_of, wants, wants_at, wants_by}
+use Rattle.agent_model.specs.State.{Client, Confirmer, Helper, Nothing, OnAsk, OnConfirmation, Port, Role, State, Unnamed, Verification, Waits, change_port, find_port, find_to_start, is_client, is_more, is_open, remove_port, role_of, wants, wants_more, wants_by}
 use Rattle.agent_model.specs.Step.{ended_at, ended_by_role, handle, has_room, look_front, look_owed, look_port, look_waits, step, took_at, took_by_role, took_some}
 use Rattle.agent_model.specs.Time.{at_moment}
 use Rattle.agent_model.specs.Verdicts.{Verdict, tell}
@@ -153,11 +153,11 @@ ended_closed state moment port rising =
 -- ---- what was to be read
 
 abbrev IsWanted : Port → Type 0
-IsWanted at = wants_at at.door at.heard ≡ true
+IsWanted at = wants_more at.door at.heard ≡ true
 
 wanted-silent : (f : Port → Port) → IsSilent f → (p : Port) → IsWanted p → IsWanted (f p)
 wanted-silent f is p wanted =
-    ap (λ d. wants_at d (f p).heard) (is.door p) ∙ ap (wants_at p.door) (is.heard p) ∙ wanted
+    ap (λ d. wants_more d (f p).heard) (is.door p) ∙ ap (wants_more p.door) (is.heard p) ∙ wanted
 
 -- a client whose bytes hold no request that is whole is left as it is
 more-front : (answer : Front) (at : Port) (state : State) → is_more answer ≡ true
@@ -193,7 +193,7 @@ wanted-took_role Client one count state found is wanted at there =
     find_port-change_port one.number (took_some count) state.ports (λ p. refl) ∙ ap (option_map (took_some count)) found in
     let door : one.door ≡ Clients = role-client one.door one.number state.under_way is in
     let more : is_more (front longest_body one.heard) ≡ true =
-    sym (ap (λ d. wants_at d one.heard) door) ∙ wanted in
+    sym (ap (λ d. wants_more d one.heard) door) ∙ wanted in
     let stays : (took_by_role Client one.number count state).state ≡ next =
     more-look one.number (find_port one.number next.ports) next (λ p is_there.
     let alike : took_some count one ≡ p = (let eq : Some (took_some count one) ≡ Some p = sym made ∙ is_there in cc) in

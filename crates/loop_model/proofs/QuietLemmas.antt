@@ -13,7 +13,7 @@ use Rattle.agent_model.specs.State.{State, is_open}
 use Rattle.loop_model.specs.Calls.{hand_of}
 use Rattle.loop_model.specs.Dues.{Due, own_port}
 use Rattle.loop_model.specs.Elsewhere.{stands}
-use Rattle.loop_model.specs.LegalJournal.{Turning, closed_by, events_at, in_state, led, taken, turned}
+use Rattle.loop_model.specs.LegalJournal.{LoopState, closed_by, events_brought, in_state, led, taken, turned}
 use Rattle.loop_model.specs.Servable.{is_servable}
 use Rattle.loop_model.specs.Things.{Hot, same_thing, set_of}
 use Rattle.loop_model.specs.declared.thing.Thing.{Thing}
@@ -172,46 +172,46 @@ holds_led Holds place hand mark ordered state line due (entry.Close port answer)
 holds_led Holds place hand mark ordered state line due (entry.Start job answer) holds = holds
 holds_led Holds place hand mark ordered state line due (entry.Now (Ok moment)) holds =
     let left = (led (in_state state line due) (entry.Now (Ok moment))).state in
-    ordered left _ (ordered-event left (closed_by state (events_at due (entry.Now (Ok moment)))) (own_port due left.last_port) (hand_of due) line)
+    ordered left _ (ordered-event left (closed_by state (events_brought due (entry.Now (Ok moment)))) (own_port due left.last_port) (hand_of due) line)
 holds_led Holds place hand mark ordered state line due (entry.Now (Err want)) holds = holds
 
 -- ---- after any entries
 
-pub quiet_taken : (from to : Turning) (next : Entry) → taken from next ≡ Some to
+pub quiet_taken : (from to : LoopState) (next : Entry) → taken from next ≡ Some to
     → IsQuiet from.state from.line → IsQuiet to.state to.line
 quiet_taken from to next is quiet =
-    subst (λ (t : Turning). IsQuiet t.state t.line) (leads from to next is).left
+    subst (λ (t : LoopState). IsQuiet t.state t.line) (leads from to next is).left
     (holds_led IsQuiet quiet-placed (λ state thing line still. still) (λ state line joined still. still)
     (λ state line ordered. ordered.quiet) from.state from.line from.due next quiet)
 
-pub ordered_taken : (from to : Turning) (next : Entry) → taken from next ≡ Some to
+pub ordered_taken : (from to : LoopState) (next : Entry) → taken from next ≡ Some to
     → IsOrdered from.state from.line → IsOrdered to.state to.line
 ordered_taken from to next is ordered = record {
-  listed = subst (λ (t : Turning). IsListed t.state t.line.queue) (leads from to next is).left
+  listed = subst (λ (t : LoopState). IsListed t.state t.line.queue) (leads from to next is).left
       (holds_led (λ state line. IsListed state line.queue) listed-placed (λ state thing line. listed-hand state thing line.queue)
       (λ state line joined now. now) (λ state line now. now.listed) from.state from.line from.due next ordered.listed);
   quiet = quiet_taken from to next is ordered.quiet;
 }
 
-kept_on : (Holds : Turning → Type 0) (found : Option Turning) (to : Turning) (later : List Entry)
+kept_on : (Holds : LoopState → Type 0) (found : Option LoopState) (to : LoopState) (later : List Entry)
     → option_and_then (λ after. turned after later) found ≡ Some to
-    → ((after : Turning) → found ≡ Some after → turned after later ≡ Some to → Holds to) → Holds to
+    → ((after : LoopState) → found ≡ Some after → turned after later ≡ Some to → Holds to) → Holds to
 kept_on Holds None to later legal rest = absurd (cc)
 kept_on Holds (Some after) to later legal rest = rest after refl legal
 
 -- what each entry keeps, any entries keep
-pub holds_kept : (Holds : Turning → Type 0)
-    → ((from to : Turning) (next : Entry) → taken from next ≡ Some to → Holds from → Holds to)
-    → (from to : Turning) (entries : List Entry) → turned from entries ≡ Some to → Holds from → Holds to
+pub holds_kept : (Holds : LoopState → Type 0)
+    → ((from to : LoopState) (next : Entry) → taken from next ≡ Some to → Holds from → Holds to)
+    → (from to : LoopState) (entries : List Entry) → turned from entries ≡ Some to → Holds from → Holds to
 holds_kept Holds keeps from to [] legal holds = let same : from ≡ to = cc in subst Holds same holds
 holds_kept Holds keeps from to (next ∷ later) legal holds =
     kept_on Holds (taken from next) to later legal
     (λ after is rest. holds_kept Holds keeps after to later rest (keeps from after next is holds))
 
-pub ordered_kept : (from to : Turning) (entries : List Entry) → turned from entries ≡ Some to
+pub ordered_kept : (from to : LoopState) (entries : List Entry) → turned from entries ≡ Some to
     → IsOrdered from.state from.line → IsOrdered to.state to.line
-ordered_kept = holds_kept (λ (t : Turning). IsOrdered t.state t.line) ordered_taken
+ordered_kept = holds_kept (λ (t : LoopState). IsOrdered t.state t.line) ordered_taken
 
-pub quiet_kept : (from to : Turning) (entries : List Entry) → turned from entries ≡ Some to
+pub quiet_kept : (from to : LoopState) (entries : List Entry) → turned from entries ≡ Some to
     → IsQuiet from.state from.line → IsQuiet to.state to.line
-quiet_kept = holds_kept (λ (t : Turning). IsQuiet t.state t.line) quiet_taken
+quiet_kept = holds_kept (λ (t : LoopState). IsQuiet t.state t.line) quiet_taken

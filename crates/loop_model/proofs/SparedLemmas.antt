@@ -20,7 +20,7 @@ use Rattle.helper_link.specs.declared.fault.LinkFault.{LinkFault}
 use Rattle.helper_link.specs.declared.state.LinkState.{LinkState}
 use Rattle.helper_link.specs.declared.state.LinkState.TheVariants as states
 use Rattle.agent_model.specs.Answers.{Answering, answer_all, answer_by, answer_true, answers_in, close_helper, find_verification, helper_heard, lose, lose_if, lose_where, prove, tell_each, with_answers}
-use Rattle.agent_model.specs.Children.{changed, closed, confirmer_goes_on, confirmer_named, failed_by, failed_if, first_frame, first_message, heard_more, hello_by, helper_named, is_started_by, job_left, named_by, ticket_by, unheard}
+use Rattle.agent_model.specs.Children.{changed, closed, confirmer_goes_on, confirmer_named, failed_by, start_failed, first_frame, first_message, heard_more, hello_heard, helper_named, is_started_by, job_left, named_by, ticket_shown, unheard}
 use Rattle.agent_model.specs.Consents.{close_confirmer, consent_by, find_started, grant_to, grant_work, over, over_if}
 use Rattle.wire_text.specs.Bounds.{longest_body}
 use Rattle.agent_model.specs.Sound.{IsRising}
@@ -239,7 +239,7 @@ module _ (IsQuiet : (Port → Port) → Type 0) (port : ℕ) (start : List Port)
       spared-failed_by kinds.Confirm number state spared =
           spared-over_if (find_job number state.under_way.confirmations) state spared
 
-      pub spared-failed : (found : Option Job) (state : State) → Spared state → Spared (failed_if found state).state
+      pub spared-failed : (found : Option Job) (state : State) → Spared state → Spared (start_failed found state).state
       spared-failed None state spared = spared
       spared-failed (Some job) state spared = spared-failed_by job.kind job.number (job_left job.number state) spared
 
@@ -258,12 +258,12 @@ module _ (IsQuiet : (Port → Port) → Type 0) (port : ℕ) (start : List Port)
             let next = confirmer_named job number state in
             spared-goes_on (find_job job next.under_way.confirmations) rest next named
 
-        spared-ticket : (is : Bool) (job : Job) (rest : List ℕ) → Spared (ticket_by is job number rest state).state
+        spared-ticket : (is : Bool) (job : Job) (rest : List ℕ) → Spared (ticket_shown is job number rest state).state
         spared-ticket true job rest = spared-named job.kind job.number rest
         spared-ticket false job rest = shut
 
         spared-hello : (started : Option StartedJob) (ticket rest : List ℕ)
-            → Spared (hello_by started ticket number rest state).state
+            → Spared (hello_heard started ticket number rest state).state
         spared-hello None ticket rest = shut
         spared-hello (Some one) ticket rest = spared-ticket (bytes_eq one.ticket ticket) one.job rest
 

@@ -8,7 +8,7 @@ use Rattle.agent_model.specs.Runs.{run}
 use Rattle.agent_model.specs.State.{State}
 use Rattle.agent_model.specs.Step.{step}
 use Rattle.loop_model.specs.Dues.{Free}
-use Rattle.loop_model.specs.LegalJournal.{Turning, events_at, in_state, taken, turned}
+use Rattle.loop_model.specs.LegalJournal.{LoopState, events_brought, in_state, taken, turned}
 use Rattle.loop_model.specs.Lines.{IsExact, IsOrdered, IsQuiet, Line, after_event}
 use Rattle.loop_model.specs.Orderly.{IsOrderly}
 use Rattle.loop_model.specs.Queues.{AreApart}
@@ -59,15 +59,15 @@ orderly_run state [] orderly = orderly
 orderly_run state (timed ∷ later) orderly =
     orderly_run (step state timed.moment timed.event).state later (orderly_after state timed.moment timed.event orderly)
 
-orderly_taken : (from to : Turning) (next : Entry) → taken from next ≡ Some to → IsOrderly from.state
+orderly_taken : (from to : LoopState) (next : Entry) → taken from next ≡ Some to → IsOrderly from.state
     → IsOrderly to.state
 orderly_taken from to next is orderly =
-    subst (λ (t : Turning). IsOrderly t.state) (leads from to next is).left
-    (orderly_run from.state (events_at from.due next) orderly)
+    subst (λ (t : LoopState). IsOrderly t.state) (leads from to next is).left
+    (orderly_run from.state (events_brought from.due next) orderly)
 
-pub orderly_kept : (from to : Turning) (entries : List Entry) → turned from entries ≡ Some to → IsOrderly from.state
+pub orderly_kept : (from to : LoopState) (entries : List Entry) → turned from entries ≡ Some to → IsOrderly from.state
     → IsOrderly to.state
-orderly_kept = holds_kept (λ (t : Turning). IsOrderly t.state) orderly_taken
+orderly_kept = holds_kept (λ (t : LoopState). IsOrderly t.state) orderly_taken
 
 -- ---- of what a turn serves
 
@@ -81,7 +81,7 @@ pub turn_ok : {E : Type 0} (P : Type 0) (result : Result Unit E) (turn : Result 
 turn_ok P result turn is holds =
     subst (λ (r : Result Turn HubFault). OnOk r P) (sym is) (served_ok P result holds)
 
-serves_ok : {E : Type 0} (result : Result Unit E) (from : Turning) (old new : Option (List Entry)) (state : State)
+serves_ok : {E : Type 0} (result : Result Unit E) (from : LoopState) (old new : Option (List Entry)) (state : State)
     (line : Line) → Serves result from old new (in_state state line Free) → IsOrdered from.state from.line
     → IsOrderly from.state → OnOk result (IsOrdered state line × IsOrderly state)
 serves_ok (Ok value) from old new state line serves ordered orderly = (
@@ -90,7 +90,7 @@ serves_ok (Ok value) from old new state line serves ordered orderly = (
 )
 serves_ok (Err fault) from old new state line serves ordered orderly = tt
 
-pub ordered_served : {E : Type 0} (result : Result Unit E) (turn : Result Turn HubFault) (from : Turning)
+pub ordered_served : {E : Type 0} (result : Result Unit E) (turn : Result Turn HubFault) (from : LoopState)
     (old new : Option (List Entry)) (state : State) (line : Line) → turn ≡ served_by result
     → Serves result from old new (in_state state line Free) → IsOrdered from.state from.line → IsOrderly from.state
     → OnOk turn (IsOrdered state line)
@@ -98,7 +98,7 @@ ordered_served result turn from old new state line is serves ordered orderly =
     turn_ok (IsOrdered state line) result turn is
     (then_ok result (serves_ok result from old new state line serves ordered orderly) (λ both. both.0))
 
-pub orderly_served : {E : Type 0} (result : Result Unit E) (turn : Result Turn HubFault) (from : Turning)
+pub orderly_served : {E : Type 0} (result : Result Unit E) (turn : Result Turn HubFault) (from : LoopState)
     (old new : Option (List Entry)) (state : State) (line : Line) → turn ≡ served_by result
     → Serves result from old new (in_state state line Free) → IsOrdered from.state from.line → IsOrderly from.state
     → OnOk turn (IsOrderly state)

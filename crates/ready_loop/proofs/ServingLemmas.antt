@@ -20,7 +20,7 @@ use Rattle.agent_model.specs.State.{State, client_count}
 use Rattle.agent_model.specs.Step.{step}
 use Rattle.loop_model.specs.Dues.{Free, due_look, is_polling, same_wait, wait_of}
 use Rattle.loop_model.specs.Lines.{Line, is_idle}
-use Rattle.loop_model.specs.LegalJournal.{Turning, in_state, led, taken, taken_if, turned}
+use Rattle.loop_model.specs.LegalJournal.{LoopState, in_state, led, taken, taken_if, turned}
 use Rattle.ready_loop.specs.Moves.{Advances, Looks, Stops, Turns, is_poll}
 use Rattle.ready_loop.specs.Serving.{HalfBound, Opens, Refused, Running, Runs, RunsUpTo, Serves, Setting, Stage, Unbound, begun, children_path, gone_on, is_deserted, may_come, ran, running_if, stage_if}
 use Rattle.ready_loop.specs.declared.outcome.HubFault.{HubFault}
@@ -89,15 +89,15 @@ or_false : (here there : Bool) → (here || there) ≡ false → (here ≡ false
 or_false true there none = cc
 or_false false there none = (refl, none)
 
-quiet_step : (setting : Setting) (from to : Turning) (next : Entry) (later : List Entry) (found : Option Turning) → is_poll next ≡ false → taken from next ≡ found → option_and_then (λ after. turned after later) found ≡ Some to → ((after : Turning) → turned after later ≡ Some to → ran setting (Running after) later ≡ Some (Running to)) → option_and_then (λ after. ran setting after later) (gone_on setting (Running from) next) ≡ Some (Running to)
+quiet_step : (setting : Setting) (from to : LoopState) (next : Entry) (later : List Entry) (found : Option LoopState) → is_poll next ≡ false → taken from next ≡ found → option_and_then (λ after. turned after later) found ≡ Some to → ((after : LoopState) → turned after later ≡ Some to → ran setting (Running after) later ≡ Some (Running to)) → option_and_then (λ after. ran setting after later) (gone_on setting (Running from) next) ≡ Some (Running to)
 quiet_step setting from to next later None quiet is legal rest = cc
 quiet_step setting from to next later (Some after) quiet is legal rest =
     ap (λ (b : Bool). option_and_then (λ (s : Stage). ran setting s later) (running_if (not (b && (setting.until_idle && is_deserted from))) from next)) quiet
-    ∙ ap (λ (t : Option Turning). option_and_then (λ (s : Stage). ran setting s later) (option_map Running t)) is
+    ∙ ap (λ (t : Option LoopState). option_and_then (λ (s : Stage). ran setting s later) (option_map Running t)) is
     ∙ rest after legal
 
 -- what the loop turns through is a run
-quiet_runs : (setting : Setting) (from to : Turning) (entries : List Entry) → list_any is_poll entries ≡ false → turned from entries ≡ Some to → ran setting (Running from) entries ≡ Some (Running to)
+quiet_runs : (setting : Setting) (from to : LoopState) (entries : List Entry) → list_any is_poll entries ≡ false → turned from entries ≡ Some to → ran setting (Running from) entries ≡ Some (Running to)
 quiet_runs setting from to [] quiet legal = ap (option_map Running) legal
 quiet_runs setting from to (next ∷ later) quiet legal =
     let parts = or_false (is_poll next) (list_any is_poll later) quiet in
@@ -105,20 +105,20 @@ quiet_runs setting from to (next ∷ later) quiet legal =
 
 -- ---- a look and a poll
 
-poll_step : (setting : Setting) (mid to : Turning) (poll : Entry) (found : Option Turning) (may : Bool) → may ≡ true → taken mid poll ≡ found → option_and_then (λ after. turned after []) found ≡ Some to → option_and_then (λ after. ran setting after []) (running_if may mid poll) ≡ Some (Running to)
+poll_step : (setting : Setting) (mid to : LoopState) (poll : Entry) (found : Option LoopState) (may : Bool) → may ≡ true → taken mid poll ≡ found → option_and_then (λ after. turned after []) found ≡ Some to → option_and_then (λ after. ran setting after []) (running_if may mid poll) ≡ Some (Running to)
 poll_step setting mid to poll found may may_is is legal =
     ap (λ (b : Bool). option_and_then (λ (s : Stage). ran setting s []) (running_if b mid poll)) may_is
-    ∙ ap (λ (t : Option Turning). option_and_then (λ (s : Stage). ran setting s []) (option_map Running t)) is
-    ∙ (elim found as (λ t. option_and_then (λ (after : Turning). turned after []) t ≡ Some to → option_and_then (λ (s : Stage). ran setting s []) (option_map Running t) ≡ Some (Running to)) [
+    ∙ ap (λ (t : Option LoopState). option_and_then (λ (s : Stage). ran setting s []) (option_map Running t)) is
+    ∙ (elim found as (λ t. option_and_then (λ (after : LoopState). turned after []) t ≡ Some to → option_and_then (λ (s : Stage). ran setting s []) (option_map Running t) ≡ Some (Running to)) [
       | None ↦ λ none. cc
       | Some after ↦ λ some. ap (option_map Running) some
     ]) legal
 
-looked : State → Line → Moment → Bool → Option Turning
+looked : State → Line → Moment → Bool → Option LoopState
 looked state line moment idle = taken_if idle (in_state state line Free) (entry.Now (Ok moment))
 
 -- a poll comes only where the look closed nothing
-polls_at : (polling same : Bool) (mid to : Turning) (poll : Entry) → option_and_then (λ after. turned after []) (taken_if (polling && same) mid poll) ≡ Some to → polling ≡ true
+polls_at : (polling same : Bool) (mid to : LoopState) (poll : Entry) → option_and_then (λ after. turned after []) (taken_if (polling && same) mid poll) ≡ Some to → polling ≡ true
 polls_at true same mid to poll legal = refl
 polls_at false same mid to poll legal = cc
 
@@ -134,11 +134,11 @@ on_still true true before false stays done = refl
 on_still true true true true stays done = absurd (cc)
 on_still true true false true stays done = stays refl
 
-look_step : (setting : Setting) (state : State) (line : Line) (moment : Moment) (wait : Option ℕ) (items : List Ready) (answer : Result Polled WorldFault) (to : Turning) (idle : Bool) → IsRising 0 state.last_port state.ports → (setting.until_idle && (is_deserted (in_state state line Free) && idle)) ≡ false → option_and_then (λ after. turned after (entry.Poll wait items answer ∷ [])) (looked state line moment idle) ≡ Some to → option_and_then (λ after. ran setting after (entry.Poll wait items answer ∷ [])) (option_map Running (looked state line moment idle)) ≡ Some (Running to)
+look_step : (setting : Setting) (state : State) (line : Line) (moment : Moment) (wait : Option ℕ) (items : List Ready) (answer : Result Polled WorldFault) (to : LoopState) (idle : Bool) → IsRising 0 state.last_port state.ports → (setting.until_idle && (is_deserted (in_state state line Free) && idle)) ≡ false → option_and_then (λ after. turned after (entry.Poll wait items answer ∷ [])) (looked state line moment idle) ≡ Some to → option_and_then (λ after. ran setting after (entry.Poll wait items answer ∷ [])) (option_map Running (looked state line moment idle)) ≡ Some (Running to)
 unfolding looked
 look_step setting state line moment wait items answer to false rising done legal = cc
 look_step setting state line moment wait items answer to true rising done legal =
-    let mid : Turning = led (in_state state line Free) (entry.Now (Ok moment)) in
+    let mid : LoopState = led (in_state state line Free) (entry.Now (Ok moment)) in
     let poll = entry.Poll wait items answer in
     let polls : is_polling mid.due ≡ true = polls_at (is_polling mid.due) (same_wait wait (wait_of mid.state)) mid to poll legal in
     let none : (step state moment Tick).closes ≡ [] = none_closed (step state moment Tick).closes (is_idle mid.state mid.line) polls in
@@ -148,7 +148,7 @@ look_step setting state line moment wait items answer to true rising done legal 
     poll_step setting mid to poll (taken mid poll) (may_come setting.until_idle mid poll) may refl legal
 
 -- what a look and a poll add is a run, where the loop isn't to end there
-pub looks_run : (setting : Setting) (state : State) (line : Line) (moment : Moment) (wait : Option ℕ) (items : List Ready) (answer : Result Polled WorldFault) (to : Turning) → IsRising 0 state.last_port state.ports → (setting.until_idle && (is_deserted (in_state state line Free) && is_idle state line)) ≡ false → turned (in_state state line Free) (entry.Now (Ok moment) ∷ entry.Poll wait items answer ∷ []) ≡ Some to → ran setting (Running (in_state state line Free)) (entry.Now (Ok moment) ∷ entry.Poll wait items answer ∷ []) ≡ Some (Running to)
+pub looks_run : (setting : Setting) (state : State) (line : Line) (moment : Moment) (wait : Option ℕ) (items : List Ready) (answer : Result Polled WorldFault) (to : LoopState) → IsRising 0 state.last_port state.ports → (setting.until_idle && (is_deserted (in_state state line Free) && is_idle state line)) ≡ false → turned (in_state state line Free) (entry.Now (Ok moment) ∷ entry.Poll wait items answer ∷ []) ≡ Some to → ran setting (Running (in_state state line Free)) (entry.Now (Ok moment) ∷ entry.Poll wait items answer ∷ []) ≡ Some (Running to)
 unfolding looked
 looks_run setting state line moment wait items answer to rising done legal =
     look_step setting state line moment wait items answer to (is_idle state line) rising done legal
@@ -160,7 +160,7 @@ abbrev pub IsOn : Setting → State → Line → Type 0
 IsOn setting state line =
     (setting.until_idle && (is_deserted (in_state state line Free) && is_idle state line)) ≡ false
 
-pub served_runs : {old new : Option (List Entry)} (setting : Setting) (from to : Turning) → Advances from old new to → Runs setting (Running from) old new (Running to)
+pub served_runs : {old new : Option (List Entry)} (setting : Setting) (from to : LoopState) → Advances from old new to → Runs setting (Running from) old new (Running to)
 served_runs setting from to turn = record {
   added = turn.calls.added;
   told = turn.calls.told;
@@ -220,7 +220,7 @@ memory_ends setting state next line after rising on (inr looks) =
     }
 
 -- what a turn did, by how it ended
-pub turn_at : {result answer : Result Turn HubFault} (from : Turning) (old new : Option (List Entry)) (state : State) (line : Line) → result ≡ answer → Turns result from old new state line → Turns answer from old new state line
+pub turn_at : {result answer : Result Turn HubFault} (from : LoopState) (old new : Option (List Entry)) (state : State) (line : Line) → result ≡ answer → Turns result from old new state line → Turns answer from old new state line
 turn_at from old new state line is turn = subst (λ (r : Result Turn HubFault). Turns r from old new state line) is turn
 
 -- ---- the listeners

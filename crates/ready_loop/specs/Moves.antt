@@ -12,7 +12,7 @@ use Rattle.world_ports.specs.declared.entry.Entry.{Entry}
 use Rattle.world_ports.specs.declared.entry.Entry.TheVariants as entry
 use Rattle.agent_model.specs.State.{State}
 use Rattle.loop_model.specs.Dues.{Free}
-use Rattle.loop_model.specs.LegalJournal.{Turning, in_state, turned}
+use Rattle.loop_model.specs.LegalJournal.{LoopState, in_state, turned}
 use Rattle.loop_model.specs.Lines.{Line}
 use Rattle.ready_loop.specs.declared.outcome.Turn.{Turn}
 use Rattle.ready_loop.specs.declared.outcome.Turn.TheVariants as turns
@@ -31,59 +31,59 @@ is_poll (entry.Start job answer) = false
 is_poll (entry.Now answer) = false
 
 -- the calls that were added may come from the first reading on, lead to the second, and none of them is a poll
-pub record Continues (from : Turning) (old new : Option (List Entry)) (to : Turning) : Type 0 where
+pub record Continues (from : LoopState) (old new : Option (List Entry)) (to : LoopState) : Type 0 where
   pub added : List Entry
   pub told : Grows old new added
   pub legal : turned from added ≡ Some to
   pub quiet : list_any is_poll added ≡ false
 
 -- the same, by one call at least
-pub record Advances (from : Turning) (old new : Option (List Entry)) (to : Turning) : Type 0 where
+pub record Advances (from : LoopState) (old new : Option (List Entry)) (to : LoopState) : Type 0 where
   pub calls : Continues from old new to
   pub some : 0 < length calls.added
 
 -- the calls that were added may come from a reading on, and none of them is a poll
-pub record Stops (from : Turning) (old new : Option (List Entry)) : Type 0 where
-  pub to : Turning
+pub record Stops (from : LoopState) (old new : Option (List Entry)) : Type 0 where
+  pub to : LoopState
   pub calls : Continues from old new to
 
 -- behind some calls a poll was added, with this answer
-pub record Waits (before : List Entry) (from : Turning) (old new : Option (List Entry)) (answer : Result Polled WorldFault) (to : Turning) : Type 0 where
+pub record Waits (before : List Entry) (from : LoopState) (old new : Option (List Entry)) (answer : Result Polled WorldFault) (to : LoopState) : Type 0 where
   pub wait : Option ℕ
   pub items : List Ready
   pub told : Grows old new (before ++ entry.Poll wait items answer ∷ [])
   pub legal : turned from (before ++ entry.Poll wait items answer ∷ []) ≡ Some to
 
 -- the same, wherever it leads to
-pub record WaitsLast (before : List Entry) (from : Turning) (old new : Option (List Entry)) (answer : Result Polled WorldFault) : Type 0 where
-  pub to : Turning
+pub record WaitsLast (before : List Entry) (from : LoopState) (old new : Option (List Entry)) (answer : Result Polled WorldFault) : Type 0 where
+  pub to : LoopState
   pub waits : Waits before from old new answer to
 
 -- by whether memory sufficed
-abbrev pub GoesBy : {T E : Type 0} → Result T E → Turning → Option (List Entry) → Option (List Entry) → Turning → Type 0
+abbrev pub GoesBy : {T E : Type 0} → Result T E → LoopState → Option (List Entry) → Option (List Entry) → LoopState → Type 0
 GoesBy (Ok _) from old new to = Continues from old new to
 GoesBy (Err _) from old new to = Stops from old new
 
 -- where memory sufficed, the calls that were added lead from the first reading to the second
-pub record Goes {T E : Type 0} (result : Result T E) (from : Turning) (old new : Option (List Entry)) (to : Turning) : Type 0 where
+pub record Goes {T E : Type 0} (result : Result T E) (from : LoopState) (old new : Option (List Entry)) (to : LoopState) : Type 0 where
   pub by : GoesBy result from old new to
 
 -- by whether memory sufficed
-abbrev pub ServesBy : {T E : Type 0} → Result T E → Turning → Option (List Entry) → Option (List Entry) → Turning → Type 0
+abbrev pub ServesBy : {T E : Type 0} → Result T E → LoopState → Option (List Entry) → Option (List Entry) → LoopState → Type 0
 ServesBy (Ok _) from old new to = Advances from old new to
 ServesBy (Err _) from old new to = Stops from old new
 
 -- the same, by one call at least
-pub record Serves {T E : Type 0} (result : Result T E) (from : Turning) (old new : Option (List Entry)) (to : Turning) : Type 0 where
+pub record Serves {T E : Type 0} (result : Result T E) (from : LoopState) (old new : Option (List Entry)) (to : LoopState) : Type 0 where
   pub by : ServesBy result from old new to
 
 -- the same, whatever the answer was
-pub record WaitsOnce (before : List Entry) (from : Turning) (old new : Option (List Entry)) : Type 0 where
+pub record WaitsOnce (before : List Entry) (from : LoopState) (old new : Option (List Entry)) : Type 0 where
   pub answer : Result Polled WorldFault
   pub last : WaitsLast before from old new answer
 
 -- by how a poll ended that comes behind some calls
-abbrev pub Polls : List Entry → Result Turn HubFault → Turning → Option (List Entry) → Option (List Entry) → State → Line → Type 0
+abbrev pub Polls : List Entry → Result Turn HubFault → LoopState → Option (List Entry) → Option (List Entry) → State → Line → Type 0
 Polls before (Ok turns.Served) from old new state line = ⊥
 Polls before (Ok turns.Polled) from old new state line = Waits before from old new (Ok polled.Some) (in_state state line Free)
 Polls before (Ok turns.Over) from old new state line = WaitsLast before from old new (Ok polled.Over)
@@ -91,19 +91,19 @@ Polls before (Err faults.Poll) from old new state line = WaitsLast before from o
 Polls before (Err faults.Memory) from old new state line = WaitsOnce before from old new
 
 -- the same, of a poll alone, that may be missing from the journal where memory ran out
-abbrev pub PollsOr : Result Turn HubFault → Turning → Option (List Entry) → Option (List Entry) → State → Line → Type 0
+abbrev pub PollsOr : Result Turn HubFault → LoopState → Option (List Entry) → Option (List Entry) → State → Line → Type 0
 PollsOr (Ok turn) from old new state line = Polls [] (Ok turn) from old new state line
 PollsOr (Err faults.Poll) from old new state line = Polls [] (Err faults.Poll) from old new state line
 PollsOr (Err faults.Memory) from old new state line =
     Stops from old new ⊎ Polls [] (Err faults.Memory) from old new state line
 
 -- the same, behind a look at the clock
-pub record Looks (result : Result Turn HubFault) (from : Turning) (old new : Option (List Entry)) (state : State) (line : Line) : Type 0 where
+pub record Looks (result : Result Turn HubFault) (from : LoopState) (old new : Option (List Entry)) (state : State) (line : Line) : Type 0 where
   pub moment : Moment
   pub polls : Polls (entry.Now (Ok moment) ∷ []) result from old new state line
 
 -- by how a turn ended: a poll comes behind a look alone
-abbrev pub Turns : Result Turn HubFault → Turning → Option (List Entry) → Option (List Entry) → State → Line → Type 0
+abbrev pub Turns : Result Turn HubFault → LoopState → Option (List Entry) → Option (List Entry) → State → Line → Type 0
 Turns (Ok turns.Served) from old new state line = Advances from old new (in_state state line Free)
 Turns (Ok turns.Polled) from old new state line = Looks (Ok turns.Polled) from old new state line
 Turns (Ok turns.Over) from old new state line = Looks (Ok turns.Over) from old new state line

@@ -16,7 +16,7 @@ use Rattle.agent_model.specs.State.{State, client_count}
 use Rattle.loop_model.specs.Dues.{Free}
 use Rattle.loop_model.specs.Lines.{empty_line, is_idle}
 use Rattle.loop_model.specs.Things.{same_door}
-use Rattle.loop_model.specs.LegalJournal.{Turning, in_state, taken}
+use Rattle.loop_model.specs.LegalJournal.{LoopState, in_state, taken}
 use Rattle.ready_loop.specs.Moves.{is_poll}
 use Rattle.ready_loop.specs.declared.outcome.ServeEnd.{ServeEnd}
 use Rattle.ready_loop.specs.declared.outcome.ServeEnd.TheVariants.{Over, Idle, BindFault, PollFault, Memory}
@@ -32,7 +32,7 @@ pub record Setting : Type 0 where
 pub data Stage : Type 0 where
   Unbound : Stage
   HalfBound : Stage
-  Running : (turning : Turning) → Stage
+  Running : (turning : LoopState) → Stage
   Refused : Stage
 
 -- the stage in which the loop begins
@@ -70,15 +70,15 @@ bound door path next (entry.Now answer) = None
 -- ---- turns
 
 -- a client has connected, and none is open
-abbrev pub is_deserted : Turning → Bool
+abbrev pub is_deserted : LoopState → Bool
 is_deserted turning = turning.line.joined && (client_count turning.state.ports == 0)
 
 -- a loop that is to end when it is idle doesn't poll there
-abbrev pub may_come : Bool → Turning → Entry → Bool
+abbrev pub may_come : Bool → LoopState → Entry → Bool
 may_come until_idle turning next = not (is_poll next && (until_idle && is_deserted turning))
 
 -- where the test holds, the entry may come in its turn
-abbrev pub running_if : Bool → Turning → Entry → Option Stage
+abbrev pub running_if : Bool → LoopState → Entry → Option Stage
 running_if true turning next = option_map Running (taken turning next)
 running_if false turning next = None
 
@@ -125,7 +125,7 @@ pub record RunsUpToBind (setting : Setting) (from : Stage) (old new : Option (Li
 
 -- it was to end so: a client has connected, none is open, and nothing can be served
 pub record RunsUntilIdle (setting : Setting) (from : Stage) (old new : Option (List Entry)) : Type 0 where
-  pub turning : Turning
+  pub turning : LoopState
   pub calls : Runs setting from old new (Running turning)
   pub asked : setting.until_idle ≡ true
   pub deserted : is_deserted turning ≡ true

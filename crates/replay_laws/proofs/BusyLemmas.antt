@@ -23,7 +23,7 @@ use Rattle.agent_model.specs.Consents.{close_confirmer, grant_work, over}
 use Rattle.agent_model.specs.Dispatch.{Asker, Served}
 use Rattle.agent_model.specs.Events.{Happening, Took}
 use Rattle.agent_model.specs.KeyStates.{KeyState}
-use Rattle.agent_model.specs.Looks.{due_at}
+use Rattle.agent_model.specs.Looks.{due_front}
 use Rattle.agent_model.specs.Sound.{IsRising}
 use Rattle.agent_model.specs.State.{Nothing, Port, State, UnderWay, Verification, Waits, change_port, find_port, remove_port}
 use Rattle.agent_model.specs.Step.{asker_at, attempts, take_frame}
@@ -38,7 +38,7 @@ use Rattle.agent_secrecy.proofs.TrackLemmas.{WasAt, another, that, was_at}
 
 -- whatever such a port sent, nothing is to be taken of it
 abbrev pub IsBusy : Waits → List ℕ → Type 0
-IsBusy waits owed = (heard : List ℕ) → due_at waits owed heard ≡ More
+IsBusy waits owed = (heard : List ℕ) → due_front waits owed heard ≡ More
 
 -- where a port was before: it waits for and is owed the same, or is busy
 pub record Left (number : ℕ) (ports : List Port) (port : Port) : Type 0 where
@@ -58,7 +58,7 @@ busy_then mid port was before (inr busy) = inr busy
 busy_then mid port was (inl one) (inl two) = inl (two.0 ∙ one.0, two.1 ∙ one.1)
 busy_then mid port was (inr busy) (inl two) =
     inr
-    (λ heard. ap (λ (waits : Waits). due_at waits port.owed heard) two.0 ∙ ap (λ (owed : List ℕ). due_at mid.waits owed heard) two.1 ∙ busy heard)
+    (λ heard. ap (λ (waits : Waits). due_front waits port.owed heard) two.0 ∙ ap (λ (owed : List ℕ). due_front mid.waits owed heard) two.1 ∙ busy heard)
 
 pub left_then : (number : ℕ) (old mid : List Port) (port : Port) → (later : Left number mid port)
     → Left number old later.was → Left number old port

@@ -14,7 +14,7 @@ use Rattle.agent_model.specs.Answers.{lose}
 use Rattle.agent_model.specs.Children.{changed, heard_more}
 use Rattle.agent_model.specs.Consents.{over}
 use Rattle.agent_model.specs.Events.{Happening, Joined, Heard, Ended, Took, Started, StartFailed, Tick}
-use Rattle.agent_model.specs.Looks.{due, due_at}
+use Rattle.agent_model.specs.Looks.{due, due_front}
 use Rattle.agent_model.specs.Sound.{IsRising}
 use Rattle.agent_model.specs.State.{Client, Confirmer, Helper, Port, Role, State, Unnamed, Waits, change_port, find_port, remove_port, role_of}
 use Rattle.agent_model.specs.Step.{asker_at, attempts, handle, has_room, look_front, looked, take_frame, took_at, took_by_role, took_some}
@@ -48,9 +48,9 @@ due_left : (number : ℕ) (state : State) (port : Port) → NothingIsDue state �
 due_left number state port none left client heard =
     elim left.busy [
       | inl kept ↦
-          ap (λ (waits : Waits). due_at waits port.owed port.heard) kept.0
-          ∙ ap (λ (owed : List ℕ). due_at left.was.waits owed port.heard) kept.1
-          ∙ ap (due_at left.was.waits left.was.owed) heard
+          ap (λ (waits : Waits). due_front waits port.owed port.heard) kept.0
+          ∙ ap (λ (owed : List ℕ). due_front left.was.waits owed port.heard) kept.1
+          ∙ ap (due_front left.was.waits left.was.owed) heard
           ∙ none number left.was left.found (sym left.door ∙ client)
       | inr busy ↦ busy port.heard
     ]

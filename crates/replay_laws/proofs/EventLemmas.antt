@@ -24,7 +24,7 @@ use Rattle.agent_secrecy.proofs.QuietLemmas.{IsQuiet, quiet-hidden}
 use Rattle.agent_secrecy.proofs.StateLemmas.{changed-hidden, exactly}
 use Rattle.replay_laws.specs.Redacting.{IsRenaming, as_is, blanked_seen, blanked_state, redacted_seen, redacted_state, relocked_outcome, relocked_state, told_at}
 use Rattle.replay_laws.proofs.LookLemmas.{AreToldFronts, looked-told}
-use Rattle.replay_laws.proofs.RelockLemmas.{at_moment-relocked, confirmer_heard-relocked, ended_at-relocked, failed_if-relocked, helper_heard-relocked, unnamed_heard-relocked}
+use Rattle.replay_laws.proofs.RelockLemmas.{at_moment-relocked, confirmer_heard-relocked, ended_at-relocked, start_failed-relocked, helper_heard-relocked, unnamed_heard-relocked}
 
 -- a child process isn't a client
 pub no_client : (door : Door) (number : ℕ) (state : State) → door ≡ Children
@@ -84,7 +84,7 @@ module _ (rename : List ℕ → List ℕ) where
   quiet-relocked (Took port count) state quiet = took_found (find_port port state.ports) port count state refl quiet
   quiet-relocked (Started job ticket) state quiet = refl
   quiet-relocked (StartFailed job) state quiet =
-      failed_if-relocked rename (find_to_start job state.under_way.to_start) state
+      start_failed-relocked rename (find_to_start job state.under_way.to_start) state
   quiet-relocked Tick state quiet = refl
 
 -- ---- both runs

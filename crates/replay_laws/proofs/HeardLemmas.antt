@@ -15,7 +15,7 @@ use Rattle.wire_text.proofs.SplitLemmas.{split-more}
 use Rattle.record_world.specs.Frames.{rest_bytes}
 use Rattle.record_world.specs.Recording.{Left as Told, Port as Kept, Taken, find_port as find_kept, heard as kept_heard, held, longest_piece, number_of as kept_number, taken, taken_by}
 use Rattle.agent_model.specs.Events.{Happening, Joined, Heard, Ended, Took, Started, StartFailed, Tick}
-use Rattle.agent_model.specs.Looks.{due, due_at}
+use Rattle.agent_model.specs.Looks.{due, due_front}
 use Rattle.agent_model.specs.Runs.{IsInRange}
 use Rattle.agent_model.specs.Sound.{IsSound}
 use Rattle.agent_model.specs.State.{Fits, Nothing, OnAsk, OnConfirmation, Port, State, Waits, find_port}
@@ -237,8 +237,8 @@ module _ (all : List (List ℕ)) (few : length all < 2 ^ 64) (renaming : IsRenam
     due_next = heard_due number piece port here sound_here.rising found client due_here
 
     -- nor is anything to be taken of it in the other run
-    due_told : (waits : Waits) (owed : List ℕ) → due_at waits owed port.heard ≡ More
-        → due_at waits owed (told_bytes (name_in all) port.heard) ≡ More
+    due_told : (waits : Waits) (owed : List ℕ) → due_front waits owed port.heard ≡ More
+        → due_front waits owed (told_bytes (name_in all) port.heard) ≡ More
     due_told Nothing [] none =
         let nothing : told_bytes (name_in all) port.heard ≡ [] =
         ap (told_split (name_in all)) (split-more longest_body port.heard none)
@@ -250,8 +250,8 @@ module _ (all : List (List ℕ)) (few : length all < 2 ^ 64) (renaming : IsRenam
 
     due_pair : due pair.port ≡ More
     due_pair =
-        ap (λ bytes. due_at pair.port.waits pair.port.owed bytes) pair_heard
-        ∙ ap (λ (p : Port). due_at p.waits p.owed (told_bytes (name_in all) port.heard)) (sym pair.same)
+        ap (λ bytes. due_front pair.port.waits pair.port.owed bytes) pair_heard
+        ∙ ap (λ (p : Port). due_front p.waits p.owed (told_bytes (name_in all) port.heard)) (sym pair.same)
         ∙ due_told port.waits port.owed (due_here number port found client)
 
     own : took.port.number ≡ number

@@ -10,7 +10,7 @@ use Rattle.agent_msg.specs.Requests.{ClientRequest, names_bind}
 use Rattle.agent_model.specs.Binds.{agent_request_of}
 use Rattle.agent_model.specs.Children.{changed, shut}
 use Rattle.agent_model.specs.Dispatch.{Served, refuses, serve, unread}
-use Rattle.agent_model.specs.Looks.{due, due_at}
+use Rattle.agent_model.specs.Looks.{due, due_front}
 use Rattle.agent_model.specs.State.{Nothing, OnAsk, OnConfirmation, Port, State, Waits, change_port, find_port}
 use Rattle.agent_model.specs.Step.{asker_at, attempts, concluded, look_front, looked, take_frame, taken}
 use Rattle.agent_model.specs.Verdicts.{Locked, Refuses, tell}
@@ -206,7 +206,7 @@ module _ (rename : List ℕ → List ℕ) (renaming : IsRenaming rename) (told :
 
     due_told_by : (waits : Waits) (owed : List ℕ)
         → AreToldFronts p.heard (front longest_body p.heard) (front longest_body (told p.heard))
-        → AreToldFronts p.heard (due_at waits owed p.heard) (due_at waits owed (told p.heard))
+        → AreToldFronts p.heard (due_front waits owed p.heard) (due_front waits owed (told p.heard))
     due_told_by Nothing [] fronts = fronts
     due_told_by Nothing (byte ∷ bytes) fronts = both_more
     due_told_by (OnAsk ask) owed fronts = both_more
@@ -215,8 +215,8 @@ module _ (rename : List ℕ → List ℕ) (renaming : IsRenaming rename) (told :
     due-told : AreToldFronts p.heard (front longest_body p.heard) (front longest_body (told p.heard))
         → AreToldFronts p.heard (due p) (due q)
     due-told fronts =
-        subst (λ bytes. AreToldFronts p.heard (due p) (due_at q.waits q.owed bytes)) (sym heard_is)
-        (subst (λ (port : Port). AreToldFronts p.heard (due p) (due_at port.waits port.owed (told p.heard))) same_port (due_told_by p.waits p.owed fronts))
+        subst (λ bytes. AreToldFronts p.heard (due p) (due_front q.waits q.owed bytes)) (sym heard_is)
+        (subst (λ (port : Port). AreToldFronts p.heard (due p) (due_front port.waits port.owed (told p.heard))) same_port (due_told_by p.waits p.owed fronts))
 
     pub looked-told : (number : ℕ) → find_port number s.ports ≡ Some p → find_port number t.ports ≡ Some q
         → AreToldFronts p.heard (front longest_body p.heard) (front longest_body (told p.heard))

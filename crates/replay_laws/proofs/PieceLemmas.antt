@@ -19,7 +19,7 @@ use Rattle.agent_model.specs.Binds.{agent_request_of}
 use Rattle.agent_model.specs.Children.{changed, heard_more}
 use Rattle.agent_model.specs.Dispatch.{serve}
 use Rattle.agent_model.specs.Events.{Happening, Heard}
-use Rattle.agent_model.specs.Looks.{due, due_at}
+use Rattle.agent_model.specs.Looks.{due, due_front}
 use Rattle.agent_model.specs.Sound.{IsSound}
 use Rattle.agent_model.specs.State.{Nothing, OnAsk, OnConfirmation, Port, State, Waits, change_port, find_port}
 use Rattle.agent_model.specs.Step.{asker_at, attempts, handle, look_front, step, take_frame}
@@ -66,7 +66,7 @@ module _ (rename : List ℕ → List ℕ) (renaming : IsRenaming rename) where
 
 -- ---- a client whose bytes begin with no bad length stays open
 
-due_bad : (waits : Waits) (owed bytes : List ℕ) (announced : ℕ) → due_at waits owed bytes ≡ Bad announced
+due_bad : (waits : Waits) (owed bytes : List ℕ) (announced : ℕ) → due_front waits owed bytes ≡ Bad announced
     → front longest_body bytes ≡ Bad announced
 due_bad Nothing [] bytes announced bad = bad
 due_bad Nothing (byte ∷ owed) bytes announced bad = absurd (cc)

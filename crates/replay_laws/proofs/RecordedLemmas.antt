@@ -20,7 +20,7 @@ use Rattle.record_world.specs.Recording.{Port as Kept, find_port as find_kept, n
 use Rattle.agent_model.specs.Actions.{Outcome}
 use Rattle.agent_model.specs.Children.{changed, heard_more}
 use Rattle.agent_model.specs.Events.{Happening, Joined, Heard, Took}
-use Rattle.agent_model.specs.Looks.{due, due_at}
+use Rattle.agent_model.specs.Looks.{due, due_front}
 use Rattle.agent_model.specs.Sound.{IsRising, IsSound}
 use Rattle.agent_model.specs.State.{Nothing, OnAsk, OnConfirmation, Port, State, Waits, change_port, find_port}
 use Rattle.agent_model.specs.Step.{attempts, handle, has_room, look_front, looked, take_frame, took_some}
@@ -171,7 +171,7 @@ module _ (all : List (List ℕ)) where
   after_tracked door heard body_len None whole tracked = tracked
   after_tracked door heard body_len (Some kept) whole tracked = after_by door heard body_len kept whole tracked
 
-  due_whole : (waits : Waits) (owed bytes : List ℕ) (body_len : ℕ) → due_at waits owed bytes ≡ Whole body_len
+  due_whole : (waits : Waits) (owed bytes : List ℕ) (body_len : ℕ) → due_front waits owed bytes ≡ Whole body_len
       → front longest_body bytes ≡ Whole body_len
   due_whole Nothing [] bytes body_len whole = whole
   due_whole Nothing (byte ∷ owed) bytes body_len whole = absurd (cc)

@@ -16,7 +16,7 @@ use Rattle.dest_rule.specs.declared.binding.Binding.{Binding}
 use Rattle.confirm_desk.specs.Confirmations.{Confirmation, Consent, No, NotYet, Yes, consent, find_asker, find_job}
 use Rattle.agent_model.specs.Actions.{Outcome, Work, acted, and_then, behind, closing}
 use Rattle.agent_model.specs.Answers.{answers_in, helper_heard, lose_if, lose_where, with_answers}
-use Rattle.agent_model.specs.Children.{changed, closed, confirmer_goes_on, confirmer_named, failed_by, failed_if, first_frame, first_message, heard_more, hello_by, helper_named, is_started_by, job_left, named_by, shut_then, ticket_by, unnamed_heard}
+use Rattle.agent_model.specs.Children.{changed, closed, confirmer_goes_on, confirmer_named, failed_by, start_failed, first_frame, first_message, heard_more, hello_heard, helper_named, is_started_by, job_left, named_by, shut_then, ticket_shown, unnamed_heard}
 use Rattle.agent_model.specs.Consents.{confirmer_heard, consent_by, find_started, grant_by, grant_concluded, grant_to, grant_work, over_if, without_confirmation}
 use Rattle.agent_model.specs.KeyStates.{KeyState, after_use}
 use Rattle.agent_model.specs.State.{Client, Confirmer, Helper, Port, Role, StartedJob, State, UnderWay, Unnamed, find_port, role_of}
@@ -143,21 +143,21 @@ module _ (rename : List ℕ → List ℕ) where
       goes_on-relocked (find_job job (confirmer_named job number state).under_way.confirmations) rest
       (confirmer_named job number state)
 
-  ticket_by-relocked : (own : Bool) (job : Job) (number : ℕ) (rest : List ℕ) (state : State)
-      → ticket_by own job number rest (state_of state) ≡ outcome_of (ticket_by own job number rest state)
-  ticket_by-relocked true job number rest state = named_by-relocked job.kind job.number number rest state
-  ticket_by-relocked false job number rest state = refl
+  ticket_shown-relocked : (own : Bool) (job : Job) (number : ℕ) (rest : List ℕ) (state : State)
+      → ticket_shown own job number rest (state_of state) ≡ outcome_of (ticket_shown own job number rest state)
+  ticket_shown-relocked true job number rest state = named_by-relocked job.kind job.number number rest state
+  ticket_shown-relocked false job number rest state = refl
 
-  hello_by-relocked : (found : Option StartedJob) (ticket : List ℕ) (number : ℕ) (rest : List ℕ) (state : State)
-      → hello_by found ticket number rest (state_of state) ≡ outcome_of (hello_by found ticket number rest state)
-  hello_by-relocked None ticket number rest state = refl
-  hello_by-relocked (Some one) ticket number rest state =
-      ticket_by-relocked (bytes_eq one.ticket ticket) one.job number rest state
+  hello_heard-relocked : (found : Option StartedJob) (ticket : List ℕ) (number : ℕ) (rest : List ℕ) (state : State)
+      → hello_heard found ticket number rest (state_of state) ≡ outcome_of (hello_heard found ticket number rest state)
+  hello_heard-relocked None ticket number rest state = refl
+  hello_heard-relocked (Some one) ticket number rest state =
+      ticket_shown-relocked (bytes_eq one.ticket ticket) one.job number rest state
 
   message-relocked : (message : Result FromChildMessage ChildFault) (number : ℕ) (rest : List ℕ) (state : State)
       → first_message message number rest (state_of state) ≡ outcome_of (first_message message number rest state)
   message-relocked (Ok (Hello job ticket)) number rest state =
-      hello_by-relocked (find_started job state.under_way.started) ticket number rest state
+      hello_heard-relocked (find_started job state.under_way.started) ticket number rest state
   message-relocked (Ok (Signed ask signature)) number rest state = refl
   message-relocked (Ok (Refused ask)) number rest state = refl
   message-relocked (Ok (True ask)) number rest state = refl
@@ -201,7 +201,7 @@ module _ (rename : List ℕ → List ℕ) where
       lose_where-relocked (is_started_by number state.under_way.link.state) state
   failed_by-relocked kinds.Confirm number state = over_if-relocked (find_job number state.under_way.confirmations) state
 
-  pub failed_if-relocked : (found : Option Job) (state : State)
-      → failed_if found (state_of state) ≡ outcome_of (failed_if found state)
-  failed_if-relocked None state = refl
-  failed_if-relocked (Some job) state = failed_by-relocked job.kind job.number (job_left job.number state)
+  pub start_failed-relocked : (found : Option Job) (state : State)
+      → start_failed found (state_of state) ≡ outcome_of (start_failed found state)
+  start_failed-relocked None state = refl
+  start_failed-relocked (Some job) state = failed_by-relocked job.kind job.number (job_left job.number state)
