@@ -1,8 +1,8 @@
 -- Constraints that are made of destinations: each can be written; one after another.
-use Rattle.std.proofs.Common.{◌≡◌, ◌≢◌, ◌<◌, ◌≤◌, ◌+◌, ℕ, Bool, true, false, cond, ◌||◌, List, [], ◌∷◌, ◌++◌, map, drop, length, get_or, Option, Some, None, Result, Ok, Err, refl, sym, ap, subst, ◌∙◌, append_assoc}
+use Rattle.std.proofs.Common.{◌≡◌, ◌≢◌, ◌<◌, ◌+◌, ℕ, Bool, true, false, cond, ◌||◌, List, [], ◌∷◌, ◌++◌, map, drop, length, get_or, Option, Some, None, Result, Ok, Err, refl, sym, ap, subst, ◌∙◌, append_assoc}
 use Rattle.std.specs.Borrow.{Bor}
 use Rattle.std.specs.Prelude.{All}
-use Rattle.std.proofs.lemmas.List.{append-nil, drop_more, drop_all}
+use Rattle.std.proofs.lemmas.List.{drop_more}
 use Rattle.std.proofs.lemmas.List.Elements.{All-nil}
 use Rattle.constraint_rec.specs.declared.key_spec.KeySpec.{KeySpec}
 use Rattle.constraint_rec.specs.declared.constraint.Hop.{Hop}
@@ -133,10 +133,3 @@ pub fault_word : (files : List (List ℕ)) (all : Result (List Constraint) DestF
 fault_word files all made words n d fault more is fault_is =
     sym (next_word files all made words n d more is
     ∙ ap (λ (r : Result Constraint DestFault). behind made (onto r (rules_of files (lent (drop (n + 1) words))))) (sym fault_is))
-
--- no word is left
-pub no_word : (files : List (List ℕ)) (all : Result (List Constraint) DestFault) (made : List Constraint) (words : List (Bor (List ℕ))) (n : ℕ)
-    → length words ≤ n → all ≡ behind made (rules_of files (lent (drop n words))) → Ok made ≡ all
-no_word files all made words n none is =
-    sym (is ∙ ap (λ (left : List (Bor (List ℕ))). behind made (rules_of files (lent left))) (drop_all n words none)
-    ∙ ap (λ (l : List Constraint). Ok l) (append-nil made))

@@ -1,10 +1,10 @@
 -- Replies: the rules by which what is appended is a reply, and a list in pieces.
-use Rattle.std.proofs.Common.{◌≡◌, ℕ, ◌+◌, Bool, true, false, List, [], ◌∷◌, ◌++◌, length, append_assoc, refl, sym, ap, ◌∙◌, arith}
+use Rattle.std.proofs.Common.{◌≡◌, ℕ, ◌+◌, List, [], ◌∷◌, ◌++◌, length, append_assoc, refl, ap, ◌∙◌, arith}
 use Rattle.std.proofs.lemmas.Grind.{common_steps}
 use Rattle.std.proofs.lemmas.List.{length-append}
 use Rattle.wire_text.specs.Wire.{uint32, string}
 use Rattle.wire_text.proofs.WireLemmas.{wire_lengths, length-uint32, length-string}
-use Rattle.agent_msg.specs.Replies.{status, entry, entries, entries_length, identities_length, identities_answer, sign_response, list_head}
+use Rattle.agent_msg.specs.Replies.{entry, entries, entries_length, identities_length, identities_answer, list_head}
 
 pub ruleset appended = (common_steps, wire_lengths, length-append, append_assoc)
 
@@ -32,24 +32,3 @@ list_head-entries identities body count sized counted =
     append_assoc (uint32 body) (12 ∷ uint32 count) (entries identities)
     ∙ ap (λ (n : ℕ). uint32 body ++ (12 ∷ (uint32 n ++ entries identities))) counted
     ∙ ap (λ (n : ℕ). uint32 n ++ text) size
-
--- ---- how long replies are
-
-pub length-status : (is_success : Bool) → length (status is_success) ≡ 5
-length-status true = length-string (6 ∷ [])
-length-status false = length-string (5 ∷ [])
-
-pub length-identities_answer : (identities : List (List ℕ × List ℕ)) →
-    length (identities_answer identities) ≡ 4 + identities_length identities
-length-identities_answer identities =
-    omega (
-      arith,
-      length-string (12 ∷ (uint32 (length identities) ++ entries identities)),
-      length-append (uint32 (length identities)) (entries identities),
-      length-uint32 (length identities),
-      length-entries identities,
-    )
-
-pub length-sign_response : (signature : List ℕ) → length (sign_response signature) ≡ 9 + length signature
-length-sign_response signature =
-    omega (arith, length-string (14 ∷ string signature), length-string signature)

@@ -1,17 +1,15 @@
 -- Requests that are written: how long their bodies are, that they are in the grammar, and the rules by
 -- which appended fields are a body.
-use Rattle.std.proofs.Common.{◌≡◌, ℕ, ◌+◌, ◌^◌, ◌<◌, ◌≤◌, Bool, true, false, List, [], ◌∷◌, ◌++◌, length, append_assoc, inl, inr, refl, sym, ap, ◌∙◌, Ok, arith}
+use Rattle.std.proofs.Common.{◌≡◌, ℕ, ◌^◌, ◌<◌, List, [], ◌∷◌, length, append_assoc, inl, inr, refl, Ok}
 use Rattle.std.proofs.lemmas.Grind.{common_steps}
 use Rattle.std.proofs.lemmas.List.{length-append}
-use Rattle.wire_text.specs.Wire.{uint32, string}
 use Rattle.wire_text.proofs.WireLemmas.{wire_lengths}
 use Rattle.constraint_rec.specs.declared.terms.Terms.{Terms}
 use Rattle.constraint_rec.specs.Constraints.{no_terms, IsConstraints}
 use Rattle.constraint_rec.specs.Reading.{terms_of, terms_up_to}
-use Rattle.constraint_rec.specs.Writing.{constraints_bytes}
 use Rattle.key_blob.specs.AddedKeys.{IsAddedKey}
-use Rattle.agent_msg.specs.Requests.{Addition, BindRequest, Signing, ClientRequest, ListIdentities, Sign, Add, Remove, RemoveAll, Lock, Unlock, Bind, OtherExtension, Unsupported, IsSigning, IsText, IsBind, IsRequest, session_bind}
-use Rattle.agent_msg.specs.Writing.{addition_text, request_body, request_length}
+use Rattle.agent_msg.specs.Requests.{Addition, Add, IsRequest}
+use Rattle.agent_msg.specs.Writing.{addition_text}
 
 pub ruleset written = (common_steps, wire_lengths, length-append, append_assoc)
 
@@ -29,12 +27,3 @@ addition_is_written addition [] key fits is read =
     inl record { key = key; comment_fits = fits; unconstrained = none_said addition.terms read; printed = refl }
 addition_is_written addition (byte ∷ constraints) key fits is read =
     inr record { key = key; comment_fits = fits; constraints = byte ∷ constraints; constrained = is; printed = refl }
-
--- a request to bind as it is written is in the grammar
-pub bind_is_written : (bind : BindRequest) → length bind.host_key < 2 ^ 32 → length bind.session < 2 ^ 32
-    → length bind.signature < 2 ^ 32 → IsRequest (request_body (Bind bind)) (Bind bind)
-bind_is_written bind host_key session signature = by bind.forwarding refl
-  where
-    by : (forwarding : Bool) → bind.forwarding ≡ forwarding → IsRequest (request_body (Bind bind)) (Bind bind)
-    by true is = record { forwarding = 1; printed = rw is refl; host_key_fits = host_key; session_fits = session; signature_fits = signature; forwards = is }
-    by false is = record { forwarding = 0; printed = rw is refl; host_key_fits = host_key; session_fits = session; signature_fits = signature; forwards = is }

@@ -49,9 +49,6 @@ field_is bytes text rest small read =
 pub field_again : (text rest : List ℕ) → length text < 2 ^ 32 → field_at (string text ++ rest) ≡ Ok (text, rest)
 field_again text rest short = rw (string_at-string text rest short) refl
 
-pub field_last : (text : List ℕ) → length text < 2 ^ 32 → field_at (string text) ≡ Ok (text, [])
-field_last text short = subst (λ bytes. field_at bytes ≡ Ok (text, [])) (append-nil (string text)) (field_again text [] short)
-
 -- what follows a string is shorter
 pub behind_string : (bytes text rest : List ℕ) → bytes ≡ string text ++ rest → length rest < length bytes
 behind_string bytes text rest parts = omega (arith, ap length parts ∙ length-append (string text) rest, length-string text)

@@ -1,15 +1,14 @@
 -- What was read of the list, and how the program ends.
-use Rattle.std.proofs.Common.{◌≡◌, ◌∙◌, ◌≤◌, ◌⊎◌, inl, inr, ℕ, List, [], ◌∷◌, Option, Some, None, Result, Ok, Err, MatchResult, Vec, Global, length, refl, ap, sym, subst}
-use Rattle.std.specs.Option.{IfSome, option_map}
-use Rattle.std.proofs.lemmas.Option.{none-some, same_Some}
+use Rattle.std.proofs.Common.{◌≡◌, ◌∙◌, ◌≤◌, inl, inr, ℕ, List, Option, Some, Ok, length, refl, sym, subst}
+use Rattle.std.specs.Option.{IfSome}
+use Rattle.std.proofs.lemmas.Option.{same_Some}
 use Rattle.world_ports.specs.Files.{FilesView, Holds}
 use Rattle.pair_ports.specs.declared.entry.PairEntry.{PairEntry}
-use Rattle.filter_core.specs.Slots.{blobs_of}
 use Rattle.filter_model.specs.LegalPairs.{first_reading}
 use Rattle.filter_top.specs.declared.status.FilterStatus.{FilterStatus}
 use Rattle.filter_top.specs.declared.status.FilterStatus.TheVariants as status
 use Rattle.filter_top.specs.Lists.{blobs_in, longest_list}
-use Rattle.filter_top.specs.Program.{Asked, Begins, IsBadAt, IsListOf, IsReadAs, IsRefusedBy, Runs, Serves}
+use Rattle.filter_top.specs.Program.{Asked, IsListOf, IsRefusedBy, Runs, Serves}
 
 -- ---- the list
 
@@ -19,21 +18,6 @@ held_is files held path bytes told holds = subst (λ (known : Option (List ℕ �
 
 listed_by : (kept : Option (List ℕ)) (text : List ℕ) (blobs : List (List ℕ)) → kept ≡ Some text → length text ≤ longest_list → blobs_in text ≡ Ok blobs → IsListOf kept blobs
 listed_by kept text blobs is short read = subst (λ (k : Option (List ℕ)). IsListOf k blobs) (sym is) (short, read)
-
-refused_by : (kept : Option (List ℕ)) (text : List ℕ) (result : FilterStatus) → kept ≡ Some text → length text ≤ longest_list → IsReadAs text (Err result) → IsRefusedBy result kept
-refused_by kept text status.Done is short read = absurd read
-refused_by kept text (status.BadList line fault) is short read = subst (λ (k : Option (List ℕ)). IsBadAt k line fault) (sym is) (short, read)
-refused_by kept text status.Usage is short read = absurd read
-refused_by kept text status.BindFault is short read = absurd read
-refused_by kept text status.PollFault is short read = absurd read
-refused_by kept text status.Memory is short read = tt
-refused_by kept text status.FileFault is short read = tt
-
--- what a text was read as is what its file was read as
-pub read_as : (kept : Option (List ℕ)) (text : List ℕ) (result : Result (Vec (Vec ℕ Global) Global) FilterStatus) → kept ≡ Some text → length text ≤ longest_list → IsReadAs text result
-    → MatchResult result (λ blobs. IsListOf kept (blobs_of blobs.items)) (λ ended. IsRefusedBy ended kept)
-read_as kept text (Ok blobs) is short read = listed_by kept text (blobs_of blobs.items) is short read
-read_as kept text (Err ended) is short read = refused_by kept text ended is short read
 
 -- ---- the end
 

@@ -1,16 +1,14 @@
 -- The tests of a host certificate against the relations.
-use Rattle.std.proofs.Common.{◌≡◌, ◌==◌, ℕ, zero, suc, ◌^◌, ◌<◌, ◌≤◌, Bool, true, false, List, [], ◌∷◌, ◌++◌, length, Option, Some, None, refl, sym, subst, arith, not}
-use Rattle.std.specs.Prelude.{◌||◌, Decides, nat_lt}
-use Rattle.std.proofs.lemmas.Bool.{ltb-false, le-ltb, not-true, not_from_false}
-use Rattle.std.proofs.lemmas.Bool.Decides.{nat_tests, Decides-and, Decides-or, Decides-eqb, Decides-ltb}
+use Rattle.std.proofs.Common.{◌≡◌, ◌==◌, ℕ, zero, suc, ◌^◌, ◌<◌, ◌≤◌, Bool, true, false, List, [], ◌∷◌, ◌++◌, length, Option, Some, None, refl, sym, subst, arith}
+use Rattle.std.specs.Prelude.{◌||◌, Decides}
+use Rattle.std.proofs.lemmas.Bool.Decides.{nat_tests}
 use Rattle.pattern_core.specs.Patterns.{Matches, is_match, is_nothing}
 use Rattle.pattern_core.proofs.Theorems.{Matches_from_is_match, is_match_from_Matches}
 use Rattle.wire_text.specs.Wire.{IsBytes, string}
 use Rattle.wire_core.specs.Fields.{string_len, string_at}
 use Rattle.wire_core.proofs.Theorems.{string_is_front}
 use Rattle.key_blob.specs.Principals.{NamesHost, this}
-use Rattle.key_blob.specs.Certificates.{CertificateParts, IsValid}
-use Rattle.key_blob.specs.Validity.{named_in, names_host_up_to, names_host, is_valid}
+use Rattle.key_blob.specs.Validity.{named_in, names_host_up_to, names_host}
 use Rattle.key_blob.proofs.PrincipalLemmas.{string_shorter, NamesHost-behind, no_name}
 
 -- either the string at the front matches, or one behind it does
@@ -64,32 +62,3 @@ names_host_decides host bytes small = names_up_to_decides (length bytes) host by
 pub nothing_len : (bytes : List ℕ) → is_nothing bytes ≡ (length bytes == 0)
 nothing_len [] = refl
 nothing_len (byte ∷ bytes) = grind (arith, nat_tests)
-
--- the empty text's test
-nothing_decides : (bytes : List ℕ) → Decides (is_nothing bytes) (bytes ≡ [])
-nothing_decides [] = (λ h. refl, λ e. refl)
-nothing_decides (byte ∷ bytes) = (λ h. absurd cc, λ e. absurd cc)
-
--- `not (wall < after)` is the test for `after ≤ wall`
-begun_decides : (after wall : ℕ) → Decides (not (nat_lt wall after)) (after ≤ wall)
-begun_decides after wall =
-    (λ h. ltb-false _ _ (not-true _ h), λ begun. not_from_false _ (le-ltb _ _ begun))
-
--- `is_valid` is the test for `IsValid`
-pub is_valid_decides : (parts : CertificateParts) (host : List ℕ) (wall : ℕ) → IsBytes parts.principals
-    → Decides (is_valid parts host wall) (IsValid parts host wall)
-unfolding is_valid
-is_valid_decides parts host wall small =
-    let all = Decides-and _ _ (Decides-and _ _ (Decides-and _ _ (Decides-and _ _
-    (Decides-eqb parts.cert_type 2) (begun_decides parts.after wall))
-    (Decides-ltb wall parts.before)) (nothing_decides parts.critical))
-    (Decides-or _ _ (nothing_decides parts.principals) (names_host_decides host parts.principals small)) in (
-      λ h. let v = all.0 h in record {
-        of_host = v.0.0.0.0;
-        begun = v.0.0.0.1;
-        not_over = v.0.0.1;
-        no_options = v.0.1;
-        named = v.1;
-      },
-      λ v. all.1 ((((v.of_host, v.begun), v.not_over), v.no_options), v.named),
-    )

@@ -11,10 +11,6 @@ use Rattle.wire_text.proofs.WireLemmas.{byte_at_each}
 use Rattle.key_file.proofs.DecodedBytes.{decoded_is_bytes}
 use Rattle.key_file.specs.Base64.{alphabet, base64, bytes_of, IsBase64}
 
--- three bytes more need as many fillers
-fillers_again : (n : ℕ) → padding_len (n + 3) ≡ padding_len n
-fillers_again n = omega arith
-
 -- the characters and the fillers of RFC 4648's encoder
 characters_are : (bytes : List ℕ) → encode_symbols alphabet bytes ++ replicate (padding_len (length bytes)) 61 ≡ base64 bytes
 unfolding encode_symbols base64

@@ -42,9 +42,6 @@ text_again text rest small = rw (string_at-string text rest small) refl
 pub number_is : (bytes : List ℕ) (x : ℕ × List ℕ) → IsBytes bytes → u32_at bytes ≡ Ok x → IsFront bytes (uint32 x.0) x.1 × (x.0 < 2 ^ 32)
 number_is bytes x small read = uint32_is_front bytes x.0 x.1 small (ok_or_ok (uint32_at bytes) Short x read)
 
-number_again : (value : ℕ) (rest : List ℕ) → value < 2 ^ 32 → u32_at (uint32 value ++ rest) ≡ Ok (value, rest)
-number_again value rest small = rw (uint32_at-uint32 value rest small) refl
-
 -- ---- the fields
 
 pub magic_is : (bytes rest : List ℕ) → IsBytes bytes → after_magic bytes ≡ Ok rest → IsFront bytes magic rest

@@ -46,12 +46,6 @@ pub record IsSearch (whole : Bool) (text pattern after_run after_star : List ℕ
   pub answer : whole ≡ (is_match text pattern || some_later (λ rest. is_match rest after_star) after_run)
   pub kept : some_later (λ rest. is_match rest after_star) after_run ≡ true → some_end_is_match text pattern ≡ true
 
--- a search that begins
-pub IsSearch-begin : (text pattern : List ℕ) → IsSearch (some_end_is_match text pattern) text pattern text pattern
-IsSearch-begin text pattern =
-    let parts = some_end-parts (λ rest. is_match rest pattern) text in
-    record { answer = parts; kept = λ h. grind (arith, parts) }
-
 -- a search that finds
 pub IsSearch-end : (whole : Bool) (text pattern after_run after_star : List ℕ) → front_of text pattern ≡ End
     → IsSearch whole text pattern after_run after_star → whole ≡ true

@@ -3,7 +3,7 @@ use Rattle.std.proofs.Common.{length, get_or, decimal, true, Some, Ok, Err, Resu
 use Rattle.std.proofs.lemmas.Bool.Decides.{nat_tests}
 use Rattle.std.specs.Str.{all_ascii_digits}
 use Rattle.std.specs.Result.{result_ok}
-use Rattle.std.proofs.lemmas.Fmt.{decimal_digit, decimal_nonempty, decimal-digits_value, digits_decimal, digits_value-decimal, first_decimal}
+use Rattle.std.proofs.lemmas.Fmt.{decimal_digit, decimal_nonempty, digits_decimal, digits_value-decimal, first_decimal}
 use Rattle.std.proofs.lemmas.Str.Parse.{IsNumeralModel, numerals_by_fold}
 use Rattle.hex.specs.Hex.{decode_of, encode_lower, lower_digits, IsBytes}
 use Rattle.hex.specs.declared.error.FromHexError.{FromHexError}
@@ -36,12 +36,6 @@ is_shortest-decimal zero small = ap is_shortest (decimal_digit 0 (lit< tt))
 is_shortest-decimal (suc n) small =
     is_shortest-first (decimal (suc n)) (decimal_nonempty (suc n) small) (first_decimal (suc n) (omega arith) small)
 
--- a first zero of the shortest digits is all of them
-shortest-zero : (digits : List ℕ) → is_shortest digits ≡ true → get_or digits 0 0 ≡ 48 → length digits ≡ 1
-shortest-zero [] shortest zero_first = cc shortest
-shortest-zero (digit ∷ []) shortest zero_first = refl
-shortest-zero (digit ∷ next ∷ digits) shortest zero_first = absurd (grind (arith, nat_tests))
-
 -- the shortest digits are some
 shortest-some : (digits : List ℕ) → is_shortest digits ≡ true → 0 < length digits
 shortest-some [] shortest = cc shortest
@@ -57,16 +51,6 @@ number_of-decimal n small =
     let digits = all_digits-decimal n small in
     let same : number_after 0 (decimal n) ≡ n = digits_value-decimal decimal_digits n small in
     grind (arith, nat_tests, is_shortest-decimal n small, digits, same)
-
--- a field that is read as a number is the text of that number
-pub decimal-number_of : (field : List ℕ) (n : ℕ) → number_of field ≡ Some n → decimal n ≡ field
-decimal-number_of field n read =
-    let shortest : is_shortest field ≡ true = grind (arith, nat_tests) in
-    let digits : all_ascii_digits field ≡ true = grind (arith, nat_tests) in
-    let small : number_after 0 field < 2 ^ 64 = grind (arith, nat_tests) in
-    let same : number_after 0 field ≡ n = grind (arith, nat_tests) in
-    let back = decimal-digits_value decimal_digits field digits (shortest-some field shortest) (shortest-zero field shortest) small in
-    rw same at back
 
 -- the result that an option was made from
 ok_of_result_ok : (result : Result (List ℕ) FromHexError) (bytes : List ℕ) → result_ok result ≡ Some bytes

@@ -1,5 +1,5 @@
 -- What the run of a schedule cites of lines and their fields.
-use Rattle.std.proofs.Common.{◌≡◌, ◌≢◌, ◌<◌, ℕ, Bool, true, false, if◌then◌else◌, List, [], ◌∷◌, length, Option, None, Some, ok_or, Result, Ok, Err, refl, subst, arith, codes, bytes_eq, ◌==◌, nat_lt}
+use Rattle.std.proofs.Common.{◌≡◌, ◌<◌, ℕ, Bool, true, false, if◌then◌else◌, List, [], ◌∷◌, length, Option, None, Some, ok_or, Result, Ok, Err, refl, subst, arith, codes, bytes_eq, ◌==◌, nat_lt}
 use Rattle.std.proofs.lemmas.Bool.Decides.{nat_tests}
 use Rattle.schedule_text.specs.declared.fault.LineFault.{LineFault}
 use Rattle.schedule_text.specs.declared.fault.LineFault.TheVariants.{Hex, Memory, Number, TooLong}
@@ -137,10 +137,6 @@ IsSound-short (first ∷ more) = IsSound-if (first == 35) _ _ tt (IsSound-fields
 IsSound-step_of : (line : List ℕ) → IsSound (step_of line)
 unfolding step_of
 IsSound-step_of line = IsSound-if (nat_lt 65536 (length line)) _ _ tt (IsSound-short line)
-
--- no line is refused for want of memory
-pub refusal_is_not_for_memory : (line : List ℕ) → step_of line ≢ Err Memory
-refusal_is_not_for_memory line refused = subst IsSound refused (IsSound-step_of line)
 
 -- what a line says is heard or taken is one byte at least
 pub step_says_some : (line : List ℕ) (step : Step) → step_of line ≡ Ok step → SaysSome step

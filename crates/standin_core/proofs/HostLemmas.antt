@@ -93,9 +93,6 @@ no_more (Some hosts) = refl
 pub ArePairs-nil : ArePairs [] []
 ArePairs-nil = record { whole = refl; sized = All-nil IsSized }
 
-pub reading-start : (text : List ℕ) → IsReading text text []
-reading-start text = record { before = []; are = ArePairs-nil; goes = sym (no_more (hosts_of text)) }
-
 one_more : (before : List Host) (host : Host) (later : Option (List Host))
     → option_map (λ l. before ++ l) (then_hosts (Some host) later) ≡ option_map (λ l. (before ++ host ∷ []) ++ l) later
 one_more before host None = refl

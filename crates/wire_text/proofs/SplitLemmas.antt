@@ -219,14 +219,6 @@ rest_has_no_frame max stream = (is_cut (length stream) max stream (omega arith))
 pub All-IsBody-split : (max : ℕ) (stream : List ℕ) → All (IsBody max) (split max stream).bodies
 All-IsBody-split max stream = (is_cut (length stream) max stream (omega arith)).each
 
--- the rest is no longer than the stream
-pub length-rest : (max : ℕ) (stream : List ℕ) → length (split max stream).rest ≤ length stream
-length-rest max stream = (is_cut (length stream) max stream (omega arith)).shorter
-
--- the rest is split into nothing
-pub split-rest : (max : ℕ) (stream : List ℕ) → split max (split max stream).rest ≡ unsplit (split max stream).rest
-split-rest max stream = split-no_frame max (split max stream).rest (rest_has_no_frame max stream)
-
 -- behind a bad rest no body is found, whatever follows
 pub split-append_bad : (max : ℕ) (s t : List ℕ) → StartsBadly max (split max s).rest →
     split max (s ++ t) ≡ then_split (split max s).bodies (unsplit ((split max s).rest ++ t))

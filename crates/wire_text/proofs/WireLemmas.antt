@@ -1,10 +1,9 @@
 -- Lengths, uniqueness and reading back of the data types.
 use Rattle.std.proofs.Common.{◌≡◌, ℕ, ◌+◌, ◌^◌, ◌<◌, ◌≤◌, List, [], ◌++◌, length, get_or, take, drop, refl, sym, ap, ◌∙◌, append_assoc, arith, inl, inr}
-use Rattle.std.specs.List.{AllByRecursion}
-use Rattle.std.specs.Int.{w32, w64, to_be_bytes, from_be_bytes}
+use Rattle.std.specs.Int.{w32, w64, from_be_bytes}
 use Rattle.std.proofs.lemmas.Bool.{cases_lt}
 use Rattle.std.proofs.lemmas.List.{length-append, length-take, length-drop, drop-drop, take_at, drop_at, get_or_append_left, get_or-take, get_or_past, take-append-drop}
-use Rattle.std.proofs.lemmas.List.Elements.{All-append, All-take, All-from_recursion}
+use Rattle.std.proofs.lemmas.List.Elements.{All-take}
 use Rattle.std.proofs.lemmas.Nat.{be_bytes_4, from_be_bytes-to_be_bytes_4, from_be_bytes-to_be_bytes_8}
 use Rattle.wire_text.specs.Wire.{IsBytes, uint32, uint64, string, announced_len}
 
@@ -107,31 +106,7 @@ same_string a b s t small_a small_b same =
       sym (drop_at a s (length b) lengths) ∙ ap (drop (length b)) texts ∙ drop_at b t (length b) refl,
     )
 
--- a string is its text's and no other's
-pub string_is_unique : (a b : List ℕ) → length a < 2 ^ 32 → length b < 2 ^ 32 → string a ≡ string b → a ≡ b
-string_is_unique a b small_a small_b same = (same_string a b [] [] small_a small_b (ap (λ (bytes : List ℕ). bytes ++ []) same)).0
-
 -- ---- bytes
-
--- a uint32 is bytes
-pub IsBytes-uint32 : (value : ℕ) → IsBytes (uint32 value)
-unfolding uint32
-IsBytes-uint32 value =
-    let each : AllByRecursion (λ byte. byte < 256) (to_be_bytes w32 value) = (omega arith, (omega arith, (omega arith, (omega arith, tt)))) in
-    All-from_recursion (λ byte. byte < 256) (to_be_bytes w32 value) each
-
--- a uint64 is bytes
-pub IsBytes-uint64 : (value : ℕ) → IsBytes (uint64 value)
-unfolding uint64
-IsBytes-uint64 value =
-    let each : AllByRecursion (λ byte. byte < 256) (to_be_bytes w64 value) =
-    (omega arith, (omega arith, (omega arith, (omega arith, (omega arith, (omega arith, (omega arith, (omega arith, tt)))))))) in
-    All-from_recursion (λ byte. byte < 256) (to_be_bytes w64 value) each
-
--- a string of bytes is bytes
-pub IsBytes-string : (text : List ℕ) → IsBytes text → IsBytes (string text)
-unfolding string
-IsBytes-string text small = All-append (λ byte. byte < 256) (uint32 (length text)) text (IsBytes-uint32 (length text)) small
 
 -- bytes that announce a length, and so many bytes behind it, are a string and what follows
 pub string-announced : (bytes : List ℕ) → IsBytes bytes → 4 + announced_len bytes ≤ length bytes →

@@ -1,4 +1,3 @@
-pub mod CauseLemmas
 pub mod LifeLemmas
 pub mod MemoryLemmas
 pub mod StreamLemmas

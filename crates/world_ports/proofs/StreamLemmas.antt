@@ -1,12 +1,8 @@
 -- Lemmas on specs/Streams.antt: what several writes did.
-use Rattle.std.proofs.Common.{ℕ, ◌-◌, List, [], ◌++◌, length, take, drop, refl, ap, ◌∙◌, append_assoc, take-append-drop, arith}
-use Rattle.std.proofs.KnownBytes.{Appends-nil, Appends-trans}
+use Rattle.std.proofs.Common.{ℕ, ◌-◌, List, ◌++◌, length, take, drop, ap, ◌∙◌, append_assoc, take-append-drop, arith}
+use Rattle.std.proofs.KnownBytes.{Appends-trans}
 use Rattle.std.proofs.lemmas.List.{take_rest}
-use Rattle.world_ports.specs.Streams.{StreamView, OnlyReads, OnlyWrites, TakesFront, WritesFront}
-
--- before the first write nothing was written
-pub WritesFront-none : (bytes : List ℕ) (seen : StreamView) → WritesFront bytes bytes seen seen
-WritesFront-none bytes seen = record { front = []; whole = refl; written = Appends-nil seen.written }
+use Rattle.world_ports.specs.Streams.{StreamView, OnlyWrites, TakesFront, WritesFront}
 
 -- one write more, from the front of what was left
 pub WritesFront-next : (n : ℕ) (bytes rest : List ℕ) (old mid new : StreamView)
@@ -18,14 +14,6 @@ WritesFront-next n bytes rest old mid new before write = record {
       ∙ ap (λ l. before.front ++ (take n rest ++ l)) (take_rest rest n)
       ∙ ap (λ l. before.front ++ l) (take-append-drop n rest) ∙ before.whole;
   written = Appends-trans old.written mid.written new.written before.front (take n rest) before.written write.written;
-}
-
--- one read after another
-pub OnlyReads-trans : (old mid new : StreamView) → OnlyReads old mid → OnlyReads mid new → OnlyReads old new
-OnlyReads-trans old mid new first second = record {
-  written = second.written ∙ first.written;
-  write_faults = second.write_faults ∙ first.write_faults;
-  later = omega (arith, first.later, second.later);
 }
 
 -- one write after another
