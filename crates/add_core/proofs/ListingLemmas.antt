@@ -1,7 +1,7 @@
 -- Lists of identities, a line each.
-use Rattle.std.proofs.Common.{◌≡◌, ◌<◌, ◌≤◌, ◌+◌, ℕ, List, [], ◌∷◌, ◌++◌, Some, refl, subst, arith, drop, map, length, get_or, sym, ap, ◌∙◌, append_assoc, append-nil}
+use Rattle.std.proofs.Common.{◌≡◌, ◌<◌, ◌+◌, ℕ, List, [], ◌∷◌, ◌++◌, Some, refl, subst, arith, drop, map, length, get_or, sym, ap, ◌∙◌, append_assoc}
 use Rattle.std.specs.Borrow.{Bor}
-use Rattle.std.proofs.lemmas.List.{drop_more, drop_all}
+use Rattle.std.proofs.lemmas.List.{drop_more}
 use Rattle.std.specs.Io.KnownBytes.{Appends}
 use Rattle.std.proofs.KnownBytes.{Appends-nil}
 use Rattle.agent_msg.specs.ReplyReading.{lent}
@@ -22,13 +22,6 @@ next_line listing before after start all identities n d more so_far is =
     let others = lines_of listing (map lent (drop (n + 1) identities)) in
     ap (λ (l : List ℕ). l ++ others) is ∙ append_assoc before line others
     ∙ ap (λ (l : List (Bor (List ℕ) × Bor (List ℕ))). before ++ lines_of listing (map lent l)) (sym (drop_more identities n d more)) ∙ so_far
-
--- no identity is left
-pub no_line : (listing : Listing) (before whole : List ℕ) (identities : List (Bor (List ℕ) × Bor (List ℕ))) (n : ℕ) → length identities ≤ n
-    → before ++ lines_of listing (map lent (drop n identities)) ≡ whole → before ≡ whole
-no_line listing before whole identities n none so_far =
-    sym (append-nil before)
-    ∙ ap (λ (l : List (Bor (List ℕ) × Bor (List ℕ))). before ++ lines_of listing (map lent l)) (sym (drop_all n identities none)) ∙ so_far
 
 -- no identity is listed
 none_listed : (listing : Listing) (identities : List (Bor (List ℕ) × Bor (List ℕ))) (left : List ℕ) → length identities ≡ 0

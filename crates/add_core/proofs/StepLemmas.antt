@@ -17,10 +17,6 @@ use Rattle.add_core.specs.Exchanges.{answered, asked, judged, reply_in, reply_at
 
 -- ---- fronts
 
--- all of it is a front
-whole_front : (bytes : List ℕ) (old new : StreamView) → Appends old.written new.written bytes → WritesPart bytes old new
-whole_front bytes old new written = ([], record { front = bytes; whole = append-nil bytes; written = written })
-
 -- nothing is a front
 pub no_front : (bytes : List ℕ) (seen : StreamView) → WritesPart bytes seen seen
 no_front bytes seen = (bytes, record { front = []; whole = refl; written = Appends-nil seen.written })
@@ -49,11 +45,6 @@ later_front bytes more old mid new before part = (
 )
 
 -- ---- steps
-
--- a step that is made is cut at its end
-pub made_is_cut : (step : Step) (p0 p1 s0 s1 : StreamView) → IsMade step p0 p1 s0 s1 → IsCut step p0 p1 s0 s1
-made_is_cut step p0 p1 s0 s1 made =
-    record { sent = whole_front step.sent p0 p1 made.sent; told = whole_front step.told s0 s1 made.told }
 
 -- nothing was done
 pub none_is_cut : (step : Step) (p s : StreamView) → IsCut step p p s s

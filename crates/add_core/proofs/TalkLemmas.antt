@@ -2,7 +2,6 @@
 use Rattle.std.proofs.Common.{◌≡◌, ◌⊎◌, inl, inr, ◌≤◌, ℕ, Bool, true, false, List, [], ◌++◌, Option, None, Some, Result, Ok, Err, refl, sym, ap, subst, arith}
 use Rattle.std.specs.Io.KnownBytes.{Appends}
 use Rattle.std.proofs.KnownBytes.{Appends-nil, Appends-trans}
-use Rattle.std.proofs.lemmas.Bool.{cases_lt}
 use Rattle.world_ports.specs.Causes.{Rose}
 use Rattle.world_ports.specs.Streams.{StreamView, WritesPart}
 use Rattle.add_core.specs.declared.fault.AddFault.{AddFault}
@@ -17,15 +16,6 @@ use Rattle.add_core.specs.Talk.{Transcript, told_by, talk, talk_for, only_ends, 
 use Rattle.add_core.proofs.StepLemmas.{later_front, no_front}
 
 -- ---- counts
-
--- a fault that was counted is counted later too
-pub rose_later : (before mid now : ℕ) → before ≤ mid → mid ≤ now → Rose before mid → Rose before now
-rose_later before mid now low high (inl more) = inl (omega arith)
-rose_later before mid now low high (inr full) =
-    elim (cases_lt before now) [
-      | inl more ↦ inl more
-      | inr same ↦ inr (omega arith)
-    ]
 
 pub rose_earlier : (before mid now : ℕ) → before ≤ mid → Rose mid now → Rose before now
 rose_earlier before mid now low (inl more) = inl (omega arith)

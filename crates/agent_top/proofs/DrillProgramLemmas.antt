@@ -1,13 +1,11 @@
 -- What a status says of a drill, by how the drill ended, and that the words of a drill are no others'.
-use Rattle.std.proofs.Common.{◌≡◌, ◌∙◌, ℕ, List, [], ◌∷◌, refl, Option, Some, None, Bool, true, false, if◌then◌else◌, codes}
+use Rattle.std.proofs.Common.{◌≡◌, ℕ, List, [], ◌∷◌, refl, Option, Some, None, Bool, true, false, if◌then◌else◌, codes}
 use Rattle.std.specs.Str.{bytes_eq}
 use Rattle.std.proofs.lemmas.Slice.Eq.{bytes_eq-Decides}
-use Rattle.schedule_text.specs.declared.fault.LineFault.{LineFault}
 use Rattle.world_ports.specs.Streams.{StreamView}
 use Rattle.replay_run.specs.DrillClaims.{DrillEnds}
 use Rattle.replay_run.specs.declared.run_end.RunEnd.{RunEnd}
 use Rattle.replay_run.specs.declared.run_end.RunEnd.TheVariants.{Done, Refused, Memory, ReadFault, WriteFault}
-use Rattle.serve_words.specs.Serve.{begins, is_usage}
 use Rattle.agent_top.specs.DrillProgram.{DrillCompletes, DrillsExactly}
 use Rattle.agent_top.specs.Program.{status_of}
 use Rattle.agent_top.specs.Words.{Drilling, drill_words, replay_life}
@@ -38,9 +36,6 @@ drill_completes_by rounds seed WriteFault old new ends = λ none. absurd (none e
 not_replay : (word : List ℕ) → bytes_eq word (codes "drill") ≡ true → bytes_eq word (codes "replay") ≡ false
 not_replay word is = rw ((bytes_eq-Decides word (codes "drill")).0 is) refl
 
-not_serve : (word : List ℕ) → bytes_eq word (codes "serve") ≡ true → bytes_eq word (codes "drill") ≡ false
-not_serve word is = rw ((bytes_eq-Decides word (codes "serve")).0 is) refl
-
 drill_is : (word : List ℕ) (test : Bool) (asked : Drilling) (some : Option Drilling) → bytes_eq word (codes "drill") ≡ test
     → (if test then some else None) ≡ Some asked → test ≡ true
 drill_is word true asked some is drills = refl
@@ -62,11 +57,3 @@ pub no_drill_replays : (words : List (List ℕ)) (asked : Drilling) (life : Opti
     → replay_life words ≡ Some life → ⊥
 no_drill_replays words asked life is replays =
     none_found (replay_life words) life (drill_is_no_replay words asked is) replays
-
--- words of `serve` ask for no drill
-pub serve_is_no_drill : (words : List (List ℕ)) → begins words ≡ true → drill_words words ≡ None
-serve_is_no_drill [] is = refl
-serve_is_no_drill (word ∷ []) is = refl
-serve_is_no_drill (word ∷ rounds ∷ []) is = refl
-serve_is_no_drill (word ∷ rounds ∷ seed ∷ []) is = rw (not_serve word is) refl
-serve_is_no_drill (word ∷ rounds ∷ seed ∷ more ∷ words) is = refl

@@ -1,44 +1,18 @@
 -- The end of a loop whose calls are recorded.
-use Rattle.std.proofs.Common.{◌≡◌, ◌∙◌, ◌++◌, ◌∷◌, [], ℕ, Bool, true, false, ◌||◌, List, Option, Some, None, append-nil, refl, subst, sym, ap, inl, inr}
+use Rattle.std.proofs.Common.{◌≡◌, ◌∙◌, [], ℕ, Bool, true, false, ◌||◌, List, Option, Some, None, append-nil, refl, subst, sym, ap}
 use Rattle.std.proofs.lemmas.List.{append_cancel_left}
 use Rattle.world_ports.specs.Causes.{Rose}
 use Rattle.world_ports.specs.Journal.{Grows}
 use Rattle.world_ports.specs.Streams.{OnlyWrites, StreamView}
 use Rattle.world_ports.specs.declared.entry.Entry.{Entry}
-use Rattle.record_world.specs.Leads.{BreaksFor, IsFront, IsWhole, IsWritten, Leads, Taped, Writes, taped}
+use Rattle.record_world.specs.Leads.{BreaksFor, IsFront, IsWritten, Leads, Taped, taped}
 use Rattle.record_world.specs.Recording.{Recording, first_recording, record_of}
-use Rattle.ready_loop.specs.Serving.{RunsOut, RunsUpTo, Running, Serves, Setting, Unbound}
 use Rattle.ready_loop.specs.declared.outcome.ServeEnd.{ServeEnd}
 use Rattle.ready_loop.specs.declared.outcome.ServeEnd.TheVariants as ends
-use Rattle.agent_top.specs.RecordProgram.{Records, RecordsExactly}
-use Rattle.agent_top.specs.ServeProgram.{ServesExactly, status_of_recorded, status_of_serving}
+use Rattle.agent_top.specs.RecordProgram.{RecordsExactly}
+use Rattle.agent_top.specs.ServeProgram.{status_of_recorded}
 use Rattle.agent_top.specs.declared.status.Status.{Status}
 use Rattle.agent_top.specs.declared.status.Status.TheVariants as status
-
--- what came before an end may come where memory runs out
-out_of : (setting : Setting) (old new : Option (List Entry)) (last : Entry) → RunsUpTo setting Unbound old new last → RunsOut setting Unbound old new
-out_of setting old new last calls = record {
-  to = calls.to;
-  calls = record { added = calls.before ++ last ∷ []; told = calls.told; legal = calls.legal };
-}
-
-runs_out : (end : ServeEnd) (setting : Setting) (old new : Option (List Entry)) → Serves end setting Unbound old new → RunsOut setting Unbound old new
-runs_out ends.Over setting old new serves = out_of setting old new _ serves.calls
-runs_out ends.Idle setting old new serves = record { to = Running serves.turning; calls = serves.calls }
-runs_out ends.BindFault setting old new serves = out_of setting old new _ serves.calls
-runs_out ends.PollFault setting old new serves = out_of setting old new _ serves.calls
-runs_out ends.Memory setting old new serves = serves
-
--- each end says what its status says
-pub recorded_by : (short failed : Bool) (end : ServeEnd) (setting : Setting) (old new : Option (List Entry)) → Serves end setting Unbound old new → ServesExactly true setting (status_of_recorded short failed end) old new
-recorded_by true failed end setting old new serves = runs_out end setting old new serves
-recorded_by false true ends.Over setting old new serves = (refl, inl serves)
-recorded_by false true ends.Idle setting old new serves = (refl, inr serves)
-recorded_by false false ends.Over setting old new serves = inl serves
-recorded_by false false ends.Idle setting old new serves = inr serves
-recorded_by false failed ends.BindFault setting old new serves = serves
-recorded_by false failed ends.PollFault setting old new serves = serves
-recorded_by false failed ends.Memory setting old new serves = serves
 
 -- the calls are those that the journal has more
 same_calls : (before : List Entry) (journal : Option (List Entry)) (one other : List Entry) → Grows (Some before) journal one → Grows (Some before) journal other → one ≡ other
