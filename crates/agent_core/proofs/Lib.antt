@@ -20,4 +20,5 @@ pub mod PaceLemmas
 pub mod PlaceLemmas
 pub mod RoleLemmas
 pub mod SeenLemmas
+pub mod SettingsLemmas
 pub mod ShortLemmas

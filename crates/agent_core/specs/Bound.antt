@@ -5,11 +5,12 @@ use Rattle.helper_link.specs.Sound.{RiseTo}
 use Rattle.agent_model.specs.Looks.{due}
 use Rattle.agent_model.specs.Events.{Happening, Joined, Heard, Ended, Took, Started, StartFailed, Tick}
 use Rattle.agent_model.specs.Sound.{AreJudged, AreTied, IsJudged, IsTied}
-use Rattle.agent_model.specs.State.{Client, Confirmer, Helper, Port, Role, State, UnderWay, Unnamed, change_port, find_port, find_to_start, next_due, role_of}
+use Rattle.agent_model.specs.State.{Client, Confirmer, Helper, Port, Role, Settings, State, UnderWay, Unnamed, change_port, find_port, find_to_start, next_due, role_of}
 use Rattle.agent_model.specs.Step.{took_some}
 use Rattle.confirm_desk.specs.Confirmations.{Confirmation, find_job}
 use Rattle.agent_model.specs.Asking.{IsAttended}
 use Rattle.agent_core.specs.Confirmers.{IsHeldFor}
+use Rattle.agent_core.specs.Parts.{settings_in}
 use Rattle.agent_model.specs.Verdicts.{HelperLost, Refuses, tell}
 
 -- the numbers of the unanswered asks rise, who waits is tied to them, and what they verify is judged as it was
@@ -33,9 +34,10 @@ pub record IsAtRest (state : State) : Type 0 where
   pub judged : IsJudged state
   pub second : state.under_way.second ≡ state.moment.mono
 
--- so is the agent, and this is the first second at which something ends by itself
-pub record IsCurrent (second : Option ℕ) (state : State) : Type 0 where
+-- so is the agent, which was started with these settings, and this is the first second at which something ends by itself
+pub record IsCurrent (settings : Settings) (second : Option ℕ) (state : State) : Type 0 where
   pub rest : IsAtRest state
+  pub started : settings ≡ settings_in state
   pub next : second ≡ next_due state
 
 -- the client of each confirmation is open, and owed nothing

@@ -35,6 +35,7 @@ use world_ports::{Job, Moment};
 #[derive(Drop)]
 pub struct Agent {
     alloc: Global,
+    settings: Settings,
     parts: Parts,
     // The first second at which something ends by itself: each step brings it up to date.
     due: Option<u64>,
@@ -43,12 +44,13 @@ pub struct Agent {
 impl Model for Agent {
     ghost use Rattle.agent_model.specs.Actions.{Stepped};
     ghost use Rattle.agent_core.specs.Bound.{IsCurrent};
+    ghost use Rattle.agent_core.specs.Parts.{settings_of};
 
     ghost Value = { Stepped };
 
     ghost view = { λ a. a.parts };
 
-    ghost invariant = { λ a. IsCurrent a.due a.parts.state };
+    ghost invariant = { λ a. IsCurrent (settings_of a.settings) a.due a.parts.state };
 }
 
 impl Agent {
@@ -58,6 +60,7 @@ impl Agent {
     {
         Agent {
             alloc,
+            settings,
             parts: Parts {
                 wall: 0,
                 keys: Keys::new(alloc, settings.default_life),
@@ -99,9 +102,8 @@ impl Agent {
         ensures succeeds { WantsNoMemory (at_moment moment self.old.state) (happening event.now) → IsOk result }
         ensures wiped { OnErr result (self.new ≡ opening (settings_in self.old.state)) }
     {
-        let settings = self.settings();
         let Ok(moved) = self.parts.take(moment, event, self.due) else {
-            *self = Agent::new(self.alloc, settings);
+            *self = Agent::new(self.alloc, self.settings);
             return Err(CoreMemory);
         };
         self.due = self.parts.next_due(moved, self.due);
@@ -250,20 +252,6 @@ impl Agent {
         ensures steady { IsSteady self.now.state }
     {
         self.parts.ports.last()
-    }
-}
-
-impl Agent {
-    // What it was started with.
-    fn settings(&self) -> Settings
-        ensures { settings_of result ≡ settings_in self.now.state }
-    {
-        let limits = self.parts.under_way.limits();
-        Settings {
-            default_life: self.parts.keys.default_life(),
-            ask_limit: limits.ask,
-            confirm_limit: limits.confirmation,
-        }
     }
 }
 

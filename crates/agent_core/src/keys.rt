@@ -53,13 +53,6 @@ impl Keys {
         }
     }
 
-    /// How many seconds identities live that come without a lifetime.
-    pub fn default_life(&self) -> Option<u32>
-        ensures { result ≡ self.now.table.life }
-    {
-        self.table.default_life()
-    }
-
     /// How many identities are held.
     pub fn len(&self) -> usize
         ensures value { result ≡ length self.now.table.identities }

@@ -13,11 +13,12 @@ use Rattle.agent_core.proofs.agent.Agent.new.Goals as goal
 pub invariant_of-result : goal.invariant_of-result
 invariant_of-result c =
     let settings : Settings = settings_of c.args.settings in
-    let first : IsCurrent None (first_state settings) = record {
+    let first : IsCurrent settings None (first_state settings) = record {
       rest = record { tied = first-tied settings; attended = first-attended settings; judged = first-judged settings; second = refl };
+      started = refl;
       next = first-due settings;
     } in
-    let of_keys : KeyState → Type 0 = λ v. IsCurrent None (state_of 0 v c.new-2.result c.new-3.result) in
-    let of_going : UnderWay → Type 0 = λ v. IsCurrent None (state_of 0 (no_keys settings.life) v c.new-3.result) in
-    let of_ports : OpenPorts → Type 0 = λ v. IsCurrent None (state_of 0 (no_keys settings.life) (nothing_under_way settings.limits) v) in
+    let of_keys : KeyState → Type 0 = λ v. IsCurrent settings None (state_of 0 v c.new-2.result c.new-3.result) in
+    let of_going : UnderWay → Type 0 = λ v. IsCurrent settings None (state_of 0 (no_keys settings.life) v c.new-3.result) in
+    let of_ports : OpenPorts → Type 0 = λ v. IsCurrent settings None (state_of 0 (no_keys settings.life) (nothing_under_way settings.limits) v) in
     subst of_keys (sym c.new.ensures) (subst of_going (sym (c.new-2.ensures ∙ ap nothing_under_way c.limits_of.ensures)) (subst of_ports (sym c.new-3.ensures) first))

@@ -6,7 +6,9 @@ use Rattle.agent_model.specs.Asking.{IsAttended}
 use Rattle.agent_model.proofs.AttendedLemmas.{step-attended}
 use Rattle.agent_model.proofs.JudgedRunLemmas.{step-judged}
 use Rattle.agent_core.specs.Happenings.{happening}
+use Rattle.agent_core.specs.Parts.{opening, settings_in}
 use Rattle.agent_core.proofs.PaceLemmas.{IsPaced, paced-step}
+use Rattle.agent_core.proofs.SettingsLemmas.{step-set}
 use Rattle.agent_core.proofs.agent.Agent.step.Goals as goal
 
 pub next_due-self-inside-requires : goal.next_due-self-inside-requires
@@ -24,5 +26,9 @@ invariant_of-self-2 c =
         judged = subst IsJudged (sym stepped) (step-judged _ c.args.moment (happening c.args.event.now) rest.tied rest.judged).judged;
         second = subst IsPaced (sym stepped) (paced-step c.self.inside.parts.state c.args.moment (happening c.args.event.now));
       };
+      started = c.self.invariant.started ∙ sym (ap settings_in stepped ∙ step-set c.self.inside.parts.state c.args.moment (happening c.args.event.now));
       next = c.next_due-self-inside.ensures;
     }
+
+pub returns-in_default-clause-wiped : goal.returns-in_default-clause-wiped
+returns-in_default-clause-wiped c = rw (← c.self.view_is) (c.drop.view_is ∙ c.new.ensures ∙ ap opening c.self.invariant.started)
