@@ -60,3 +60,9 @@ pub const ENTRY: &str =
 /// Its lines in listings, as `sha256sum` and `base64` make them.
 pub const FINGERPRINT_LINE: &str =
     "256 SHA256:K5oOx764lbO1qb8zX9DkSuhuHnCnYS5yXQT+INX+aXM one (KEYED-SHA256)\n";
+
+/// SUCCESS, as an agent sends it.
+pub const SUCCESS: &[u8] = b"\x00\x00\x00\x01\x06";
+
+/// A list of no identities, as an agent sends it.
+pub const NO_IDENTITIES: &[u8] = b"\x00\x00\x00\x05\x0c\x00\x00\x00\x00";

@@ -3,6 +3,8 @@
 #![tactic(auto)]
 
 #[cfg(test)]
+mod fault_tests;
+#[cfg(test)]
 mod fixtures;
 #[cfg(test)]
 mod play;
