@@ -208,8 +208,8 @@ impl Replay {
         }
     }
 
-    /// Refuses the next line.
-    pub fn refuse(&mut self, fault: LineFault, out: &mut Vec<u8>) -> Result<(), CoreMemory>
+    // Refuses the next line.
+    pub(crate) fn refuse(&mut self, fault: LineFault, out: &mut Vec<u8>) -> Result<(), CoreMemory>
         requires counted { IsCounted self.old }
         requires printable { fault ≢ LineFault.Memory }
         ensures run { OnOk result (self.new ≡ (refuse fault self.old).run) }

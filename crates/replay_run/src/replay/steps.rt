@@ -15,7 +15,7 @@ use world_ports::Moment;
 
 impl Replay {
     // The schedule is of format 2, where this is its first line.
-    pub fn set_format(&mut self, size: u64, out: &mut Vec<u8>) -> Result<(), CoreMemory>
+    pub(crate) fn set_format(&mut self, size: u64, out: &mut Vec<u8>) -> Result<(), CoreMemory>
         requires counted { IsCounted self.old }
         requires within { self.old.read + size ≤ longest_schedule }
         ensures run { OnOk result (self.new ≡ (format_turned (self.old.line == 0) size self.old).run) }
@@ -37,7 +37,7 @@ impl Replay {
 
     // From here on events come at this moment. The agent is told at once, and which ports it closed is kept for the next
     // line.
-    pub fn set_moment(
+    pub(crate) fn set_moment(
         &mut self,
         moment: Moment,
         size: u64,
@@ -59,7 +59,7 @@ impl Replay {
     }
 
     // From here on the port takes bytes only by `take`.
-    pub fn hold(&mut self, port: u64, size: u64, out: &mut Vec<u8>) -> Result<(), CoreMemory>
+    pub(crate) fn hold(&mut self, port: u64, size: u64, out: &mut Vec<u8>) -> Result<(), CoreMemory>
         requires counted { IsCounted self.old }
         requires within { self.old.read + size ≤ longest_schedule }
         ensures run { OnOk result (self.new ≡ (at_port (find_port port self.old.agent.ports)
@@ -78,7 +78,7 @@ impl Replay {
     }
 
     // The port takes all again.
-    pub fn free(&mut self, port: u64, size: u64, out: &mut Vec<u8>) -> Result<(), CoreMemory>
+    pub(crate) fn free(&mut self, port: u64, size: u64, out: &mut Vec<u8>) -> Result<(), CoreMemory>
         requires counted { IsCounted self.old }
         requires within { self.old.read + size ≤ longest_schedule }
         ensures run { OnOk result (self.new ≡ (at_port (find_port port self.old.agent.ports)
@@ -97,7 +97,7 @@ impl Replay {
     }
 
     // The port takes so many bytes, where it is open and owed them.
-    pub fn take(
+    pub(crate) fn take(
         &mut self,
         port: u64,
         count: u64,
@@ -130,7 +130,7 @@ impl Replay {
     }
 
     // The event of a port, where that one is open.
-    pub fn happen_at(
+    pub(crate) fn happen_at(
         &mut self,
         port: u64,
         event: &Event<'_>,
@@ -170,7 +170,7 @@ impl Replay {
     }
 
     // The event of a job, where that one waits to be started.
-    pub fn happen_to(
+    pub(crate) fn happen_to(
         &mut self,
         job: u64,
         event: &Event<'_>,
