@@ -34,8 +34,8 @@ fn a_file_is_read_up_to_its_bound(rt: HostRuntime) -> Result<(), Fail> {
 fn the_room_grows_for_a_file_that_tells_of_no_size(rt: HostRuntime) -> Result<(), Fail> {
     let alloc = rt.alloc();
     let mut pipe = b"more bytes".as_slice();
-    let read = read_all(&mut pipe, Room::zeros(alloc, 1)?, 10)?;
-    assert!(rt; matches!(read, Some(bytes) if bytes.as_slice() == b"more bytes".as_slice()));
+    let read = read_all(&mut pipe, Room::zeros(alloc, 1)?, 10)?.unwrap_or(Vec::new(alloc));
+    assert_eq!(rt; read.as_slice(), b"more bytes".as_slice());
     let mut pipe = b"more bytes".as_slice();
     let read = read_all(&mut pipe, Room::zeros(alloc, 1)?, 9)?;
     assert!(rt; read.is_none());
