@@ -138,7 +138,10 @@ module _ (run : Run) (left : List ℕ) (place : ℕ) (at : IsLineEnd left place)
 -- ---- what stands behind the last LF
 
 -- what it prints, where nothing was printed before
-pub last_prints : (run : Run) (part : List ℕ) (new : Run) (before mid text : List ℕ) (result : Result (Unit {0}) CoreMemory) → HasNoLf part → before ≡ [] → new ≡ (last_turned part run).run → mid ≡ before ++ (last_turned part run).output → OnOk result (text ≡ mid ++ ending true new.refused) → OnOk result (EndsPrinting run part new text)
+pub last_prints : (run : Run) (part : List ℕ) (new : Run) (before mid text : List ℕ)
+    (result : Result (Unit {0}) CoreMemory) → HasNoLf part → before ≡ [] → new ≡ (last_turned part run).run
+    → mid ≡ before ++ (last_turned part run).output → OnOk result (text ≡ mid ++ ending true new.refused)
+    → OnOk result (EndsPrinting run part new text)
 last_prints run part new before mid text (Ok done) none empty run_is mid_is ended = record {
   text_is =
       printed-last run part none
@@ -149,6 +152,7 @@ last_prints run part new before mid text (Ok done) none empty run_is mid_is ende
 last_prints run part new before mid text (Err memory) none empty run_is mid_is ended = tt
 
 -- what it puts, where nothing was put before
-pub last_puts : (run : Run) (part : List ℕ) (before puts : List Put) → HasNoLf part → before ≡ [] → puts ≡ before ++ puts_of run (last_events part run) → puts_from run (parts_of part) ≡ puts
+pub last_puts : (run : Run) (part : List ℕ) (before puts : List Put) → HasNoLf part → before ≡ []
+    → puts ≡ before ++ puts_of run (last_events part run) → puts_from run (parts_of part) ≡ puts
 last_puts run part before puts none nothing noted =
     puts-last run part none ∙ sym (noted ∙ ap (λ b. b ++ puts_of run (last_events part run)) nothing)

@@ -94,7 +94,9 @@ listing_memory all from count before mid listing =
     (memory_behind (flat_map put_line listing.done) (flat_map put_line from) before mid listing.listed.wrote)
 
 -- the last of them were
-pub listing_last : (result : Result ℕ Stop) (all from logged : List Put) (count : ℕ) (before mid after : StreamView) → from ≡ logged → IsListing all from count before mid → Lists result count logged mid after → Lists result 0 all before after
+pub listing_last : (result : Result ℕ Stop) (all from logged : List Put) (count : ℕ)
+    (before mid after : StreamView) → from ≡ logged → IsListing all from count before mid
+    → Lists result count logged mid after → Lists result 0 all before after
 listing_last (Ok next) all from logged count before mid after is listing more =
     subst (λ (l : List Put). ListsAll 0 next l before after) (ap (λ (l : List Put). listing.done ++ l) (sym is) ∙ listing.whole)
     (lists_then listing.done logged count next before mid after listing.listed more)
@@ -104,7 +106,10 @@ listing_last (Err stop) all from logged count before mid after is listing stoppe
     (stops_behind stop (flat_map put_line listing.done) (flat_map put_line logged) before mid after listing.listed.wrote stopped)
 
 -- some of them weren't
-pub listing_stops : (result : Result ℕ Stop) (stop : Stop) (all from logged later : List Put) (count : ℕ) (before mid after : StreamView) → IsErrAnd result (λ own. own ≡ stop) → from ≡ logged ++ later → IsListing all from count before mid → Stops stop (flat_map put_line logged) mid after → Lists result 0 all before after
+pub listing_stops : (result : Result ℕ Stop) (stop : Stop) (all from logged later : List Put) (count : ℕ)
+    (before mid after : StreamView) → IsErrAnd result (λ own. own ≡ stop) → from ≡ logged ++ later
+    → IsListing all from count before mid → Stops stop (flat_map put_line logged) mid after
+    → Lists result 0 all before after
 listing_stops (Ok next) stop all from logged later count before mid after own_is is listing stopped = absurd own_is
 listing_stops (Err own) stop all from logged later count before mid after own_is is listing stopped =
     subst (λ (t : List ℕ). Stops own t before after)
@@ -118,7 +123,10 @@ listing_stops (Err own) stop all from logged later count before mid after own_is
 -- ---- the record
 
 -- a line of the record was run, and what it put was listed
-pub listing_goes : (all logged puts : List Put) (run after : Run) (left rest : List ℕ) (size count next : ℕ) (before mid now : StreamView) → NotesOn run left after size puts → rest ≡ drop size left → logged ≡ puts → IsListing all (puts_from run (parts_of left)) count before mid → ListsAll count next logged mid now → IsListing all (puts_from after (parts_of rest)) next before now
+pub listing_goes : (all logged puts : List Put) (run after : Run) (left rest : List ℕ) (size count next : ℕ)
+    (before mid now : StreamView) → NotesOn run left after size puts → rest ≡ drop size left → logged ≡ puts
+    → IsListing all (puts_from run (parts_of left)) count before mid → ListsAll count next logged mid now
+    → IsListing all (puts_from after (parts_of rest)) next before now
 listing_goes all logged puts run after left rest size count next before mid now goes is same listing more =
     subst (λ (r : List ℕ). IsListing all (puts_from after (parts_of r)) next before now) (sym is)
     (listing_next all (puts_from run (parts_of left)) (puts_from after (parts_of (drop size left))) puts count next before mid now goes.puts_are listing

@@ -10,8 +10,8 @@ use crate::lines::line_end;
 use crate::rerun::Rerun;
 use agent_core::CoreMemory;
 
-/// Runs the next line of what is left of a record, and notes what it puts in a list that is empty. Gives how many bytes it
-/// takes, and `None` for the last one, and for one that is refused.
+/// Runs the next line of what is left of a record, and notes what it puts in a list that is empty. Gives how many bytes
+/// it takes, and `None` for the last one, and for one that is refused.
 pub fn note_next(
     run: &mut Rerun,
     left: &[u8],
