@@ -111,6 +111,7 @@ impl Agent {
     }
 
     /// What the port is owed: nothing where it isn't open.
+    #[inline(always)] // the loop asks it of each thing that it sets in its place
     pub fn owed(&self, port: u64) -> &[u8]
         ensures { result.now ≡ owed_of port self.now.state }
     {

@@ -89,6 +89,7 @@ impl Parts {
     }
 
     /// What the port is owed: nothing where it isn't open.
+    #[inline(always)]
     pub fn owed(&self, port: u64) -> &[u8]
         ensures { result.now ≡ owed_of port self.now.state }
     {
@@ -298,6 +299,7 @@ impl Parts {
 
     // Takes the first request of a client where it is whole, and tells whether it is; closes its port where its length
     // is bad.
+    #[inline(always)] // what a client took is followed by no request most times
     fn look(&mut self, port: u64, front: Look) -> Result<bool, CoreMemory>
         requires tied { IsTied self.old.state }
         requires front { front_of front ≡ due_by (find_port port self.old.state.ports) }
