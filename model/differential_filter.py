@@ -14,6 +14,7 @@ import base64
 import os
 import random
 import socket
+import struct
 import subprocess
 import sys
 import tempfile
@@ -30,8 +31,10 @@ from model.wire import string, uint32
 
 PAIRS, PIECES, PATIENCE = 4, 60, 20.0
 
-# What a filter that waits for an answer leaves in the socket has to fit there.
+# What a filter that waits for an answer leaves in the socket has to fit there. Python's own time limit would wait until
+# three quarters of the socket are free, and a piece counts until all of it was read: so the kernel's limit is used.
 MOST_UNREAD = 50000
+SENDING = struct.pack("ll", int(PATIENCE), 0)
 
 
 def key(tag: int) -> bytes:
@@ -100,6 +103,8 @@ class Played:
         upstream = listener.accept()[0]
         upstream.settimeout(PATIENCE)
         self.ends = {"client": client, "upstream": upstream}
+        for end in self.ends.values():
+            end.setsockopt(socket.SOL_SOCKET, socket.SO_SNDTIMEO, SENDING)
         self.seen = {"client": b"", "upstream": b""}
         self.kept = {"client": b"", "upstream": b""}
         self.model = Pair(set(LISTED))
@@ -115,10 +120,13 @@ class Played:
             self.model.end()
             return
         self.model.hear(side, piece)
+        end = self.ends[side]
+        end.settimeout(None)
         try:
-            self.ends[side].sendall(piece)
+            end.sendall(piece)
         except OSError as fault:
             assert not self.model.is_open, f"{side}: {fault} at {piece[:40].hex()}, waits for {self.model.waits}"
+        end.settimeout(PATIENCE)
 
     def take(self, side: str) -> bool:
         """Reads once. Whether the other side goes on."""
