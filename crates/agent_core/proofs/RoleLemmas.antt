@@ -6,14 +6,12 @@ use Rattle.world_ports.specs.declared.Door.TheVariants.{Clients, Children}
 use Rattle.helper_link.specs.declared.state.LinkState.{LinkState}
 use Rattle.helper_link.specs.declared.state.LinkState.TheVariants as states
 use Rattle.agent_model.specs.Events.{Ended, Heard, Took}
-use Rattle.agent_model.specs.State.{Client, Confirmer, Helper, Port, Role, State, UnderWay, Unnamed, owed_as, owed_by, find_port, is_linked_to, is_unnamed, role_by_helper, role_by_link, role_of}
+use Rattle.agent_model.specs.State.{Client, Confirmer, Helper, Port, Role, State, UnderWay, Unnamed, find_port, is_linked_to, is_unnamed, role_by_helper, role_by_link, role_of}
 use Rattle.agent_model.specs.Step.{ended_at, ended_by_role, handle, heard_at, heard_by_role, took_at, took_by_role}
 use Rattle.std.specs.Option.{option_map}
 use Rattle.confirm_desk.specs.Confirmations.{Confirmation, find_linked}
 use Rattle.agent_core.specs.declared.role.Role.TheVariants as core
 use Rattle.agent_core.specs.Roles.{door_by, is_unnamed_kind, role_by, role_kind}
-use Rattle.agent_core.specs.Slots.{owed_in}
-use Rattle.helper_link.specs.HelperLink.{sendable}
 
 -- a role stands at a port that is open
 pub port_of_role : (found : Option Port) (going : UnderWay) (role : Role) → role_by found going ≡ Some role → (port : Port) × (found ≡ Some port) × (role_of port.door port.number going ≡ role)
@@ -151,23 +149,3 @@ role-child (Some port) number going same child =
     let door : port.door ≡ Children = cc in
     ap (λ d. Some (role_kind (role_of d port.number going))) door
     ∙ ap (λ n. Some (role_kind (role_of Children n going))) (same port refl)
-
--- ---- what is owed
-
-pub owed-client : (found : Option Port) (going : UnderWay) → role_by found going ≡ Some Client → owed_by found going ≡ owed_in found
-owed-client None going is = refl
-owed-client (Some port) going is =
-    let role : role_of port.door port.number going ≡ Client = cc in
-    ap (λ r. owed_as r port going) role
-
-pub owed-helper : (found : Option Port) (going : UnderWay) → role_by found going ≡ Some Helper → owed_by found going ≡ sendable going.link.state going.link.owed
-owed-helper None going is = absurd (cc)
-owed-helper (Some port) going is =
-    let role : role_of port.door port.number going ≡ Helper = cc in
-    ap (λ r. owed_as r port going) role
-
-pub owed-confirmer : (found : Option Port) (going : UnderWay) (one : Confirmation) → role_by found going ≡ Some (Confirmer one) → owed_by found going ≡ one.owed
-owed-confirmer None going one is = absurd (cc)
-owed-confirmer (Some port) going one is =
-    let role : role_of port.door port.number going ≡ Confirmer one = cc in
-    ap (λ r. owed_as r port going) role

@@ -34,14 +34,10 @@ chain_of port = record { bindings = port.chain; attempted = port.attempted }
 abbrev pub ports_of : List Slot → List Port
 ports_of slots = map port_of slots
 
--- what was heard at a port and not taken, and what is owed there: nothing where it isn't open
+-- what was heard at a port and not taken: nothing where it isn't open
 abbrev pub heard_in : Option Port → List ℕ
 heard_in None = []
 heard_in (Some port) = port.heard
-
-abbrev pub owed_in : Option Port → List ℕ
-owed_in None = []
-owed_in (Some port) = port.owed
 
 -- a client that is owed bytes
 unfoldable pub is_owing : Port → Bool

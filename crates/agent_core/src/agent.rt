@@ -127,6 +127,7 @@ impl Agent {
     }
 
     /// The open port of the least number above `after` that is a child process's and owed bytes.
+    #[inline(always)]
     pub fn next_child_owed(&self, after: u64) -> Option<u64>
         ensures next { result ≡ next_child_owed after self.now.state }
         ensures steady { IsSteady self.now.state }
@@ -135,6 +136,7 @@ impl Agent {
     }
 
     /// Whether the port is to be read: not where it isn't open, and not while a request of it waits to be taken.
+    #[inline(always)]
     pub fn wants(&self, port: u64) -> bool
         ensures { result ≡ wants port self.now.state }
     {
@@ -142,6 +144,7 @@ impl Agent {
     }
 
     /// Whether the port is open.
+    #[inline(always)]
     pub fn is_port(&self, port: u64) -> bool
         ensures { IsTrue result ↔ IsSome (find_port port self.now.state.ports) }
     {
@@ -149,6 +152,7 @@ impl Agent {
     }
 
     /// Whether the port is open and a client's.
+    #[inline(always)]
     pub fn is_client(&self, port: u64) -> bool
         ensures value { result ≡ is_client_at (find_port port self.now.state.ports) }
         ensures steady { IsSteady self.now.state }

@@ -22,7 +22,7 @@ use crate::confirmer::{end_if, hear_confirmer, lose_client, lose_confirmer};
 use crate::helper::{hear_helper, lose_helper};
 use crate::keys::Keys;
 use crate::ports::Ports;
-use crate::role::{Role, lesser, owed_helper_above, role_at};
+use crate::role::{Role, child_owed, lesser, owed_helper_above, role_at};
 use crate::{CoreMemory, Event};
 use frame_core::Look;
 use std::marker::Model;
@@ -93,12 +93,10 @@ impl Parts {
     pub fn owed(&self, port: u64) -> &[u8]
         ensures { result.now ≡ owed_of port self.now.state }
     {
-        match role_at(&self.ports, &self.under_way, port) {
-            Some(Role::Client) => self.ports.owed(port),
-            Some(Role::Helper) => self.under_way.owed(),
-            Some(Role::Confirmer) => self.under_way.confirmer_owed(port),
-            // A child process that hasn't named itself is owed nothing.
-            Some(Role::Unnamed) | None => &[],
+        match self.ports.find(port) {
+            Some(slot) if slot.door == Door::Clients => slot.owed.bytes(),
+            Some(slot) => child_owed(&self.under_way, slot.number),
+            None => &[],
         }
     }
 
@@ -114,6 +112,7 @@ impl Parts {
     }
 
     /// The open port of the least number above `after` that is a child process's and owed bytes.
+    #[inline(always)] // the loop asks it after each event, and most times there is none
     pub fn next_child_owed(&self, after: u64) -> Option<u64>
         requires { IsAtRest self.now.state }
         ensures next { result ≡ next_child_owed after self.now.state }

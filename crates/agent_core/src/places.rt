@@ -16,7 +16,16 @@ fn place_of(slots: &[Slot], number: u64) -> Option<usize>
     slots.binary_search_by_key(&number, |slot| slot.number).ok()
 }
 
+// Where the port of this number stands if each one between it and that at `near` is open.
+fn guess(slots: &[Slot], near: usize, number: u64) -> usize {
+    match slots.get(near) {
+        Some(slot) => near.wrapping_add(number.wrapping_sub(slot.number) as usize),
+        None => 0,
+    }
+}
+
 // Whether the port of this number stands at this place.
+#[inline(always)]
 fn is_at(slots: &[Slot], place: usize, number: u64) -> bool
     requires { IsRising 0 (2 ^ 64) (ports_of slots.now) }
     ensures { IsTrue result → IsPlace number (ports_of slots.now) place }
@@ -28,12 +37,26 @@ fn is_at(slots: &[Slot], place: usize, number: u64) -> bool
 }
 
 // Where the port of this number stands. `near` is tried first: most searches of an event are for one port.
+#[inline(always)]
 pub fn place_near(slots: &[Slot], near: usize, number: u64) -> Option<usize>
     requires { IsRising 0 (2 ^ 64) (ports_of slots.now) }
     ensures { MatchOption result (find_port number (ports_of slots.now) ≡ None) (λ place. IsPlace number (ports_of slots.now) place) }
 {
     if is_at(slots, near, number) {
         return Some(near);
+    }
+    place_from(slots, near, number)
+}
+
+// The same: as far from `near` as its number is, or anywhere.
+#[inline(never)]
+fn place_from(slots: &[Slot], near: usize, number: u64) -> Option<usize>
+    requires { IsRising 0 (2 ^ 64) (ports_of slots.now) }
+    ensures { MatchOption result (find_port number (ports_of slots.now) ≡ None) (λ place. IsPlace number (ports_of slots.now) place) }
+{
+    let place = guess(slots, near, number);
+    if is_at(slots, place, number) {
+        return Some(place);
     }
     place_of(slots, number)
 }

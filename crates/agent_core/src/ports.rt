@@ -5,7 +5,7 @@ ghost use Rattle.agent_model.specs.Sound.{IsRising};
 ghost use Rattle.agent_model.specs.State.{Port, client_count, find_port, unnamed_count, wants_by};
 ghost use Rattle.agent_core.specs.Owing.{is_client_at};
 ghost use Rattle.agent_core.specs.Roles.{door_by};
-ghost use Rattle.agent_core.specs.Slots.{chain_of, first_above, heard_in, owed_in, owing_of, port_of};
+ghost use Rattle.agent_core.specs.Slots.{chain_of, first_above, heard_in, owing_of, port_of};
 
 use crate::counting;
 use crate::places::{next_owing, place_near};
@@ -65,6 +65,18 @@ impl Ports {
         counting::unnamed(&self.slots, under_way)
     }
 
+    /// The open port of this number.
+    #[inline(always)]
+    pub fn find(&self, number: u64) -> Option<&Slot>
+        ensures { MatchOption result (find_port number self.now.ports ≡ None)
+            (λ slot. find_port number self.now.ports ≡ Some (port_of slot.now)) }
+    {
+        match place_near(&self.slots, self.near, number) {
+            Some(place) => Some(&self.slots[place]),
+            None => None,
+        }
+    }
+
     /// The door through which an open port came.
     pub fn door(&self, number: u64) -> Option<Door>
         ensures { result ≡ door_by (find_port number self.now.ports) }
@@ -76,6 +88,7 @@ impl Ports {
     }
 
     /// Whether the port is open and a client's.
+    #[inline(always)]
     pub fn is_client(&self, number: u64) -> bool
         ensures { result ≡ is_client_at (find_port number self.now.ports) }
     {
@@ -97,20 +110,11 @@ impl Ports {
         &self.closed
     }
 
+    #[inline(always)]
     pub fn is_open(&self, number: u64) -> bool
         ensures { IsTrue result ↔ IsSome (find_port number self.now.ports) }
     {
         self.find(number).is_some()
-    }
-
-    /// What a client is owed.
-    pub fn owed(&self, number: u64) -> &[u8]
-        ensures { result.now ≡ owed_in (find_port number self.now.ports) }
-    {
-        match self.find(number) {
-            Some(slot) => slot.owed.bytes(),
-            None => &[],
-        }
     }
 
     /// What was heard at a port and not taken.
@@ -123,6 +127,7 @@ impl Ports {
         }
     }
 
+    #[inline(always)]
     pub fn wants(&self, number: u64) -> bool
         ensures { result ≡ wants_by (find_port number self.now.ports) }
     {
@@ -166,17 +171,5 @@ impl Drop for Ports {
             slot.close();
         }
         slots.destroy_empty();
-    }
-}
-
-impl Ports {
-    fn find(&self, number: u64) -> Option<&Slot>
-        ensures { MatchOption result (find_port number self.now.ports ≡ None)
-            (λ slot. find_port number self.now.ports ≡ Some (port_of slot.now)) }
-    {
-        match place_near(&self.slots, self.near, number) {
-            Some(place) => Some(&self.slots[place]),
-            None => None,
-        }
     }
 }

@@ -2,7 +2,7 @@
 
 ghost use Rattle.std.specs.Prelude.{◌≡◌, None};
 ghost use Rattle.std.specs.Option.{option_map};
-ghost use Rattle.agent_model.specs.State.{find_port, is_linked_to, role_by_link, role_of};
+ghost use Rattle.agent_model.specs.State.{Port, find_port, is_linked_to, owed_as, role_by_link, role_of};
 ghost use Rattle.confirm_desk.specs.Calls.{lesser};
 ghost use Rattle.confirm_desk.specs.Confirmations.{find_linked};
 ghost use Rattle.world_ports.specs.declared.Door.TheVariants.{Children};
@@ -43,6 +43,17 @@ pub fn child_role(under_way: &UnderWay, number: u64) -> Role
         Role::Helper
     } else {
         role_by_link(under_way, number)
+    }
+}
+
+/// What the child process at the port of this number is owed: nothing where it hasn't named itself.
+pub fn child_owed(under_way: &UnderWay, number: u64) -> &[u8]
+    ensures { (port : Port) → result.now ≡ owed_as (role_of Children number under_way.now) port under_way.now }
+{
+    if is_linked(under_way.link_state(), number) {
+        under_way.owed()
+    } else {
+        under_way.confirmer_owed(number)
     }
 }
 

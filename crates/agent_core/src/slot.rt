@@ -97,6 +97,7 @@ fn due(slot: &Slot) -> Look
 }
 
 /// Whether it is to be read: a client until a request of it is whole, a child process always.
+#[inline(always)]
 pub fn wants(slot: &Slot) -> bool
     ensures { result ≡ wants_more slot.now.door slot.now.heard.live }
 {
