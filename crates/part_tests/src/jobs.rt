@@ -6,7 +6,7 @@ use agent_msg::{Request, read_request};
 use helper_link::LinkState;
 use identity_table::Table;
 use std::alloc::Global;
-use std::test::*;
+use std::process::Abort;
 use under_way::*;
 use world_ports::{Job, JobKind};
 
@@ -62,14 +62,17 @@ fn ask(under_way: &mut UnderWay, table: &Table) -> Option<u64> {
 }
 
 #[test]
-fn the_first_ask_starts_a_helper(rt: HostRuntime) -> Result<(), Fail> {
+fn the_first_ask_starts_a_helper(rt: HostRuntime) {
     let table = one_key(rt.alloc());
-    assert!(rt; table.is_some());
-    let Some(table) = table else {
-        return Ok(());
-    };
     let mut under_way = UnderWay::new(rt.alloc(), ENDLESS);
-    assert_eq!(rt; ask(&mut under_way, &table), Some(1));
+    assert!(rt; table.is_some());
+    if let Some(table) = &table {
+        ask_first(&rt, &mut under_way, table);
+    }
+}
+
+fn ask_first(rt: &impl Abort, under_way: &mut UnderWay, table: &Table) {
+    assert_eq!(rt; ask(under_way, table), Some(1));
     let helper = Job {
         number: 1,
         kind: JobKind::Helper,
@@ -79,7 +82,6 @@ fn the_first_ask_starts_a_helper(rt: HostRuntime) -> Result<(), Fail> {
     assert_eq!(rt; under_way.link_faults(), 0);
     // Nothing is sent before the helper is there.
     assert!(rt; under_way.owed().is_empty());
-    Ok(())
 }
 
 // An ask of the client of port 7 for the verification of a signature of two bytes by that key, which is a host's here.
@@ -91,20 +93,26 @@ fn verify(under_way: &mut UnderWay) -> Option<u64> {
 }
 
 #[test]
-fn a_binding_is_kept_until_it_is_taken_out(rt: HostRuntime) -> Result<(), Fail> {
+fn a_binding_is_kept_until_it_is_taken_out(rt: HostRuntime) {
     let mut under_way = UnderWay::new(rt.alloc(), ENDLESS);
-    assert_eq!(rt; verify(&mut under_way), Some(1));
+    take_out(&rt, &mut under_way);
+}
+
+fn take_out(rt: &impl Abort, under_way: &mut UnderWay) {
+    assert_eq!(rt; verify(under_way), Some(1));
     assert!(rt; under_way.take_verification(2).is_none());
     let one = under_way.take_verification(1);
     assert!(rt; one.is_some());
-    let Some(one) = one else {
-        return Ok(());
-    };
+    if let Some(one) = &one {
+        is_as_it_was_put(rt, one);
+    }
+    assert!(rt; under_way.take_verification(1).is_none());
+}
+
+fn is_as_it_was_put(rt: &impl Abort, one: &Verification) {
     assert_eq!(rt; one.host_key.as_slice(), BLOB);
     assert_eq!(rt; one.session.as_slice(), [1, 2, 3].as_slice());
     assert!(rt; one.forwarding && one.is_new);
-    assert!(rt; under_way.take_verification(1).is_none());
-    Ok(())
 }
 
 // A question for the client of port 7, about a signature of two bytes with that key, where it waits for none yet.
@@ -128,15 +136,18 @@ fn end(under_way: &mut UnderWay, job: u64) -> Option<u64> {
 }
 
 #[test]
-fn the_user_is_asked_by_a_job_of_its_own(rt: HostRuntime) -> Result<(), Fail> {
+fn the_user_is_asked_by_a_job_of_its_own(rt: HostRuntime) {
     let table = one_key(rt.alloc());
-    assert!(rt; table.is_some());
-    let Some(table) = table else {
-        return Ok(());
-    };
     let mut under_way = UnderWay::new(rt.alloc(), ENDLESS);
-    assert_eq!(rt; ask_for(&mut under_way, &table), Some(1));
-    assert_eq!(rt; ask_for(&mut under_way, &table), None);
+    assert!(rt; table.is_some());
+    if let Some(table) = &table {
+        ask_the_user(&rt, &mut under_way, table);
+    }
+}
+
+fn ask_the_user(rt: &impl Abort, under_way: &mut UnderWay, table: &Table) {
+    assert_eq!(rt; ask_for(under_way, table), Some(1));
+    assert_eq!(rt; ask_for(under_way, table), None);
     let confirm = Job {
         number: 1,
         kind: JobKind::Confirm,
@@ -145,9 +156,8 @@ fn the_user_is_asked_by_a_job_of_its_own(rt: HostRuntime) -> Result<(), Fail> {
     assert_eq!(rt; under_way.link_state(), LinkState::None);
     // No child process is there yet.
     assert_eq!(rt; under_way.next_confirmer_owed(0), None);
-    assert_eq!(rt; end(&mut under_way, 1), Some(1));
-    assert_eq!(rt; end(&mut under_way, 1), None);
+    assert_eq!(rt; end(under_way, 1), Some(1));
+    assert_eq!(rt; end(under_way, 1), None);
     // Its job is still to be started.
     assert_eq!(rt; under_way.starts(), [confirm].as_slice());
-    Ok(())
 }

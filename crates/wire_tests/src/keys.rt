@@ -10,6 +10,8 @@ mod vectors;
 
 use base64::engine::general_purpose::STANDARD;
 use key_blob::*;
+use std::alloc::Global;
+use std::process::Abort;
 use std::test::Fail;
 use vectors::VECTORS;
 use wire_core::Cursor;
@@ -34,15 +36,21 @@ fn an_addition_gives_the_blob_of_the_public_file(rt: HostRuntime) -> Result<(), 
         let added = STANDARD.decode(rt.alloc(), vector.added.as_bytes())?;
         let mut text = added.clone()?;
         text.extend_from_slice(b"\0\0\0\x03one")?;
-        let mut from = Cursor::new(&text);
-        let key = read_added(rt.alloc(), &mut from)
-            .ok()
-            .ok_or("the text is an addition")?;
-        assert_eq!(rt; key.blob.as_slice(), blob.as_slice());
-        assert!(rt; key.private.same(&added));
-        assert_eq!(rt; from.rest(), b"\0\0\0\x03one".as_slice());
+        gives(&rt, rt.alloc(), &text, &blob, &added);
     }
     Ok(())
+}
+
+// The text is an addition of this blob and these private fields, and a comment.
+fn gives(rt: &impl Abort, alloc: Global, text: &[u8], blob: &[u8], added: &[u8]) {
+    let mut from = Cursor::new(text);
+    let key = read_added(alloc, &mut from);
+    assert!(rt; key.is_ok());
+    if let Ok(key) = &key {
+        assert_eq!(rt; key.blob.as_slice(), blob);
+        assert!(rt; key.private.same(added));
+    }
+    assert_eq!(rt; from.rest(), b"\0\0\0\x03one".as_slice());
 }
 
 const TAG: &[u8] = b"\0\0\0\x18keyed-sha256@example.com\0\0\0\x20\

@@ -2,7 +2,7 @@
 
 use super::additions::ADDITIONS;
 use super::*;
-use std::alloc::{AllocError, Global};
+use std::alloc::AllocError;
 
 /// The pieces, one after another.
 fn joined(alloc: Global, pieces: &[&[u8]]) -> Result<Vec<u8>, AllocError> {
@@ -110,13 +110,7 @@ fn an_addition_gives_its_certificate(rt: HostRuntime) -> Result<(), Fail> {
         let blob = parts.take_string().ok().ok_or("a certificate follows")?;
         let mut text = added.clone()?;
         text.extend_from_slice(b"\0\0\0\x03one")?;
-        let mut from = Cursor::new(&text);
-        let key = read_added(rt.alloc(), &mut from)
-            .ok()
-            .ok_or("the text is an addition")?;
-        assert_eq!(rt; key.blob.as_slice(), blob);
-        assert!(rt; key.private.same(&added));
-        assert_eq!(rt; from.rest(), b"\0\0\0\x03one".as_slice());
+        gives(&rt, rt.alloc(), &text, blob, &added);
     }
     Ok(())
 }
@@ -158,13 +152,15 @@ fn the_first_fault_of_an_added_certificate_is_answered(rt: HostRuntime) -> Resul
     ];
     for (pieces, fault) in cases {
         let text = joined(rt.alloc(), pieces)?;
-        let mut from = Cursor::new(&text);
-        assert_eq!(rt;
-            read_added(rt.alloc(), &mut from).err(),
-            fault,
-            "at {text:?}"
-        );
-        assert_eq!(rt; from.at_end(), fault.is_none());
+        is_answered(&rt, rt.alloc(), &text, fault);
     }
     Ok(())
+}
+
+/// Whether the text of an addition has this fault, or none and is read to its end.
+fn is_answered(rt: &impl Abort, alloc: Global, text: &[u8], fault: Option<KeyFault>) {
+    let mut from = Cursor::new(text);
+    let found = read_added(alloc, &mut from).err();
+    assert_eq!(rt; found, fault, "at {text:?}");
+    assert_eq!(rt; from.at_end(), fault.is_none());
 }
