@@ -1,4 +1,4 @@
-ghost use Rattle.std.specs.Prelude.{◌≡◌, Some};
+ghost use Rattle.std.specs.Prelude.{◌≡◌, Some, IfOk};
 ghost use Rattle.identity_table.specs.Identities.{identity_of};
 ghost use Rattle.identity_table.specs.Deaths.{lives_at, on_clock};
 
@@ -7,6 +7,7 @@ use constraint_rec::{Constraint, Terms};
 use key_blob::AddedKey;
 use plain_lists::{Bytes, PlainList};
 use secret_buf::SecretBytes;
+use std::alloc::{AllocError, Global};
 use std::marker::Model;
 
 /// A key that an agent holds, with its comment and its constraints.
@@ -14,6 +15,12 @@ use std::marker::Model;
 /// Dropping it wipes its private bytes.
 #[derive(Drop)]
 pub struct Identity {
+    // In a box, since the map's nodes have room for more keys than stand in them.
+    held: Box<Held>,
+}
+
+#[derive(Drop)]
+struct Held {
     number: u64,
     blob: Bytes,
     private: SecretBytes,
@@ -30,27 +37,28 @@ impl Model for Identity {
     ghost Value = { HeldKey };
 
     ghost view = { λ identity. record {
-      number = identity.number;
-      blob = identity.blob;
-      private = identity.private;
-      comment = identity.comment;
-      death = identity.deadline;
-      confirm = identity.confirm;
-      uses = identity.uses;
-      rules = identity.rules;
+      number = identity.held.value.number;
+      blob = identity.held.value.blob;
+      private = identity.held.value.private;
+      comment = identity.held.value.comment;
+      death = identity.held.value.deadline;
+      confirm = identity.held.value.confirm;
+      uses = identity.held.value.uses;
+      rules = identity.held.value.rules;
     } };
 }
 
 impl Identity {
     /// An identity of these parts.
     pub(crate) fn of(
+        alloc: Global,
         number: u64,
         key: AddedKey,
         comment: Bytes,
         deadline: Option<Deadline>,
         terms: Terms,
-    ) -> Identity
-        ensures { result ≡ identity_of number key comment deadline terms }
+    ) -> Result<Identity, AllocError>
+        ensures { IfOk result (λ one. one ≡ identity_of number key comment deadline terms) }
     {
         let AddedKey { blob, private } = key;
         let Terms {
@@ -59,79 +67,83 @@ impl Identity {
             uses,
             rules,
         } = terms;
-        Identity {
-            number,
-            blob,
-            private,
-            comment,
-            deadline,
-            confirm,
-            uses,
-            rules,
-        }
+        let held = Box::new(
+            alloc,
+            Held {
+                number,
+                blob,
+                private,
+                comment,
+                deadline,
+                confirm,
+                uses,
+                rules,
+            },
+        )?;
+        Ok(Identity { held })
     }
 
     /// The number of its addition.
     pub fn addition(&self) -> u64
         ensures { result ≡ self.now.number }
     {
-        self.number
+        self.held.number
     }
 
     /// The blob of its public key.
     pub fn blob(&self) -> &[u8]
         ensures { result.now ≡ self.now.blob }
     {
-        self.blob.as_slice()
+        self.held.blob.as_slice()
     }
 
     /// The comment that it was added with.
     pub fn comment(&self) -> &[u8]
         ensures { result.now ≡ self.now.comment }
     {
-        self.comment.as_slice()
+        self.held.comment.as_slice()
     }
 
     /// The key type and the fields as they were added, the private ones with them.
     pub fn private(&self) -> &SecretBytes
         ensures { result.now ≡ self.now.private }
     {
-        &self.private
+        &self.held.private
     }
 
     /// Whether each use is to be confirmed.
     pub fn confirm(&self) -> bool
         ensures { result ≡ self.now.confirm }
     {
-        self.confirm
+        self.held.confirm
     }
 
     /// How often it may still be used, where that is limited.
     pub fn uses(&self) -> Option<u32>
         ensures { result ≡ self.now.uses }
     {
-        self.uses
+        self.held.uses
     }
 
     /// Leaves it so many uses.
     pub(crate) fn leave_uses(&mut self, uses: u32)
         ensures { self.new ≡ record self.old { uses = Some uses } }
     {
-        self.uses = Some(uses);
+        self.held.uses = Some(uses);
     }
 
     /// Where it may be used. Empty where it may be used anywhere.
     pub fn rules(&self) -> &[Constraint]
         ensures { result.now ≡ self.now.rules }
     {
-        self.rules.as_slice()
+        self.held.rules.as_slice()
     }
 
     /// Whether its lifetime has not run out at second `now`.
     pub(crate) fn is_alive(&self, now: u64) -> bool
         ensures { result ≡ lives_at now self.now.death }
     {
-        match &self.deadline {
+        match &self.held.deadline {
             Some(deadline) => deadline.is_ahead(now),
             None => true,
         }
@@ -141,7 +153,7 @@ impl Identity {
     pub(crate) fn death(&self) -> Option<u64>
         ensures { result ≡ on_clock self.now.death }
     {
-        match &self.deadline {
+        match &self.held.deadline {
             Some(deadline) => deadline.second(),
             None => None,
         }

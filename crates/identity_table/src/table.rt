@@ -91,8 +91,8 @@ impl Table {
         let number = self.records.last + 1;
         let comment = Bytes::from_vec(Vec::from_slice(self.records.alloc, comment)?);
         let deadline = Deadline::of(now, terms.life, self.life);
-        self.records
-            .put(Identity::of(number, key, comment, deadline, terms))?;
+        let identity = Identity::of(self.records.alloc, number, key, comment, deadline, terms)?;
+        self.records.put(identity)?;
         self.greatest = now;
         Ok(number)
     }
