@@ -3,7 +3,8 @@
 # whatever comes: processor time for each refusal, list, signature, addition and removal, memory, system calls,
 # instructions and allocations. Rounds take turns; the median of them is printed, and the ratio to ssh-agent's in the same
 # run. The first word is the number of rounds, 7 where there is none; behind it may stand the parts that are to be
-# measured, of refusals, calls, keys, waits, signatures, filter, records and instructions, which has the allocations too.
+# measured, of refusals, calls, keys, memory, waits, signatures, filter, records and instructions, which has the
+# allocations too.
 # Needs python3, gcc and OpenSSH; perf and valgrind where they are.
 # Before each part stands a line of the machine's load. `bench/serve.sh 7 refusals calls signatures` has what a refusal and
 # a signature take, in time and calls, at 1, 16 and 100 clients.

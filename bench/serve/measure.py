@@ -307,8 +307,7 @@ def calls(agents, null):
 
 
 def keys(agents, null):
-    """Lists, additions and removals, and memory, by the number of keys held."""
-    tell("memory with no keys", {name: memory(agent) for name, agent in agents.items()}, "kB")
+    """Lists, additions and removals, by the number of keys held."""
     fields, comment, blob = plain_key(b"\xff" * 32)
     pair = [bytes([ADD]) + fields + comment, bytes([REMOVE]) + string(blob)]
     compare("an addition or a removal, no keys", agents, 1, pair)
@@ -319,7 +318,6 @@ def keys(agents, null):
         held = count
         compare(f"a list of {count} keys", agents, 1, [bytes([LIST])])
     compare("an addition or a removal, 1000 keys", agents, 1, pair)
-    tell("memory with 1000 keys", {name: memory(agent) for name, agent in agents.items()}, "kB")
     for agent in agents.values():
         fill(agent, range(1000), 36_000)
     limited = [bytes([ADD_LIMITED]) + fields + comment + limit(36_500), pair[1]]
@@ -328,6 +326,24 @@ def keys(agents, null):
     for agent in agents.values():
         with agent.peer() as peer:
             peer.ask(REMOVE_ALL)
+
+
+def memories(agents, null):
+    """Memory of agents that were just started, with no keys and with 1000: it changes from start to start by some 100 kB,
+    since the kernel maps a file's pages 64 kB at a time."""
+    counts, seen = (0, 1000), {}
+    for turn in range(ROUNDS):
+        silent = dict(name=f"memory{turn}", stderr=subprocess.DEVNULL)
+        with our_agent(PROGRAM, WORK, **silent) as ours, openssh_agent(WORK, **silent | dict(name=f"theirs{turn}")) as theirs:
+            for count in counts:
+                for name, agent in dict(ours=ours, **{"ssh-agent": theirs}).items():
+                    fill(agent, range(count))
+                    seen.setdefault((name, count), []).append(memory(agent))
+    for count in counts:
+        found = {name: statistics.median(seen[name, count]) for name in agents}
+        tell(f"memory with {count or 'no'} keys", found, "kB")
+        least, most = min(seen["ours", count]), max(seen["ours", count])
+        print(f"memory with {count or 'no'} keys: ours {least} to {most} kB in {ROUNDS} starts", flush=True)
 
 
 def signs(agents, kind, bits, flags=0):
@@ -419,6 +435,7 @@ PARTS = {
     "refusals": refusals,
     "calls": calls,
     "keys": keys,
+    "memory": memories,
     "waits": waits,
     "signatures": signatures,
     "filter": through,
