@@ -212,7 +212,7 @@ def try_one(program: list[str], seed: str) -> tuple[bool, Counter[str]]:
 
 # What the pairs are to reach
 GOALS = [f"status {status}" for status in (YES, DIFFERS, USAGE, FILE_FAULT, BAD_RECORD)]
-# Where the record is changed, few pairs of thousands still have one that prints another line.
+# A changed record seldom is one that prints another line: one to three pairs of 2,000, so a run may have none.
 GOALS += [f"{kind}: status {DIFFERS}" for kind in CHANGES if not kind.startswith("the record")]
 GOALS += ["nothing: status 0", "nothing: status 4", "the record: status 4", "reports with some"]
 GOALS += ["in reports: confirmation: granted", "in reports: limit: asks + 1"]

@@ -329,7 +329,7 @@ def keys(agents, null):
 
 
 def memories(agents, null):
-    """Memory of agents that were just started, with no keys and with 1000: it changes from start to start by some 100 kB,
+    """Memory of agents that were just started, with no keys and with 1000: it changes from start to start by some 300 kB,
     since the kernel maps a file's pages 64 kB at a time."""
     counts, seen = (0, 1000), {}
     for turn in range(ROUNDS):
