@@ -11,11 +11,7 @@ mod read;
 mod reply;
 mod reply_reader;
 mod request;
-#[cfg(test)]
-mod tests;
 mod writer;
-#[cfg(test)]
-mod writer_tests;
 
 pub use agent_reply::{Reply, ReplyFault};
 pub use bind::names_bind;

@@ -11,8 +11,6 @@ mod key_spec;
 mod kind;
 mod read;
 mod terms;
-#[cfg(test)]
-mod tests;
 mod write;
 
 pub use constraint::{Constraint, Hop};

@@ -12,8 +12,6 @@ mod laws;
 mod line;
 mod private_part;
 mod scratch;
-#[cfg(test)]
-mod tests;
 
 pub use body::read_body;
 pub use encoding::decoded;

@@ -9,8 +9,6 @@ mod hosts;
 mod keys;
 mod laws;
 mod parts;
-#[cfg(test)]
-mod tests;
 
 pub use keys::host_keys;
 pub use laws::{

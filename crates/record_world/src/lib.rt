@@ -12,8 +12,6 @@ mod peer;
 mod recorder;
 mod rows;
 mod tape;
-#[cfg(test)]
-mod tests;
 
 pub use laws::later_states;
 pub use recorder::Recorder;

@@ -14,8 +14,6 @@ mod laws;
 mod passphrases;
 mod redact;
 mod rows;
-#[cfg(test)]
-mod tests;
 
 pub use laws::{additions_stay_additions, secrets_are_hidden};
 pub use passphrases::Passphrases;

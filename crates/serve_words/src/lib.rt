@@ -4,8 +4,6 @@
 
 mod args;
 mod command;
-#[cfg(test)]
-mod tests;
 mod words;
 
 pub use words::{ServeFault, ServeWords, begins_with_serve, read_serve};

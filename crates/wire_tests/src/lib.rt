@@ -1,5 +1,5 @@
-//! Tests of what is read and written: keys, lines of schedules, and the outside in memory.
-//! Stands on key_blob, schedule_text and world_ports.
+//! Tests of what is read and written: keys, lines of schedules, words, and the outside in memory.
+//! Stands on key_blob, schedule_text, serve_words and world_ports.
 #![tactic(auto)]
 
 #[cfg(test)]
@@ -8,3 +8,5 @@ mod keys;
 mod outside;
 #[cfg(test)]
 mod schedules;
+#[cfg(test)]
+mod words;

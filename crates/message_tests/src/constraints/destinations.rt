@@ -1,7 +1,7 @@
 //! Texts of destination constraints, written out field by field.
 
-use super::super::*;
 use super::destination_cases::CASES;
+use constraint_rec::*;
 use std::alloc::Global;
 use std::test::Fail;
 use wire_core::Cursor;

@@ -1,6 +1,6 @@
 //! Frames of requests and bodies of replies from the tables of draft-miller-ssh-agent.
 
-use super::*;
+use agent_msg::*;
 use secret_buf::ScrubBuf;
 use std::test::Fail;
 

@@ -4,8 +4,8 @@ mod bodies;
 mod lines;
 mod vectors;
 
-use super::*;
 use key_blob::{KeyFault, fingerprint, read_public};
+use key_file::*;
 use std::test::Fail;
 use vectors::VECTORS;
 

@@ -1,5 +1,5 @@
 //! That calls succeed with ample memory, and whole frames by their bytes.
-use crate::{Passphrases, redact_body};
+use redact_core::{Passphrases, redact_body};
 use std::test::Fail;
 
 #[test]

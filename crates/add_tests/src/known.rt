@@ -2,10 +2,10 @@
 
 mod files;
 
-use super::*;
 use constraint_rec::KeySpec;
 use files::{AUTHORITY, CETUS, HASHED, OLD, PLAIN, PORT, SCANNED, SCANNED_HASHED, SCYLLA};
 use key_file::decoded;
+use known_hosts::host_keys;
 use std::alloc::{AllocError, Global};
 use std::test::Fail;
 

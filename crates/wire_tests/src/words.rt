@@ -1,5 +1,5 @@
 //! Words as a shell hands them over.
-use crate::{ServeFault, ServeWords, read_serve};
+use serve_words::{ServeFault, ServeWords, read_serve};
 use std::alloc::{AllocError, Global};
 use std::test::Fail;
 

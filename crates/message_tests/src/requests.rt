@@ -1,6 +1,6 @@
 //! Bodies and frames written out byte by byte from the tables of draft-miller-ssh-agent.
 
-use super::*;
+use agent_msg::*;
 use constraint_rec::TermFault;
 use key_blob::KeyFault;
 use secret_buf::ScrubBuf;

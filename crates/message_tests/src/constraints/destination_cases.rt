@@ -1,6 +1,6 @@
 //! Contents of destination constraints, written out field by field, and their first faults.
 
-use super::super::*;
+use constraint_rec::TermFault;
 
 /// Contents of the extension, and their first fault.
 pub struct Case {

@@ -1,5 +1,5 @@
-use crate::{Recorder, Tape};
 use plain_lists::Bytes;
+use record_world::{Recorder, Tape};
 use std::alloc::{AllocError, Global};
 use std::test::*;
 use world_ports::{Cue, Door, ScriptWorld, VecSink, World};

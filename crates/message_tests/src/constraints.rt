@@ -6,7 +6,7 @@ mod destination_cases;
 mod destinations;
 mod openssh;
 
-use super::*;
+use constraint_rec::*;
 use std::alloc::Global;
 use std::test::Fail;
 use wire_core::Cursor;

@@ -1,0 +1,14 @@
+//! Tests of messages: requests and replies, constraints, bodies without their secrets, and a record of what happened.
+//! Stands on agent_msg, constraint_rec, redact_core and record_world.
+#![tactic(auto)]
+
+#[cfg(test)]
+mod constraints;
+#[cfg(test)]
+mod records;
+#[cfg(test)]
+mod redaction;
+#[cfg(test)]
+mod replies;
+#[cfg(test)]
+mod requests;
