@@ -71,9 +71,12 @@ def questions(random: Random, job: int) -> bytes:
     return random.choice([told] * 12 + [told[:7], b"", uint32(0), uint32(1048577), b"\0\0"])
 
 
-def talk(words: list[str], folder: Path, peer: bytes, random: Random) -> tuple[bytes, int]:
+def talk(
+    words: list[str], folder: Path, peer: bytes, random: Random, stays: bool = False
+) -> tuple[bytes, int]:
     """Starts a program in a folder, with the socket `s` and the input `in`; tells it these bytes,
-    and hears it out. Its outputs are in the files `out` and `err`."""
+    ends its side unless it stays, and hears it out. The outputs are in the files `out` and `err`.
+    """
     files = [
         open(folder / name, mode) for name, mode in (("in", "rb"), ("out", "wb"), ("err", "wb"))
     ]
@@ -96,7 +99,8 @@ def talk(words: list[str], folder: Path, peer: bytes, random: Random) -> tuple[b
             try:
                 for piece in (peer[:at], peer[at:]):
                     line.sendall(piece)
-                line.shutdown(socket.SHUT_WR)
+                if not stays:
+                    line.shutdown(socket.SHUT_WR)
             except (BrokenPipeError, ConnectionResetError):
                 pass
             try:
@@ -144,7 +148,9 @@ def try_relay(program: str, random: Random, folder: Path) -> tuple[Told, Told, l
     if random.random() < 0.05:
         words = random.choice([words[:3], [*words, "x"], [words[0], "1x", *words[2:]]])
     peer = questions(random, job)
-    sent, ended = talk([program, *words], folder, peer, random)
+    # A relay takes the end of its agent for a no, so the agent stays where it has told all.
+    stays = len(peer) >= 4 + int.from_bytes(peer[:4], "big")
+    sent, ended = talk([program, *words], folder, peer, random, stays)
     word = folder / "word"
     ran = [word.read_bytes()] if word.exists() else []
     return Told(sent, ended, ran), relay(words, answer, peer), words
