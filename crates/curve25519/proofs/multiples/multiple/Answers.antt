@@ -1,0 +1,20 @@
+use Rattle.std.proofs.Common.{ap, ◌∙◌}
+use Rattle.curve25519.specs.Points.{neutral}
+use Rattle.curve25519.specs.Multiples.{multiply, multiply_from}
+use Rattle.curve25519.proofs.MultipleLemmas.{multiply_from-end, multiply_from-turn}
+use Rattle.curve25519.proofs.multiples.multiple.Goals as goal
+
+pub loop-turn-init : goal.loop-turn-init
+unfolding multiply
+loop-turn-init c =
+    ap (λ q. multiply_from 256 c.copied-rest.result c.args.point q) c.neutral-sum.ensures
+    ∙ ap (λ s. multiply_from 256 s c.args.point neutral) c.copied-rest.ensures.same
+
+pub loop-turn-preserved : goal.loop-turn-preserved
+loop-turn-preserved c =
+    let l = c.loop-turn in
+    multiply_from-turn 256 l._turn _ _ _ _ _ _ _ _ _ c.loop-turn-test.true c.halved-rest.ensures c.low_bit.ensures
+    (c.add-next.ensures _ c.of-row.ensures) (c.add-power.ensures _ c.of-row.ensures) c.replace_if.ensures l.invariant
+
+pub returns : goal.returns
+returns c = multiply_from-end 256 _ _ _ _ _ c.loop-turn-test.false c.loop-turn.invariant

@@ -1,0 +1,3 @@
+pub mod Points
+pub mod Multiples
+pub mod Encoding
