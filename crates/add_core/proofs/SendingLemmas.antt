@@ -1,6 +1,7 @@
 -- What is sent for a file, by its length.
 use Rattle.std.proofs.Common.{◌≡◌, ◌<◌, ◌≤◌, ◌+◌, ℕ, List, [], ◌∷◌, ◌++◌, length, length-append, Result, Ok, Err, ap, ◌∙◌, arith}
 use Rattle.std.proofs.lemmas.Bool.Decides.{nat_tests}
+use Rattle.wire_text.specs.Bounds.{longest_body}
 use Rattle.wire_text.specs.Wire.{string}
 use Rattle.wire_text.proofs.WireLemmas.{length-string}
 use Rattle.key_file.specs.declared.fault.PubFault.{PubFault}
@@ -9,10 +10,10 @@ use Rattle.add_core.specs.declared.fault.AddFault.TheVariants.{TooLong}
 use Rattle.add_core.specs.Exchanges.{sized}
 use Rattle.add_core.specs.Sendings.{removed_line, removal_of}
 
-pub sized_long : (body line : List ℕ) → 262144 < length body → sized body line ≡ Err TooLong
+pub sized_long : (body line : List ℕ) → longest_body < length body → sized body line ≡ Err TooLong
 sized_long body line long = grind (arith, nat_tests)
 
-pub sized_short : (body line : List ℕ) → length body ≤ 262144 → sized body line ≡ Ok (string body, line)
+pub sized_short : (body line : List ℕ) → length body ≤ longest_body → sized body line ≡ Ok (string body, line)
 sized_short body line short = grind (arith, nat_tests)
 
 pub long_removal : (path blob : List ℕ) (key : Result (List ℕ) PubFault) → key ≡ Ok blob → 262139 < length blob

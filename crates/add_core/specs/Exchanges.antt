@@ -1,5 +1,6 @@
 -- Requests and their replies: what is sent, what is told of the reply, and what is made of it.
 use Rattle.std.specs.Prelude.{◌≡◌, ℕ, nat_lt, List, [], length, Option, None, Some, Result, Ok, Err, if◌then◌else◌}
+use Rattle.wire_text.specs.Bounds.{longest_body}
 use Rattle.wire_text.specs.Wire.{string}
 use Rattle.agent_msg.specs.declared.agent_reply.ReplyFault.{ReplyFault}
 use Rattle.agent_msg.specs.declared.agent_reply.ReplyFault.TheVariants.{Empty}
@@ -53,7 +54,7 @@ requested frame line replies =
 
 -- the frame of a body, with the line for its success; a body that is too long isn't sent
 abbrev pub sized : List ℕ → List ℕ → Result (List ℕ × List ℕ) AddFault
-sized body line = if nat_lt 262144 (length body) then Err TooLong else Ok (string body, line)
+sized body line = if nat_lt longest_body (length body) then Err TooLong else Ok (string body, line)
 
 -- what is made of a reading: its step, or its fault
 abbrev pub stepped : {A : Type 0} → Result A AddFault → (A → Step) → Step

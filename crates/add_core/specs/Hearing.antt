@@ -2,6 +2,7 @@
 -- reads do on the way to it. That a reply has at most 262144 bytes is ours.
 use Rattle.std.specs.Prelude.{◌≡◌, ◌<◌, ◌≤◌, ℕ, List, length, take, drop, Option, None, Some}
 use Rattle.std.specs.Io.KnownBytes.{Consumes, Keeps, IsAtEnd}
+use Rattle.wire_text.specs.Bounds.{longest_body}
 use Rattle.wire_text.specs.Wire.{announced_len}
 use Rattle.wire_text.specs.Frames.{Front, Whole, Bad, More, front, front_body, after_front}
 use Rattle.world_ports.specs.Streams.{StreamView}
@@ -14,7 +15,7 @@ answer_of More bytes = None
 
 -- the body of the reply at the front, and the bytes behind it
 abbrev pub answer_at : List ℕ → Option (List ℕ × List ℕ)
-answer_at replies = answer_of (front 262144 replies) replies
+answer_at replies = answer_of (front longest_body replies) replies
 
 -- ---- reads
 
@@ -45,4 +46,4 @@ pub record TakesReply (replies body : List ℕ) (now : StreamView) : Type 0 wher
 pub record Announces (header : List ℕ) (count : ℕ) : Type 0 where
   pub is : count ≡ announced_len header
   pub some : 0 < count
-  pub within : count ≤ 262144
+  pub within : count ≤ longest_body

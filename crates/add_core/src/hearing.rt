@@ -1,16 +1,15 @@
 // Reads of replies. What follows a reply stays where it is.
 ghost use Rattle.std.specs.Prelude.{◌≡◌, ◌≢◌, ◌⊎◌, ◌<◌, ◌≤◌, ℕ, List, Some, None, Err, IfOk, MatchOption, MatchResult, length};
 ghost use Rattle.add_core.specs.Hearing.{Announces, PullsNothing, PullsPiece, TakesFirst, TakesReply, answer_at};
+ghost use Rattle.wire_text.specs.Bounds.{longest_body};
 ghost use Rattle.wire_text.specs.Wire.{announced_len};
 ghost use Rattle.world_ports.specs.Causes.{Rose};
 ghost use Rattle.world_ports.specs.Streams.{OnlyReads};
 
 use crate::fault::PeerStop;
+use frame_core::LONGEST_BODY;
 use std::alloc::Global;
 use world_ports::{Pulled, Source};
-
-/// The most that a body of a reply has.
-const LONGEST_REPLY: u32 = 262_144;
 
 /// How many bytes a read brings at most.
 const PIECE: usize = 4096;
@@ -61,12 +60,12 @@ fn read_first<S: Source>(alloc: Global, source: &mut S, count: usize) -> Result<
 fn announced(header: &[u8]) -> Option<usize>
     requires { length header.now ≡ 4 }
     ensures { MatchOption result
-        ((announced_len header.now ≡ 0) ⊎ (262144 < announced_len header.now))
+        ((announced_len header.now ≡ 0) ⊎ (longest_body < announced_len header.now))
         (Announces header.now) }
 {
     let (header, _) = header.split_first_chunk::<4>()?;
     let announced = u32::from_be_bytes(*header);
-    if announced == 0 || announced > LONGEST_REPLY {
+    if announced == 0 || announced > LONGEST_BODY {
         return None;
     }
     Some(announced as usize)

@@ -14,14 +14,12 @@ use crate::fault::{AddFault, Stop};
 use add_rules::constraints_len;
 use agent_msg::{Request, write_request};
 use constraint_rec::Terms;
+use frame_core::LONGEST_BODY;
 use key_blob::AddedKey;
 use key_file::{KeyFile, KeyFileFault, PubFault, read_body, read_pub_line};
 use secret_buf::ScrubBuf;
 use std::alloc::{AllocError, Global};
 use std::mem;
-
-/// The most bytes that the body of a request has.
-const LONGEST_REQUEST: usize = 262_144;
 
 /// What is done with the keys of files.
 #[derive(Drop)]
@@ -87,7 +85,7 @@ fn removal(alloc: Global, path: &str, text: &[u8]) -> Result<Sending, Stop>
     ensures own { IsOwn result }
 {
     let blob = read_pub_line(alloc, text)?;
-    if blob.len() > LONGEST_REQUEST - 5 {
+    if blob.len() > LONGEST_BODY as usize - 5 {
         return Err(Stop::Fault(AddFault::TooLong));
     }
     let mut frame = ScrubBuf::new(alloc);
@@ -130,7 +128,7 @@ fn addition_frame(
     ensures kept { OnOk result (terms.new ≡ terms.old) }
 {
     let fields = key.private.len().saturating_add(comment.len());
-    if fields.saturating_add(constraints_len(terms)) > LONGEST_REQUEST - 5 {
+    if fields.saturating_add(constraints_len(terms)) > LONGEST_BODY as usize - 5 {
         return Err(Stop::Fault(AddFault::TooLong));
     }
     let mut frame = ScrubBuf::new(alloc);

@@ -1,6 +1,7 @@
 //! Writers of replies. Each makes room for what it appends first.
 
 ghost use Rattle.std.specs.Prelude.{◌≡◌, ◌+◌, ◌^◌, ◌<◌, ◌≤◌, ◌++◌, IsOk, OnErr, OnOk, length};
+ghost use Rattle.wire_text.specs.Bounds.{longest_body};
 ghost use Rattle.secret_buf.specs.Buffers.{KeepsRoom};
 ghost use Rattle.agent_msg.specs.Replies.{status, entry, list_head, sign_response};
 
@@ -24,7 +25,7 @@ pub fn put_status(out: &mut ScrubBuf, success: bool)
 ///
 /// Makes room for the whole list, so that its entries take no memory.
 pub fn put_list_head(out: &mut ScrubBuf, body: u32, count: u32) -> Result<(), AllocError>
-    requires { body ≤ 262144 }
+    requires { body ≤ longest_body }
     ensures ok { OnOk result (out.new.live ≡ out.old.live ++ list_head body count) }
     ensures room { OnOk result (body ≤ out.new.spare + 5) }
     ensures err { OnErr result (out.new ≡ out.old) }
@@ -56,7 +57,7 @@ pub fn put_list_entry(out: &mut ScrubBuf, blob: &[u8], comment: &[u8]) -> Result
 /// Appends SIGN_RESPONSE.
 #[tactic(auto, using(crate::proofs::ReplyLemmas::appended), unfolding(wire_text::specs::Wire::string))]
 pub fn put_signature(out: &mut ScrubBuf, signature: &[u8]) -> Result<(), AllocError>
-    requires { 5 + length signature.now ≤ 262144 }
+    requires { 5 + length signature.now ≤ longest_body }
     ensures ok { OnOk result (out.new.live ≡ out.old.live ++ sign_response signature.now) }
     ensures err { OnErr result (out.new ≡ out.old) }
     ensures enough { 9 + length signature.now ≤ out.old.spare → IsOk result }

@@ -3,6 +3,7 @@
 
 ghost use Rattle.std.specs.Prelude.{◌≡◌, ◌+◌, ◌^◌, ◌<◌, ◌≤◌, ◌∷◌, ◌++◌, IfOk, OnErr, OnOk, Ok, length};
 ghost use Rattle.secret_buf.specs.Buffers.{KeepsRoom};
+ghost use Rattle.wire_text.specs.Bounds.{longest_body};
 ghost use Rattle.wire_text.specs.Wire.{boolean, uint32, string};
 ghost use Rattle.key_blob.specs.AddedKeys.{IsAddedKey};
 ghost use Rattle.constraint_rec.specs.Constraints.{IsConstraints};
@@ -30,7 +31,7 @@ pub fn write_request(
     request: &Request<'_>,
 ) -> Result<(), AllocError>
     requires writable { IsWritableRequest (client_request request.now) }
-    requires fits { request_length (client_request request.now) ≤ 262144 }
+    requires fits { request_length (client_request request.now) ≤ longest_body }
     ensures ok { OnOk result (out.new.live
         ≡ out.old.live ++ string (request_body (client_request request.now))) }
     ensures err { OnErr result (out.new ≡ out.old) }
@@ -47,7 +48,7 @@ pub fn write_request(
 
 fn put_request(alloc: Global, out: &mut ScrubBuf, request: &Request<'_>) -> Result<(), AllocError>
     requires writable { IsWritableRequest (client_request request.now) }
-    requires fits { request_length (client_request request.now) ≤ 262144 }
+    requires fits { request_length (client_request request.now) ≤ longest_body }
     ensures ok { OnOk result (out.new.live
         ≡ out.old.live ++ string (request_body (client_request request.now))) }
     ensures err { OnErr result (out.new ≡ out.old) }
@@ -84,7 +85,7 @@ fn put_request(alloc: Global, out: &mut ScrubBuf, request: &Request<'_>) -> Resu
 /// Appends the frame of a number and a string.
 #[tactic(auto, using(crate::proofs::WriteLemmas::written), unfolding(wire_text::specs::Wire::string))]
 fn put_text(out: &mut ScrubBuf, number: u8, text: &[u8]) -> Result<(), AllocError>
-    requires { 5 + length text.now ≤ 262144 }
+    requires { 5 + length text.now ≤ longest_body }
     ensures ok { OnOk result (out.new.live ≡ out.old.live ++ string (number ∷ string text.now)) }
     ensures err { OnErr result (out.new ≡ out.old) }
     ensures keeps_room { KeepsRoom out.old out.new }
@@ -104,7 +105,7 @@ fn put_signing(
     message: &[u8],
     flags: u32,
 ) -> Result<(), AllocError>
-    requires { 13 + length blob.now + length message.now ≤ 262144 }
+    requires { 13 + length blob.now + length message.now ≤ longest_body }
     ensures ok { OnOk result (out.new.live
         ≡ out.old.live ++ string (signing_body blob.now message.now flags)) }
     ensures err { OnErr result (out.new ≡ out.old) }
@@ -144,7 +145,7 @@ fn put_addition(
     requires key { IsAddedKey key.now }
     requires terms { IsWritable terms.now }
     requires fits { 5 + length key.now.private + length comment.now
-        + length (constraints_bytes terms.now) ≤ 262144 }
+        + length (constraints_bytes terms.now) ≤ longest_body }
     ensures ok { OnOk result (out.new.live ≡ out.old.live
         ++ string (addition_text key.now.private comment.now (constraints_bytes terms.now))) }
     ensures err { OnErr result (out.new ≡ out.old) }
@@ -164,7 +165,7 @@ fn put_addition_under(
     comment: &[u8],
     constraints: &[u8],
 ) -> Result<(), AllocError>
-    requires { 5 + length key.now.private + length comment.now + length constraints.now ≤ 262144 }
+    requires { 5 + length key.now.private + length comment.now + length constraints.now ≤ longest_body }
     ensures ok { OnOk result (out.new.live
         ≡ out.old.live ++ string (addition_text key.now.private comment.now constraints.now)) }
     ensures err { OnErr result (out.new ≡ out.old) }
@@ -190,7 +191,7 @@ fn put_bind(
     signature: &[u8],
     forwarding: bool,
 ) -> Result<(), AllocError>
-    requires { 42 + length host_key.now + length session.now + length signature.now ≤ 262144 }
+    requires { 42 + length host_key.now + length session.now + length signature.now ≤ longest_body }
     ensures ok { OnOk result (out.new.live ≡ out.old.live
         ++ string (bind_body host_key.now session.now signature.now forwarding)) }
     ensures err { OnErr result (out.new ≡ out.old) }

@@ -14,4 +14,4 @@ mod write;
 pub use fault::ChildFault;
 pub use message::{FromChild, ToChild};
 pub use read::{read_from_child, read_to_child};
-pub use write::{write_from_child, write_to_child};
+pub use write::{LONGEST_TO_CHILD, write_from_child, write_to_child};

@@ -2,6 +2,7 @@
 
 ghost use Rattle.std.specs.Prelude.{◌≡◌, ◌+◌, ◌≤◌, ◌++◌, IsOk, OnErr, OnOk, length};
 ghost use Rattle.secret_buf.specs.Buffers.{KeepsRoom};
+ghost use Rattle.wire_text.specs.Bounds.{longest_body, longest_to_child};
 ghost use Rattle.wire_text.specs.Wire.{string};
 ghost use Rattle.child_msg.specs.ChildFrames.{from_child_body, to_child_body, from_child_length, to_child_length, FromChildFits, ToChildFits};
 ghost use Rattle.child_msg.specs.Messages.{from_child_message, to_child_message};
@@ -13,10 +14,13 @@ use frame_core::{push_string, push_u32};
 use secret_buf::ScrubBuf;
 use std::alloc::AllocError;
 
+/// The longest body of a message to a child process, in bytes (ours).
+pub const LONGEST_TO_CHILD: u32 = 1_048_576;
+
 /// Appends the frame of what a child process sends.
 #[tactic(auto, using(crate::proofs::WriteLemmas::written), unfolding(wire_text::specs::Wire::string))]
 pub fn write_from_child(out: &mut ScrubBuf, message: &FromChild<'_>) -> Result<(), AllocError>
-    requires { from_child_length (from_child_message message.now) ≤ 262144 }
+    requires { from_child_length (from_child_message message.now) ≤ longest_body }
     ensures ok { OnOk result
         (out.new.live ≡ out.old.live ++ string (from_child_body (from_child_message message.now))) }
     ensures err { OnErr result (out.new ≡ out.old) }
@@ -37,7 +41,7 @@ pub fn write_from_child(out: &mut ScrubBuf, message: &FromChild<'_>) -> Result<(
 /// The private key in a SIGN frame goes straight into `out`, which wipes it.
 #[tactic(auto, using(crate::proofs::WriteLemmas::written), unfolding(wire_text::specs::Wire::string))]
 pub fn write_to_child(out: &mut ScrubBuf, message: &ToChild<'_>) -> Result<(), AllocError>
-    requires { to_child_length (to_child_message message.now) ≤ 1048576 }
+    requires { to_child_length (to_child_message message.now) ≤ longest_to_child }
     ensures ok { OnOk result
         (out.new.live ≡ out.old.live ++ string (to_child_body (to_child_message message.now))) }
     ensures err { OnErr result (out.new ≡ out.old) }
@@ -54,7 +58,7 @@ pub fn write_to_child(out: &mut ScrubBuf, message: &ToChild<'_>) -> Result<(), A
 }
 
 fn from_child_len(message: &FromChild<'_>) -> usize
-    requires { from_child_length (from_child_message message.now) ≤ 262144 }
+    requires { from_child_length (from_child_message message.now) ≤ longest_body }
     ensures { result ≡ from_child_length (from_child_message message.now) }
 {
     match message {
@@ -65,7 +69,7 @@ fn from_child_len(message: &FromChild<'_>) -> usize
 }
 
 fn to_child_len(message: &ToChild<'_>) -> usize
-    requires { to_child_length (to_child_message message.now) ≤ 1048576 }
+    requires { to_child_length (to_child_message message.now) ≤ longest_to_child }
     ensures { result ≡ to_child_length (to_child_message message.now) }
 {
     match message {
@@ -87,7 +91,7 @@ fn to_child_len(message: &ToChild<'_>) -> usize
 
 #[tactic(auto, using(crate::proofs::WriteLemmas::written))]
 fn push_from_child(out: &mut ScrubBuf, message: &FromChild<'_>)
-    requires small { from_child_length (from_child_message message.now) ≤ 262144 }
+    requires small { from_child_length (from_child_message message.now) ≤ longest_body }
     requires room { from_child_length (from_child_message message.now) ≤ out.old.spare }
     ensures live { out.new.live ≡ out.old.live ++ from_child_body (from_child_message message.now) }
     ensures fits { FromChildFits (from_child_message message.now) }
@@ -112,7 +116,7 @@ fn push_from_child(out: &mut ScrubBuf, message: &FromChild<'_>)
 
 #[tactic(auto, using(crate::proofs::WriteLemmas::written))]
 fn push_to_child(out: &mut ScrubBuf, message: &ToChild<'_>)
-    requires small { to_child_length (to_child_message message.now) ≤ 1048576 }
+    requires small { to_child_length (to_child_message message.now) ≤ longest_to_child }
     requires room { to_child_length (to_child_message message.now) ≤ out.old.spare }
     ensures live { out.new.live ≡ out.old.live ++ to_child_body (to_child_message message.now) }
     ensures fits { ToChildFits (to_child_message message.now) }

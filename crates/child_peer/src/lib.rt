@@ -4,7 +4,6 @@
 #![tactic(auto)]
 
 mod fault;
-mod frame;
 mod no_peer;
 mod output;
 mod room;
@@ -12,7 +11,6 @@ mod scratch;
 mod words;
 
 pub use fault::{HearFault, SayFault};
-pub use frame::body_of;
 pub use no_peer::NoPeer;
 pub use output::{flush, say};
 pub use room::Room;

@@ -4,6 +4,7 @@ ghost use Rattle.std.specs.Prelude.{◌≡◌, ◌≤◌, [], OnErr, OnOk};
 ghost use Rattle.child_msg.specs.ChildFrames.{from_child_body, from_child_length};
 ghost use Rattle.child_msg.specs.Messages.{from_child_message};
 ghost use Rattle.child_peer.specs.Hearing.{Says};
+ghost use Rattle.wire_text.specs.Bounds.{longest_body};
 ghost use Rattle.wire_text.specs.Wire.{string};
 ghost use Rattle.world_ports.specs.Causes.{HasCause};
 ghost use Rattle.world_ports.specs.Streams.{OnlyWrites, WritesPart};
@@ -32,7 +33,7 @@ pub fn flush<P: Sink>(out: &mut ScrubBuf, peer: &mut P) -> Result<(), Fault>
 
 /// Writes the frame of a message.
 pub fn say<P: Sink>(alloc: Global, message: &FromChild<'_>, peer: &mut P) -> Result<(), SayFault>
-    requires { from_child_length (from_child_message message.now) ≤ 262144 }
+    requires { from_child_length (from_child_message message.now) ≤ longest_body }
     ensures says { Says result (string (from_child_body (from_child_message message.now)))
         (P.seen peer.old) (P.seen peer.new) }
     ensures only { OnlyWrites (P.seen peer.old) (P.seen peer.new) }

@@ -7,7 +7,8 @@ use Rattle.lists.proofs.FirstLemmas.{change-pointwise, change-twice, find-change
 use Rattle.wire_text.specs.Bounds.{longest_body}
 use Rattle.wire_text.specs.Frames.{Front, Whole, Bad, More, front, front_body}
 use Rattle.wire_text.specs.Wire.{announced_len}
-use Rattle.wire_text.proofs.FrontLemmas.{front-append_bad, front-append_whole, front_says}
+use Rattle.wire_text.proofs.FrontLemmas.{front-append_bad, front-append_whole}
+use Rattle.wire_text.proofs.SplitLemmas.{front_body-append}
 use Rattle.child_msg.specs.Reading.{from_child_of}
 use Rattle.confirm_desk.specs.Calls.{Telling, given_back, telling, telling_by, telling_if}
 use Rattle.confirm_desk.specs.Confirmations.{Confirmation, Consent, NotYet, Yes, No, came_to, change_job, consent, consent_at, consent_in, find_linked, heard_more, is_at, job_of, told}
@@ -19,22 +20,12 @@ use Rattle.confirm_desk.proofs.TellLemmas.{IsSound-telling, lose_changed, only_j
 
 -- ---- a decision stands, whatever follows
 
--- the body of a whole frame
-same_body : (heard more : List ℕ) (body_len : ℕ) → front longest_body heard ≡ Whole body_len →
-    front_body body_len (heard ++ more) ≡ front_body body_len heard
-same_body heard more body_len found =
-    let is = front_says longest_body heard (Whole body_len) found in
-    let follows : 4 + announced_len heard ≤ length heard = is.0.follows in
-    let same : body_len ≡ announced_len heard = is.1 in
-    ap (take body_len) (drop-append-le 4 heard more (omega arith))
-    ∙ take-append-le body_len (drop 4 heard) more (omega (arith, same, length-drop 4 heard))
-
 decided_at : (job : ℕ) (heard more : List ℕ) (answer : Front) → front longest_body heard ≡ answer →
     (consent_at job answer heard ≡ NotYet → ⊥) →
     consent_at job (front longest_body (heard ++ more)) (heard ++ more) ≡ consent_at job answer heard
 decided_at job heard more (Whole body_len) found decided =
     ap (λ (answer : Front). consent_at job answer (heard ++ more)) (front-append_whole longest_body heard more body_len found)
-    ∙ ap (λ (body : List ℕ). consent_in job (from_child_of body)) (same_body heard more body_len found)
+    ∙ ap (λ (body : List ℕ). consent_in job (from_child_of body)) (front_body-append longest_body heard more body_len found)
 decided_at job heard more (Bad announced) found decided =
     ap (λ (answer : Front). consent_at job answer (heard ++ more)) (front-append_bad longest_body heard more announced found)
 decided_at job heard more More found decided = absurd (decided refl)

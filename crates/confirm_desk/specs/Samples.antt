@@ -18,6 +18,7 @@ third_held = record { asker = 90; addition = 1; message = []; flags = 0 }
 abbrev pub first_back : CodeHeld
 first_back = record { asker = 70; addition = 2; message = codes "abc"; flags = 0 }
 
+-- what is handed back of the second
 abbrev pub second_back : CodeHeld
 second_back = record { asker = 80; addition = 3; message = codes "de"; flags = 2 }
 
@@ -44,6 +45,7 @@ first_with port heard owed = record {
   owed = owed;
 }
 
+-- the second, with this port, bytes heard and bytes owed
 abbrev pub second_with : Option ℕ → List ℕ → List ℕ → Confirmation
 second_with port heard owed = record {
   job = 4;
@@ -62,6 +64,7 @@ second_with port heard owed = record {
 abbrev pub first_frame : List ℕ
 first_frame = 0 ∷ 0 ∷ 0 ∷ 16 ∷ 3 ∷ 0 ∷ 0 ∷ 0 ∷ 0 ∷ 0 ∷ 0 ∷ 0 ∷ 1 ∷ 0 ∷ 0 ∷ 0 ∷ 3 ∷ 111 ∷ 107 ∷ 63 ∷ []
 
+-- the frame that asks for the second
 abbrev pub second_frame : List ℕ
 second_frame = 0 ∷ 0 ∷ 0 ∷ 16 ∷ 3 ∷ 0 ∷ 0 ∷ 0 ∷ 0 ∷ 0 ∷ 0 ∷ 0 ∷ 4 ∷ 0 ∷ 0 ∷ 0 ∷ 3 ∷ 110 ∷ 111 ∷ 63 ∷ []
 

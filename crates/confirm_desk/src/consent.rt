@@ -1,16 +1,12 @@
 //! What the child process says of the user.
 
-ghost use Rattle.std.specs.Prelude.{◌≡◌, ◌+◌, ◌≤◌, length};
-ghost use Rattle.wire_text.specs.Frames.{front_body};
+ghost use Rattle.std.specs.Prelude.{◌≡◌};
 ghost use Rattle.child_msg.specs.Reading.{from_child_of};
 ghost use Rattle.confirm_desk.specs.Confirmations.{consent, consent_in};
 ghost use Rattle.confirm_desk.specs.Answers.{consent_told};
 
 use child_msg::{FromChild, read_from_child};
-use frame_core::{Look, look};
-
-/// The longest body that a child process may send (ours).
-const MAX_BODY: u32 = 262144;
+use frame_core::{Front, LONGEST_BODY, first};
 
 /// The user's answer.
 #[derive(Clone, Copy, PartialEq, Eq)]
@@ -25,19 +21,11 @@ pub enum Answer {
 pub fn consent_of(job: u64, heard: &[u8]) -> Answer
     ensures { consent_told result ≡ consent job heard.now }
 {
-    match look(heard, MAX_BODY) {
-        Look::Whole { body } => consent_in_body(job, body_of(heard, body as usize)),
-        Look::Bad { .. } => Answer::No,
-        Look::More => Answer::NotYet,
+    match first(heard, LONGEST_BODY) {
+        Front::Whole { body, .. } => consent_in_body(job, body),
+        Front::Bad { .. } => Answer::No,
+        Front::More => Answer::NotYet,
     }
-}
-
-// The body of the frame at the front.
-fn body_of(bytes: &[u8], body_len: usize) -> &[u8]
-    requires { 4 + body_len ≤ length bytes.now }
-    ensures { result.now ≡ front_body body_len bytes.now }
-{
-    &bytes[4..4 + body_len]
 }
 
 // All but GRANTED for the job itself is a no.

@@ -1,5 +1,6 @@
 ghost use Rattle.std.specs.Prelude.{◌≡◌, ◌+◌, ◌≤◌, [], IsSome, IsSomeAnd, IfOk, MatchResult, None, OnErr, OnOk, length};
 ghost use Rattle.std.specs.Option.{option_copied, option_map};
+ghost use Rattle.wire_text.specs.Bounds.{longest_to_child};
 ghost use Rattle.confirm_desk.specs.Calls.{IsRefusedWith, given_back, held_of, next_owed, raise_fault, telling, took_at};
 ghost use Rattle.confirm_desk.specs.Confirmations.{AreRaisedBy, find_asker, find_job, find_linked, linked, lose, oldest, owed_to, raise};
 ghost use Rattle.confirm_desk.specs.Sound.{IsSound};
@@ -12,7 +13,7 @@ use std::alloc::{AllocError, Global};
 use std::marker::Model;
 
 /// How many confirmations may be waited for (ours).
-const MAX_CONFIRMATIONS: usize = 16;
+pub const MAX_CONFIRMATIONS: usize = 16;
 
 /// The signatures that wait for the user's consent, in the order in which they were raised.
 #[derive(Drop)]
@@ -87,7 +88,7 @@ impl Desk {
     pub fn raise(&mut self, job: u64, held: Held, prompt: &[u8], now: u64) -> Result<(), DeskFault>
         requires job { find_job job self.old ≡ None }
         requires asker { find_asker held.asker self.old ≡ None }
-        requires short { 13 + length prompt.now ≤ 1048576 }
+        requires short { 13 + length prompt.now ≤ longest_to_child }
         requires later { AreRaisedBy now self.old }
         ensures ok { OnOk result (self.new ≡ raise job (held_of held) prompt.now now self.old) }
         ensures fault { MatchResult result (λ _. raise_fault self.old ≡ None)

@@ -13,7 +13,7 @@ mod pending;
 mod question;
 mod rows;
 
-pub use desk::Desk;
+pub use desk::{Desk, MAX_CONFIRMATIONS};
 pub use fault::DeskFault;
 pub use held::{Held, Verdict};
 pub use laws::{

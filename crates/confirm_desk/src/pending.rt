@@ -1,4 +1,5 @@
 ghost use Rattle.std.specs.Prelude.{◌≡◌, ◌+◌, ◌≤◌, ◌++◌, IfOk, OnErr, OnOk, length};
+ghost use Rattle.wire_text.specs.Bounds.{longest_to_child};
 ghost use Rattle.confirm_desk.specs.Calls.{given_back, held_of};
 ghost use Rattle.confirm_desk.specs.Confirmations.{confirmation_of, consent, heard_more, linked_at, took_some};
 ghost use Rattle.confirm_desk.specs.Answers.{consent_told};
@@ -53,7 +54,7 @@ impl Pending {
         prompt: &[u8],
         now: u64,
     ) -> Result<Pending, AllocError>
-        requires { 13 + length prompt.now ≤ 1048576 }
+        requires { 13 + length prompt.now ≤ longest_to_child }
         ensures { IfOk result (λ one. one ≡ confirmation_of job (held_of held) prompt.now now) }
     {
         let mut owed = ScrubBuf::new(alloc);

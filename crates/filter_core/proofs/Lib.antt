@@ -1,4 +1,3 @@
-pub mod FrontBodies
 pub mod PlaceLemmas
 pub mod SlotLemmas
 pub mod CutLemmas

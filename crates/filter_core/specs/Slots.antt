@@ -19,9 +19,11 @@ blobs_of listed = map (λ blob. blob.items) listed
 abbrev pub pair_of : Slot → Pair
 pair_of slot = record { client = slot.client; upstream = slot.upstream; waits = slot.waits }
 
+-- the pair of a slot with its number
 abbrev pub numbered_of : Slot → Numbered
 numbered_of slot = record { number = slot.number; pair = pair_of slot }
 
+-- the pairs of these slots with their numbers
 abbrev pub pairs_of : List Slot → List Numbered
 pairs_of slots = map numbered_of slots
 

@@ -12,13 +12,10 @@ ghost use Rattle.filter_model.specs.Looking.{without_front};
 
 use crate::cut::put_list;
 use agent_msg::put_status;
-use frame_core::{Look, look, put_frame};
+use frame_core::{LONGEST_BODY, Look, front_body, look, put_frame};
 use secret_buf::ScrubBuf;
 use std::alloc::{AllocError, Global};
 use std::marker::Model;
-
-/// The longest body of a message, in bytes.
-const LONGEST_BODY: u32 = 262_144;
 
 /// The storage of longer bodies isn't kept for the next one, in bytes.
 const LONG: usize = 4096;
@@ -103,18 +100,17 @@ impl Buffers {
     }
 
     /// The body of the whole frame at the front.
-    #[tactic(auto, using(crate::proofs::FrontBodies::whole_within, crate::proofs::FrontBodies::body_within))]
+    #[tactic(auto, using(wire_text::proofs::FrontLemmas::whole_within, wire_text::proofs::FrontLemmas::body_within))]
     pub fn body(&self, body_len: u32) -> &[u8]
         requires { front longest_body self.now.heard ≡ Whole body_len }
         ensures body { result.now ≡ front_body body_len self.now.heard }
         ensures short { length result.now ≤ longest_body }
     {
-        let end = body_len as usize + 4;
-        &self.heard.live()[4..end]
+        front_body(self.heard.live(), body_len)
     }
 
     /// Drops the frame at the front, and with the last byte the storage that a long one took.
-    #[tactic(auto, using(crate::proofs::FrontBodies::whole_within))]
+    #[tactic(auto, using(wire_text::proofs::FrontLemmas::whole_within))]
     pub fn take(&mut self, body_len: u32)
         requires { front longest_body self.old.heard ≡ Whole body_len }
         ensures { self.new ≡ without_front body_len self.old }

@@ -31,6 +31,7 @@ pub record Reading : Type 0 where
   pub line : List Thing
   pub due : Due
 
+-- the reading at this state, with this line of ready things and this due
 abbrev pub at : State → List Thing → Due → Reading
 at state line due = record { state = state; line = line; due = due }
 

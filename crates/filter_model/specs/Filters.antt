@@ -34,6 +34,7 @@ most_pairs = 128
 
 -- ---- pairs by their numbers
 
+-- the open pair of this number
 abbrev pub find_pair : ℕ → List Numbered → Option Pair
 find_pair number [] = None
 find_pair number (one ∷ others) = if number == one.number then Some one.pair else find_pair number others
@@ -44,6 +45,7 @@ put_pair number pair [] = []
 put_pair number pair (one ∷ others) =
     (if number == one.number then record { number = number; pair = pair } else one) ∷ put_pair number pair others
 
+-- the pairs without that of this number
 abbrev pub remove_pair : ℕ → List Numbered → List Numbered
 remove_pair number [] = []
 remove_pair number (one ∷ others) =
@@ -54,6 +56,7 @@ abbrev pub owed_by : Option Pair → Side → List ℕ
 owed_by None side = []
 owed_by (Some pair) side = (half_of side pair).owed
 
+-- what a side of the pair of this number is owed in this state
 abbrev pub owed_of : ℕ → Side → State → List ℕ
 owed_of number side state = owed_by (find_pair number state.pairs) side
 
@@ -62,11 +65,14 @@ abbrev pub wants_by : Option Pair → Side → Bool
 wants_by None side = false
 wants_by (Some pair) side = wants_half (half_of side pair)
 
+-- the side of the pair of this number is to be read in this state
 abbrev pub wants : ℕ → Side → State → Bool
 wants number side state = wants_by (find_pair number state.pairs) side
 
 -- ---- which events may come
 
+-- the event may come in this state: its pair is open, a piece has bytes, no more is taken than is
+-- owed, and a number is left for who joins
 abbrev pub Fits : Happening → State → Type 0
 Fits Joined state = state.last_pair < 2 ^ 64 - 1
 Fits (Heard number side piece) state = IsSome (find_pair number state.pairs) × (0 < length piece)
@@ -102,6 +108,7 @@ joined true state = record state {
 }
 joined false state = record state { last_pair = suc state.last_pair; closes = suc state.last_pair ∷ [] }
 
+-- what an event makes of the filter
 abbrev pub step : State → Happening → State
 step state Joined = joined (nat_lt (length state.pairs) most_pairs) state
 step state (Heard number side piece) =

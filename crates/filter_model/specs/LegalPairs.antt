@@ -9,10 +9,7 @@ use Rattle.filter_model.specs.declared.thing.Thing.TheVariants.{Accept, Read, Wr
 use Rattle.filter_model.specs.Filters.{State, first_state, owed_of}
 use Rattle.filter_model.specs.Lines.{is_idle, is_next}
 use Rattle.filter_model.specs.Answered.{Binding, Closing, Due, Free, Nothing, Reading, after_accept, after_bind, after_close, after_poll, after_read, after_write, at, only_if}
-
--- the room of each read, in bytes
-abbrev pub read_room : ℕ
-read_room = 16384
+use Rattle.world_ports.specs.Worlds.{read_room}
 
 -- where the door has to be bound, at these paths
 abbrev pub allowed_bind : List ℕ → List ℕ → State → List Thing → PairEntry → Option Reading

@@ -11,12 +11,14 @@ use Rattle.filter_model.specs.Filters.{State, find_pair, owed_of, wants}
 
 -- ---- things
 
+-- both are the same side of a pair
 abbrev pub same_side : Side → Side → Bool
 same_side Client Client = true
 same_side Client Upstream = false
 same_side Upstream Client = false
 same_side Upstream Upstream = true
 
+-- both are the same thing to be served
 abbrev pub same_thing : Thing → Thing → Bool
 same_thing Accept Accept = true
 same_thing Accept (Read pair side) = false
@@ -56,6 +58,7 @@ without_pair pair line = filter (λ thing. not (is_of pair thing)) line
 abbrev pub queued : Thing → List Thing → List Thing
 queued thing line = if has_thing thing line then line else line ++ thing ∷ []
 
+-- the line with this thing, where the test holds
 abbrev pub queued_if : Bool → Thing → List Thing → List Thing
 queued_if true thing line = queued thing line
 queued_if false thing line = line
@@ -92,6 +95,7 @@ first_servable state [] = None
 first_servable state (thing ∷ things) =
     if is_servable state thing then Some thing else first_servable state things
 
+-- there is a thing, and it is this one
 abbrev pub is_thing : Thing → Option Thing → Bool
 is_thing thing None = false
 is_thing thing (Some other) = same_thing thing other

@@ -21,9 +21,11 @@ pub record Looked : Type 0 where
   pub pair : Pair
   pub is_open : Bool
 
+-- the pair stays open
 abbrev pub stays : Pair → Looked
 stays pair = record { pair = pair; is_open = true }
 
+-- the pair is to be closed
 abbrev pub ends : Pair → Looked
 ends pair = record { pair = pair; is_open = false }
 
@@ -32,6 +34,7 @@ abbrev pub and_then_if : Bool → Pair → (Pair → Looked) → Looked
 and_then_if true pair next = next pair
 and_then_if false pair next = ends pair
 
+-- one look, and another at the pair that it leaves, where that stays open
 abbrev pub and_then : Looked → (Pair → Looked) → Looked
 and_then first next = and_then_if first.is_open first.pair next
 
@@ -46,6 +49,8 @@ abbrev pub waits_by : Bool → Waits
 waits_by true = OnReply
 waits_by false = Nothing
 
+-- what a request that was read makes the pair wait for: a list, a bind, and a signature by a
+-- listed key are forwarded
 abbrev pub waits_for : List (List ℕ) → Result ClientRequest MsgFault → Waits
 waits_for listed (Ok ListIdentities) = OnList
 waits_for listed (Ok (Sign signing)) = waits_by (is_listed signing.blob listed)
@@ -75,6 +80,7 @@ taken_as OnReply body pair = record pair { upstream = owes_more (string body) pa
 abbrev pub without_front : ℕ → Half → Half
 without_front body_len half = record half { heard = after_front body_len half.heard }
 
+-- what stands at the front of the client's bytes, with nothing owed and nothing waited for
 abbrev pub client_front : Front → List (List ℕ) → Pair → Looked
 client_front (Whole body_len) listed pair =
     stays (taken_as (fate_of listed (front_body body_len pair.client.heard)) (front_body body_len pair.client.heard)
@@ -94,6 +100,7 @@ client_waits Nothing listed pair = client_owed pair.client.owed pair.upstream.ow
 client_waits OnList listed pair = stays pair
 client_waits OnReply listed pair = stays pair
 
+-- a look at what the client sent
 abbrev pub client_looked : List (List ℕ) → Pair → Looked
 client_looked listed pair = client_waits pair.waits listed pair
 
@@ -131,6 +138,7 @@ answered (Some reply) body_len pair = nothing_left (after_front body_len pair.up
   waits = Nothing;
 })
 
+-- what stands at the front of upstream's bytes while a reply is waited for
 abbrev pub upstream_front : Front → List (List ℕ) → Pair → Looked
 upstream_front (Whole body_len) listed pair =
     answered (reply_for pair.waits listed (front_body body_len pair.upstream.heard)) body_len pair
@@ -143,10 +151,12 @@ upstream_waits Nothing listed pair = nothing_left pair.upstream.heard pair
 upstream_waits OnList listed pair = upstream_front (front longest_body pair.upstream.heard) listed pair
 upstream_waits OnReply listed pair = upstream_front (front longest_body pair.upstream.heard) listed pair
 
+-- a look at what upstream sent
 abbrev pub upstream_looked : List (List ℕ) → Pair → Looked
 upstream_looked listed pair = upstream_waits pair.waits listed pair
 
 -- ---- both
 
+-- a look at what the client sent, and then at what upstream sent
 abbrev pub looked : List (List ℕ) → Pair → Looked
 looked listed pair = and_then (client_looked listed pair) (upstream_looked listed)

@@ -22,6 +22,7 @@ pub record Pair : Type 0 where
 abbrev pub empty_half : Half
 empty_half = record { heard = []; owed = [] }
 
+-- a pair of which nothing was heard, which is owed nothing and waits for nothing
 abbrev pub new_pair : Pair
 new_pair = record { client = empty_half; upstream = empty_half; waits = Nothing }
 

@@ -12,9 +12,11 @@ blob tag = 0 ∷ 0 ∷ 0 ∷ 24 ∷ (codes "keyed-sha256@example.com" ++ 0 ∷ 0
 abbrev pub sign : ℕ → List ℕ
 sign tag = 0 ∷ 0 ∷ 0 ∷ 80 ∷ 13 ∷ 0 ∷ 0 ∷ 0 ∷ 64 ∷ (blob tag ++ 0 ∷ 0 ∷ 0 ∷ 3 ∷ (codes "abc" ++ 0 ∷ 0 ∷ 0 ∷ 0 ∷ []))
 
+-- SSH_AGENTC_REQUEST_IDENTITIES
 abbrev pub list : List ℕ
 list = 0 ∷ 0 ∷ 0 ∷ 1 ∷ 11 ∷ []
 
+-- SSH_AGENTC_REMOVE_ALL_IDENTITIES
 abbrev pub remove_all : List ℕ
 remove_all = 0 ∷ 0 ∷ 0 ∷ 1 ∷ 19 ∷ []
 
@@ -27,9 +29,11 @@ bind = 0 ∷ 0 ∷ 0 ∷ 43 ∷ 27 ∷ 0 ∷ 0 ∷ 0 ∷ 24 ∷ (codes "session-
 abbrev pub failed : List ℕ
 failed = 0 ∷ 0 ∷ 0 ∷ 1 ∷ 5 ∷ []
 
+-- SSH_AGENT_IDENTITIES_ANSWER with the key of tag 17 alone
 abbrev pub one_listed : List ℕ
 one_listed = 0 ∷ 0 ∷ 0 ∷ 80 ∷ 12 ∷ 0 ∷ 0 ∷ 0 ∷ 1 ∷ 0 ∷ 0 ∷ 0 ∷ 64 ∷ (blob 17 ++ 0 ∷ 0 ∷ 0 ∷ 3 ∷ codes "one")
 
+-- SSH_AGENT_IDENTITIES_ANSWER with two keys
 abbrev pub two_listed : List ℕ
 two_listed = 0 ∷ 0 ∷ 0 ∷ 155 ∷ 12 ∷ 0 ∷ 0 ∷ 0 ∷ 2 ∷ 0 ∷ 0 ∷ 0 ∷ 64 ∷ (blob 17 ++ 0 ∷ 0 ∷ 0 ∷ 3 ∷ (codes "one"
     ++ 0 ∷ 0 ∷ 0 ∷ 64 ∷ (blob 18 ++ 0 ∷ 0 ∷ 0 ∷ 3 ∷ codes "two")))
@@ -46,5 +50,6 @@ owed side events = owed_of 1 side (after events)
 abbrev pub three : Happening
 three = Heard 1 Client (sign 18 ++ (remove_all ++ sign 17))
 
+-- the client takes what it is owed
 abbrev pub took_reply : Happening
 took_reply = Took 1 Client 5

@@ -26,6 +26,7 @@ pub record Stream : Type 0 where
   pub heard : List ℕ
   pub sent : List ℕ
 
+-- nothing was heard, and nothing was sent
 abbrev pub no_stream : Stream
 no_stream = record { heard = []; sent = [] }
 
@@ -35,6 +36,7 @@ pub record Watched : Type 0 where
   pub client : Stream
   pub upstream : Stream
 
+-- a pair that has just joined
 abbrev pub new_watched : Watched
 new_watched = record { pair = new_pair; client = no_stream; upstream = no_stream }
 
@@ -43,9 +45,11 @@ abbrev pub change_stream : Side → (Stream → Stream) → Watched → Watched
 change_stream Client f watched = record watched { client = f watched.client }
 change_stream Upstream f watched = record watched { upstream = f watched.upstream }
 
+-- the stream with a piece more that was heard
 abbrev pub with_heard : List ℕ → Stream → Stream
 with_heard piece stream = record stream { heard = stream.heard ++ piece }
 
+-- the stream with bytes more that were sent
 abbrev pub with_sent : List ℕ → Stream → Stream
 with_sent bytes stream = record stream { sent = stream.sent ++ bytes }
 
@@ -86,6 +90,7 @@ watched_on number state watched [] = watched
 watched_on number state watched (event ∷ later) =
     watched_on number (step state event) (watch state number watched event) later
 
+-- what is known of the pair of this number after these events of a new filter, where it joined
 abbrev pub watched_of : ℕ → List (List ℕ) → List Happening → Option Watched
 watched_of number listed events = watched_on number (first_state listed) None events
 
@@ -105,6 +110,7 @@ may_pass listed (Ok (OtherExtension name)) = false
 may_pass listed (Ok (Unsupported number)) = false
 may_pass listed (Err fault) = false
 
+-- the body is a request that may pass
 abbrev pub is_forwarded : List (List ℕ) → List ℕ → Bool
 is_forwarded listed body = may_pass listed (request_of body)
 
@@ -148,6 +154,7 @@ pub record IsRefused (exchange : Exchange) : Type 0 where
   pub unanswered : exchange.answers ≡ []
   pub reply : exchange.reply ≡ failure
 
+-- a body that was forwarded has upstream's answer, and any other body has FAILURE and no answer
 abbrev pub IsReplied : Bool → List (List ℕ) → Exchange → Type 0
 IsReplied true listed exchange = IsAnswered listed exchange
 IsReplied false listed exchange = IsRefused exchange
@@ -162,6 +169,7 @@ pub record IsPendingFor (listed : List (List ℕ)) (pending : List (List ℕ)) :
   pub only : pending ≡ body ∷ []
   pub passed : is_forwarded listed body ≡ true
 
+-- the bodies that wait for a reply: none where nothing is waited for, else one that was forwarded
 abbrev pub IsPending : Waits → List (List ℕ) → List (List ℕ) → Type 0
 IsPending Nothing listed pending = pending ≡ []
 IsPending OnList listed pending = IsPendingFor listed pending
@@ -171,9 +179,11 @@ IsPending OnReply listed pending = IsPendingFor listed pending
 abbrev pub bodies : List Exchange → List (List ℕ)
 bodies exchanges = map (λ exchange. exchange.body) exchanges
 
+-- the bodies of upstream that answered, in order
 abbrev pub answers : List Exchange → List (List ℕ)
 answers exchanges = flat_map (λ exchange. exchange.answers) exchanges
 
+-- the bytes of all replies, in order
 abbrev pub replies : List Exchange → List ℕ
 replies exchanges = flat_map (λ exchange. exchange.reply) exchanges
 

@@ -21,7 +21,8 @@ use Rattle.filter_model.specs.Pairs.{Pair, is_some_bytes}
 use Rattle.filter_model.specs.Filters.{Ended, Happening, Heard, Joined, State, Took, find_pair, owed_by, owed_of, step, wants_by}
 use Rattle.filter_model.specs.Lines.{first_servable, is_idle, is_next, is_servable, is_thing, same_side, same_thing}
 use Rattle.filter_model.specs.Answered.{Binding, Closing, Due, Free, after_accept, after_bind, after_close, after_poll, after_read, after_write, at, due_of, only_if}
-use Rattle.filter_model.specs.LegalPairs.{allowed, read_room}
+use Rattle.filter_model.specs.LegalPairs.{allowed}
+use Rattle.world_ports.specs.Worlds.{read_room}
 use Rattle.filter_model.proofs.WatchLemmas.{last-at, last-joined}
 
 -- ---- things

@@ -2,7 +2,7 @@
 ghost use Rattle.std.specs.Prelude.{◌≡◌, ◌≤◌, [], IfOk, length};
 ghost use Rattle.filter_model.specs.Answered.{Binding, at};
 ghost use Rattle.filter_model.specs.Answered.{Free};
-ghost use Rattle.filter_model.specs.LegalPairs.{read_room};
+ghost use Rattle.world_ports.specs.Worlds.{read_room};
 ghost use Rattle.filter_top.specs.Program.{Serves};
 ghost use Rattle.filter_top.specs.declared.status.FilterStatus.TheVariants as status;
 ghost use Rattle.world_ports.specs.Causes.{Rose};
@@ -14,16 +14,13 @@ use filter_core::Filter;
 use pair_ports::{PairReady, Pairs};
 use std::alloc::{AllocError, Global};
 use std::sync::Wait;
-use world_ports::WorldFault;
-
-/// The room of each read, in bytes.
-const ROOM: usize = 16_384;
+use world_ports::{READ_ROOM, WorldFault};
 
 // Room for reads.
 fn new_room(alloc: Global) -> Result<Vec<u8>, AllocError>
     ensures { IfOk result (λ room. length room.items ≡ read_room) }
 {
-    vec![in alloc; 0; ROOM]
+    vec![in alloc; 0; READ_ROOM]
 }
 
 // Turns until the loop ends.

@@ -3,7 +3,7 @@ ghost use Rattle.std.specs.Prelude.{◌≡◌, ◌≤◌, OnOk, Some, length, tr
 ghost use Rattle.filter_model.specs.Filters.{Fits, step};
 ghost use Rattle.filter_model.specs.declared.thing.Thing.TheVariants.{Accept, Read, Write};
 ghost use Rattle.filter_model.specs.Answered.{Free, after_event, at, due_of};
-ghost use Rattle.filter_model.specs.LegalPairs.{read_room};
+ghost use Rattle.world_ports.specs.Worlds.{read_room};
 ghost use Rattle.filter_model.specs.Lines.{first_servable, is_idle};
 ghost use Rattle.filter_core.specs.Happenings.{happening};
 ghost use Rattle.filter_top.specs.Moves.{Goes, Turns, served_by};

@@ -2,6 +2,8 @@
 use Rattle.std.specs.Prelude.{◌≡◌, ℕ, zero, suc, List, [], ◌∷◌, drop, length}
 use Rattle.frame_core.specs.declared.outcome.Look.{Look}
 use Rattle.frame_core.specs.declared.outcome.Look.TheVariants as answers
+use Rattle.frame_core.specs.declared.outcome.Front as cuts
+use Rattle.frame_core.specs.declared.outcome.Front.TheVariants as found
 use Rattle.wire_text.specs.Frames.{Front, Whole, Bad, More, front, front_body, after_front, Split, unsplit, then_split}
 
 -- the front that a look tells of
@@ -9,6 +11,19 @@ abbrev pub front_of : Look → Front
 front_of (answers.Whole body) = Whole body
 front_of (answers.Bad announced) = Bad announced
 front_of answers.More = More
+
+-- the front that is found, with its body's length
+abbrev pub front_at : cuts.Front → Front
+front_at (found.Whole body rest) = Whole (length body.now)
+front_at (found.Bad announced) = Bad announced
+front_at found.More = More
+
+-- the body that is found is that of the frame in front of these bytes, and the rest is what follows the frame
+abbrev pub IsCut : cuts.Front → List ℕ → Type 0
+IsCut (found.Whole body rest) bytes =
+    (body.now ≡ front_body (length body.now) bytes) × (rest.now ≡ after_front (length body.now) bytes)
+IsCut (found.Bad announced) bytes = Unit {0}
+IsCut found.More bytes = Unit {0}
 
 -- a look at these bytes tells of the whole frame of this body, behind which the rest stands
 pub record FindsBody (bytes : List ℕ) (answer : Look) (body rest : List ℕ) : Type 0 where

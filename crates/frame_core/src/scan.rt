@@ -7,6 +7,9 @@ ghost use Rattle.frame_core.specs.Looks.{front_of};
 
 use crate::outcome::Look;
 
+/// The longest body of a message to an agent, of its reply and of a message of a child process, in bytes (ours).
+pub const LONGEST_BODY: u32 = 262_144;
+
 /// Looks for a frame with a body of 1 to `max` bytes at the front of `bytes`.
 ///
 /// A bad length is answered from its four bytes, before any byte of the body is there. The bound is

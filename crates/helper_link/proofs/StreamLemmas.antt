@@ -2,8 +2,7 @@
 use Rattle.std.proofs.Common.{◌≡◌, ℕ, ◌+◌, ◌≤◌, List, [], ◌∷◌, ◌++◌, length, drop, Option, Some, None, sym, ap, ◌∙◌, arith}
 use Rattle.std.proofs.lemmas.List.{drop-drop, append-nil, length-drop}
 use Rattle.std.proofs.Math.Seq.{drop-length}
-use Rattle.wire_text.specs.Wire.{announced_len}
-use Rattle.wire_text.proofs.FrontLemmas.{front_says}
+use Rattle.wire_text.proofs.FrontLemmas.{whole_within}
 use Rattle.wire_text.specs.Bounds.{longest_body}
 use Rattle.wire_text.specs.Frames.{Whole, Bad, More, front, front_body, after_front}
 use Rattle.helper_link.specs.Settling.{Settles, Stops, Settling, verdict, settling, onto}
@@ -14,14 +13,6 @@ use Rattle.helper_link.specs.declared.ask.Ask.{Ask}
 use Rattle.helper_link.specs.declared.fault.LinkFault.{LinkFault}
 use Rattle.helper_link.specs.declared.fault.LinkFault.TheVariants.{BadFrame}
 use Rattle.helper_link.proofs.SettlingLemmas.{settles_one, stops_there, settling-bad, settling-more}
-
--- a frame that a look finds is there
-pub whole_is_there : (bytes : List ℕ) (body_len : ℕ) → Whole body_len ≡ front longest_body bytes → 4 + body_len ≤ length bytes
-whole_is_there bytes body_len found =
-    let is = front_says longest_body bytes (Whole body_len) (sym found) in
-    let follows : 4 + announced_len bytes ≤ length bytes = is.0.follows in
-    let same : body_len ≡ announced_len bytes = is.1 in
-    omega arith
 
 -- one frame more
 pub next_frame : (stream rest : List ℕ) (at next body_len : ℕ) (asks left : List Ask) (done pushed : List Settled) (one : Settled) (whole : Settling) →
@@ -84,10 +75,10 @@ no_frame stream rest at asks done whole there found before =
     (ap (λ (bytes : List ℕ). onto done (settling bytes asks)) there ∙ before)
 
 -- it ends within the stream
-pub whole_within : (stream rest : List ℕ) (at body_len : ℕ) → rest ≡ drop at stream → at ≤ length stream →
+pub frame_within : (stream rest : List ℕ) (at body_len : ℕ) → rest ≡ drop at stream → at ≤ length stream →
     Whole body_len ≡ front longest_body rest → at + (4 + body_len) ≤ length stream
-whole_within stream rest at body_len there within found =
-    let fits : 4 + body_len ≤ length rest = whole_is_there rest body_len found in
+frame_within stream rest at body_len there within found =
+    let fits : 4 + body_len ≤ length rest = whole_within longest_body rest body_len (sym found) in
     let long : length rest ≡ length (drop at stream) = ap (λ (bytes : List ℕ). length bytes) there in
     omega (arith, length-drop at stream)
 

@@ -1,4 +1,5 @@
 ghost use Rattle.std.specs.Prelude.{◌≡◌, ◌≢◌, ◌↔◌, ◌+◌, ◌-◌, ◌^◌, ◌<◌, ◌≤◌, IsTrue, IfOk, MatchResult, None, Some, OnOk, OnErr, length};
+ghost use Rattle.wire_text.specs.Bounds.{longest_to_child};
 ghost use Rattle.child_msg.specs.ChildFrames.{to_child_length};
 ghost use Rattle.child_msg.specs.Messages.{to_child_message};
 ghost use Rattle.helper_link.specs.HelperLink.{ArePutBy, ask_fault, begun, linked_to, lost, no_link, oldest, sendable, sent, sign_request, submitted, verify_request, IsLinked, IsRefusedWith, IsStarting};
@@ -103,7 +104,7 @@ impl Link {
         requires state { self.old.state ≢ LinkState.None }
         requires later { ArePutBy now self.old.asks }
         requires body { to_child_length (sign_request private.now blob.now message.now flags 0)
-            ≤ 1048576 }
+            ≤ longest_to_child }
         ensures ok { OnOk result (self.new ≡ submitted AskKind.Signing asker
             (sign_request private.now blob.now message.now flags) now self.old) }
         ensures value { IfOk result (λ number. number ≡ self.old.last + 1) }
@@ -138,7 +139,7 @@ impl Link {
         requires state { self.old.state ≢ LinkState.None }
         requires later { ArePutBy now self.old.asks }
         requires body { to_child_length (verify_request host_key.now signature.now session.now 0)
-            ≤ 1048576 }
+            ≤ longest_to_child }
         ensures ok { OnOk result (self.new ≡ submitted AskKind.Verifying asker
             (verify_request host_key.now signature.now session.now) now self.old) }
         ensures value { IfOk result (λ number. number ≡ self.old.last + 1) }
@@ -272,7 +273,7 @@ impl Link {
         requires later { ArePutBy now self.old.asks }
         requires few { length self.old.asks < 256 }
         requires last { self.old.last < 2 ^ 64 - 1 }
-        requires body { to_child_length (to_child_message request.now) ≤ 1048576 }
+        requires body { to_child_length (to_child_message request.now) ≤ longest_to_child }
         ensures ok { OnOk result (self.new
             ≡ submitted kind asker (λ _. to_child_message request.now) now self.old) }
         ensures unchanged { OnErr result (self.new ≡ self.old) }

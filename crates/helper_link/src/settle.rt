@@ -1,7 +1,6 @@
 //! The frames of the helper's stream, one after another.
 
-ghost use Rattle.std.specs.Prelude.{◌≡◌, ◌+◌, ◌≤◌, IfOk, IfErr, MatchOption, MatchResult, OnErr, drop, length, vec_len};
-ghost use Rattle.wire_text.specs.Frames.{front_body};
+ghost use Rattle.std.specs.Prelude.{◌≡◌, ◌≤◌, IfOk, IfErr, MatchOption, MatchResult, OnErr, drop, length, vec_len};
 ghost use Rattle.helper_link.specs.Settling.{Settles, Stops, answer_to, find_ask, number_of, settled_ask, settling, verdict};
 ghost use Rattle.std.specs.List.{position};
 ghost use Rattle.lists.specs.Firsts.{IsFirst};
@@ -14,12 +13,9 @@ use crate::ask::{Ask, AskKind};
 use crate::fault::LinkFault;
 use crate::stop::Stop;
 use child_msg::{FromChild, read_from_child};
-use frame_core::{Look, look};
+use frame_core::{Front, LONGEST_BODY, first};
 use plain_lists::Bytes;
 use std::alloc::{AllocError, Global};
-
-/// The longest body that a helper may send (ours).
-const MAX_BODY: u32 = 262144;
 
 /// What a stream settled.
 #[derive(Drop)]
@@ -44,18 +40,17 @@ pub fn settle_stream(
     let mut settled = Vec::new(alloc);
     let mut at = 0;
     'frames: loop {
-        let rest = behind(stream, at);
-        match look(rest, MAX_BODY) {
-            Look::Whole { body } => {
-                match settle_frame(alloc, body_of(rest, body as usize), asks) {
+        match first(behind(stream, at), LONGEST_BODY) {
+            Front::Whole { body, .. } => {
+                match settle_frame(alloc, body, asks) {
                     Ok(one) => settled.push(one)?,
                     Err(Stop::Fault(fault)) => return Ok(faulty(stream, settled, fault)),
                     Err(Stop::Memory) => return Err(AllocError),
                 }
-                at += 4 + body as usize;
+                at += 4 + body.len();
             }
-            Look::Bad { .. } => return Ok(faulty(stream, settled, LinkFault::BadFrame)),
-            Look::More => {
+            Front::Bad { .. } => return Ok(faulty(stream, settled, LinkFault::BadFrame)),
+            Front::More => {
                 return Ok(Settlement {
                     settled,
                     read: at,
@@ -72,14 +67,6 @@ fn behind(stream: &[u8], at: usize) -> &[u8]
     ensures { result.now ≡ drop at stream.now }
 {
     &stream[at..]
-}
-
-// The body of the frame at the front.
-fn body_of(bytes: &[u8], body_len: usize) -> &[u8]
-    requires { 4 + body_len ≤ length bytes.now }
-    ensures { result.now ≡ front_body body_len bytes.now }
-{
-    &bytes[4..4 + body_len]
 }
 
 // Nothing is read behind a faulty frame.

@@ -48,12 +48,15 @@ key_if key_of (Some one) = key_of one
 
 -- ---- the indices, as functions
 
+-- where the identity of this blob stands
 abbrev pub place_of_blob : Records → List ℕ → Option ℕ
 place_of_blob records blob = get_by (λ key. slice_cmp nat_cmp blob key.items) records.blobs
 
+-- where the identity of this addition's number stands
 abbrev pub place_of_number : Records → ℕ → Option ℕ
 place_of_number records number = get nat_cmp records.numbers number
 
+-- where the identity stands that dies then, by its second and its number
 abbrev pub place_of_death : Records → ℕ × ℕ → Option ℕ
 place_of_death records death = get death_cmp records.deaths death
 

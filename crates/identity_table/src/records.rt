@@ -9,11 +9,12 @@ ghost use Rattle.identity_table.specs.Identities.{HeldKey, IsSound, alive_at, an
 ghost use Rattle.identity_table.specs.Indices.{IsIndexed, IsChanged, death_by, death_cmp, death_key, held, held_at, place_of_blob, place_of_death, place_of_number};
 
 use crate::identity::Identity;
+use frame_core::LONGEST_BODY;
 use std::alloc::{AllocError, Global};
 use std::collections::BTreeMap;
 
 // The longest body of an answer: the protocol's clients take no longer one.
-const MAX_ANSWER: usize = 262144;
+const MAX_ANSWER: usize = LONGEST_BODY as usize;
 
 /// Identities at places that rise in order of first addition, found by blob, addition and death.
 ///

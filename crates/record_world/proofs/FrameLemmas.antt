@@ -1,6 +1,6 @@
 -- Whole frames of a client, one after another.
 use Rattle.std.proofs.Common.{◌≡◌, ℕ, ◌+◌, ◌≤◌, ◌<◌, Bool, true, false, List, [], ◌∷◌, ◌++◌, length, take, refl, sym, ap, subst, ◌∙◌, arith, append_assoc, append-nil}
-use Rattle.wire_text.proofs.FrontLemmas.{front_says, IsBody-front_body}
+use Rattle.wire_text.proofs.FrontLemmas.{front_says}
 use Rattle.wire_text.proofs.SplitLemmas.{length-after_front, split-bad, split-more, split-whole}
 use Rattle.wire_text.specs.Bounds.{longest_body}
 use Rattle.wire_text.specs.Frames.{Bad, Front, More, Split, Whole, after_front, front, front_body, split, then_split, unsplit}
@@ -9,16 +9,6 @@ use Rattle.redact_core.specs.Redaction.{Redacted, redacted, redacted_all}
 use Rattle.record_world.specs.Frames.{ends_badly, rest_bytes}
 use Rattle.record_world.specs.Recording.{Port, Taken, rest_taken, taken}
 use Rattle.world_ports.specs.declared.Door.TheVariants.{Clients}
-
--- the frame is within the bytes
-pub whole_within : (heard : List ℕ) (body_len : ℕ) → front longest_body heard ≡ Whole body_len → 4 + body_len ≤ length heard
-whole_within heard body_len whole =
-    let says = front_says longest_body heard (Whole body_len) whole in
-    omega (arith, says.0.follows, says.1)
-
--- its body isn't long
-pub body_within : (heard : List ℕ) (body_len : ℕ) → front longest_body heard ≡ Whole body_len → length (front_body body_len heard) ≤ longest_body
-body_within heard body_len whole = (IsBody-front_body longest_body heard body_len whole).within
 
 -- four bytes of a bad length are there
 pub bad_within : (heard : List ℕ) (announced : ℕ) → front longest_body heard ≡ Bad announced → 4 ≤ length heard

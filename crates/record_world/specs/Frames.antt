@@ -2,6 +2,7 @@
 use Rattle.std.specs.Prelude.{Bool, true, false, List, [], ℕ, take}
 use Rattle.wire_text.specs.Frames.{Front, Whole, Bad, More}
 
+-- a bad length stands there
 abbrev pub ends_badly : Front → Bool
 ends_badly (Bad announced) = true
 ends_badly (Whole body_len) = false

@@ -15,6 +15,7 @@ pub record Taped : Type 0 where
   pub is_short : Bool
   pub recording : Recording
 
+-- the writing side with these parts
 abbrev pub taped : StreamView → Bool → Bool → Recording → Taped
 taped sink is_broken is_short recording =
     record { sink = sink; is_broken = is_broken; is_short = is_short; recording = recording }

@@ -33,6 +33,7 @@ pub record Port : Type 0 where
   pub is_held : Bool
   pub is_bad : Bool
 
+-- the number by which a port is found
 abbrev pub number_of : Port → ℕ
 number_of port = port.number
 
@@ -44,9 +45,11 @@ pub record Recording : Type 0 where
   pub passphrases : List (List ℕ)
   pub due : List ℕ
 
+-- nothing was recorded yet
 abbrev pub first_recording : Recording
 first_recording = record { is_bound = false; ports = []; passphrases = []; due = [] }
 
+-- the port of this number
 abbrev pub find_port : ℕ → List Port → Option Port
 find_port number ports = find_by number_of number ports
 
@@ -55,6 +58,7 @@ pub record Left : Type 0 where
   pub kept : Recording
   pub steps : List Step
 
+-- the text of these steps, a line each
 abbrev pub lines : List Step → List ℕ
 lines steps = flat_map step_line steps
 
@@ -75,6 +79,7 @@ pieces_up_to (suc count) [] = []
 pieces_up_to (suc count) (byte ∷ bytes) =
     take longest_piece (byte ∷ bytes) ∷ pieces_up_to count (drop longest_piece (byte ∷ bytes))
 
+-- the bytes in pieces of at most one line's length
 abbrev pub pieces : List ℕ → List (List ℕ)
 pieces bytes = pieces_up_to (length bytes) bytes
 
@@ -93,6 +98,7 @@ abbrev pub hold_text : Bool → ℕ → List ℕ
 hold_text true port = []
 hold_text false port = step_line (steps.Hold port)
 
+-- there are bytes
 abbrev pub is_some : List ℕ → Bool
 is_some [] = false
 is_some (byte ∷ bytes) = true
@@ -115,6 +121,7 @@ rest_taken (Whole body_len) port frames rest =
 rest_taken More port frames rest =
     record { port = record port { unrecorded = rest }; passphrases = frames.passphrases; bytes = frames.body }
 
+-- what leaves a client's port where its bytes have this split into frames and a rest
 abbrev pub split_taken : Split → Port → List (List ℕ) → Taken
 split_taken cut port passphrases =
     rest_taken (front longest_body cut.rest) port (redacted_all cut.bodies passphrases) cut.rest
@@ -129,6 +136,7 @@ abbrev pub taken_by : Door → Port → List ℕ → List (List ℕ) → Taken
 taken_by Clients port piece passphrases = client_taken port.is_bad port piece passphrases
 taken_by Children port piece passphrases = record { port = port; passphrases = passphrases; bytes = piece }
 
+-- what a piece that came to a port makes leave it
 abbrev pub taken : Port → List ℕ → List (List ℕ) → Taken
 taken port piece passphrases = taken_by port.door port piece passphrases
 
@@ -136,9 +144,11 @@ taken port piece passphrases = taken_by port.door port piece passphrases
 abbrev pub held : List ℕ → Port → Port
 held bytes port = record port { is_held = port.is_held || is_some bytes }
 
+-- the steps that tell what left a port
 abbrev pub hear_lines : Taken → List Step
 hear_lines taken = hold_steps taken.port.is_held taken.port.number taken.bytes
 
+-- the recording after bytes left a port, with the steps that tell them
 abbrev pub told : Taken → Recording → Left
 told taken recording = record {
   kept = record recording {
@@ -148,26 +158,31 @@ told taken recording = record {
   steps = hear_lines taken;
 }
 
+-- the recording after a piece came to this port; a port that isn't kept tells nothing
 abbrev pub heard : Option Port → List ℕ → Recording → Left
 heard None piece recording = only [] recording
 heard (Some port) piece recording = told (taken port piece recording.passphrases) recording
 
 -- ---- what an entry leaves
 
+-- a port of this number at this door, of which nothing came
 abbrev pub new_port : ℕ → Door → Port
 new_port number door = record { number = number; door = door; unrecorded = []; is_held = false; is_bad = false }
 
+-- a connection was accepted as the port of this number
 abbrev pub joined : ℕ → Door → Recording → Left
 joined number door recording = record {
   kept = record recording { ports = recording.ports ++ new_port number door ∷ [] };
   steps = steps.Join door ∷ [];
 }
 
+-- what an accept at this door leaves
 abbrev pub at_accept : Door → Result Accepted WorldFault → Recording → Left
 at_accept door (Ok (accepted.Port number)) recording = joined number door recording
 at_accept door (Ok accepted.NotNow) recording = only [] recording
 at_accept door (Err fault) recording = only [] recording
 
+-- what a read of this port leaves; a failed one is the port's end
 abbrev pub at_read : ℕ → List ℕ → Result Got WorldFault → Recording → Left
 at_read port bytes (Ok (got.Bytes count)) recording = heard (find_port port recording.ports) bytes recording
 at_read port bytes (Ok got.End) recording = only (steps.End port ∷ []) recording
@@ -175,6 +190,7 @@ at_read port bytes (Ok got.NotNow) recording = only [] recording
 at_read port bytes (Err Failed) recording = only (steps.End port ∷ []) recording
 at_read port bytes (Err Memory) recording = only [] recording
 
+-- what a write to this port leaves; a failed one is the port's end
 abbrev pub at_write : ℕ → Result Wrote WorldFault → Recording → Left
 at_write port (Ok (wrote.Took count)) recording = only (steps.Take port count ∷ []) recording
 at_write port (Ok wrote.NotNow) recording = only [] recording
@@ -185,11 +201,13 @@ at_write port (Err Memory) recording = only [] recording
 abbrev pub at_close : ℕ → Recording → Left
 at_close port recording = only [] (record recording { ports = remove_by number_of port recording.ports })
 
+-- what the start of this job leaves
 abbrev pub at_start : ℕ → Result (List ℕ) WorldFault → Recording → Left
 at_start job (Ok ticket) recording = only (steps.Started job ticket ∷ []) recording
 at_start job (Err Failed) recording = only (steps.Failed job ∷ []) recording
 at_start job (Err Memory) recording = only [] recording
 
+-- what a call on the world leaves, by its entry of the journal
 abbrev pub left : Entry → Recording → Left
 left (entry.Bind door path answer) recording = only [] (record recording { is_bound = true })
 left (entry.Poll wait items answer) recording = only [] recording
@@ -204,15 +222,18 @@ left (entry.Now answer) recording = only [] recording
 abbrev pub with_due : Left → Recording
 with_due left = record left.kept { due = lines left.steps }
 
+-- what is kept after an entry, its lines waiting for a moment
 abbrev pub after : Entry → Recording → Recording
 after one recording = with_due (left one recording)
 
 -- ---- what is written
 
+-- the first bind writes the line of the format
 abbrev pub bind_text : Bool → List ℕ
 bind_text true = []
 bind_text false = codes "schedule 2\n"
 
+-- a moment writes its line, and behind it those that waited for it
 abbrev pub now_text : {E : Type 0} → Result Moment E → List ℕ → List ℕ
 now_text (Ok moment) due = step_line (steps.At moment) ++ due
 now_text (Err want) due = []
@@ -233,6 +254,7 @@ abbrev pub record_from : Recording → List Entry → List ℕ
 record_from recording [] = []
 record_from recording (one ∷ later) = text_of one recording ++ record_from (after one recording) later
 
+-- what is kept after these entries
 abbrev pub recording_after : Recording → List Entry → Recording
 recording_after recording [] = recording
 recording_after recording (one ∷ later) = recording_after (after one recording) later

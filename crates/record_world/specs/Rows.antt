@@ -30,10 +30,12 @@ journal reads =
 abbrev pub lock : List ℕ
 lock = 0 ∷ 0 ∷ 0 ∷ 7 ∷ 22 ∷ 0 ∷ 0 ∷ 0 ∷ 2 ∷ 112 ∷ 119 ∷ []
 
+-- a key of tag 17 with this byte as its secret, and a comment
 abbrev pub added : ℕ → List ℕ
 added secret = 0 ∷ 0 ∷ 0 ∷ 24 ∷ (codes "keyed-sha256@example.com" ++ 0 ∷ 0 ∷ 0 ∷ 32 ∷ (replicate 32 17
     ++ 0 ∷ 0 ∷ 0 ∷ 32 ∷ (replicate 32 secret ++ 0 ∷ 0 ∷ 0 ∷ 3 ∷ codes "one")))
 
+-- SSH_AGENTC_ADD_IDENTITY of that key
 abbrev pub add : List ℕ
 add = 0 ∷ 0 ∷ 0 ∷ 108 ∷ 17 ∷ added 33
 
@@ -41,6 +43,7 @@ add = 0 ∷ 0 ∷ 0 ∷ 108 ∷ 17 ∷ added 33
 abbrev pub lock_record : List ℕ
 lock_record = record_of (journal (read_of 11 lock))
 
+-- the record of that addition in two pieces
 abbrev pub add_record : List ℕ
 add_record = record_of (journal (read_of 10 (take 10 add) ++ read_of 102 (drop 10 add)))
 
@@ -48,6 +51,7 @@ add_record = record_of (journal (read_of 10 (take 10 add) ++ read_of 102 (drop 1
 abbrev pub lock_text : List ℕ
 lock_text = codes "schedule 2\nat 0 0\nat 5 9\njoin client\nat 5 9\nhold 1\nhear 1 00000006160000000131\nat 5 9\ntake 1 5\n"
 
+-- its text: the secret's bytes are zeros
 abbrev pub add_text : List ℕ
 add_text = codes "schedule 2\nat 0 0\nat 5 9\njoin client\nat 5 9\nat 5 9\nhold 1\nhear 1 0000006c11000000186b657965642d736861323536406578616d706c652e636f6d000000201111111111111111111111111111111111111111111111111111111111111111000000200000000000000000000000000000000000000000000000000000000000000000000000036f6e65\nat 5 9\ntake 1 5\n"
 
@@ -55,6 +59,7 @@ add_text = codes "schedule 2\nat 0 0\nat 5 9\njoin client\nat 5 9\nat 5 9\nhold 
 abbrev pub bad_record : List ℕ
 bad_record = record_of (journal (read_of 6 (0 ∷ 0 ∷ 0 ∷ 0 ∷ 9 ∷ 9 ∷ []) ++ read_of 11 lock))
 
+-- its text: four bytes of the bad length, and nothing behind it
 abbrev pub bad_text : List ℕ
 bad_text = codes "schedule 2\nat 0 0\nat 5 9\njoin client\nat 5 9\nhold 1\nhear 1 00000000\nat 5 9\nat 5 9\ntake 1 5\n"
 
@@ -65,5 +70,6 @@ child_record = record_of (entry.Bind Clients (codes "s") (Ok tt) ∷ entry.Accep
     ∷ entry.Write 1 (0 ∷ []) (Err Failed) ∷ now_at 1 2 ∷ entry.Close 1 (Ok tt)
     ∷ entry.Start (record { number = 3; kind = Helper }) (Err Failed) ∷ now_at 2 2 ∷ [])
 
+-- its text
 abbrev pub child_text : List ℕ
 child_text = codes "schedule 2\nat 1 2\njoin child\nat 1 2\nhold 1\nhear 1 07\nat 1 2\nhear 1 08\nat 1 2\nend 1\nat 2 2\nfailed 3\n"

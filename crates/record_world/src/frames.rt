@@ -6,13 +6,10 @@ ghost use Rattle.wire_text.specs.Wire.{string};
 ghost use Rattle.redact_core.specs.Redaction.{redacted, redacted_all};
 ghost use Rattle.record_world.specs.Frames.{ends_badly, rest_bytes};
 
-use frame_core::{Look, look};
+use frame_core::{LONGEST_BODY, Look, front_body, look};
 use redact_core::{Passphrases, redact_body};
 use secret_buf::ScrubBuf;
 use std::alloc::AllocError;
-
-/// The longest body of a message, in bytes.
-const LONGEST_BODY: u32 = 262_144;
 
 /// The storage of longer bodies isn't kept for the next one, in bytes.
 const LONG: usize = 4096;
@@ -48,7 +45,7 @@ pub fn take_frames(
 }
 
 // Takes out the frame in front, and with the last byte the storage that a long one took.
-#[tactic(auto, using(crate::proofs::FrameLemmas::whole_within, crate::proofs::FrameLemmas::body_within))]
+#[tactic(auto, using(wire_text::proofs::FrontLemmas::whole_within, wire_text::proofs::FrontLemmas::body_within))]
 fn take_frame(
     unrecorded: &mut ScrubBuf,
     body_len: u32,
@@ -63,7 +60,11 @@ fn take_frame(
         ++ string (redacted (front_body body_len unrecorded.old.live) passphrases.old).body) }
 {
     let size = 4 + body_len as usize;
-    redact_body(&unrecorded.live()[4..size], passphrases, leaving)?;
+    redact_body(
+        front_body(unrecorded.live(), body_len),
+        passphrases,
+        leaving,
+    )?;
     unrecorded.consume(size);
     if size > LONG && unrecorded.live().is_empty() {
         unrecorded.wipe();

@@ -5,7 +5,8 @@ use Rattle.std.proofs.KnownBytes.{Appends-nil}
 use Rattle.std.specs.Io.KnownBytes.{Appends, Consumes}
 use Rattle.child_peer.specs.Talk.{HasRead, IsFront}
 use Rattle.child_peer.specs.Words.{ChildWords, words_of}
-use Rattle.child_peer.proofs.FrameLemmas.{body-append}
+use Rattle.wire_text.specs.Bounds.{longest_to_child}
+use Rattle.wire_text.proofs.SplitLemmas.{front_body-append}
 use Rattle.child_peer.proofs.TalkLemmas.{holds_of, holds_at_end, Appends-same, HasRead-nil, HasRead-same}
 use Rattle.relay_core.specs.Claims.{Answers, Ends, EndsBeforeRun, EndsUnasked, Relaying, Seen}
 use Rattle.relay_core.specs.Prompts.{prompt_of}
@@ -34,7 +35,7 @@ begins_with words program More stream answer = record { more = []; is = append-n
 begins : (words : ChildWords) (program : List ℕ) (whole : Relaying) → IsRelay words program whole → (stream : List ℕ) (answer : RunAnswer) → IsFront (hello_frame words) (whole stream answer).sent
 unfolding heard_of
 begins words program whole is stream answer =
-    subst (λ (t : Transcript). IsFront (hello_frame words) t.sent) (sym (is stream answer)) (begins_with words program (front 1048576 stream) stream answer)
+    subst (λ (t : Transcript). IsFront (hello_frame words) t.sent) (sym (is stream answer)) (begins_with words program (front longest_to_child stream) stream answer)
 
 -- ---- HELLO
 
@@ -116,20 +117,20 @@ unasked status words program whole spawner start mid new heard is wrote writes s
   spawner = refl;
 }
 
-heard-bad : (words : ChildWords) (program heard more : List ℕ) (announced : ℕ) (answer : RunAnswer) → front 1048576 heard ≡ Bad announced
+heard-bad : (words : ChildWords) (program heard more : List ℕ) (announced : ℕ) (answer : RunAnswer) → front longest_to_child heard ≡ Bad announced
     → heard_of words program (heard ++ more) answer ≡ only_greeted words BadFrame
 unfolding heard_of
 heard-bad words program heard more announced answer found =
-    ap (λ (f : Front). heard_from words program f (heard ++ more) answer) (front-append_bad 1048576 heard more announced found)
+    ap (λ (f : Front). heard_from words program f (heard ++ more) answer) (front-append_bad longest_to_child heard more announced found)
 
-heard-whole : (words : ChildWords) (program heard more : List ℕ) (body_len : ℕ) (answer : RunAnswer) → front 1048576 heard ≡ Whole body_len
+heard-whole : (words : ChildWords) (program heard more : List ℕ) (body_len : ℕ) (answer : RunAnswer) → front longest_to_child heard ≡ Whole body_len
     → heard_of words program (heard ++ more) answer ≡ asked_with words program (prompt_of words.job (front_body body_len heard)) answer
 unfolding heard_of
 heard-whole words program heard more body_len answer found =
-    ap (λ (f : Front). heard_from words program f (heard ++ more) answer) (front-append_whole 1048576 heard more body_len found)
-    ∙ ap (λ (b : List ℕ). asked_with words program (prompt_of words.job b) answer) (body-append 1048576 heard more body_len found)
+    ap (λ (f : Front). heard_from words program f (heard ++ more) answer) (front-append_whole longest_to_child heard more body_len found)
+    ∙ ap (λ (b : List ℕ). asked_with words program (prompt_of words.job b) answer) (front_body-append longest_to_child heard more body_len found)
 
-heard-more : (words : ChildWords) (program heard : List ℕ) (answer : RunAnswer) → front 1048576 heard ≡ More → heard_of words program heard answer ≡ only_greeted words TornEnd
+heard-more : (words : ChildWords) (program heard : List ℕ) (answer : RunAnswer) → front longest_to_child heard ≡ More → heard_of words program heard answer ≡ only_greeted words TornEnd
 unfolding heard_of
 heard-more words program heard answer found = ap (λ (f : Front). heard_from words program f heard answer) found
 

@@ -7,6 +7,7 @@ use Rattle.relay_core.specs.Claims.{HasRun, Relaying}
 use Rattle.relay_core.specs.Transcript.{Asking, RunAnswer, heard_of, hello_frame, is_granted, verdict_frame}
 use Rattle.relay_core.specs.declared.status.RelayStatus.{RelayStatus}
 use Rattle.relay_core.specs.declared.status.RelayStatus.TheVariants.{Done, BadFrame, Usage, Memory, ReadFault, WriteFault, TornEnd}
+use Rattle.wire_text.specs.Bounds.{longest_to_child}
 use Rattle.wire_text.specs.Frames.{Front, Whole, Bad, More, front}
 use Rattle.world_ports.specs.Causes.{Rose}
 use Rattle.world_ports.specs.Runs.{SpawnerView, is_short_run}
@@ -15,7 +16,7 @@ use Rattle.world_ports.specs.Streams.{StreamView}
 -- the heard bytes are those that were read, and this stands in front of them
 pub record HearsFront (found : Front) (heard : List ℕ) (old new : StreamView) : Type 0 where
   pub read : HasRead old new heard
-  pub is : front 1048576 heard ≡ found
+  pub is : front longest_to_child heard ≡ found
   pub reads : new.read_faults ≡ old.read_faults
 
 -- a bad length stands there

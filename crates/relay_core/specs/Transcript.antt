@@ -8,6 +8,7 @@ use Rattle.relay_core.specs.Prompts.{prompt_of}
 use Rattle.relay_core.specs.Verdicts.{verdict_of}
 use Rattle.relay_core.specs.declared.status.RelayStatus.{RelayStatus}
 use Rattle.relay_core.specs.declared.status.RelayStatus.TheVariants.{Done, BadFrame, Usage, TornEnd}
+use Rattle.wire_text.specs.Bounds.{longest_to_child}
 use Rattle.wire_text.specs.Frames.{Front, Whole, Bad, More, front, front_body}
 use Rattle.wire_text.specs.Wire.{string}
 use Rattle.world_ports.specs.declared.spawner.Ran.{Ran}
@@ -67,7 +68,7 @@ heard_from words program More stream answer = only_greeted words TornEnd
 
 -- the transcript of a relay with these words, over the agent's stream and how the run ended
 unfoldable pub heard_of : ChildWords → List ℕ → List ℕ → RunAnswer → Transcript
-heard_of words program stream answer = heard_from words program (front 1048576 stream) stream answer
+heard_of words program stream answer = heard_from words program (front longest_to_child stream) stream answer
 
 -- the transcript of words that aren't a relay's: nothing is sent
 abbrev pub refused : Transcript

@@ -12,7 +12,8 @@ use crate::hearing::hear_frame;
 use crate::prompt::read_prompt;
 use crate::status::RelayStatus;
 use child_msg::FromChild;
-use child_peer::{SayFault, Words, body_of, read_words, say};
+use child_peer::{SayFault, Words, read_words, say};
+use frame_core::front_body;
 use secret_buf::ScrubBuf;
 use std::alloc::Global;
 use world_ports::{Sink, Source, Spawner};
@@ -67,7 +68,7 @@ fn relay<S: Spawner, P: Source + Sink>(
         Ok(body_len) => body_len,
         Err(status) => return status,
     };
-    let Some(prompt) = read_prompt(words.job, body_of(heard.live(), body_len)) else {
+    let Some(prompt) = read_prompt(words.job, front_body(heard.live(), body_len)) else {
         return RelayStatus::BadFrame;
     };
     ask(alloc, words, program, prompt, spawner, peer)

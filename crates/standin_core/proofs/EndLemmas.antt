@@ -16,6 +16,7 @@ use Rattle.standin_core.specs.Transcript.{Transcript, after, ended, served, torn
 use Rattle.standin_core.specs.declared.status.HelperStatus.{HelperStatus}
 use Rattle.standin_core.specs.declared.status.HelperStatus.TheVariants.{BadFrame, Done, TornEnd, Memory, ReadFault, WriteFault}
 use Rattle.standin_core.proofs.ServeLemmas.{after-after, after-ended, served-bad, served-more, served-no_request, served-request}
+use Rattle.wire_text.specs.Bounds.{longest_to_child}
 use Rattle.wire_text.specs.Frames.{Whole, Bad, More, front, front_body}
 use Rattle.wire_text.specs.Wire.{string}
 use Rattle.world_ports.specs.Causes.{Rose}
@@ -38,13 +39,13 @@ ends_now hosts whole start now heard status under is = record {
 }
 
 pub ends_bad_length : (hosts : List Host) (whole : List ℕ → Transcript) (start now : StreamView) (heard : List ℕ) (announced : ℕ) → IsUnderWay hosts whole start now heard
-    → front 1048576 heard ≡ Bad announced → Ends BadFrame whole start now
+    → front longest_to_child heard ≡ Bad announced → Ends BadFrame whole start now
 unfolding Ends
 ends_bad_length hosts whole start now heard announced under found =
     ends_now hosts whole start now heard BadFrame under (λ more. served-bad hosts heard more announced found)
 
 pub ends_bad_body : (hosts : List Host) (whole : List ℕ → Transcript) (start now : StreamView) (heard : List ℕ) (body_len : ℕ) → IsUnderWay hosts whole start now heard
-    → front 1048576 heard ≡ Whole body_len → answer_of hosts (front_body body_len heard) ≡ None → Ends BadFrame whole start now
+    → front longest_to_child heard ≡ Whole body_len → answer_of hosts (front_body body_len heard) ≡ None → Ends BadFrame whole start now
 unfolding Ends
 ends_bad_body hosts whole start now heard body_len under found none =
     ends_now hosts whole start now heard BadFrame under (λ more. served-no_request hosts heard more body_len found none)
@@ -57,7 +58,7 @@ goes_nil hosts whole start now heard under =
 
 -- nothing follows
 ends_at_end : (hosts : List Host) (whole : List ℕ → Transcript) (start now new : StreamView) (heard after_heard : List ℕ) → IsUnderWay hosts whole start now heard
-    → front 1048576 heard ≡ More → HearsNothing heard after_heard now new → IsAtEnd new.left → new.read_faults ≡ now.read_faults → OnlyReads now new
+    → front longest_to_child heard ≡ More → HearsNothing heard after_heard now new → IsAtEnd new.left → new.read_faults ≡ now.read_faults → OnlyReads now new
     → EndsAs (torn_or_done heard) whole start new
 ends_at_end hosts whole start now new heard after_heard under found nothing end same only = record {
   bytes = under.bytes;
@@ -72,7 +73,7 @@ ends_at_end hosts whole start now new heard after_heard under found nothing end 
 
 -- between two frames
 pub ends_done : (hosts : List Host) (whole : List ℕ → Transcript) (start now new : StreamView) (heard after_heard : List ℕ) → IsUnderWay hosts whole start now heard
-    → front 1048576 heard ≡ More → HearsNothing heard after_heard now new → IsAtEnd new.left → new.read_faults ≡ now.read_faults → OnlyReads now new
+    → front longest_to_child heard ≡ More → HearsNothing heard after_heard now new → IsAtEnd new.left → new.read_faults ≡ now.read_faults → OnlyReads now new
     → after_heard ≡ [] → Ends Done whole start new
 unfolding Ends
 ends_done hosts whole start now new heard after_heard under found nothing end same only empty =
@@ -85,7 +86,7 @@ torn (byte ∷ bytes) some = refl
 
 -- within a frame
 pub ends_torn : (hosts : List Host) (whole : List ℕ → Transcript) (start now new : StreamView) (heard after_heard : List ℕ) → IsUnderWay hosts whole start now heard
-    → front 1048576 heard ≡ More → HearsNothing heard after_heard now new → IsAtEnd new.left → new.read_faults ≡ now.read_faults → OnlyReads now new
+    → front longest_to_child heard ≡ More → HearsNothing heard after_heard now new → IsAtEnd new.left → new.read_faults ≡ now.read_faults → OnlyReads now new
     → (after_heard ≡ [] → ⊥) → Ends TornEnd whole start new
 unfolding Ends
 ends_torn hosts whole start now new heard after_heard under found nothing end same only some =
@@ -126,7 +127,7 @@ under_way-kept hosts whole start now new heard after_heard under nothing same on
 
 -- a read failed
 pub ends_unread : (hosts : List Host) (whole : List ℕ → Transcript) (start now new : StreamView) (heard after_heard : List ℕ) → IsUnderWay hosts whole start now heard
-    → front 1048576 heard ≡ More → HearsNothing heard after_heard now new → Rose now.read_faults new.read_faults → OnlyReads now new → Ends ReadFault whole start new
+    → front longest_to_child heard ≡ More → HearsNothing heard after_heard now new → Rose now.read_faults new.read_faults → OnlyReads now new → Ends ReadFault whole start new
 unfolding Ends
 ends_unread hosts whole start now new heard after_heard under found nothing rose only =
     let all : under.sent ≡ (whole under.bytes).sent =
@@ -160,7 +161,7 @@ under_way-piece hosts whole start now new heard after_heard under piece only = r
 
 -- a request was answered
 pub under_way-answered : (hosts : List Host) (whole : List ℕ → Transcript) (start now new : StreamView) (heard : List ℕ) (body_len : ℕ) (answer : FromChildMessage) (frame : List ℕ)
-    → IsUnderWay hosts whole start now heard → front 1048576 heard ≡ Whole body_len → answer_of hosts (front_body body_len heard) ≡ Some answer
+    → IsUnderWay hosts whole start now heard → front longest_to_child heard ≡ Whole body_len → answer_of hosts (front_body body_len heard) ≡ Some answer
     → frame ≡ string (from_child_body answer) → Appends now.written new.written frame → new.write_faults ≡ now.write_faults → OnlyWrites now new
     → IsUnderWay hosts whole start new (drop (4 + body_len) heard)
 under_way-answered hosts whole start now new heard body_len answer frame under found is framed wrote same only = record {
@@ -178,7 +179,7 @@ under_way-answered hosts whole start now new heard body_len answer frame under f
 
 -- a write failed
 pub ends_unwritten : (hosts : List Host) (whole : List ℕ → Transcript) (start now new : StreamView) (heard : List ℕ) (body_len : ℕ) (answer : FromChildMessage) (frame : List ℕ)
-    → IsUnderWay hosts whole start now heard → front 1048576 heard ≡ Whole body_len → answer_of hosts (front_body body_len heard) ≡ Some answer
+    → IsUnderWay hosts whole start now heard → front longest_to_child heard ≡ Whole body_len → answer_of hosts (front_body body_len heard) ≡ Some answer
     → frame ≡ string (from_child_body answer) → WritesPart frame now new → Rose now.write_faults new.write_faults → OnlyWrites now new
     → Ends WriteFault whole start new
 unfolding Ends

@@ -8,6 +8,7 @@ use Rattle.standin_core.specs.Answers.{answer_of}
 use Rattle.standin_core.specs.Hosts.{Host, hosts_of}
 use Rattle.standin_core.specs.declared.status.HelperStatus.{HelperStatus}
 use Rattle.standin_core.specs.declared.status.HelperStatus.TheVariants.{Done, BadFrame, Usage, FileFault, BadFile, TornEnd}
+use Rattle.wire_text.specs.Bounds.{longest_to_child}
 use Rattle.wire_text.specs.Frames.{Front, Whole, Bad, More, Split, front, frames, split}
 use Rattle.wire_text.specs.Wire.{string}
 
@@ -56,12 +57,12 @@ status_at More rest = torn_or_done rest
 abbrev pub served_split : List Host → Split → Transcript
 served_split hosts parts = record {
   sent = frames (map from_child_body (answers_to hosts parts.bodies));
-  status = if are_requests hosts parts.bodies then status_at (front 1048576 parts.rest) parts.rest else BadFrame;
+  status = if are_requests hosts parts.bodies then status_at (front longest_to_child parts.rest) parts.rest else BadFrame;
 }
 
 -- what is sent for a stream of frames of at most 1048576 bytes of body, and the end
 unfoldable pub served : List Host → List ℕ → Transcript
-served hosts stream = served_split hosts (split 1048576 stream)
+served hosts stream = served_split hosts (split longest_to_child stream)
 
 -- ---- the words and the data file
 

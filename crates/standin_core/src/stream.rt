@@ -4,30 +4,29 @@ ghost use Rattle.standin_core.specs.Claims.{Ends};
 ghost use Rattle.standin_core.specs.Hosts.{Host, ArePairs};
 ghost use Rattle.standin_core.specs.Serving.{IsUnderWay};
 ghost use Rattle.standin_core.specs.Transcript.{Transcript};
+ghost use Rattle.wire_text.specs.Bounds.{longest_to_child};
 ghost use Rattle.wire_text.specs.Frames.{Whole, More, front};
 ghost use Rattle.world_ports.specs.Streams.{StreamView};
 
 use crate::answer::put_answer;
 use crate::status::HelperStatus;
-use child_peer::{HearFault, Room, body_of, flush};
-use frame_core::{Look, look};
+use child_msg::LONGEST_TO_CHILD;
+use child_peer::{HearFault, Room, flush};
+use frame_core::{Look, front_body, look};
 use secret_buf::ScrubBuf;
 use std::alloc::Global;
 use std::sync::Wait;
 use world_ports::{Pulled, Sink, Source};
 
-/// The longest body that the agent may send (ours).
-const MAX_BODY: u32 = 1048576;
-
 // Answers the frame in front, whose bytes are wiped before the answer is sent.
 fn answer_front<P: Sink>(
     pairs: &[u8],
-    body_len: usize,
+    body_len: u32,
     heard: &mut ScrubBuf,
     out: &mut ScrubBuf,
     peer: &mut P,
 ) -> Option<HelperStatus>
-    requires found { front 1048576 heard.old.live ≡ Whole body_len }
+    requires found { front longest_to_child heard.old.live ≡ Whole body_len }
     requires empty { out.old.live ≡ [] }
     ensures empty { IfNone result (out.new.live ≡ []) }
     ensures talk { (hosts : List Host) (whole : List ℕ → Transcript) (start : StreamView)
@@ -36,13 +35,13 @@ fn answer_front<P: Sink>(
         (IsUnderWay hosts whole start (P.seen peer.new) heard.new.live)
         (λ status. Ends status whole start (P.seen peer.new)) }
 {
-    let Ok(is_request) = put_answer(pairs, body_of(heard.live(), body_len), out) else {
+    let Ok(is_request) = put_answer(pairs, front_body(heard.live(), body_len), out) else {
         return Some(HelperStatus::Memory);
     };
     if !is_request {
         return Some(HelperStatus::BadFrame);
     }
-    heard.consume(4 + body_len);
+    heard.consume(4 + body_len as usize);
     match flush(out, peer) {
         Ok(()) => None,
         Err(_) => Some(HelperStatus::WriteFault),
@@ -51,7 +50,7 @@ fn answer_front<P: Sink>(
 
 // Reads once, where no whole frame is in front.
 fn hear_more<P: Source>(room: &mut Room, heard: &mut ScrubBuf, peer: &mut P) -> Option<HelperStatus>
-    requires { front 1048576 heard.old.live ≡ More }
+    requires { front longest_to_child heard.old.live ≡ More }
     ensures { (hosts : List Host) (whole : List ℕ → Transcript) (start : StreamView)
         → IsUnderWay hosts whole start (P.seen peer.old) heard.old.live
         → MatchOption result
@@ -83,8 +82,8 @@ fn serve_once<P: Source + Sink>(
         (IsUnderWay hosts whole start (P.seen peer.new) heard.new.live)
         (λ status. Ends status whole start (P.seen peer.new)) }
 {
-    match look(heard.live(), MAX_BODY) {
-        Look::Whole { body } => answer_front(pairs, body as usize, heard, out, peer),
+    match look(heard.live(), LONGEST_TO_CHILD) {
+        Look::Whole { body } => answer_front(pairs, body, heard, out, peer),
         Look::Bad { .. } => Some(HelperStatus::BadFrame),
         Look::More => hear_more(room, heard, peer),
     }

@@ -1,10 +1,11 @@
-//! A helper that signs with stand-in keys, for tests: `standin_helper SOCKET JOB TICKET [DATA]` connects
-//! to the agent, and answers its requests. A TICKET of `-` stands in the environment. `helper_main` of standin_core is the program; here are its
-//! words, its files, its connection, and what it says on standard error.
+//! A helper that signs with stand-in keys, for tests: `standin_helper SOCKET JOB TICKET [DATA]` answers the
+//! agent's requests. A SOCKET of `-` is its standard input, and a TICKET of `-` stands in the environment.
+//! `helper_main` of standin_core is the program; here are its words, its files, its connection, and what it
+//! says on standard error.
 #![tactic(auto)]
 
 use child_peer::NoPeer;
-use real_edge::{RealFiles, connect, put_ticket};
+use real_edge::{RealFiles, connect_child, put_ticket};
 use standin_core::{HelperStatus, helper_main};
 use std::env;
 use std::io::{ErrorKind, Result as IoResult};
@@ -18,7 +19,7 @@ fn run<W: Wait>(rt: &HostRuntime, wait: &W) -> IoResult<HelperStatus> {
     put_ticket(rt, words.as_mut_slice())?;
     let mut files = RealFiles::new(rt);
     if let Some(path) = words.first() {
-        if let Ok(mut peer) = connect(rt, path.as_str()) {
+        if let Ok((mut peer, _)) = connect_child(rt, &rt.stdin(), path.as_str()) {
             return Ok(helper_main(wait, alloc, &words, &mut files, &mut peer));
         }
     }

@@ -10,14 +10,12 @@ ghost use Rattle.wire_text.specs.Bounds.{longest_body};
 ghost use Rattle.under_way.specs.Parts.{IsShortIn, TellsOfUser, confirmer_told};
 
 use crate::jobs::forget;
-use crate::state::{JobMemory, UnderWay};
-use confirm_desk::{Held, Verdict, prompt_for};
+use crate::state::UnderWay;
+use confirm_desk::{Held, MAX_CONFIRMATIONS, Verdict, prompt_for};
 use identity_table::Identity;
 use plain_lists::Bytes;
+use std::alloc::AllocError;
 use world_ports::{Job, JobKind};
-
-/// How many confirmations may be waited for (ours).
-const MAX_CONFIRMATIONS: usize = 16;
 
 impl UnderWay {
     /// Asks the user for a signature of `message` by a held key, for the client of port `asker`, and gives the number
@@ -28,7 +26,7 @@ impl UnderWay {
         key: &Identity,
         message: &[u8],
         flags: u32,
-    ) -> Result<Option<u64>, JobMemory>
+    ) -> Result<Option<u64>, AllocError>
         requires asker { find_asker asker self.old.confirmations ≡ None }
         requires short { length message.now ≤ longest_body }
 
@@ -57,7 +55,7 @@ impl UnderWay {
 
     /// Takes in a piece of what the child process at this port sends, and tells what the user decided by it. A
     /// decision ends the confirmation.
-    pub fn confirmer_told(&mut self, port: u64, piece: &[u8]) -> Result<Verdict, JobMemory>
+    pub fn confirmer_told(&mut self, port: u64, piece: &[u8]) -> Result<Verdict, AllocError>
         requires { IsSome (find_linked port self.old.confirmations) }
 
         ensures under_way { OnOk result (self.new ≡ confirmer_told port piece.now self.old) }
@@ -93,7 +91,7 @@ impl UnderWay {
         key: &Identity,
         message: &[u8],
         flags: u32,
-    ) -> Result<Held, JobMemory>
+    ) -> Result<Held, AllocError>
         ensures { IfOk result (λ held. held ≡ record {
           asker = asker;
           addition = key.now.number;
@@ -111,7 +109,7 @@ impl UnderWay {
     }
 
     // The user is to be asked; room is taken for the ticket of the child process.
-    fn raise(&mut self, held: Held, text: &[u8]) -> Result<(), JobMemory>
+    fn raise(&mut self, held: Held, text: &[u8]) -> Result<(), AllocError>
         requires few { length self.old.confirmations < 16 }
         requires last { self.old.last_job < 2 ^ 64 - 1 }
         requires asker { find_asker held.asker self.old.confirmations ≡ None }
@@ -133,7 +131,7 @@ impl UnderWay {
         };
         self.to_start.reserve(1)?;
         let Ok(()) = self.desk.raise(job.number, held, text, self.second) else {
-            return Err(JobMemory);
+            return Err(AllocError);
         };
         self.to_start.push(job)?;
         self.last_job += 1;

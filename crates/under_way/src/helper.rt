@@ -1,6 +1,7 @@
 //! What is put to the helper, and what it tells.
 
 ghost use Rattle.std.specs.Prelude.{◌≡◌, ◌≢◌, ◌↔◌, ◌+◌, ◌-◌, ◌^◌, ◌<◌, ◌≤◌, [], ◌++◌, ◌∷◌, ◌⊎◌, IfOk, IsFalse, IsTrue, MatchOption, OnOk, length, Some, None};
+ghost use Rattle.wire_text.specs.Bounds.{longest_to_child};
 ghost use Rattle.helper_link.specs.HelperLink.{IsLinked, lost, sendable, sent};
 ghost use Rattle.helper_link.specs.Sound.{IsSound as IsLinkSound};
 ghost use Rattle.helper_link.specs.Telling.{telling};
@@ -10,11 +11,12 @@ ghost use Rattle.under_way.specs.Parts.{TellsOf};
 ghost use Rattle.under_way.specs.Verifications.{bind_of, verification_of};
 
 use crate::jobs::forget_helper;
-use crate::state::{JobMemory, UnderWay};
+use crate::state::UnderWay;
 use crate::verification::{Verification, place_of_verification};
 use helper_link::{Ask, AskFault, Link, LinkState, Told};
 use identity_table::Identity;
 use plain_lists::Bytes;
+use std::alloc::AllocError;
 use world_ports::{Job, JobKind};
 
 impl UnderWay {
@@ -27,8 +29,8 @@ impl UnderWay {
         key: &Identity,
         message: &[u8],
         flags: u32,
-    ) -> Result<Option<u64>, JobMemory>
-        requires short { 25 + length key.now.private + length key.now.blob + length message.now ≤ 1048576 }
+    ) -> Result<Option<u64>, AllocError>
+        requires short { 25 + length key.now.private + length key.now.blob + length message.now ≤ longest_to_child }
 
         ensures work { OnOk result (self.new ≡ (put_ask (Signs key.now
             record { blob = key.now.blob; message = message.now; flags = flags }) asker self.old).under_way) }
@@ -50,7 +52,7 @@ impl UnderWay {
             self.second,
         ) {
             Ok(ask) => Ok(Some(ask)),
-            Err(AskFault::Memory) => Err(JobMemory),
+            Err(AskFault::Memory) => Err(AllocError),
             Err(AskFault::Full | AskFault::NumbersSpent) => Ok(None),
         }
     }
@@ -66,8 +68,8 @@ impl UnderWay {
         signature: &[u8],
         forwarding: bool,
         is_new: bool,
-    ) -> Result<Option<u64>, JobMemory>
-        requires short { 21 + length host_key.now + length signature.now + length session.now ≤ 1048576 }
+    ) -> Result<Option<u64>, AllocError>
+        requires short { 21 + length host_key.now + length signature.now + length session.now ≤ longest_to_child }
 
         ensures work { OnOk result (self.new ≡ (put_ask
             (Verifies (bind_of host_key.now session.now signature.now forwarding) is_new) asker self.old).under_way) }
@@ -90,7 +92,7 @@ impl UnderWay {
                 self.note(one)?;
                 Ok(Some(ask))
             }
-            Err(AskFault::Memory) => Err(JobMemory),
+            Err(AskFault::Memory) => Err(AllocError),
             Err(AskFault::Full | AskFault::NumbersSpent) => Ok(None),
         }
     }
@@ -116,7 +118,7 @@ impl UnderWay {
     }
 
     /// Takes in a piece of the helper's stream, and tells what it settles.
-    pub fn helper_told(&mut self, piece: &[u8]) -> Result<Told, JobMemory>
+    pub fn helper_told(&mut self, piece: &[u8]) -> Result<Told, AllocError>
         requires { IsLinked self.old.link.state }
 
         ensures link { OnOk result
@@ -128,7 +130,7 @@ impl UnderWay {
             Ok(told) => Ok(told),
             Err(_) => {
                 self.link = Link::new(*self.started.allocator());
-                Err(JobMemory)
+                Err(AllocError)
             }
         }
     }
@@ -168,7 +170,7 @@ impl UnderWay {
     }
 
     // A helper is to be started; room is taken for its ticket.
-    fn begin_helper(&mut self) -> Result<(), JobMemory>
+    fn begin_helper(&mut self) -> Result<(), AllocError>
         requires none { self.old.link.state ≡ LinkState.None }
         requires last { self.old.last_job < 2 ^ 64 - 1 }
 
@@ -197,7 +199,7 @@ impl UnderWay {
         session: &[u8],
         forwarding: bool,
         is_new: bool,
-    ) -> Result<Verification, JobMemory>
+    ) -> Result<Verification, AllocError>
         ensures value { IfOk result (λ one. one ≡ record {
           ask = 0;
           host_key = host_key.now;
@@ -221,7 +223,7 @@ impl UnderWay {
     }
 
     // Keeps what an ask is to verify.
-    fn note(&mut self, one: Verification) -> Result<(), JobMemory>
+    fn note(&mut self, one: Verification) -> Result<(), AllocError>
         ensures { OnOk result (self.new ≡ record self.old {
           verifications = self.old.verifications ++ verification_of one ∷ [];
         }) }

@@ -12,6 +12,6 @@ mod time;
 mod verification;
 
 pub use jobs::Started;
-pub use state::{JobMemory, UnderWay};
+pub use state::UnderWay;
 pub use time::{TimeLimits, earlier};
 pub use verification::Verification;

@@ -15,29 +15,9 @@ use crate::time::TimeLimits;
 use crate::verification::Verification;
 use confirm_desk::{Desk, Pending};
 use helper_link::{Link, LinkState};
-use std::alloc::{AllocError, AllocFailed, Global};
+use std::alloc::{AllocError, Global};
 use std::marker::Model;
 use world_ports::Job;
-
-/// Memory ran out. What is under way is only to be dropped.
-#[derive(Clone, Copy, Debug, PartialEq, Eq)]
-pub struct JobMemory;
-
-impl From<AllocError> for JobMemory {
-    ghost from_gives = { λ _ _. Unit {0} };
-
-    fn from(_: AllocError) -> JobMemory {
-        JobMemory
-    }
-}
-
-impl<T: Drop> From<AllocFailed<T>> for JobMemory {
-    ghost from_gives = { λ _ _. Unit {0} };
-
-    fn from(_: AllocFailed<T>) -> JobMemory {
-        JobMemory
-    }
-}
 
 /// The link to the helper, what it is to verify, the jobs to start, and those that were started and that no child
 /// process has named.

@@ -204,3 +204,15 @@ front_is_string max bytes body_len small found =
     let is = front_says max bytes (Whole body_len) found in
     sym (string-announced bytes small is.0.follows)
     ∙ ap (λ (n : ℕ). string (front_body n bytes) ++ after_front n bytes) (sym is.1)
+
+-- ---- a whole frame within its bytes
+
+-- it is there as a whole
+pub whole_within : (max : ℕ) (bytes : List ℕ) (body_len : ℕ) → front max bytes ≡ Whole body_len → 4 + body_len ≤ length bytes
+whole_within max bytes body_len found =
+    let is = front_says max bytes (Whole body_len) found in
+    omega (arith, is.0.follows, is.1)
+
+-- its body isn't longer than the bound
+pub body_within : (max : ℕ) (bytes : List ℕ) (body_len : ℕ) → front max bytes ≡ Whole body_len → length (front_body body_len bytes) ≤ max
+body_within max bytes body_len found = (IsBody-front_body max bytes body_len found).within

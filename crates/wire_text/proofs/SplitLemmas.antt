@@ -104,7 +104,7 @@ abbrev GoesOn : ℕ → List ℕ → List ℕ → Split → Type 0
 GoesOn max s t first = split max (s ++ t) ≡ then_split first.bodies (split max (first.rest ++ t))
 
 -- the body at a whole front is there before what follows
-front_body-append : (max : ℕ) (s t : List ℕ) (body_len : ℕ) → front max s ≡ Whole body_len → front_body body_len (s ++ t) ≡ front_body body_len s
+pub front_body-append : (max : ℕ) (s t : List ℕ) (body_len : ℕ) → front max s ≡ Whole body_len → front_body body_len (s ++ t) ≡ front_body body_len s
 front_body-append max s t body_len found =
     let less = length-after_front max s body_len found in
     let is = front_says max s (Whole body_len) found in
@@ -114,7 +114,7 @@ front_body-append max s t body_len found =
     ∙ take-append-le body_len (drop 4 s) t (omega (arith, length-drop 4 s))
 
 -- what follows a whole front goes on with what follows
-after_front-append : (max : ℕ) (s t : List ℕ) (body_len : ℕ) → front max s ≡ Whole body_len → after_front body_len (s ++ t) ≡ after_front body_len s ++ t
+pub after_front-append : (max : ℕ) (s t : List ℕ) (body_len : ℕ) → front max s ≡ Whole body_len → after_front body_len (s ++ t) ≡ after_front body_len s ++ t
 after_front-append max s t body_len found =
     let is = front_says max s (Whole body_len) found in
     let follows : 4 + announced_len s ≤ length s = is.0.follows in

@@ -1,4 +1,5 @@
 use Rattle.std.proofs.Common.{◌≡◌, ◌⊎◌, ◌<◌, List, ℕ, drop, subst, rules}
+use Rattle.wire_text.specs.Bounds.{longest_body}
 use Rattle.wire_text.specs.Wire.{announced_len}
 use Rattle.add_core.specs.Hearing.{Announces}
 use Rattle.add_core.proofs.HearingLemmas.{no_length, bad_length, whole_or_none}
@@ -14,7 +15,7 @@ pub returns-in_default-clause-reply : goal.returns-in_default-clause-reply
 returns-in_default-clause-reply g c = λ replies known is.
     let first = c.in_ok-header.ensures.first replies known in
     bad_length replies c.in_ok-header.header.items first.enough first.first
-    (subst (λ (l : List ℕ). (announced_len l ≡ 0) ⊎ (262144 < announced_len l)) c.deref.ensures.value c.in_default.ensures)
+    (subst (λ (l : List ℕ). (announced_len l ≡ 0) ⊎ (longest_body < announced_len l)) c.deref.ensures.value c.in_default.ensures)
 
 pub returns-clause-reply : goal.returns-clause-reply
 returns-clause-reply g c = λ replies known.

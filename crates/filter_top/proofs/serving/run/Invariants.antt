@@ -1,6 +1,6 @@
 use Rattle.std.proofs.Common.{◌≡◌, ◌≤◌, length}
 use Rattle.filter_model.specs.Answered.{Free, at}
-use Rattle.filter_model.specs.LegalPairs.{read_room}
+use Rattle.world_ports.specs.Worlds.{read_room}
 use Rattle.filter_top.specs.Moves.{Moves}
 use Rattle.filter_top.proofs.serving.run.Given as goal
 
