@@ -34,7 +34,7 @@ use Rattle.agent_model.specs.Sound.{IsTied}
 use Rattle.agent_model.proofs.FatedMakeLemmas.{fated-makes}
 use Rattle.agent_model.proofs.TiedLemmas.{tied-quiet}
 use Rattle.agent_model.proofs.JobLemmas.{asker_own, in-by_asker, in-found}
-use Rattle.agent_model.proofs.MakeLemmas.{alters, loses, mild-heard, mild-took}
+use Rattle.agent_model.proofs.MakeLemmas.{alters, hears, loses, takes}
 use Rattle.agent_core.specs.Bound.{AreHeldFor, IsBound, IsAtRest}
 use Rattle.agent_core.proofs.ConfirmerLemmas.{quiet-asking}
 use Rattle.agent_core.proofs.HelperLemmas.{closing-open}
@@ -220,11 +220,11 @@ none_asked number body_len port state tied found whole = by_found (find_asker nu
 -- who waits stays tied where more is heard of a port, or some of what it is owed was taken
 pub tied-heard : (number : ℕ) (piece : List ℕ) (state : State) → IsTied state → IsTied (changed number (heard_more piece) state)
 tied-heard number piece state tied =
-    tied-quiet {event = Tick} (alters number (heard_more piece) (mild-heard Tick number piece)) tied
+    tied-quiet {event = Heard number piece} (alters number (heard_more piece) (hears piece refl)) tied
 
 pub tied-took : (number count : ℕ) (state : State) → IsTied state → IsTied (changed number (port_took count) state)
 tied-took number count state tied =
-    tied-quiet {event = Took number count} (alters number (port_took count) (mild-took number count refl)) tied
+    tied-quiet {event = Took number count} (alters number (port_took count) (takes count refl)) tied
 
 -- what holds of the agent holds of its ports
 pub bound_of : (state : State) → IsAtRest state → IsBound state.ports state.under_way

@@ -11,7 +11,6 @@ pub mod JudgedLemmas
 pub mod KeptLemmas
 pub mod LateLemmas
 pub mod LeastLemmas
-pub mod LookLemmas
 pub mod NextChildLemmas
 pub mod NextConfirmerLemmas
 pub mod NextLemmas

@@ -15,7 +15,7 @@ use Rattle.agent_model.specs.State.{State, UnderWay}
 use Rattle.agent_model.specs.Step.{asker_at, step}
 use Rattle.agent_model.specs.Time.{at_moment}
 use Rattle.agent_model.proofs.GrantLemmas.{IsGranted, allowed, disallowed, grant-ends, unasked}
-use Rattle.agent_model.proofs.MakeLemmas.{Makes, Quiet, alters, by_event, closes, first, goes_on, grants, links, loses, names, overs, serves, stays, tells}
+use Rattle.agent_model.proofs.MakeLemmas.{Makes, Quiet, alters, by_event, closes, first, goes_on, grants, links, loses, names, overs, same_asks, serves, stays, tells}
 use Rattle.agent_model.proofs.ServeLemmas.{IsServed, answered, asked, raised, refused, serve-ends}
 use Rattle.agent_model.proofs.TimeLemmas.{at_moment-keeps}
 
@@ -39,11 +39,11 @@ granted-second (allowed key may free) = refl
 
 -- nor does anything else in an event
 paced-quiet : {event : Happening} {old new : State} → Quiet event old new → IsPaced old → IsPaced new
-paced-quiet (alters number f mild) paced = paced
+paced-quiet (alters number f change) paced = paced
 paced-quiet (closes number may) paced = paced
-paced-quiet (goes_on new same) paced = same.second ∙ paced
-paced-quiet (names job number port found door free) paced = paced
-paced-quiet (links job number port found door free other) paced = paced
+paced-quiet (goes_on new goes) paced = (same_asks goes).second ∙ paced
+paced-quiet (names job number new) paced = paced
+paced-quiet (links job number new) paced = paced
 
 paced-lose_if : (fault : Option LinkFault) (state : State) → IsPaced state → IsPaced (lose_if fault state).state
 paced-lose_if None state paced = paced
@@ -52,7 +52,7 @@ paced-lose_if (Some fault) state paced = paced
 paced-makes : {event : Happening} {old : State} {outcome : Outcome} → Makes event old outcome → IsPaced old → IsPaced outcome.state
 paced-makes (stays state) paced = paced
 paced-makes (first quiet makes) paced = paced-makes makes (paced-quiet quiet paced)
-paced-makes (serves body_len port state found door waits owed) paced =
+paced-makes (serves body_len port state found door waits owed own) paced =
     served-second (serve-ends (asker_at state.moment port) state.held state.under_way (front_body body_len port.heard)) ∙ paced
 paced-makes (tells piece state) paced =
     let told = telling piece state.under_way.link in

@@ -18,7 +18,7 @@ use Rattle.agent_model.specs.State.{Settings, State, UnderWay}
 use Rattle.agent_model.specs.Step.{asker_at, step}
 use Rattle.agent_model.specs.Time.{at_moment}
 use Rattle.agent_model.proofs.GrantLemmas.{IsGranted, allowed, disallowed, grant-ends, unasked}
-use Rattle.agent_model.proofs.MakeLemmas.{Makes, Quiet, alters, by_event, closes, first, goes_on, grants, links, loses, names, overs, serves, stays, tells}
+use Rattle.agent_model.proofs.MakeLemmas.{Makes, Quiet, alters, by_event, closes, first, goes_on, grants, links, loses, names, overs, same_asks, serves, stays, tells}
 use Rattle.agent_model.proofs.ServeLemmas.{Serves, adds, confirms, denies, empties, lists, locks, removes, serves-any, signs, unlocks, verifies}
 use Rattle.agent_model.proofs.TimeLemmas.{at_moment-keeps}
 use Rattle.agent_core.specs.Parts.{settings_in}
@@ -48,11 +48,11 @@ granted-set (allowed key may free) = refl
 
 -- nor does anything else in an event
 quiet-set : {event : Happening} {old new : State} → Quiet event old new → settings_in new ≡ settings_in old
-quiet-set (alters number f mild) = refl
+quiet-set (alters number f change) = refl
 quiet-set (closes number may) = refl
-quiet-set {old = old} (goes_on new same) = ap (λ limits. let s : Settings = record { life = old.held.table.life; limits = limits } in s) same.limits
-quiet-set (names job number port found door free) = refl
-quiet-set (links job number port found door free other) = refl
+quiet-set {old = old} (goes_on new goes) = ap (λ limits. let s : Settings = record { life = old.held.table.life; limits = limits } in s) (same_asks goes).limits
+quiet-set (names job number new) = refl
+quiet-set (links job number new) = refl
 
 lose_if-set : (fault : Option LinkFault) (state : State) → settings_in (lose_if fault state).state ≡ settings_in state
 lose_if-set None state = refl
@@ -61,7 +61,7 @@ lose_if-set (Some fault) state = refl
 makes-set : {event : Happening} {old : State} {outcome : Outcome} → Makes event old outcome → settings_in outcome.state ≡ settings_in old
 makes-set (stays state) = refl
 makes-set (first quiet makes) = makes-set makes ∙ quiet-set quiet
-makes-set (serves body_len port state found door waits owed) =
+makes-set (serves body_len port state found door waits owed own) =
     served-set (serves-any (agent_request_of (front_body body_len port.heard)) (asker_at state.moment port) state.held state.under_way)
 makes-set (tells piece state) =
     let told = telling piece state.under_way.link in

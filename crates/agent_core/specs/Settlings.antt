@@ -1,6 +1,7 @@
 -- What the helper's answers and its loss are to the open ports (ours).
 use Rattle.std.specs.Prelude.{◌≡◌, ℕ, ◌+◌, ◌≤◌, List, [], ◌∷◌, length, Option, Some, None, Result, Ok, Err, if◌then◌else◌}
 use Rattle.std.specs.Str.{bytes_eq}
+use Rattle.wire_text.specs.Bounds.{longest_body}
 use Rattle.child_msg.specs.Messages.{Denied, False, FromChildMessage, Granted, Hello, Refused, Signed, True}
 use Rattle.child_msg.specs.declared.fault.ChildFault.{ChildFault}
 use Rattle.helper_link.specs.declared.answer.Answer.{Answer}
@@ -56,7 +57,7 @@ AreProvable (one ∷ later) verifications ports =
 
 -- the reply with a signature fits a message
 abbrev pub IsShortAnswer : Answer → Type 0
-IsShortAnswer (answer.Signed signature) = 5 + length signature ≤ 262144
+IsShortAnswer (answer.Signed signature) = 5 + length signature ≤ longest_body
 IsShortAnswer answer.Refused = Unit {0}
 IsShortAnswer answer.True = Unit {0}
 IsShortAnswer answer.False = Unit {0}

@@ -21,9 +21,9 @@ ghost use Rattle.under_way.specs.Times.{limits_of};
 use crate::keys::Keys;
 use crate::parts::Parts;
 use crate::ports::Ports;
-use crate::{Awaited, CoreMemory, Event, Settings};
+use crate::{Awaited, Event, Settings};
 use confirm_desk::Pending;
-use std::alloc::Global;
+use std::alloc::{AllocError, Global};
 use std::marker::Model;
 use under_way::{TimeLimits, UnderWay};
 use world_ports::{Job, Moment};
@@ -95,7 +95,7 @@ impl Agent {
     ///
     /// Where memory runs out, all that was held and owed is wiped, and the agent is as a new one: the run is over,
     /// and it is to be dropped.
-    pub fn step(&mut self, moment: Moment, event: &Event<'_>) -> Result<(), CoreMemory>
+    pub fn step(&mut self, moment: Moment, event: &Event<'_>) -> Result<(), AllocError>
         requires { Fits (happening event.now) self.old.state }
         ensures stepped { OnOk result
             (self.new ≡ stepped (step self.old.state moment (happening event.now))) }
@@ -104,7 +104,7 @@ impl Agent {
     {
         let Ok(moved) = self.parts.take(moment, event, self.due) else {
             *self = Agent::new(self.alloc, self.settings);
-            return Err(CoreMemory);
+            return Err(AllocError);
         };
         self.due = self.parts.next_due(moved, self.due);
         Ok(())

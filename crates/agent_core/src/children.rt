@@ -1,8 +1,9 @@
 //! Child processes that haven't named themselves.
 
-ghost use Rattle.std.specs.Prelude.{◌≡◌, ◌≤◌, ◌+◌, [], None, Some, IfSome, IsSome, OnOk, length};
+ghost use Rattle.std.specs.Prelude.{◌≡◌, None, Some, IfSome, IsSome, OnOk};
 ghost use Rattle.child_msg.specs.Reading.{from_child_of};
 ghost use Rattle.frame_core.specs.Looks.{front_of};
+ghost use Rattle.wire_text.specs.Bounds.{longest_body};
 ghost use Rattle.wire_text.specs.Frames.{Whole, after_front, front, front_body};
 ghost use Rattle.agent_model.specs.Children.{first_message, unnamed_heard};
 ghost use Rattle.agent_model.specs.State.{Port, find_port};
@@ -13,14 +14,14 @@ ghost use Rattle.agent_core.specs.Parts.{after, parts_of, state_of};
 ghost use Rattle.agent_core.specs.Settlings.{IsNamed, named_job};
 ghost use Rattle.agent_core.specs.Slots.{heard_in};
 
-use crate::CoreMemory;
 use crate::confirmer::hear_confirmer;
 use crate::helper::hear_helper;
 use crate::keys::Keys;
 use crate::ports::Ports;
-use crate::slot::{LONGEST_BODY, first_body};
+use crate::slot::first_body;
 use child_msg::{FromChild, read_from_child};
-use frame_core::{Look, look};
+use frame_core::{LONGEST_BODY, Look, after_front, look};
+use std::alloc::AllocError;
 use under_way::UnderWay;
 use world_ports::{Job, JobKind};
 
@@ -32,7 +33,7 @@ pub fn hear_unnamed(
     wall: u64,
     number: u64,
     piece: &[u8],
-) -> Result<(), CoreMemory>
+) -> Result<(), AllocError>
     requires is_open { IsSome (find_port number ports.old.ports) }
     requires bound { IsBound ports.old.ports under_way.old }
     requires held { AreHeldFor under_way.old.confirmations ports.old.ports }
@@ -56,7 +57,7 @@ pub fn hear_unnamed(
 
 // What stands at the front of its bytes.
 fn first_frame(ports: &Ports, number: u64) -> Look
-    ensures { front_of result ≡ front 262144 (heard_in (find_port number ports.now.ports)) }
+    ensures { front_of result ≡ front longest_body (heard_in (find_port number ports.now.ports)) }
 {
     look(ports.heard(number), LONGEST_BODY)
 }
@@ -69,10 +70,10 @@ fn take_first(
     wall: u64,
     number: u64,
     body_len: u32,
-) -> Result<(), CoreMemory>
+) -> Result<(), AllocError>
     requires is_open { IsSome (find_port number ports.old.ports) }
     requires whole { (port : Port) → find_port number ports.old.ports ≡ Some port
-        → front 262144 port.heard ≡ Whole body_len }
+        → front longest_body port.heard ≡ Whole body_len }
     requires bound { IsBound ports.old.ports under_way.old }
     requires held { AreHeldFor under_way.old.confirmations ports.old.ports }
     requires free { find_linked number under_way.old.confirmations ≡ None }
@@ -88,7 +89,7 @@ fn take_first(
         return Ok(());
     };
     let heard = ports.take_heard(number);
-    let rest = behind(heard.live(), body_len);
+    let rest = after_front(heard.live(), body_len);
     match job.kind {
         JobKind::Helper => {
             under_way.helper_named(job.number, number);
@@ -115,12 +116,4 @@ fn job_named(under_way: &UnderWay, body: &[u8]) -> Option<Job>
     } else {
         None
     }
-}
-
-// The bytes behind the frame at the front.
-fn behind(heard: &[u8], body_len: u32) -> &[u8]
-    requires { 4 + body_len ≤ length heard.now }
-    ensures { result.now ≡ after_front body_len heard.now }
-{
-    &heard[4 + body_len as usize..]
 }

@@ -13,11 +13,11 @@ ghost use Rattle.agent_model.specs.State.{Port, UnderWay as AnUnderWay, find_por
 ghost use Rattle.agent_core.specs.Confirmers.{AreQuiet, IsHeldFor, grant_of};
 ghost use Rattle.agent_core.specs.Parts.{after, parts_of, state_of};
 
-use crate::CoreMemory;
 use crate::granted::{conclude, put_granted};
 use crate::keys::Keys;
 use crate::ports::Ports;
 use confirm_desk::{Held, Verdict};
+use std::alloc::AllocError;
 use under_way::UnderWay;
 
 /// The child process at this port, which asks the user, sent more: nothing yet, or the user's decision.
@@ -28,7 +28,7 @@ pub fn hear_confirmer(
     wall: u64,
     number: u64,
     piece: &[u8],
-) -> Result<(), CoreMemory>
+) -> Result<(), AllocError>
     requires asker { IsSomeAnd (find_linked number under_way.old.confirmations)
         (λ one. IsHeldFor one ports.old.ports) }
 
@@ -54,7 +54,7 @@ fn grant(
     wall: u64,
     number: u64,
     held: &Held,
-) -> Result<(), CoreMemory>
+) -> Result<(), AllocError>
     requires is_open { IsSome (find_port held.now.asker ports.old.ports) }
     requires silent { (port : Port) → find_port held.now.asker ports.old.ports ≡ Some port → port.owed ≡ [] }
     requires short { length held.now.message ≤ longest_body }

@@ -1,5 +1,3 @@
-use std::alloc::{AllocError, AllocFailed};
-use under_way::JobMemory;
 use world_ports::Door;
 
 /// What an agent is started with.
@@ -31,32 +29,4 @@ pub enum Event<'a> {
     StartFailed { job: u64 },
     /// Nothing but the time.
     Tick,
-}
-
-/// Memory ran out in a step, which wiped all that the agent held. It can only be dropped.
-#[derive(Clone, Copy, Debug, PartialEq, Eq)]
-pub struct CoreMemory;
-
-impl From<AllocError> for CoreMemory {
-    ghost from_gives = { λ _ _. Unit {0} };
-
-    fn from(_: AllocError) -> CoreMemory {
-        CoreMemory
-    }
-}
-
-impl<T: Drop> From<AllocFailed<T>> for CoreMemory {
-    ghost from_gives = { λ _ _. Unit {0} };
-
-    fn from(_: AllocFailed<T>) -> CoreMemory {
-        CoreMemory
-    }
-}
-
-impl From<JobMemory> for CoreMemory {
-    ghost from_gives = { λ _ _. Unit {0} };
-
-    fn from(_: JobMemory) -> CoreMemory {
-        CoreMemory
-    }
 }

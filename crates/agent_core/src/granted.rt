@@ -15,13 +15,13 @@ ghost use Rattle.agent_model.specs.Verdicts.{Verdict, tell};
 ghost use Rattle.under_way.specs.Parts.{TellsOf};
 ghost use Rattle.agent_core.specs.Confirmers.{IsGrant, IsShortKey, grant_of, granted_by};
 
-use crate::CoreMemory;
 use crate::keys::Keys;
 use crate::ports::Ports;
 use confirm_desk::Held;
 use constraint_rec::Constraint;
 use dest_rule::{Chain, may_sign};
 use identity_table::{Identity, Lock, Table};
+use std::alloc::AllocError;
 use under_way::UnderWay;
 
 /// The key of an addition, where it is held yet, the agent isn't locked and the key may sign the message now.
@@ -63,7 +63,7 @@ pub fn put_granted(
     keys: &mut Keys,
     wall: u64,
     held: &Held,
-) -> Result<Option<u64>, CoreMemory>
+) -> Result<Option<u64>, AllocError>
     requires is_open { IsSome (find_port held.now.asker ports.now.ports) }
     requires short { length held.now.message ≤ longest_body }
 
@@ -91,7 +91,7 @@ fn ask_granted(
     keys: &Keys,
     wall: u64,
     held: &Held,
-) -> Result<Option<u64>, CoreMemory>
+) -> Result<Option<u64>, AllocError>
     requires is_open { IsSome (find_port held.now.asker ports.now.ports) }
     requires short { length held.now.message ≤ longest_body }
 

@@ -13,9 +13,9 @@ ghost use Rattle.agent_core.specs.Bound.{AreSilent, IsBound};
 ghost use Rattle.agent_core.specs.Parts.{after, parts_of, state_of};
 ghost use Rattle.agent_core.specs.Settlings.{AreProvable, AreShortAnswers, IsProvable, IsShortAnswer, answered, told_with, unanswered};
 
-use crate::CoreMemory;
 use crate::ports::Ports;
 use helper_link::{Answer, Ask, LinkState, Settled};
+use std::alloc::AllocError;
 use under_way::UnderWay;
 
 /// The helper sent more: each asker is told its answer, and at a fault of the stream the helper is lost.
@@ -23,7 +23,7 @@ pub fn hear_helper(
     ports: &mut Ports,
     under_way: &mut UnderWay,
     piece: &[u8],
-) -> Result<(), CoreMemory>
+) -> Result<(), AllocError>
     requires linked { IsLinked under_way.old.link.state }
     requires bound { IsBound ports.old.ports under_way.old }
 
@@ -96,7 +96,7 @@ fn answer_all(
     ports: &mut Ports,
     under_way: &mut UnderWay,
     settled: &[Settled],
-) -> Result<(), CoreMemory>
+) -> Result<(), AllocError>
     requires short { AreShortAnswers settled.now }
     requires provable { AreProvable settled.now under_way.old.verifications ports.old.ports }
 
@@ -114,7 +114,7 @@ fn answer_all(
 }
 
 // Tells an asker its answer. A verified binding is added to its chain before, where it is new.
-fn answer_one(ports: &mut Ports, under_way: &mut UnderWay, one: &Settled) -> Result<(), CoreMemory>
+fn answer_one(ports: &mut Ports, under_way: &mut UnderWay, one: &Settled) -> Result<(), AllocError>
     requires short { IsShortAnswer one.now.answer }
     requires provable { IsProvable (find_verification one.now.ask under_way.old.verifications)
         (find_port one.now.asker ports.old.ports) }

@@ -8,7 +8,6 @@ ghost use Rattle.agent_model.specs.State.{find_port, remove_port};
 ghost use Rattle.agent_model.specs.Step.{admitted, turned_away};
 ghost use Rattle.lists.specs.Rising.{inserted};
 
-use crate::CoreMemory;
 use crate::owed::Owed;
 use crate::places::place_near;
 use crate::ports::Ports;
@@ -16,7 +15,7 @@ use crate::slot::Slot;
 use crate::waits::Waits;
 use dest_rule::Chain;
 use secret_buf::ScrubBuf;
-use std::alloc::AllocFailed;
+use std::alloc::{AllocError, AllocFailed};
 use world_ports::Door;
 
 impl Ports {
@@ -28,7 +27,7 @@ impl Ports {
     }
 
     /// Lets a port join, where there is room for it. Its number is the next in either case.
-    pub fn join(&mut self, door: Door, has_room: bool) -> Result<(), CoreMemory>
+    pub fn join(&mut self, door: Door, has_room: bool) -> Result<(), AllocError>
         requires { self.old.last < 2 ^ 64 - 1 }
 
         ensures { OnOk result (self.new ≡ record {
@@ -80,7 +79,7 @@ impl Ports {
 
 impl Ports {
     // A port joins; room is taken to list it when it is closed.
-    fn admit(&mut self, door: Door) -> Result<(), CoreMemory>
+    fn admit(&mut self, door: Door) -> Result<(), AllocError>
         requires { self.old.last < 2 ^ 64 - 1 }
 
         ensures ports { OnOk result (self.new ≡ record self.old {
@@ -101,7 +100,7 @@ impl Ports {
         };
         if let Err(AllocFailed { value }) = self.slots.push(slot) {
             value.close();
-            return Err(CoreMemory);
+            return Err(AllocError);
         }
         self.last += 1;
         Ok(())

@@ -12,7 +12,6 @@ ghost use Rattle.agent_core.specs.Confirmers.{IsShortKey, granted_key};
 ghost use Rattle.agent_core.specs.Served.{served_body};
 ghost use Rattle.agent_core.specs.Slots.{waits_of};
 
-use crate::CoreMemory;
 use crate::asker::Asker;
 use crate::granted::find_granted;
 use crate::owed::Owed;
@@ -21,7 +20,7 @@ use crate::waits::Waits;
 use agent_msg::names_bind;
 use dest_rule::Chain;
 use identity_table::{Identity, Lock, Table};
-use std::alloc::Global;
+use std::alloc::{AllocError, Global};
 use std::marker::Model;
 use under_way::UnderWay;
 
@@ -107,7 +106,7 @@ impl Keys {
         asker: &Asker<'_>,
         body: &[u8],
         owed: &mut Owed,
-    ) -> Result<Waits, CoreMemory>
+    ) -> Result<Waits, AllocError>
         requires nothing { owed.old ≡ [] }
         requires short { length body.now ≤ longest_body }
         requires alone { find_asker asker.now.port under_way.old.confirmations ≡ None }

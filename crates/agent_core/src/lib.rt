@@ -30,4 +30,4 @@ mod waits;
 
 pub use agent::Agent;
 pub use awaited::Awaited;
-pub use event::{CoreMemory, Event, Settings};
+pub use event::{Event, Settings};

@@ -1,6 +1,7 @@
 //! What a client is owed.
 
 ghost use Rattle.std.specs.Prelude.{◌≡◌, ◌+◌, ◌≤◌, [], ◌++◌, drop, length, map, OnOk, IfOk};
+ghost use Rattle.wire_text.specs.Bounds.{longest_body};
 ghost use Rattle.secret_buf.specs.Buffers.{KeepsRoom};
 ghost use Rattle.agent_msg.specs.Replies.{entries, identities_answer, sign_response, status};
 ghost use Rattle.identity_table.specs.Identities.{max_answer};
@@ -96,7 +97,7 @@ impl Owed {
 
     /// The signature, behind what is owed.
     pub fn append_signature(&mut self, signature: &[u8]) -> Result<(), AllocError>
-        requires { 5 + length signature.now ≤ 262144 }
+        requires { 5 + length signature.now ≤ longest_body }
         ensures { OnOk result (self.new ≡ self.old ++ sign_response signature.now) }
     {
         if signature.len() > LONG as usize {

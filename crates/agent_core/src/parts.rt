@@ -17,14 +17,15 @@ ghost use Rattle.agent_core.specs.Happenings.{happening};
 ghost use Rattle.agent_core.specs.Owing.{next_child_owed};
 ghost use Rattle.agent_core.specs.Parts.{after};
 
+use crate::Event;
 use crate::children::hear_unnamed;
 use crate::confirmer::{end_if, hear_confirmer, lose_client, lose_confirmer};
 use crate::helper::{hear_helper, lose_helper};
 use crate::keys::Keys;
 use crate::ports::Ports;
 use crate::role::{Role, child_owed, lesser, owed_helper_above, role_at};
-use crate::{CoreMemory, Event};
 use frame_core::Look;
+use std::alloc::AllocError;
 use std::marker::Model;
 use under_way::{UnderWay, earlier};
 use world_ports::{Door, JobKind, Moment};
@@ -61,7 +62,7 @@ impl Parts {
         moment: Moment,
         event: &Event<'_>,
         due: Option<u64>,
-    ) -> Result<bool, CoreMemory>
+    ) -> Result<bool, AllocError>
         requires fits { Fits (happening event.now) self.old.state }
         requires rest { IsAtRest self.old.state }
         requires due { due ≡ next_due self.old.state }
@@ -124,7 +125,7 @@ impl Parts {
     }
 
     // Takes one event after its moment, and tells whether what is due may have changed.
-    fn handle(&mut self, event: &Event<'_>) -> Result<bool, CoreMemory>
+    fn handle(&mut self, event: &Event<'_>) -> Result<bool, AllocError>
         requires fits { StillFits (happening event.now) self.old.state }
         requires rest { IsAtRest self.old.state }
 
@@ -160,7 +161,7 @@ impl Parts {
     }
 
     // A client or a child process joins.
-    fn join(&mut self, door: Door) -> Result<(), CoreMemory>
+    fn join(&mut self, door: Door) -> Result<(), AllocError>
         requires { StillFits (Joined door) self.old.state }
 
         ensures { OnOk result
@@ -174,7 +175,7 @@ impl Parts {
     }
 
     // A port sent more: nothing comes of it where its moment closed the port.
-    fn hear(&mut self, port: u64, piece: &[u8]) -> Result<(), CoreMemory>
+    fn hear(&mut self, port: u64, piece: &[u8]) -> Result<(), AllocError>
         requires rest { IsAtRest self.old.state }
 
         ensures { OnOk result
@@ -204,7 +205,7 @@ impl Parts {
     }
 
     // A client sent more.
-    fn hear_client(&mut self, port: u64, piece: &[u8]) -> Result<(), CoreMemory>
+    fn hear_client(&mut self, port: u64, piece: &[u8]) -> Result<(), AllocError>
         requires is_open { IsSome (find_port port self.old.state.ports) }
         requires rest { IsAtRest self.old.state }
 
@@ -218,7 +219,7 @@ impl Parts {
 
     // A port took some of what it is owed, or all: nothing comes of it where its moment closed the port. Tells whether
     // what is due may have changed.
-    fn send(&mut self, port: u64, count: usize) -> Result<bool, CoreMemory>
+    fn send(&mut self, port: u64, count: usize) -> Result<bool, AllocError>
         requires rest { IsAtRest self.old.state }
 
         ensures sent { OnOk result
@@ -299,7 +300,7 @@ impl Parts {
     // Takes the first request of a client where it is whole, and tells whether it is; closes its port where its length
     // is bad.
     #[inline(always)] // what a client took is followed by no request most times
-    fn look(&mut self, port: u64, front: Look) -> Result<bool, CoreMemory>
+    fn look(&mut self, port: u64, front: Look) -> Result<bool, AllocError>
         requires tied { IsTied self.old.state }
         requires front { front_of front ≡ due_by (find_port port self.old.state.ports) }
 

@@ -13,7 +13,6 @@ ghost use Rattle.agent_core.specs.Served.{TellsWait, IsPlainRequest, IsShortRequ
 ghost use Rattle.agent_core.specs.Slots.{waits_of};
 ghost use Rattle.agent_core.specs.declared.asker.Asker.{Asker as AnAsker};
 
-use crate::CoreMemory;
 use crate::asker::Asker;
 use crate::owed::Owed;
 use crate::seen::{list, sees};
@@ -25,7 +24,7 @@ use dest_rule::Next;
 use identity_table::{AddFault, Lock, Table};
 use key_blob::{AddedKey, read_public};
 use secret_buf::SecretBytes;
-use std::alloc::Global;
+use std::alloc::{AllocError, Global};
 use under_way::UnderWay;
 
 /// Does what the request of this body asks: owes the reply, or tells what the asker waits for.
@@ -37,7 +36,7 @@ pub fn answer(
     asker: &Asker<'_>,
     body: &[u8],
     owed: &mut Owed,
-) -> Result<Waits, CoreMemory>
+) -> Result<Waits, AllocError>
     requires nothing { owed.old ≡ [] }
     requires short { length body.now ≤ longest_body }
     requires alone { find_asker asker.now.port under_way.old.confirmations ≡ None }
@@ -84,7 +83,7 @@ pub fn answer(
             owed.put_status(done);
             Ok(Waits::Nothing)
         }
-        Err(MsgFault::Memory) => Err(CoreMemory),
+        Err(MsgFault::Memory) => Err(AllocError),
         Err(_) => {
             owed.put_status(false);
             Ok(Waits::Nothing)
@@ -116,7 +115,7 @@ fn bind(
     session: &[u8],
     signature: &[u8],
     forwarding: bool,
-) -> Result<Option<u64>, CoreMemory>
+) -> Result<Option<u64>, AllocError>
     requires short { length host_key.now + length session.now + length signature.now ≤ longest_body }
 
     ensures keys { (table : TableState) → (served_by asker.now (binds host_key.now session.now signature.now forwarding)
@@ -157,7 +156,7 @@ fn take(
     table: &mut Table,
     lock: &mut Lock,
     request: Request<'_>,
-) -> Result<bool, CoreMemory>
+) -> Result<bool, AllocError>
     requires other { IsPlainRequest (client_request request) }
     requires short { IsShortRequest (client_request request) }
     requires usable { IsUsableRequest (client_request request) }
@@ -232,7 +231,7 @@ fn add(
     key: AddedKey,
     comment: &[u8],
     terms: Terms,
-) -> Result<bool, CoreMemory>
+) -> Result<bool, AllocError>
     requires short { length key.private ≤ longest_body }
     requires usable { IfSome terms.uses (λ uses. 1 ≤ uses) }
 
@@ -250,7 +249,7 @@ fn add(
 }
 
 // Adds a key, in the place of the one that has its blob.
-fn put(table: &mut Table, key: AddedKey, comment: &[u8], terms: Terms) -> Result<bool, CoreMemory>
+fn put(table: &mut Table, key: AddedKey, comment: &[u8], terms: Terms) -> Result<bool, AllocError>
     requires short { length key.private ≤ longest_body }
     requires usable { IfSome terms.uses (λ uses. 1 ≤ uses) }
 
@@ -264,7 +263,7 @@ fn put(table: &mut Table, key: AddedKey, comment: &[u8], terms: Terms) -> Result
     let now = table.greatest();
     match table.add(key, terms, comment, now) {
         Ok(_) => Ok(true),
-        Err(AddFault::Memory) => Err(CoreMemory),
+        Err(AddFault::Memory) => Err(AllocError),
         Err(AddFault::ListFull | AddFault::NumbersSpent) => Ok(false),
     }
 }

@@ -8,11 +8,11 @@ ghost use Rattle.agent_model.specs.Verdicts.{verdict_text};
 ghost use Rattle.agent_core.specs.Seen.{count_if, is_seen, len_if, seen};
 ghost use Rattle.agent_core.specs.Served.{keys_of, served_by};
 
-use crate::CoreMemory;
 use crate::asker::Asker;
 use crate::owed::Owed;
 use dest_rule::visible;
 use identity_table::{Identity, Lock, Table};
+use std::alloc::AllocError;
 
 /// Whether the asker sees this identity. One without destination constraints is seen by all.
 pub fn sees(asker: &Asker<'_>, identity: &Identity) -> bool
@@ -65,7 +65,7 @@ pub fn list(
     table: &Table,
     lock: &Lock,
     owed: &mut Owed,
-) -> Result<(), CoreMemory>
+) -> Result<(), AllocError>
     requires { owed.old ≡ [] }
     ensures { (under_way : AnUnderWay) → OnOk result (owed.new ≡ verdict_text
         (served_by asker.now ListIdentities (keys_of table.now lock.now) under_way).work.verdict) }

@@ -18,15 +18,16 @@ ghost use Rattle.under_way.specs.Verifications.{verification_of};
 use crate::keys::Keys;
 use crate::places::place_near;
 use crate::ports::Ports;
-use crate::{CoreMemory, slot};
+use crate::slot;
 use frame_core::Look;
 use helper_link::Answer;
 use secret_buf::ScrubBuf;
+use std::alloc::AllocError;
 use under_way::{UnderWay, Verification};
 
 impl Ports {
     /// Appends the piece to what was heard of an open port, and tells what is to be taken of it then.
-    pub fn push(&mut self, number: u64, piece: &[u8]) -> Result<Look, CoreMemory>
+    pub fn push(&mut self, number: u64, piece: &[u8]) -> Result<Look, AllocError>
         requires { IsSome (find_port number self.old.ports) }
 
         ensures ports { OnOk result (self.new ≡ record self.old {
@@ -79,7 +80,7 @@ impl Ports {
         wall: u64,
         number: u64,
         body_len: u32,
-    ) -> Result<(), CoreMemory>
+    ) -> Result<(), AllocError>
         requires due { due_by (find_port number self.old.ports) ≡ Whole body_len }
         requires alone { find_asker number under_way.old.confirmations ≡ None }
 
@@ -101,7 +102,7 @@ impl Ports {
     }
 
     /// Binds an asker's connection as it was verified, and tells the asker so: nobody's, where it has left.
-    pub fn prove(&mut self, number: u64, verification: &Verification) -> Result<(), CoreMemory>
+    pub fn prove(&mut self, number: u64, verification: &Verification) -> Result<(), AllocError>
         requires { IsProvable (Some (verification_of verification.now)) (find_port number self.old.ports) }
 
         ensures { OnOk result (self.new ≡ record self.old {
@@ -115,7 +116,7 @@ impl Ports {
     }
 
     /// Tells an asker what the helper answered: nobody, where it has left.
-    pub fn tell(&mut self, number: u64, answer: &Answer) -> Result<(), CoreMemory>
+    pub fn tell(&mut self, number: u64, answer: &Answer) -> Result<(), AllocError>
         requires { IsShortAnswer answer.now }
 
         ensures { OnOk result (self.new ≡ record self.old {

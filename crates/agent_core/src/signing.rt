@@ -2,7 +2,7 @@
 
 ghost use Rattle.std.specs.Prelude.{◌≡◌, ◌+◌, ℕ, List, None, Option, IsSome, IfSome, OnOk, IfOk, ◌≤◌, length};
 ghost use Rattle.std.specs.Option.{option_map};
-ghost use Rattle.wire_text.specs.Bounds.{longest_body};
+ghost use Rattle.wire_text.specs.Bounds.{longest_body, longest_to_child};
 ghost use Rattle.agent_msg.specs.Requests.{Sign};
 ghost use Rattle.identity_table.specs.Identities.{find_number};
 ghost use Rattle.agent_model.specs.KeyStates.{after_use};
@@ -11,11 +11,11 @@ ghost use Rattle.under_way.specs.Parts.{TellsOf, TellsOfUser};
 ghost use Rattle.confirm_desk.specs.Confirmations.{find_asker};
 ghost use Rattle.agent_core.specs.Served.{TellsWait, sign_work, keys_of, served_by};
 
-use crate::CoreMemory;
 use crate::asker::Asker;
 use crate::granted::permits;
 use crate::waits::Waits;
 use identity_table::{Identity, Lock, Table};
+use std::alloc::AllocError;
 use under_way::UnderWay;
 
 // What came of a request to sign: what the client waits for, if it isn't refused, and the addition whose key it uses.
@@ -40,7 +40,7 @@ pub fn sign(
     blob: &[u8],
     message: &[u8],
     flags: u32,
-) -> Result<Option<Waits>, CoreMemory>
+) -> Result<Option<Waits>, AllocError>
     requires short { length blob.now + length message.now ≤ longest_body }
     requires alone { find_asker asker.now.port under_way.old.confirmations ≡ None }
 
@@ -79,7 +79,7 @@ fn put_signing(
     blob: &[u8],
     message: &[u8],
     flags: u32,
-) -> Result<Signing, CoreMemory>
+) -> Result<Signing, AllocError>
     requires short { length blob.now + length message.now ≤ longest_body }
     requires alone { find_asker asker.now.port under_way.old.confirmations ≡ None }
 
@@ -113,8 +113,8 @@ fn sign_with(
     key: &Identity,
     message: &[u8],
     flags: u32,
-) -> Result<Signing, CoreMemory>
-    requires short { 25 + length key.now.private + length key.now.blob + length message.now ≤ 1048576 }
+) -> Result<Signing, AllocError>
+    requires short { 25 + length key.now.private + length key.now.blob + length message.now ≤ longest_to_child }
     requires message { length message.now ≤ longest_body }
     requires alone { find_asker port under_way.old.confirmations ≡ None }
 

@@ -18,21 +18,18 @@ ghost use Rattle.agent_model.specs.Sound.{IsRight};
 ghost use Rattle.agent_core.specs.Slots.{port_of};
 ghost use Rattle.under_way.specs.Verifications.{verification_of};
 
-use crate::CoreMemory;
 use crate::asker::Asker;
 use crate::keys::Keys;
 use crate::owed::Owed;
 use crate::waits::Waits;
 use dest_rule::Chain;
-use frame_core::{Look, look};
+use frame_core::{LONGEST_BODY, Look, front_body, look};
 use helper_link::Answer;
 use secret_buf::ScrubBuf;
+use std::alloc::AllocError;
 use std::mem;
 use under_way::{UnderWay, Verification};
 use world_ports::Door;
-
-/// The longest body of a client's message, in bytes.
-pub const LONGEST_BODY: u32 = 262_144;
 
 /// The storage of a request with a longer body isn't kept for the next one, in bytes.
 const LONG: u32 = 4096;
@@ -64,7 +61,7 @@ impl Slot {
 }
 
 /// Appends the piece to what was heard, and tells what is to be taken then.
-pub fn push(slot: &mut Slot, piece: &[u8]) -> Result<Look, CoreMemory>
+pub fn push(slot: &mut Slot, piece: &[u8]) -> Result<Look, AllocError>
     ensures port { OnOk result (port_of slot.new ≡ heard_more piece.now (port_of slot.old)) }
     ensures front { IfOk result (λ look. front_of look ≡ due (port_of slot.new)) }
     ensures number { slot.new.number ≡ slot.old.number }
@@ -126,7 +123,7 @@ pub fn serve(
     under_way: &mut UnderWay,
     wall: u64,
     body_len: u32,
-) -> Result<(), CoreMemory>
+) -> Result<(), AllocError>
     requires due { due (port_of slot.old) ≡ Whole body_len }
     requires alone { find_asker slot.old.number under_way.old.confirmations ≡ None }
 
@@ -162,7 +159,7 @@ fn mark(chain: &mut Chain, is_attempt: bool)
 }
 
 /// The binding of an asker's connection was verified: it is added where it is new, and the asker is told so.
-pub fn prove(slot: &mut Slot, verification: &Verification) -> Result<(), CoreMemory>
+pub fn prove(slot: &mut Slot, verification: &Verification) -> Result<(), AllocError>
     requires { IsRight (verification_of verification.now) slot.old.chain.bindings }
     ensures port { OnOk result (port_of slot.new ≡ prove (verification_of verification.now) (port_of slot.old)) }
     ensures number { slot.new.number ≡ slot.old.number }
@@ -177,7 +174,7 @@ pub fn prove(slot: &mut Slot, verification: &Verification) -> Result<(), CoreMem
 }
 
 // Adds a verified binding, which is new to the chain.
-fn bind(chain: &mut Chain, verification: &Verification) -> Result<(), CoreMemory>
+fn bind(chain: &mut Chain, verification: &Verification) -> Result<(), AllocError>
     requires right { IsRight (verification_of verification.now) chain.old.bindings }
     requires new { verification.now.is_new ≡ true }
     ensures { OnOk result (chain.new ≡ record chain.old {
@@ -193,7 +190,7 @@ fn bind(chain: &mut Chain, verification: &Verification) -> Result<(), CoreMemory
 }
 
 /// Owes what the helper answered behind what is owed, and waits no more.
-pub fn tell(slot: &mut Slot, answer: &Answer) -> Result<(), CoreMemory>
+pub fn tell(slot: &mut Slot, answer: &Answer) -> Result<(), AllocError>
     requires { IsShortAnswer answer.now }
     ensures port { OnOk result (port_of slot.new ≡ tell (verdict_of answer.now) (port_of slot.old)) }
     ensures number { slot.new.number ≡ slot.old.number }
@@ -209,15 +206,14 @@ pub fn tell(slot: &mut Slot, answer: &Answer) -> Result<(), CoreMemory>
 }
 
 /// The body of the whole frame at the front.
-#[tactic(auto, using(crate::proofs::LookLemmas::whole_within, crate::proofs::LookLemmas::body_within))]
+#[tactic(auto, using(wire_text::proofs::FrontLemmas::whole_within, wire_text::proofs::FrontLemmas::body_within))]
 pub fn first_body(heard: &[u8], body_len: u32) -> &[u8]
     requires { front longest_body heard.now ≡ Whole body_len }
     ensures body { result.now ≡ front_body body_len heard.now }
     ensures short { length result.now ≤ longest_body }
     ensures within { 4 + body_len ≤ length heard.now }
 {
-    let end = body_len as usize + 4;
-    &heard[4..end]
+    front_body(heard, body_len)
 }
 
 // Drops the frame at the front, and with the last byte the storage that a long one took.

@@ -1,39 +1,34 @@
 -- Lemmas on specs/Apart.antt: events leave states alike.
-use Rattle.std.proofs.Common.{◌≡◌, ℕ, suc, List, [], ◌∷◌, ◌++◌, refl, ap, sym, subst, ◌∙◌, Option, Some, None, Bool, true, false, nat_lt, Ok, Err, Result}
+use Rattle.std.proofs.Common.{◌≡◌, ℕ, suc, List, [], ◌∷◌, ◌++◌, refl, ap, sym, subst, ◌∙◌, Option, Some, Bool, true, false, nat_lt, Ok}
 use Rattle.std.specs.Option.{option_map}
-use Rattle.std.specs.Str.{bytes_eq}
 use Rattle.world_ports.specs.declared.Door.{Door}
 use Rattle.world_ports.specs.declared.Door.TheVariants.{Clients, Children}
-use Rattle.world_ports.specs.declared.Job.{Job}
-use Rattle.world_ports.specs.declared.JobKind.{JobKind}
-use Rattle.world_ports.specs.declared.JobKind.TheVariants as kinds
 use Rattle.world_ports.specs.declared.Moment.{Moment}
 use Rattle.wire_text.specs.Bounds.{longest_body}
-use Rattle.wire_text.specs.Frames.{Front, front, front_body, after_front, Whole, Bad, More}
+use Rattle.wire_text.specs.Frames.{Front, front, front_body, Whole, Bad, More}
 use Rattle.agent_msg.specs.Requests.{Add, Addition}
-use Rattle.child_msg.specs.Messages.{FromChildMessage, Hello, Signed, Refused, True, False, Granted, Denied}
-use Rattle.child_msg.specs.Reading.{from_child_of}
-use Rattle.child_msg.specs.declared.fault.ChildFault.{ChildFault}
-use Rattle.confirm_desk.specs.Confirmations.{Confirmation, find_asker, find_job, find_linked, linked}
+use Rattle.confirm_desk.specs.Confirmations.{Confirmation, linked, took}
 use Rattle.agent_model.specs.Actions.{Outcome}
 use Rattle.agent_model.specs.Binds.{agent_request_of}
-use Rattle.agent_model.specs.Children.{confirmer_goes_on, confirmer_named, failed_by, start_failed, first_frame, first_message, heard_more, hello_heard, helper_named, is_started_by, job_left, job_started, named_by, ticket_shown, unheard}
-use Rattle.agent_model.specs.Consents.{find_started, over_if}
+use Rattle.agent_model.specs.Answers.{helper_heard, lose}
+use Rattle.agent_model.specs.Children.{changed, closed, confirmer_named, heard_more, helper_named, job_left, job_started, unheard}
 use Rattle.agent_model.specs.Dispatch.{serve}
 use Rattle.agent_model.specs.Events.{Happening, Timed, Joined, Heard, Ended, Took, Started, StartFailed, Tick}
 use Rattle.agent_model.specs.KeyStates.{KeyState}
 use Rattle.agent_model.specs.Looks.{due}
 use Rattle.agent_model.specs.Runs.{run}
-use Rattle.agent_model.specs.State.{Client, Confirmer, Helper, Nothing, OnAsk, OnConfirmation, Port, Role, Settings, StartedJob, State, UnderWay, Unnamed, Waits, change_port, find_port, find_to_start, first_state, new_port, owed_by, owed_of, role_of}
-use Rattle.agent_model.specs.Step.{admitted, asker_at, attempts, ended_at, ended_by_role, handle, has_room, heard_at, heard_by_role, helper_took, join, look_front, look_owed, look_port, look_waits, looked, step, take_frame, taken, took_at, took_by_role, took_some}
+use Rattle.agent_model.specs.State.{Client, Confirmer, Helper, Nothing, OnAsk, OnConfirmation, Port, Role, Settings, State, UnderWay, Unnamed, Waits, change_port, find_port, first_state, new_port, owed_by, owed_of, role_of}
+use Rattle.agent_model.specs.Step.{admitted, asker_at, attempts, confirmer_took, ended_at, ended_by_role, handle, has_room, heard_at, heard_by_role, helper_took, join, look_front, look_owed, look_port, look_waits, looked, step, take_frame, taken, took_at, took_by_role, took_some}
 use Rattle.agent_model.specs.Time.{at_moment, time_passes}
 use Rattle.agent_model.specs.Verdicts.{tell, verdict_text, verdict_waits}
-use Rattle.agent_model.proofs.MakeLemmas.{role-client, role-confirmer}
+use Rattle.agent_model.proofs.BothLemmas.{AreAlikeInBoth, IsSameWay, both-ended, both-failed, both-heard_role, both-took_role}
+use Rattle.agent_model.proofs.JobLemmas.{IsIn, behind, here}
+use Rattle.agent_model.proofs.MakeLemmas.{role-client, role-door}
 use Rattle.agent_model.proofs.PortsLemmas.{find_port-change_port, found_number}
 use Rattle.agent_laws.specs.Apart.{AreAlike, AreAlikeOutcomes, AreAlikePorts, AreAlikeRuns, AreUnseen, Insiders, IsBlind, IsOutside, IsShared, SaysNoMore, aside_first, aside_second, none as no_keys_yet, over, shared}
 use Rattle.agent_laws.proofs.ApartKeyLemmas.{keys-in_turn, keys-turned}
-use Rattle.agent_laws.proofs.ApartPortLemmas.{FindsPorts, KeepsPlace, clients-alike, found, keeps-tell, neither, ports-changed, ports-found, ports-in_turn, ports-joined, ports-turned, unnamed-alike}
-use Rattle.agent_laws.proofs.ApartSideLemmas.{Same, Sides, alike-helper, alike-lose, alike-shut, alike-stay, lost-alike, moment-alike, other, sides-changed, sides-closed, sides-way}
+use Rattle.agent_laws.proofs.ApartPortLemmas.{FindsPorts, KeepsPlace, clients-alike, found, keeps-tell, neither, ports-changed, ports-found, ports-in_turn, ports-joined, ports-removed, ports-turned, unnamed-alike}
+use Rattle.agent_laws.proofs.ApartSideLemmas.{Same, Sides, alike-helper, alike-lose, alike-of, alike-shut, alike-stay, moment-alike, other, sides-changed, sides-way}
 use Rattle.agent_laws.proofs.ApartServeLemmas.{ServesAlike, serves-alike}
 use Rattle.agent_laws.proofs.KeyLemmas.{first-own}
 
@@ -102,61 +97,6 @@ module _ (who : Insiders) where
     looked-alike : (number : ℕ) → ((port : Port) → find_port number state.ports ≡ Some port → IsQuietAt port) → Same who (looked number state) (looked number (other state q k))
     looked-alike number quiet = look-alike (ports-found who number state.ports q sides.ports_are) quiet
 
-  -- ---- a child process that hasn't named itself
-
-  module _ (number : ℕ) {state : State} {q : List Port} {k : KeyState} (sides : Sides who state q k) where
-    abbrev Here : (State → Outcome) → Type 0
-    Here does = Same who (does state) (does (other state q k))
-
-    keeps-unheard : KeepsPlace unheard
-    keeps-unheard = record { number = λ p. refl; door = λ p. refl }
-
-    sides-named : (job : ℕ) → Sides who (helper_named job number state) (change_port number unheard q) k
-    sides-named job = record {
-      ports_are = ports-changed who number unheard unheard keeps-unheard keeps-unheard (λ p. refl) state.ports q sides.ports_are;
-      held_is = sides.held_is;
-      calm = sides.calm;
-    }
-
-    sides-linked : (job : ℕ) → Sides who (confirmer_named job number state) (change_port number unheard q) k
-    sides-linked job = record {
-      ports_are = ports-changed who number unheard unheard keeps-unheard keeps-unheard (λ p. refl) state.ports q sides.ports_are;
-      held_is = sides.held_is;
-      calm = ap (linked job number) sides.calm;
-    }
-
-    none_goes_on : (job : ℕ) (rest : List ℕ) {after : State} {r : List Port} → Sides who after r k → (asked : Option Confirmation) → asked ≡ None → Same who (confirmer_goes_on asked rest after) (confirmer_goes_on asked rest (other after r k))
-    none_goes_on job rest after None is = alike-stay after
-    none_goes_on job rest after (Some confirmation) is = absurd (cc)
-
-    named-alike : (kind : JobKind) (job : ℕ) (rest : List ℕ) → Here (named_by kind job number rest)
-    named-alike kinds.Helper job rest = alike-helper (sides-named job) rest
-    named-alike kinds.Confirm job rest =
-        none_goes_on job rest (sides-linked job) (find_job job (confirmer_named job number state).under_way.confirmations) (ap (find_job job) (sides-linked job).calm)
-
-    ticket-alike : (same : Bool) (job : Job) (rest : List ℕ) → Here (ticket_shown same job number rest)
-    ticket-alike true job rest = named-alike job.kind job.number rest
-    ticket-alike false job rest = alike-shut sides number
-
-    hello-alike : (started : Option StartedJob) (ticket rest : List ℕ) → Here (hello_heard started ticket number rest)
-    hello-alike None ticket rest = alike-shut sides number
-    hello-alike (Some one) ticket rest = ticket-alike (bytes_eq one.ticket ticket) one.job rest
-
-    message-alike : (read : Result FromChildMessage ChildFault) (rest : List ℕ) → Here (first_message read number rest)
-    message-alike (Ok (Hello job ticket)) rest = hello-alike (find_started job state.under_way.started) ticket rest
-    message-alike (Ok (Signed ask signature)) rest = alike-shut sides number
-    message-alike (Ok (Refused ask)) rest = alike-shut sides number
-    message-alike (Ok (True ask)) rest = alike-shut sides number
-    message-alike (Ok (False ask)) rest = alike-shut sides number
-    message-alike (Ok (Granted job)) rest = alike-shut sides number
-    message-alike (Ok (Denied job)) rest = alike-shut sides number
-    message-alike (Err fault) rest = alike-shut sides number
-
-    frame-alike : (answer : Front) (heard : List ℕ) → Here (first_frame answer number heard)
-    frame-alike (Whole body_len) heard = message-alike (from_child_of (front_body body_len heard)) (after_front body_len heard)
-    frame-alike (Bad announced) heard = alike-shut sides number
-    frame-alike More heard = alike-stay sides
-
   -- ---- events
 
   pub keeps-heard : (piece : List ℕ) → KeepsPlace (heard_more piece)
@@ -165,19 +105,49 @@ module _ (who : Insiders) where
   pub keeps-took : (count : ℕ) → KeepsPlace (took_some count)
   keeps-took count = record { number = λ p. refl; door = λ p. refl }
 
+  keeps-unheard : KeepsPlace unheard
+  keeps-unheard = record { number = λ p. refl; door = λ p. refl }
+
+  nobody : {confirmation : Confirmation} {all : List Confirmation} → IsIn confirmation all → all ≡ [] → ⊥
+  nobody (here others) none = absurd (cc)
+  nobody (behind other others there) none = absurd (cc)
+
+  -- what an event of no client brings
+  changed-alike : (number : ℕ) (f : Port → Port) → KeepsPlace f → (one two : State) → AreAlike who one two → AreAlike who (changed number f one) (changed number f two)
+  changed-alike number f keeps one two alike = record {
+    ports = ports-changed who number f f keeps keeps (λ p. refl) one.ports two.ports alike.ports;
+    held = alike.held;
+    rest = ap (changed number f) alike.rest;
+    calm = alike.calm;
+  }
+
+  ends-alike : (does : State → Outcome) (one two : State) → AreAlike who one two → ((q : List Port) (k : KeyState) → Sides who one q k → Same who (does one) (does (other one q k))) → Same who (does one) (does two)
+  ends-alike does one two alike each =
+      subst (λ (s : State). Same who (does one) (does s)) (sym alike.rest) (each two.ports two.held (record { ports_are = alike.ports; held_is = alike.held; calm = alike.calm }))
+
+  in_both : AreAlikeInBoth (AreAlike who) (Same who)
+  in_both = record {
+    way = λ one two alike. subst (IsSameWay one) (sym alike.rest) record { role = λ door number. refl; link = refl; confirmations = refl; started = refl; to_start = refl };
+    hears = λ number piece one two child alike. changed-alike number (heard_more piece) (keeps-heard piece) one two alike;
+    closes = λ number one two alike.
+        record { ports = ports-removed who number one.ports two.ports alike.ports; held = alike.held; rest = ap (closed number) alike.rest; calm = alike.calm };
+    names = λ job number one two child alike. record { ports = (changed-alike number unheard keeps-unheard one two alike).ports; held = alike.held; rest = ap (helper_named job number) alike.rest; calm = alike.calm };
+    links = λ job number one two child alike.
+        record { ports = (changed-alike number unheard keeps-unheard one two alike).ports; held = alike.held; rest = ap (confirmer_named job number) alike.rest; calm = ap (linked job number) alike.calm };
+    leaves = λ job one two alike. record { ports = alike.ports; held = alike.held; rest = ap (job_left job) alike.rest; calm = alike.calm };
+    sends = λ count one two alike. record { ports = alike.ports; held = alike.held; rest = ap (helper_took count) alike.rest; calm = alike.calm };
+    prompts = λ job count one two alike. record { ports = alike.ports; held = alike.held; rest = ap (confirmer_took job count) alike.rest; calm = ap (took job count) alike.calm };
+    stays = λ one two alike. record { state = alike; put = refl };
+    shuts = λ number next one two alike after. record { state = after.state; put = after.put };
+    tells = λ piece one two alike. ends-alike (helper_heard piece) one two alike (λ q k sides. alike-helper sides piece);
+    loses = λ one two alike. ends-alike lose one two alike (λ q k sides. alike-lose sides);
+    overs = λ confirmation one two there alike. absurd (nobody there alike.calm);
+    consents = λ confirmation piece one two there alike. absurd (nobody there alike.calm);
+  }
+
   module _ {state : State} {q : List Port} {k : KeyState} (sides : Sides who state q k) where
     abbrev Does : (State → Outcome) → Type 0
     Does does = Same who (does state) (does (other state q k))
-
-    -- nobody is to confirm anything
-    no_confirmer : (number : ℕ) (confirmation : Confirmation) → find_linked number state.under_way.confirmations ≡ Some confirmation → ⊥
-    no_confirmer number confirmation is =
-        let none_is : None ≡ Some confirmation = sym (ap (find_linked number) sides.calm) ∙ is in
-        cc
-
-    over_none : (asked : Option Confirmation) → asked ≡ None → {after : State} {r : List Port} → Sides who after r k → Same who (over_if asked after) (over_if asked (other after r k))
-    over_none None is after = alike-stay after
-    over_none (Some confirmation) is after = absurd (cc)
 
     -- what an outsider's client may ask behind a change of its port
     quiet-behind : (number : ℕ) (f : Port → Port) (keeps : KeepsPlace f) → ((p : Port) → (f p).chain ≡ p.chain) → ((p : Port) → (f p).attempted ≡ p.attempted) → (port : Port) → find_port number state.ports ≡ Some port → who.is_insider number ≡ false → IsBlind who port (f port) state (other state q k)
@@ -201,34 +171,33 @@ module _ (who : Insiders) where
         unseen_as one two same_chain same_mark (key ∷ keys) all =
             (λ hidden. rw (same_chain, same_mark) (all.0 hidden), unseen_as one two same_chain same_mark keys all.1)
 
+    heard-child : (role : Role) (port : Port) (piece : List ℕ) (number : ℕ) → find_port number state.ports ≡ Some port → role_of port.door port.number state.under_way ≡ role → (role ≡ Client → ⊥) → Does (heard_by_role role port piece)
+    heard-child role port piece number is at no_client =
+        let door = role-door port.door port.number state.under_way role at no_client in
+        both-heard_role (AreAlike who) (Same who) in_both port state (other state q k) door (alike-of sides) piece (λ p there.
+        let both : Some port ≡ Some p = sym (ap (λ n. find_port n state.ports) (found_number number state.ports port is) ∙ is) ∙ there in
+        let same : port ≡ p = cc in
+        ap (λ (x : Port). x.door) (sym same) ∙ door) role at
+
     heard-role : (role : Role) (port : Port) (piece : List ℕ) (number : ℕ) → find_port number state.ports ≡ Some port → role_of port.door port.number state.under_way ≡ role → IsOutside who number (heard_more piece) state (other state q k) → Does (heard_by_role role port piece)
     heard-role Client port piece number is role outside =
         looked-alike (sides-changed sides port.number (heard_more piece) (keeps-heard piece)) port.number
         (quiet-behind number (heard_more piece) (keeps-heard piece) (λ p. refl) (λ p. refl) port is outside.outsider (outside.blind port is (role-client port.door port.number state.under_way role)))
-    heard-role Unnamed port piece number is role outside =
-        frame-alike port.number (sides-changed sides port.number (heard_more piece) (keeps-heard piece)) (front 262144 (port.heard ++ piece)) (port.heard ++ piece)
-    heard-role Helper port piece number is role outside = alike-helper sides piece
-    heard-role (Confirmer confirmation) port piece number is role outside =
-        absurd (no_confirmer port.number confirmation (role-confirmer port.door port.number state.under_way confirmation role))
+    heard-role Unnamed port piece number is role outside = heard-child Unnamed port piece number is role (λ no. absurd (cc))
+    heard-role Helper port piece number is role outside = heard-child Helper port piece number is role (λ no. absurd (cc))
+    heard-role (Confirmer confirmation) port piece number is role outside = heard-child (Confirmer confirmation) port piece number is role (λ no. absurd (cc))
+
+    took-child : (role : Role) (port : Port) (count : ℕ) → role_of port.door port.number state.under_way ≡ role → (role ≡ Client → ⊥) → Does (took_by_role role port.number count)
+    took-child role port count at no_client =
+        both-took_role (AreAlike who) (Same who) in_both port state (other state q k) (role-door port.door port.number state.under_way role at no_client) (alike-of sides) count role at
 
     took-role : (role : Role) (port : Port) (count : ℕ) (number : ℕ) → find_port number state.ports ≡ Some port → role_of port.door port.number state.under_way ≡ role → IsOutside who number (took_some count) state (other state q k) → Does (took_by_role role port.number count)
     took-role Client port count number is role outside =
         looked-alike (sides-changed sides port.number (took_some count) (keeps-took count)) port.number
         (quiet-behind number (took_some count) (keeps-took count) (λ p. refl) (λ p. refl) port is outside.outsider (outside.blind port is (role-client port.door port.number state.under_way role)))
-    took-role Unnamed port count number is role outside = alike-stay sides
-    took-role Helper port count number is role outside = alike-stay (sides-way sides (helper_took count state).under_way sides.calm)
-    took-role (Confirmer confirmation) port count number is role outside =
-        absurd (no_confirmer port.number confirmation (role-confirmer port.door port.number state.under_way confirmation role))
-
-    ended-role : (role : Role) (number : ℕ) → ((confirmation : Confirmation) → role ≡ Confirmer confirmation → ⊥) → Does (ended_by_role role number)
-    ended-role Client number never =
-        let after = over_none (find_asker number state.under_way.confirmations) (ap (find_asker number) sides.calm) (sides-closed sides number) in
-        record { state = after.state; put = after.put }
-    ended-role Unnamed number never = alike-shut sides number
-    ended-role Helper number never =
-        let after = alike-lose (sides-closed sides number) in
-        record { state = after.state; put = after.put }
-    ended-role (Confirmer confirmation) number never = absurd (never confirmation refl)
+    took-role Unnamed port count number is role outside = took-child Unnamed port count role (λ no. absurd (cc))
+    took-role Helper port count number is role outside = took-child Helper port count role (λ no. absurd (cc))
+    took-role (Confirmer confirmation) port count number is role outside = took-child (Confirmer confirmation) port count role (λ no. absurd (cc))
 
     -- the port of an outsider is the same
     heard-found : (number : ℕ) (piece : List ℕ) {one two : Option Port} → find_port number state.ports ≡ one → FindsPorts who one two → IsOutside who number (heard_more piece) state (other state q k) → Same who (heard_at one piece state) (heard_at two piece (other state q k))
@@ -248,12 +217,7 @@ module _ (who : Insiders) where
     ended-found number (found one two alike) =
         subst (λ (d : Door). Same who (ended_at (Some one) state) (ended_by_role (role_of d two.number state.under_way) two.number (other state q k))) alike.door
         (subst (λ (n : ℕ). Same who (ended_at (Some one) state) (ended_by_role (role_of one.door n state.under_way) n (other state q k))) alike.number
-        (ended-role (role_of one.door one.number state.under_way) one.number
-        (λ confirmation role. no_confirmer one.number confirmation (role-confirmer one.door one.number state.under_way confirmation role))))
-
-    failed-kind : (kind : JobKind) (number : ℕ) → Does (failed_by kind number)
-    failed-kind kinds.Helper number = lost-alike who (is_started_by number state.under_way.link.state) sides
-    failed-kind kinds.Confirm number = over_none (find_job number state.under_way.confirmations) (ap (find_job number) sides.calm) sides
+        (both-ended (AreAlike who) (Same who) in_both one state (other state q k) (alike-of sides)))
 
     admitted-alike : (door : Door) (one two : Bool) → one ≡ two → AreAlikePorts who (admitted one (suc state.last_port) door state.ports) (admitted two (suc state.last_port) door q)
     admitted-alike door true two is = subst (λ b. AreAlikePorts who (admitted true (suc state.last_port) door state.ports) (admitted b (suc state.last_port) door q)) is (ports-joined who (new_port (suc state.last_port) door ∷ []) state.ports q sides.ports_are)
@@ -274,17 +238,13 @@ module _ (who : Insiders) where
       put = refl;
     }
 
-  failed-found : (asked : Option Job) {state : State} {q : List Port} {k : KeyState} → Sides who state q k → Same who (start_failed asked state) (start_failed asked (other state q k))
-  failed-found None sides = alike-stay sides
-  failed-found (Some job) {state = state} sides = failed-kind (sides-way sides (job_left job.number state).under_way sides.calm) job.kind job.number
-
   handles-alike : (event : Happening) {state : State} {q : List Port} {k : KeyState} → Sides who state q k → IsShared who event state (other state q k) → Same who (handle event state) (handle event (other state q k))
   handles-alike (Joined door) sides tells = joined-alike sides door
   handles-alike (Heard port piece) {state = state} {q = q} sides tells = heard-found sides port piece refl (ports-found who port state.ports q sides.ports_are) tells
   handles-alike (Took port count) {state = state} {q = q} sides tells = took-found sides port count refl (ports-found who port state.ports q sides.ports_are) tells
   handles-alike (Ended port) {state = state} {q = q} sides tells = ended-found sides port (ports-found who port state.ports q sides.ports_are)
   handles-alike (Started job ticket) {state = state} sides tells = alike-stay (sides-way sides (job_started job ticket state).under_way sides.calm)
-  handles-alike (StartFailed job) {state = state} sides tells = failed-found (find_to_start job state.under_way.to_start) sides
+  handles-alike (StartFailed job) {state = state} {q = q} {k = k} sides tells = both-failed (AreAlike who) (Same who) in_both job state (other state q k) (alike-of sides)
   handles-alike Tick sides tells = alike-stay sides
 
   -- ---- a step

@@ -9,7 +9,7 @@ use Rattle.helper_link.specs.declared.answer.Settled.{Settled}
 use Rattle.helper_link.specs.declared.fault.LinkFault.{LinkFault}
 use Rattle.agent_model.specs.Actions.{Outcome, and_then, behind, stay}
 use Rattle.agent_model.specs.Answers.{Answering, answer_all, answer_asker, answer_by, answer_true, answers_in, close_helper, find_verification, helper_heard, lose, lose_if, lose_where, prove, remove_verification, with_answers}
-use Rattle.agent_model.specs.Children.{changed, closed, shut}
+use Rattle.agent_model.specs.Children.{changed, shut}
 use Rattle.agent_model.specs.KeyStates.{KeyState}
 use Rattle.agent_model.specs.State.{Port, State, UnderWay, Verification, change_port}
 use Rattle.agent_model.specs.Time.{all_over, end_late, is_helper_late, taken_in, time_passes}
@@ -47,13 +47,6 @@ module _ {who : Insiders} {state : State} {q : List Port} {k : KeyState} (sides 
 
   pub sides-way : (under_way : UnderWay) → under_way.confirmations ≡ [] → Sides who (record state { under_way = under_way }) q k
   sides-way under_way calm = record { ports_are = sides.ports_are; held_is = sides.held_is; calm = calm }
-
-  pub sides-closed : (number : ℕ) → Sides who (closed number state) (closed number (other state q k)).ports k
-  sides-closed number = record {
-    ports_are = ports-removed who number state.ports q sides.ports_are;
-    held_is = sides.held_is;
-    calm = sides.calm;
-  }
 
   pub alike-lose : Same who (lose state) (lose (other state q k))
   alike-lose = record {

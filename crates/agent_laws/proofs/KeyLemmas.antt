@@ -118,12 +118,12 @@ kept-served {held = held} own (verifies bind is_new is stands free) = kept-same 
 
 kept-makes : {event : Happening} {old : State} {outcome : Outcome} → Makes event old outcome → HaveOwnParts old.held.table → KeysKept old.held.table outcome.state.held.table
 kept-makes (stays state) own = kept-same state.held.table own
-kept-makes (first (alters number f mild) rest) own = kept-makes rest own
+kept-makes (first (alters number f change) rest) own = kept-makes rest own
 kept-makes (first (closes number may) rest) own = kept-makes rest own
-kept-makes (first (goes_on new asks) rest) own = kept-makes rest own
-kept-makes (first (names job number port found door free) rest) own = kept-makes rest own
-kept-makes (first (links job number port found door free other) rest) own = kept-makes rest own
-kept-makes (serves body_len port state found door waits owed) own =
+kept-makes (first (goes_on new goes) rest) own = kept-makes rest own
+kept-makes (first (names job number new) rest) own = kept-makes rest own
+kept-makes (first (links job number new) rest) own = kept-makes rest own
+kept-makes (serves body_len port state found door waits owed its) own =
     kept-served own (serves-any (agent_request_of (front_body body_len port.heard)) (asker_at state.moment port) state.held state.under_way)
 kept-makes (tells piece state) own = kept-fault (telling piece state.under_way.link).fault _ own
   where

@@ -155,7 +155,7 @@ goes-makes {N = N} {old = old} life past (first {mid = mid} {outcome = outcome} 
       agrees = subst (λ m. Agrees N life m.mono (onto past (stamps m outcome.actions)) outcome.state.held outcome.state.under_way.link.asks outcome.state.under_way.confirmations) calm.moment later.agrees;
       moment = later.moment ∙ calm.moment;
     }
-goes-makes life past (serves body_len port state found door nothing owed) tied opened = record {
+goes-makes life past (serves body_len port state found door nothing owed own) tied opened = record {
   lawful = served-lawful life past body_len port state found tied.raised.order opened;
   agrees = served-agrees life past body_len port state found tied.raised.order opened;
   moment = refl;

@@ -260,7 +260,7 @@ proves-makes {old = old} past (first {mid = mid} {outcome = outcome} quiet rest)
     let keeps = keeps-quiet quiet tied.rising in
     let later = proves-makes past rest (tied-quiet quiet tied) (rw (keeps.last, keeps.verifications) given) (rw (keeps.asks, keeps.verifications) were) in
     record { right = later.right; were = later.were }
-proves-makes past (serves body_len port state found door nothing owed) tied given were =
+proves-makes past (serves body_len port state found door nothing owed own) tied given were =
     let body : List ℕ = front_body body_len port.heard in
     proves-served past body port state (changed port.number (take_frame body_len (attempts state.held.lock body)) state) tied given were (serve-ends (asker_at state.moment port) state.held state.under_way body)
 proves-makes past (tells piece state) tied given were = proves-fault past piece state tied were (telling piece state.under_way.link).fault

@@ -159,13 +159,13 @@ pending-cases job (action ∷ later) before raising is = by_later (pending-cases
 -- what an event raises is of a key that was held
 raised-makes : {event : Happening} {old : State} {outcome : Outcome} (raising : Raising) → Makes event old outcome → IsAmong (Raised raising) outcome.actions → (key : HeldKey) × (find_identity raising.signing.blob old.held.table.identities ≡ Some key) × (raising.addition ≡ key.number)
 raised-makes raising (stays state) among = absurd among
-raised-makes raising (first (alters number f mild) rest) among = raised-makes raising rest among
+raised-makes raising (first (alters number f change) rest) among = raised-makes raising rest among
 raised-makes raising (first (closes number may) rest) among = raised-makes raising rest among
-raised-makes raising (first (goes_on new asks) rest) among = raised-makes raising rest among
-raised-makes raising (first (names job number port found door free) rest) among = raised-makes raising rest among
-raised-makes raising (first (links job number port found door free other) rest) among = raised-makes raising rest among
-raised-makes raising (serves body_len port state found door waits owed) (inl same) = absurd (cc)
-raised-makes raising (serves body_len port state found door waits owed) (inr there) =
+raised-makes raising (first (goes_on new goes) rest) among = raised-makes raising rest among
+raised-makes raising (first (names job number new) rest) among = raised-makes raising rest among
+raised-makes raising (first (links job number new) rest) among = raised-makes raising rest among
+raised-makes raising (serves body_len port state found door waits owed own) (inl same) = absurd (cc)
+raised-makes raising (serves body_len port state found door waits owed own) (inr there) =
     raises-served (agent_request_of (front_body body_len port.heard)) (asker_at state.moment port) state.held state.under_way raising
     (serves-any (agent_request_of (front_body body_len port.heard)) (asker_at state.moment port) state.held state.under_way) there
 raised-makes raising (tells piece state) among =
@@ -260,11 +260,11 @@ module _ (asking : Asking) (signing : Signing) (waiting : ℕ → Option Raising
       (subst (λ h. IsGrantable key port.chain raising.addition signing.message mid.moment.wall h) held may)))
 
   put-quiet : {event : Happening} {old mid : State} (actions : List Action) → Quiet event old mid → KeepsChains old.ports mid.ports → IsPut asking signing waiting mid actions → IsPut asking signing waiting old actions
-  put-quiet actions (alters number f mild) keeps why = put-back _ _ actions refl refl keeps why
+  put-quiet actions (alters number f change) keeps why = put-back _ _ actions refl refl keeps why
   put-quiet actions (closes number may) keeps why = put-back _ _ actions refl refl keeps why
-  put-quiet actions (goes_on new asks) keeps why = put-back _ _ actions refl refl keeps why
-  put-quiet actions (names job number port found door free) keeps why = put-back _ _ actions refl refl keeps why
-  put-quiet actions (links job number port found door free other) keeps why = put-back _ _ actions refl refl keeps why
+  put-quiet actions (goes_on new goes) keeps why = put-back _ _ actions refl refl keeps why
+  put-quiet actions (names job number new) keeps why = put-back _ _ actions refl refl keeps why
+  put-quiet actions (links job number new) keeps why = put-back _ _ actions refl refl keeps why
 
   -- as it comes of consent
   module _ (confirmation : Confirmation) (port : Port) (state : State) (found : find_port confirmation.asker state.ports ≡ Some port) (named : IsNamed waiting state) (tie : noted confirmation.job state.under_way.confirmations ≡ option_map wanted (waiting confirmation.job)) (there : find_job confirmation.job state.under_way.confirmations ≡ Some confirmation) where
@@ -305,13 +305,13 @@ module _ (asking : Asking) (signing : Signing) (waiting : ℕ → Option Raising
       (put-makes rest (tied-quiet quiet tied) (named-quiet quiet named) (λ job. (quiet-noted job quiet).1 ∙ tie job) purpose among)
     where
       named-quiet : {event : Happening} {old mid : State} → Quiet event old mid → IsNamed waiting old → IsNamed waiting mid
-      named-quiet (alters number f mild) was = record { own = was.own; named = was.named }
+      named-quiet (alters number f change) was = record { own = was.own; named = was.named }
       named-quiet (closes number may) was = record { own = was.own; named = was.named }
-      named-quiet (goes_on new asks) was = record { own = was.own; named = was.named }
-      named-quiet (names job number port found door free) was = record { own = was.own; named = was.named }
-      named-quiet (links job number port found door free other) was = record { own = was.own; named = was.named }
-  put-makes (serves body_len port state found door nothing owed) tied named tie purpose (inl same) = absurd (cc)
-  put-makes (serves body_len port state found door nothing owed) tied named tie purpose (inr there) =
+      named-quiet (goes_on new goes) was = record { own = was.own; named = was.named }
+      named-quiet (names job number new) was = record { own = was.own; named = was.named }
+      named-quiet (links job number new) was = record { own = was.own; named = was.named }
+  put-makes (serves body_len port state found door nothing owed own) tied named tie purpose (inl same) = absurd (cc)
+  put-makes (serves body_len port state found door nothing owed own) tied named tie purpose (inr there) =
       let body : List ℕ = front_body body_len port.heard in
       let read = agent_request_of body in
       let asker : Asker = asker_at state.moment port in

@@ -21,7 +21,7 @@ use Rattle.agent_model.specs.Runs.{Stamped}
 use Rattle.agent_model.specs.State.{Port, State, UnderWay, find_port}
 use Rattle.agent_model.specs.Step.{asker_at}
 use Rattle.agent_model.proofs.JudgedLemmas.{Keeps}
-use Rattle.agent_model.proofs.MakeLemmas.{Quiet, alters, closes, goes_on, links, names}
+use Rattle.agent_model.proofs.MakeLemmas.{Quiet, alters, closes, goes_on, links, names, same_asks}
 use Rattle.agent_laws.specs.Dues.{Claim, claim_of_request, due_signing, met_by, open_asks, proved_of}
 use Rattle.agent_laws.specs.History.{IsDue, onto}
 use Rattle.agent_laws.specs.Past.{done_of_request}
@@ -68,11 +68,11 @@ pub record Calm (old new : State) : Type 0 where
   pub kept : Stays old.under_way.confirmations new.under_way.confirmations
 
 pub calm-quiet : {event : Happening} {old new : State} → Quiet event old new → Calm old new
-calm-quiet (alters number f mild) = record { held = refl; moment = refl; last = refl; jobs = refl; kept = as_it_is }
+calm-quiet (alters number f change) = record { held = refl; moment = refl; last = refl; jobs = refl; kept = as_it_is }
 calm-quiet (closes number may) = record { held = refl; moment = refl; last = refl; jobs = refl; kept = as_it_is }
-calm-quiet (goes_on new same) = record { held = refl; moment = refl; last = same.last; jobs = same.jobs; kept = stays-kept same.kept }
-calm-quiet (names job number port found door free) = record { held = refl; moment = refl; last = refl; jobs = refl; kept = as_it_is }
-calm-quiet (links job number port found door free other) = record {
+calm-quiet (goes_on new goes) = record { held = refl; moment = refl; last = (same_asks goes).last; jobs = (same_asks goes).jobs; kept = stays-kept (same_asks goes).kept }
+calm-quiet (names job number new) = record { held = refl; moment = refl; last = refl; jobs = refl; kept = as_it_is }
+calm-quiet (links job number new) = record {
   held = refl;
   moment = refl;
   last = refl;

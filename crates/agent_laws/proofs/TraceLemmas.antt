@@ -32,7 +32,7 @@ use Rattle.agent_model.proofs.TiedLemmas.{tied-quiet}
 use Rattle.agent_model.proofs.GrantLemmas.{IsGranted, allowed, disallowed, grant-ends, unasked}
 use Rattle.agent_model.proofs.GrowLemmas.{jobs-for}
 use Rattle.agent_model.proofs.JobLemmas.{find_job-push, find_job-remove, in-found, job-change, job_within}
-use Rattle.agent_model.proofs.MakeLemmas.{IsFaint, Kept, Makes, Quiet, altered, alters, by_event, closes, first, goes_on, grants, links, loses, names, overs, serves, stays, tells, unchanged}
+use Rattle.agent_model.proofs.MakeLemmas.{IsFaint, Kept, Makes, Quiet, altered, alters, by_event, closes, first, goes_on, grants, links, loses, names, overs, same_asks, serves, stays, tells, unchanged}
 use Rattle.agent_model.proofs.OnceLemmas.{unused}
 use Rattle.agent_laws.proofs.MomentLemmas.{tied-brings}
 use Rattle.agent_laws.proofs.PendingLemmas.{among-either, ended-plain, pending-append, pending-plain}
@@ -202,11 +202,11 @@ traces-in_turn {job} {old} {mid} rises same later =
 
 -- a quiet change leaves it
 pub quiet-noted : (job : ℕ) {event : Happening} {old new : State} → Quiet event old new → (old.under_way.last_job ≤ new.under_way.last_job) × (noted job new.under_way.confirmations ≡ noted job old.under_way.confirmations)
-quiet-noted job (alters number f mild) = (omega arith, refl)
+quiet-noted job (alters number f change) = (omega arith, refl)
 quiet-noted job (closes number may) = (omega arith, refl)
-quiet-noted job (goes_on new asks) = (omega (arith, asks.jobs), noted-kept job asks.kept)
-quiet-noted job (names at number port found door free) = (omega arith, refl)
-quiet-noted job {old = old} (links at number port found door free other) =
+quiet-noted job (goes_on new goes) = (omega (arith, (same_asks goes).jobs), noted-kept job (same_asks goes).kept)
+quiet-noted job (names at number new) = (omega arith, refl)
+quiet-noted job {old = old} (links at number new) =
     (omega arith, noted-changed job at (linked_at number) (λ c. refl) (λ c. refl) old.under_way.confirmations)
 
 module _ (job : ℕ) where
@@ -249,7 +249,7 @@ module _ (job : ℕ) where
   traces-makes (first quiet rest) tied =
       let change = quiet-noted job quiet in
       traces-in_turn change.0 change.1 (traces-makes rest (tied-quiet quiet tied))
-  traces-makes (serves body_len port state found door nothing owed) tied =
+  traces-makes (serves body_len port state found door nothing owed own) tied =
       traces-served _ tied.raised.order (serve-ends (asker_at state.moment port) state.held state.under_way (front_body body_len port.heard))
   traces-makes (tells piece state) tied =
       let told = telling piece state.under_way.link in

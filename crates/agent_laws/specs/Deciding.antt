@@ -14,19 +14,23 @@ use Rattle.agent_laws.specs.Dues.{Claim, due_signing}
 
 -- ---- the law, as a test
 
+-- no request for a signature is due
 abbrev pub is_none_due : Option Claim → Bool
 is_none_due None = true
 is_none_due (Some claim) = false
 
+-- what is due is this request of the client of this port
 abbrev pub is_for : ℕ → Signing → Option Claim → Bool
 is_for port signing None = false
 is_for port signing (Some claim) = (claim.port == port) && (bytes_eq claim.signing.blob signing.blob
     && (bytes_eq claim.signing.message signing.message && (claim.signing.flags == signing.flags)))
 
+-- an ask may be put for this purpose: a signature where it is due, a binding where no signature is
 abbrev pub is_due : Purpose → ℕ → Option Claim → Bool
 is_due (ForSignature signing) port due = is_for port signing due
 is_due (ForBinding binding) port due = is_none_due due
 
+-- the action may come where this is due
 abbrev pub stands_at : Action → Option Claim → Bool
 stands_at (Requested requesting) due = is_none_due due
 stands_at (Asked asking) due = is_due asking.purpose asking.port due
@@ -37,6 +41,7 @@ stands_at (Granted job) due = is_none_due due
 stands_at (Over job) due = is_none_due due
 stands_at Lost due = is_none_due due
 
+-- behind these actions each of those may come, the first one first, and nothing is due at the end
 abbrev pub is_lawful : Option ℕ → List Stamped → List Stamped → Bool
 is_lawful life past [] = is_none_due (due_signing life past)
 is_lawful life past (one ∷ later) =
@@ -48,6 +53,7 @@ is_lawful life past (one ∷ later) =
 abbrev pub at : ℕ → Happening → Timed
 at second event = record { moment = moment_at second; event = event }
 
+-- an event at second 0 of the monotonic clock and this one of the wall's
 abbrev pub at_wall : ℕ → Happening → Timed
 at_wall wall event = record { moment = record { mono = 0; wall = wall }; event = event }
 
@@ -56,6 +62,7 @@ abbrev pub lawful_then : List Happening → List Timed → Bool
 lawful_then events later =
     is_lawful None [] (history (first_state no_settings) (map (at 0) events ++ later))
 
+-- these events, all at second 0, make a lawful run
 abbrev pub lawful : List Happening → Bool
 lawful events = lawful_then events []
 

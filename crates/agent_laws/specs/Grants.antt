@@ -90,6 +90,7 @@ raises_by job Lost = 0
 abbrev pub times_ended : ℕ → List Action → ℕ
 times_ended job actions = sum_by (ends_by job) actions
 
+-- how often a confirmation is raised for this job
 abbrev pub times_raised : ℕ → List Action → ℕ
 times_raised job actions = sum_by (raises_by job) actions
 

@@ -23,12 +23,15 @@ at second action = record { moment = moment_at second; action = action }
 abbrev pub got : Verdict → List ℕ → Action
 got verdict frame = Requested (record { port = 1; body = drop 4 frame; verdict = verdict })
 
+-- the request succeeded
 abbrev pub did : List ℕ → Stamped
 did frame = at 0 (got (Replies Success) frame)
 
+-- the request was refused by the lock
 abbrev pub failed_to : List ℕ → Stamped
 failed_to frame = at 0 (got (Refuses Locked) frame)
 
+-- the request waits for the helper
 abbrev pub waits_for : List ℕ → Stamped
 waits_for frame = at 0 (got (Awaits (OnAsk 1)) frame)
 
@@ -40,15 +43,19 @@ signing tag = record { blob = blob tag; message = 1 ∷ 2 ∷ []; flags = 0 }
 abbrev pub asked : ℕ → Stamped
 asked ask = at 0 (Asked (record { ask = ask; port = 1; purpose = ForSignature (signing 17) }))
 
+-- the helper refused the ask of this number
 abbrev pub answered : ℕ → Stamped
 answered ask = at 0 (Answered (record { ask = ask; asker = 1; answer = answers.Refused }))
 
+-- a host whose agent is forwarded, with this session
 abbrev pub host : ℕ → Binding
 host session = record { host_key = 9 ∷ []; session = session ∷ []; forwarding = true }
 
+-- the binding of this session was proved for this port
 abbrev pub proved : ℕ → ℕ → Stamped
 proved port session = at 0 (Proved (record { port = port; binding = host session }))
 
+-- the user is asked by this job for a signature with the addition of this number
 abbrev pub raised : ℕ → ℕ → Stamped
 raised job number =
     at 0 (Raised (record { job = job; port = 1; addition = number; signing = signing 17 }))

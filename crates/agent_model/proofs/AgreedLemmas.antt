@@ -183,7 +183,7 @@ module _ (number job : ℕ) (body : List ℕ) (take : Port → Port) (keeps : (p
 agreed-makes : {event : Happening} {old : State} {outcome : Outcome} (number job : ℕ) → Makes event old outcome → event ≢ Ended number → IsTied old → Waits number job old.ports → IsAgreed number job outcome.actions outcome.state.ports
 agreed-makes number job (stays state) open_yet tied told = agreed-plain number job [] state.ports tt told
 agreed-makes number job (first quiet rest) open_yet tied told = agreed-makes number job rest open_yet (tied-quiet quiet tied) (waits-quiet number (OnConfirmation job) (for_it job) quiet open_yet told)
-agreed-makes number job (serves body_len port state found door nothing owed) open_yet tied told =
+agreed-makes number job (serves body_len port state found door nothing owed own) open_yet tied told =
     let body : List ℕ = front_body body_len port.heard in
     agreed-served number job body (take_frame body_len (attempts state.held.lock body)) (λ p. refl) port state found nothing told (serve-ends (asker_at state.moment port) state.held state.under_way body)
 agreed-makes number job (tells piece state) open_yet tied told =

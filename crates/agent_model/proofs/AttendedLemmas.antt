@@ -34,7 +34,7 @@ use Rattle.agent_model.proofs.FatedServeLemmas.{linked-begun}
 use Rattle.agent_model.proofs.TiedLemmas.{tied-quiet}
 use Rattle.agent_model.proofs.GrantLemmas.{IsGranted, allowed, disallowed, grant-ends, unasked}
 use Rattle.agent_model.proofs.JobLemmas.{IsIn, asker_own, in-by_asker, in-by_job, in-by_port, in-found, linked_port}
-use Rattle.agent_model.proofs.MakeLemmas.{Makes, MayClose, Quiet, alters, child, closes, ended, first, goes_on, grants, idle, links, loses, makes-handle, names, overs, role-client, role-confirmer, role-door, role-free, role-helper, serves, stays, tells}
+use Rattle.agent_model.proofs.MakeLemmas.{Makes, MayClose, Quiet, alters, child, closes, ended, first, goes_on, grants, idle, links, loses, makes-handle, mild_of, names, overs, same_asks, role-client, role-confirmer, role-door, role-free, role-helper, serves, stays, tells}
 use Rattle.agent_model.proofs.PortsLemmas.{found_number}
 use Rattle.agent_model.proofs.ServeLemmas.{IsServed, answered, asked, raised, refused, serve-ends}
 use Rattle.agent_model.proofs.OpenLemmas.{Opens, attended-kept, attended-link, attended-linked, attended-opens, attended-over, attended-raised, attended-removed, is_found, none_asks, none_linked, opens-answers, opens-changed, opens-in_turn, opens-tell_each, removed-apart, some_port}
@@ -161,11 +161,11 @@ module _ (body : List ℕ) (take : Port → Port) (keeps : (p : Port) → (take 
 -- ---- events
 
 attended-quiet : {event : Happening} {old new : State} → Quiet event old new → ((n : ℕ) → event ≢ Ended n) → IsTied old → IsAttended old → IsAttended new
-attended-quiet {old = old} (alters number f mild) none tied attended = attended-opens old.ports _ (opens-changed number f old.ports mild.number) attended
+attended-quiet {old = old} (alters number f change) none tied attended = attended-opens old.ports _ (opens-changed number f old.ports (mild_of change).number) attended
 attended-quiet {old = old} (closes number may) none tied attended = attended-removed number old.ports (nobody_at old tied attended number may none) attended
-attended-quiet {old = old} (goes_on new asks) none tied attended =
-    attended-link old.under_way.link.state new.link.state (λ n is. sym asks.state ∙ is) (attended-kept asks.kept attended)
-attended-quiet {old = old} (names job number port found door free) none tied attended =
+attended-quiet {old = old} (goes_on new goes) none tied attended =
+    attended-link old.under_way.link.state new.link.state (λ n is. sym (same_asks goes).state ∙ is) (attended-kept (same_asks goes).kept attended)
+attended-quiet {old = old} (names job number new) none tied attended =
     attended-opens old.ports _ (opens-changed number unheard old.ports (λ p. refl)) record {
       few = attended.few;
       askers = attended.askers;
@@ -173,10 +173,10 @@ attended-quiet {old = old} (names job number port found door free) none tied att
       apart = attended.apart;
       helper = λ other n one there at is.
           let same : number ≡ n = cc in
-          not_linked old tied attended other number one there free (at ∙ ap Some (sym same));
+          not_linked old tied attended other number one there new.free (at ∙ ap Some (sym same));
     }
-attended-quiet {old = old} (links job number port found door free unhelped) none tied attended =
-    attended-linked job number (opens-changed number unheard old.ports (λ p. refl) number (is_found _ port found)) (λ other one there. not_linked old tied attended other number one there free) unhelped
+attended-quiet {old = old} (links job number new) none tied attended =
+    attended-linked job number (opens-changed number unheard old.ports (λ p. refl) number (is_found _ new.port new.found)) (λ other one there. not_linked old tied attended other number one there new.free) new.other
     (attended-opens old.ports _ (opens-changed number unheard old.ports (λ p. refl)) attended)
 
 attended-fault : (fault : Option LinkFault) (state : State) → IsTied state → IsAttended state → IsAttended (lose_if fault state).state
@@ -186,7 +186,7 @@ attended-fault (Some fault) state tied attended = lose-attended state tied atten
 attended-makes : {event : Happening} {old : State} {outcome : Outcome} → Makes event old outcome → ((n : ℕ) → event ≢ Ended n) → IsTied old → IsAttended old → IsAttended outcome.state
 attended-makes (stays state) none tied attended = attended
 attended-makes (first quiet rest) none tied attended = attended-makes rest none (tied-quiet quiet tied) (attended-quiet quiet none tied attended)
-attended-makes (serves body_len port state found door nothing owed) none tied attended =
+attended-makes (serves body_len port state found door nothing owed own) none tied attended =
     let body : List ℕ = front_body body_len port.heard in
     served-attended body (take_frame body_len (attempts state.held.lock body)) (λ p. refl) port state found tied attended (serve-ends (asker_at state.moment port) state.held state.under_way body)
 attended-makes (tells piece state) none tied attended =

@@ -2,21 +2,9 @@
 use Rattle.std.proofs.Common.{◌≡◌, ℕ, ◌≤◌, List, ◌++◌, length, ap, arith, inl, inr}
 use Rattle.std.proofs.lemmas.List.{length-append}
 use Rattle.wire_text.specs.Wire.{string}
-use Rattle.wire_text.specs.Frames.{front, front_body, Whole}
 use Rattle.wire_text.proofs.WireLemmas.{length-string}
-use Rattle.wire_text.proofs.FrontLemmas.{IsBody-front_body}
 use Rattle.agent_msg.specs.Requests.{Addition, Add, IsText, IsRequest}
 use Rattle.wire_text.specs.Bounds.{longest_body}
-
--- ---- a body that is taken from what a port heard
-
--- it is no longer than the longest body
-pub front_body-within : (body_len : ℕ) (heard : List ℕ) →
-    front longest_body heard ≡ Whole body_len →
-    length (front_body body_len heard) ≤ longest_body
-front_body-within body_len heard whole =
-    let body = IsBody-front_body longest_body heard body_len whole in
-    omega (arith, body.within)
 
 -- ---- the parts of a body
 

@@ -1,7 +1,8 @@
 -- What an event brings at a client's port.
-use Rattle.std.proofs.Common.{◌≡◌, ℕ, List, [], ◌∷◌, refl, ap, ◌∙◌, Option, Some, None}
+use Rattle.std.proofs.Common.{◌≡◌, ℕ, List, [], ◌∷◌, refl, ap, sym, ◌∙◌, Option, Some, None}
+use Rattle.std.specs.Option.{option_map}
 use Rattle.world_ports.specs.declared.Door.{Door}
-use Rattle.world_ports.specs.declared.Door.TheVariants.{Clients}
+use Rattle.world_ports.specs.declared.Door.TheVariants.{Clients, Children}
 use Rattle.wire_text.specs.Frames.{Front, Whole, Bad, More, front_body}
 use Rattle.agent_model.specs.Binds.{agent_request_of}
 use Rattle.agent_model.specs.Actions.{Outcome}
@@ -9,10 +10,11 @@ use Rattle.agent_model.specs.Children.{changed, closed, heard_more}
 use Rattle.agent_model.specs.Dispatch.{Served, serve}
 use Rattle.agent_model.specs.Events.{Heard, Took}
 use Rattle.agent_model.specs.Looks.{due, due_by}
-use Rattle.agent_model.specs.State.{Nothing, OnAsk, OnConfirmation, Port, State, Waits, change_port, find_port, role_of}
+use Rattle.agent_model.specs.State.{Client, Confirmer, Helper, Nothing, OnAsk, OnConfirmation, Port, Role, State, Unnamed, Waits, change_port, find_port, role_of}
 use Rattle.agent_model.specs.Step.{asker_at, attempts, handle, heard_at, heard_by_role, look_front, look_port, look_waits, looked, take_frame, took_at, took_by_role, took_some}
 use Rattle.agent_model.specs.Verdicts.{tell}
-use Rattle.agent_model.proofs.PortsLemmas.{change_port-twice, found_number}
+use Rattle.agent_model.proofs.MakeLemmas.{role-client}
+use Rattle.agent_model.proofs.PortsLemmas.{change_port-twice, find_port-change_port, found_number}
 
 -- a client is looked at by what is to be taken of it
 looked_by_due : (waits : Waits) (owed : List ℕ) (port : Port) (state : State) → port.waits ≡ waits → port.owed ≡ owed → look_waits port.waits port state ≡ look_front (due port) port state
@@ -77,3 +79,26 @@ handle-took number count port state found is =
     ap (λ (o : Option Port). took_at o count state) found
     ∙ ap (λ (d : Door). took_by_role (role_of d port.number state.under_way) port.number count state) is
     ∙ ap (λ (n : ℕ). looked n (changed n (took_some count) state)) (found_number number state.ports port found)
+
+-- where nothing is to be taken of it then, it is only changed
+pub changed-found : (number : ℕ) (port : Port) (f : Port → Port) (state : State) → ((p : Port) → (f p).number ≡ p.number) → find_port number state.ports ≡ Some port → due (f port) ≡ More → find_port number (looked number (changed number f state)).state.ports ≡ Some (f port)
+changed-found number port f state keeps found is =
+    let made : find_port number (change_port number f state.ports) ≡ Some (f port) = find_port-change_port number f state.ports keeps ∙ ap (option_map f) found in
+    ap (λ (s : State). find_port number s.ports) (looked-stays number (changed number f state) (ap due_by made ∙ is)) ∙ made
+
+-- what a child process takes leaves the ports
+pub took-child : (number count : ℕ) (state : State) → ((port : Port) → find_port number state.ports ≡ Some port → port.door ≡ Children) → (handle (Took number count) state).state.ports ≡ state.ports
+took-child number count state child = by_found (find_port number state.ports) child
+  where
+    by_role : (role : Role) (at : ℕ) → (role ≡ Client → ⊥) → (took_by_role role at count state).state.ports ≡ state.ports
+    by_role Client at other = absurd (other refl)
+    by_role Unnamed at other = refl
+    by_role Helper at other = refl
+    by_role (Confirmer confirmation) at other = refl
+
+    by_found : (found : Option Port) → ((port : Port) → found ≡ Some port → port.door ≡ Children) → (took_at found count state).state.ports ≡ state.ports
+    by_found None is = refl
+    by_found (Some port) is =
+        by_role (role_of port.door port.number state.under_way) port.number (λ client.
+        let both : Clients ≡ Children = sym (role-client port.door port.number state.under_way client) ∙ is port refl in
+        absurd (cc))

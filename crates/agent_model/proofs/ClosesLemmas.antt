@@ -28,7 +28,7 @@ use Rattle.agent_model.specs.Time.{at_moment, time_passes}
 use Rattle.agent_model.specs.Verdicts.{HelperLost, NotConfirmed, Refuses, Verdict, tell}
 use Rattle.agent_model.proofs.FateLemmas.{answers_as}
 use Rattle.agent_model.proofs.LeadLemmas.{Follows, follows-makes}
-use Rattle.agent_model.proofs.MakeLemmas.{Makes, Quiet, alters, by_event, closes, first, goes_on, grants, links, loses, names, overs, serves, shuts, stays, tells}
+use Rattle.agent_model.proofs.MakeLemmas.{Makes, Quiet, alters, by_event, closes, first, goes_on, grants, links, loses, mild_of, names, overs, serves, shuts, stays, tells}
 use Rattle.agent_model.proofs.PortsLemmas.{numbers-change_port, rising-append, rising_bound}
 use Rattle.agent_model.proofs.RunLemmas.{at_moment-follows, leads-rising}
 use Rattle.agent_model.proofs.TimeLemmas.{time_passes-makes}
@@ -201,13 +201,13 @@ closed-lose_if (Some fault) state = closed-lose state
 
 closed-quiet : {event : Happening} {old new : State} (quiet : Quiet event old new) (out after : List ℕ) →
     TakenOut out (numbers new.ports) after → TakenOut (shuts quiet out) (numbers old.ports) after
-closed-quiet {old = old} (alters number f mild) out after rest =
-    taken-changed number f old.ports out after mild.number rest
+closed-quiet {old = old} (alters number f change) out after rest =
+    taken-changed number f old.ports out after (mild_of change).number rest
 closed-quiet {old = old} (closes number may) out after rest = taken-closing number old.ports out after rest
-closed-quiet (goes_on new asks) out after rest = rest
-closed-quiet {old = old} (names job number port found door free) out after rest =
+closed-quiet (goes_on new goes) out after rest = rest
+closed-quiet {old = old} (names job number new) out after rest =
     taken-changed number unheard old.ports out after (λ p. refl) rest
-closed-quiet {old = old} (links job number port found door free other) out after rest =
+closed-quiet {old = old} (links job number new) out after rest =
     taken-changed number unheard old.ports out after (λ p. refl) rest
 
 closed-makes : {event : Happening} {old : State} {outcome : Outcome} → Makes event old outcome →
@@ -215,7 +215,7 @@ closed-makes : {event : Happening} {old : State} {outcome : Outcome} → Makes e
 closed-makes (stays state) = refl
 closed-makes (first {outcome = outcome} quiet rest) =
     closed-quiet quiet outcome.closes (numbers outcome.state.ports) (closed-makes rest)
-closed-makes (serves body_len port state found door waits owed) =
+closed-makes (serves body_len port state found door waits owed own) =
     numbers-change_port port.number _ _ (λ p. refl)
     ∙ numbers-change_port port.number _ state.ports (λ p. refl)
 closed-makes (tells piece state) =

@@ -237,7 +237,7 @@ fated-makes (stays state) tied = record { tied = tied; told = λ number ask open
 fated-makes (first quiet rest) tied =
     let later = fated-makes rest (tied-quiet quiet tied) in
     record { tied = later.tied; told = λ number ask open_yet told. later.told number ask open_yet (waits-quiet number (OnAsk ask) (λ is. absurd (cc)) quiet open_yet told) }
-fated-makes {event = event} (serves body_len port state found door nothing owed) tied =
+fated-makes {event = event} (serves body_len port state found door nothing owed own) tied =
     let body : List ℕ = front_body body_len port.heard in
     fated-served event body (take_frame body_len (attempts state.held.lock body)) record { number = λ p. refl; door = λ p. refl; waits = λ p. refl; owed = λ p none. none; chain = λ p. refl } port state found door nothing owed tied
     (serve-ends (asker_at state.moment port) state.held state.under_way body)

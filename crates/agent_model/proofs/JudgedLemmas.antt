@@ -31,7 +31,7 @@ use Rattle.agent_model.proofs.TiedLemmas.{tied-quiet}
 use Rattle.agent_model.proofs.GrantLemmas.{IsGranted, allowed, disallowed, grant-ends, unasked}
 use Rattle.agent_model.proofs.JudgeLemmas.{KeepsChains, chains-keep, judged-keeps, keeps-absent, keeps-changed, keeps-in_turn, keeps-removed, keeps-same}
 use Rattle.agent_model.proofs.LeadLemmas.{leads-answers, same}
-use Rattle.agent_model.proofs.MakeLemmas.{Makes, Quiet, alters, closes, first, goes_on, grants, links, loses, names, overs, serves, stays, tells}
+use Rattle.agent_model.proofs.MakeLemmas.{Makes, Quiet, alters, closes, first, goes_on, grants, links, loses, mild_of, names, overs, same_asks, serves, stays, tells}
 use Rattle.agent_model.proofs.RunLemmas.{leads-absent}
 use Rattle.agent_model.proofs.ServeLemmas.{IsServed, answered, asked, raised, refused, serve-ends}
 
@@ -51,11 +51,11 @@ judged-by old new keeps judged = record {
 }
 
 pub keeps-quiet : {event : Happening} {old new : State} → Quiet event old new → IsRising 0 old.last_port old.ports → Keeps old new
-keeps-quiet {old = old} (alters number f mild) rising = record { ports = keeps-changed number f old.ports mild.number mild.chain; asks = refl; last = refl; verifications = refl }
+keeps-quiet {old = old} (alters number f change) rising = record { ports = keeps-changed number f old.ports (mild_of change).number (mild_of change).chain; asks = refl; last = refl; verifications = refl }
 keeps-quiet {old = old} (closes number may) rising = record { ports = keeps-removed number 0 old.last_port old.ports rising; asks = refl; last = refl; verifications = refl }
-keeps-quiet {old = old} (goes_on new asks) rising = record { ports = keeps-same old.ports; asks = asks.asks; last = asks.last; verifications = asks.verifications }
-keeps-quiet {old = old} (names job number port found door free) rising = record { ports = keeps-changed number unheard old.ports (λ p. refl) (λ p. refl); asks = refl; last = refl; verifications = refl }
-keeps-quiet {old = old} (links job number port found door free other) rising = record { ports = keeps-changed number unheard old.ports (λ p. refl) (λ p. refl); asks = refl; last = refl; verifications = refl }
+keeps-quiet {old = old} (goes_on new goes) rising = record { ports = keeps-same old.ports; asks = (same_asks goes).asks; last = (same_asks goes).last; verifications = (same_asks goes).verifications }
+keeps-quiet {old = old} (names job number new) rising = record { ports = keeps-changed number unheard old.ports (λ p. refl) (λ p. refl); asks = refl; last = refl; verifications = refl }
+keeps-quiet {old = old} (links job number new) rising = record { ports = keeps-changed number unheard old.ports (λ p. refl) (λ p. refl); asks = refl; last = refl; verifications = refl }
 
 -- ---- what each event does
 
@@ -258,7 +258,7 @@ judges-makes {old = old} (first {mid = mid} {outcome = outcome} quiet rest) tied
         silent = λ chain none. (later.binds number).silent chain (keeps-absent old.ports mid.ports number keeps.ports none);
       };
     }
-judges-makes (serves body_len port state found door nothing owed) tied judged =
+judges-makes (serves body_len port state found door nothing owed own) tied judged =
     let body : List ℕ = front_body body_len port.heard in
     let take : Port → Port = take_frame body_len (attempts state.held.lock body) in
     let ends = serve-ends (asker_at state.moment port) state.held state.under_way body in

@@ -14,7 +14,7 @@ use Rattle.agent_model.specs.Events.{Happening}
 use Rattle.agent_model.specs.State.{Port, State, change_port, remove_port}
 use Rattle.agent_model.specs.Verdicts.{HelperLost, Refuses, Verdict, tell}
 use Rattle.agent_model.proofs.FateLemmas.{answers_as}
-use Rattle.agent_model.proofs.MakeLemmas.{Makes, Quiet, alters, closes, first, goes_on, grants, links, loses, names, overs, serves, stays, tells}
+use Rattle.agent_model.proofs.MakeLemmas.{Makes, Quiet, alters, closes, first, goes_on, grants, links, loses, mild_of, names, overs, serves, stays, tells}
 
 -- the ports that changes under their numbers and removals lead to
 pub data Leads (old : List Port) : List Port → Type 0 where
@@ -61,19 +61,19 @@ module _ (event : Happening) (start : State) where
   follows-lose_if (Some fault) state follows = follows-lose state follows
 
   pub follows-quiet : {old new : State} → Quiet event old new → Follows start old → Follows start new
-  follows-quiet {old} (alters number f mild) follows = record { last = follows.last; ports = changes number f old.ports mild.number mild.door follows.ports }
+  follows-quiet {old} (alters number f change) follows = record { last = follows.last; ports = changes number f old.ports (mild_of change).number (mild_of change).door follows.ports }
   follows-quiet {old} (closes number may) follows = record { last = follows.last; ports = removes number old.ports follows.ports }
-  follows-quiet (goes_on new asks) follows = record { last = follows.last; ports = follows.ports }
-  follows-quiet {old} (names job number port found door free) follows =
+  follows-quiet (goes_on new goes) follows = record { last = follows.last; ports = follows.ports }
+  follows-quiet {old} (names job number new) follows =
       record { last = follows.last; ports = changes number unheard old.ports (λ p. refl) (λ p. refl) follows.ports }
-  follows-quiet {old} (links job number port found door free other) follows =
+  follows-quiet {old} (links job number new) follows =
       record { last = follows.last; ports = changes number unheard old.ports (λ p. refl) (λ p. refl) follows.ports }
 
   -- what an event makes follows
   pub follows-makes : {old : State} {outcome : Outcome} → Makes event old outcome → Follows start old → Follows start outcome.state
   follows-makes (stays state) follows = follows
   follows-makes (first quiet rest) follows = follows-makes rest (follows-quiet quiet follows)
-  follows-makes (serves body_len port state found door waits owed) follows = record {
+  follows-makes (serves body_len port state found door waits owed own) follows = record {
     last = follows.last;
     ports = changes port.number _ _ (λ p. refl) (λ p. refl) (changes port.number _ state.ports (λ p. refl) (λ p. refl) follows.ports);
   }

@@ -3,6 +3,8 @@ pub mod HeldLemmas
 pub mod JobLemmas
 pub mod ServeLemmas
 pub mod MakeLemmas
+pub mod BothLemmas
+pub mod NewsLemmas
 pub mod TimeLemmas
 pub mod OnTimeLemmas
 pub mod LateLemmas

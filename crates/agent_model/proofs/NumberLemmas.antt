@@ -20,7 +20,7 @@ use Rattle.agent_model.specs.Time.{at_moment}
 use Rattle.agent_model.proofs.GrantLemmas.{IsGranted, allowed, disallowed, grant-ends, unasked}
 use Rattle.agent_model.proofs.GrowLemmas.{AsksMore, asks_more, more-put}
 use Rattle.agent_model.proofs.JobLemmas.{jobs-change, jobs-remove}
-use Rattle.agent_model.proofs.MakeLemmas.{Kept, Makes, Quiet, altered, alters, by_event, closes, first, goes_on, grants, links, loses, names, overs, serves, stays, tells, unchanged}
+use Rattle.agent_model.proofs.MakeLemmas.{Kept, Makes, Quiet, altered, alters, by_event, closes, first, goes_on, grants, links, loses, names, overs, same_asks, serves, stays, tells, unchanged}
 use Rattle.agent_model.proofs.ServeLemmas.{serve-ends}
 use Rattle.agent_model.proofs.TimeLemmas.{at_moment-keeps}
 
@@ -63,15 +63,15 @@ order-kept last unchanged rise = rise
 order-kept last {old = old} (altered job f faint) rise = jobs-change job 0 f old last faint.job rise
 
 grows-quiet : {event : Happening} {old new : State} → Quiet event old new → Grows old.under_way new.under_way
-grows-quiet {old = old} (alters number f mild) = same old.under_way
+grows-quiet {old = old} (alters number f change) = same old.under_way
 grows-quiet {old = old} (closes number may) = same old.under_way
-grows-quiet {old = old} (goes_on new asks) = record {
-  jobs = omega (arith, asks.jobs);
-  asks = omega (arith, asks.last);
-  order = λ rise. rw asks.jobs (order-kept old.under_way.last_job asks.kept rise);
+grows-quiet {old = old} (goes_on new goes) = record {
+  jobs = omega (arith, (same_asks goes).jobs);
+  asks = omega (arith, (same_asks goes).last);
+  order = λ rise. rw (same_asks goes).jobs (order-kept old.under_way.last_job (same_asks goes).kept rise);
 }
-grows-quiet (names job number port found door free) = record { jobs = omega arith; asks = omega arith; order = λ rise. rise }
-grows-quiet {old = old} (links job number port found door free other) = record {
+grows-quiet (names job number new) = record { jobs = omega arith; asks = omega arith; order = λ rise. rise }
+grows-quiet {old = old} (links job number new) = record {
   jobs = omega arith;
   asks = omega arith;
   order = jobs-change job 0 (linked_at number) old.under_way.confirmations old.under_way.last_job (λ c. refl);
@@ -80,7 +80,7 @@ grows-quiet {old = old} (links job number port found door free other) = record {
 grows-makes : {event : Happening} {old : State} {outcome : Outcome} → Makes event old outcome → Grows old.under_way outcome.state.under_way
 grows-makes (stays state) = same state.under_way
 grows-makes (first quiet rest) = behind (grows-quiet quiet) (grows-makes rest)
-grows-makes (serves body_len port state found door waits owed) =
+grows-makes (serves body_len port state found door waits owed own) =
     by_more (asks_more (serve-ends (asker_at state.moment port) state.held state.under_way (front_body body_len port.heard)))
 grows-makes (tells piece state) =
     let told = telling piece state.under_way.link in

@@ -35,7 +35,7 @@ use Rattle.agent_model.proofs.FateLemmas.{answer-fate, answers_as, fate-append}
 use Rattle.agent_model.proofs.FatedLemmas.{step-fated, tied-opened}
 use Rattle.agent_model.proofs.PartBudgetLemmas.{one_or_none}
 use Rattle.agent_model.proofs.TiedLemmas.{tied-quiet}
-use Rattle.agent_model.proofs.MakeLemmas.{Makes, Quiet, alters, by_event, closes, first, goes_on, grants, links, loses, names, overs, serves, stays, tells}
+use Rattle.agent_model.proofs.MakeLemmas.{Makes, Quiet, alters, by_event, closes, first, goes_on, grants, links, loses, names, overs, same_asks, serves, stays, tells}
 use Rattle.agent_model.proofs.ServeLemmas.{IsServed, answered, asked, raised, refused, serve-ends}
 use Rattle.agent_model.proofs.TieLemmas.{ask_within}
 use Rattle.agent_model.proofs.TimeLemmas.{time_passes-brings}
@@ -156,11 +156,11 @@ module _ (ask : ℕ) where
       spent_in_turn (spent_telling state settled link.asks link leads rise refl last) (spent_loss link _ refl refl)
 
   spent_quiet : {event : Happening} {old new : State} → Quiet event old new → Spends ask old.under_way.link [] new.under_way.link
-  spent_quiet {old = old} (alters number f mild) = nothing_spent ask old.under_way.link old.under_way.link refl refl
+  spent_quiet {old = old} (alters number f change) = nothing_spent ask old.under_way.link old.under_way.link refl refl
   spent_quiet {old = old} (closes number may) = nothing_spent ask old.under_way.link old.under_way.link refl refl
-  spent_quiet {old = old} (goes_on new asks) = nothing_spent ask old.under_way.link new.link asks.asks asks.last
-  spent_quiet {old = old} (names job number port found door free) = nothing_spent ask old.under_way.link _ refl refl
-  spent_quiet {old = old} (links job number port found door free other) = nothing_spent ask old.under_way.link _ refl refl
+  spent_quiet {old = old} (goes_on new goes) = nothing_spent ask old.under_way.link new.link (same_asks goes).asks (same_asks goes).last
+  spent_quiet {old = old} (names job number new) = nothing_spent ask old.under_way.link _ refl refl
+  spent_quiet {old = old} (links job number new) = nothing_spent ask old.under_way.link _ refl refl
 
   spent_served : {asker : Asker} {held : KeyState} {under_way : UnderWay} {served : Served} (first_action : Action) → answers_by ask first_action ≡ 0 → asks_by ask first_action ≡ 0 → RiseTo 0 under_way.link.asks under_way.link.last → IsServed asker held under_way served → Spends ask under_way.link (first_action ∷ served.work.actions) served.work.under_way.link
   spent_served first_action answers asks rise (answered reply kept same) = record { answered = omega (arith, answers); asked = omega (arith, asks) }
@@ -181,7 +181,7 @@ module _ (ask : ℕ) where
   spent_makes : {event : Happening} {old : State} {outcome : Outcome} → Makes event old outcome → IsTied old → Spends ask old.under_way.link outcome.actions outcome.state.under_way.link
   spent_makes (stays state) tied = nothing_spent ask state.under_way.link state.under_way.link refl refl
   spent_makes (first quiet rest) tied = spent_in_turn (spent_quiet quiet) (spent_makes rest (tied-quiet quiet tied))
-  spent_makes (serves body_len port state found door nothing owed) tied =
+  spent_makes (serves body_len port state found door nothing owed own) tied =
       spent_served (Requested _) refl refl tied.order (serve-ends (asker_at state.moment port) state.held state.under_way (front_body body_len port.heard))
   spent_makes (tells piece state) tied =
       let told = telling piece state.under_way.link in
@@ -244,7 +244,7 @@ module _ (ask : ℕ) where
   lost_makes : {event : Happening} {old : State} {outcome : Outcome} → Makes event old outcome → IsTied old → fate_of ask outcome.actions ≡ Fails → outcome.state.under_way.link.asks ≡ []
   lost_makes (stays state) tied is = absurd (cc)
   lost_makes (first quiet rest) tied is = lost_makes rest (tied-quiet quiet tied) is
-  lost_makes (serves body_len port state found door nothing owed) tied is =
+  lost_makes (serves body_len port state found door nothing owed own) tied is =
       let silent = served_fails (serve-ends (asker_at state.moment port) state.held state.under_way (front_body body_len port.heard)) in
       let no_loss : Unanswered ≡ Fails = sym silent ∙ is in
       absurd (cc)

@@ -3,7 +3,8 @@ use Rattle.std.proofs.Common.{◌≡◌, ℕ, ◌+◌, ◌-◌, ◌≤◌, List,
 use Rattle.std.proofs.lemmas.List.{append-nil, append_assoc, drop-append-le, length-drop, take-append-le}
 use Rattle.std.specs.Option.{IfSome, option_map}
 use Rattle.wire_text.specs.Frames.{Front, front, front_body, after_front, Whole, Bad, More}
-use Rattle.wire_text.proofs.FrontLemmas.{front-append_bad, front-append_whole, front_says}
+use Rattle.wire_text.proofs.FrontLemmas.{front-append_bad, front-append_whole}
+use Rattle.wire_text.proofs.SplitLemmas.{after_front-append, front_body-append}
 use Rattle.world_ports.specs.declared.Moment.{Moment}
 use Rattle.world_ports.specs.declared.Door.TheVariants.{Clients}
 use Rattle.agent_model.specs.Binds.{agent_request_of}
@@ -29,22 +30,6 @@ use Rattle.agent_model.proofs.PiecesLemmas.{after_nothing, agree-over, agree-ste
 -- ---- the first part holds a whole request
 
 -- it is the same whatever follows
-whole_within : (heard : List ℕ) (body_len : ℕ) → front longest_body heard ≡ Whole body_len → 4 + body_len ≤ length heard
-whole_within heard body_len whole =
-    let says = front_says longest_body heard (Whole body_len) whole in
-    omega (arith, says.0.follows, says.1)
-
-pub same_body : (heard piece : List ℕ) (body_len : ℕ) → front longest_body heard ≡ Whole body_len → front_body body_len (heard ++ piece) ≡ front_body body_len heard
-same_body heard piece body_len whole =
-    let within : 4 + body_len ≤ length heard = whole_within heard body_len whole in
-    let four : drop 4 (heard ++ piece) ≡ drop 4 heard ++ piece = drop-append-le 4 heard piece (omega arith) in
-    let long : length (drop 4 heard) ≡ length heard - 4 = length-drop 4 heard in
-    ap (take body_len) four ∙ take-append-le body_len (drop 4 heard) piece (omega arith)
-
-same_rest : (heard piece : List ℕ) (body_len : ℕ) → front longest_body heard ≡ Whole body_len → after_front body_len (heard ++ piece) ≡ after_front body_len heard ++ piece
-same_rest heard piece body_len whole =
-    drop-append-le (4 + body_len) heard piece (whole_within heard body_len whole)
-
 whole_longer : (heard a b : List ℕ) (body_len : ℕ) → front longest_body (heard ++ a) ≡ Whole body_len → front longest_body (heard ++ (a ++ b)) ≡ Whole body_len
 whole_longer heard a b body_len whole =
     ap (front longest_body) (sym (append_assoc heard a b)) ∙ front-append_whole longest_body (heard ++ a) b body_len whole
@@ -95,10 +80,10 @@ after_request moment state number a b port body_len found door waits owed whole 
     ∙ looked-found number (heard_more (a ++ b) port) (changed number (heard_more (a ++ b)) state) (Whole body_len) (found_more number (a ++ b) state.ports port found)
     (due-idle (heard_more (a ++ b) port) waits owed ∙ whole_longer port.heard a b body_len whole)
     ∙ ap (λ (bytes : List ℕ). taken body_len bytes (heard_more (a ++ b) port) (changed number (heard_more (a ++ b)) state))
-    (ap (front_body body_len) (sym (append_assoc port.heard a b)) ∙ same_body (port.heard ++ a) b body_len whole) in
+    (ap (front_body body_len) (sym (append_assoc port.heard a b)) ∙ front_body-append longest_body (port.heard ++ a) b body_len whole) in
     let at_port : told (take_first (heard_more (a ++ b) port)) ≡ heard_more b (gave port) =
     ap (λ (bytes : List ℕ). let q : Port = record (told (take_first port)) { heard = bytes } in q)
-    (ap (after_front body_len) (sym (append_assoc port.heard a b)) ∙ same_rest (port.heard ++ a) b body_len whole) in
+    (ap (after_front body_len) (sym (append_assoc port.heard a b)) ∙ after_front-append longest_body (port.heard ++ a) b body_len whole) in
     let all_ports : change_port port.number told (change_port port.number take_first (change_port number (heard_more (a ++ b)) state.ports)) ≡ change_port number (heard_more b) (change_port number gave state.ports) =
     ap (λ (n : ℕ). change_port n told (change_port n take_first (change_port number (heard_more (a ++ b)) state.ports))) is_number
     ∙ ap (change_port number told) (change_port-twice number (heard_more (a ++ b)) take_first state.ports (λ p. refl))

@@ -30,7 +30,7 @@ use Rattle.agent_model.specs.State.{State, TimeLimits, UnderWay}
 use Rattle.agent_model.specs.Step.{asker_at, handle, step}
 use Rattle.agent_model.specs.Time.{GiveTime, GivesTime, IsOnTime, at_moment, has_lasted, is_one_late}
 use Rattle.agent_model.proofs.GrantLemmas.{IsGranted, allowed, disallowed, grant-ends, unasked}
-use Rattle.agent_model.proofs.MakeLemmas.{Kept, Makes, Quiet, altered, alters, by_event, closes, first, goes_on, grants, links, loses, names, overs, serves, stays, tells, unchanged}
+use Rattle.agent_model.proofs.MakeLemmas.{Kept, Makes, Quiet, altered, alters, by_event, closes, first, goes_on, grants, links, loses, names, overs, same_asks, serves, stays, tells, unchanged}
 use Rattle.agent_model.proofs.OnTimeLemmas.{at_moment-moment, at_moment-on_time, taken_in-at_moment}
 use Rattle.agent_model.proofs.ServeLemmas.{IsServed, answered, asked, raised, refused, serve-ends}
 use Rattle.agent_model.proofs.TimeKeptLemmas.{keeps_time-handle}
@@ -132,17 +132,17 @@ module _ (limits : TimeLimits) (second : ℕ) (time : GiveTime limits) where
   kept-prompt {old = old} (altered job f faint) none = changed-prompt job f old faint.raised_at none
 
   prompt-quiet : {event : Happening} {old new : State} → Quiet event old new → IsPrompt limits second old.under_way → IsPrompt limits second new.under_way
-  prompt-quiet (alters number f mild) prompt = prompt
+  prompt-quiet (alters number f change) prompt = prompt
   prompt-quiet (closes number may) prompt = prompt
-  prompt-quiet (goes_on new same) prompt = record {
-    limits = same.limits ∙ prompt.limits;
-    second = same.second ∙ prompt.second;
-    helper = ap (is_one_late limits.ask second) same.asks ∙ prompt.helper;
-    user = kept-prompt same.kept prompt.user;
+  prompt-quiet (goes_on new goes) prompt = record {
+    limits = (same_asks goes).limits ∙ prompt.limits;
+    second = (same_asks goes).second ∙ prompt.second;
+    helper = ap (is_one_late limits.ask second) (same_asks goes).asks ∙ prompt.helper;
+    user = kept-prompt (same_asks goes).kept prompt.user;
   }
-  prompt-quiet (names job number port found door free) prompt =
+  prompt-quiet (names job number new) prompt =
       record { limits = prompt.limits; second = prompt.second; helper = prompt.helper; user = prompt.user }
-  prompt-quiet {old = old} (links job number port found door free other) prompt = record {
+  prompt-quiet {old = old} (links job number new) prompt = record {
     limits = prompt.limits;
     second = prompt.second;
     helper = prompt.helper;
@@ -156,7 +156,7 @@ module _ (limits : TimeLimits) (second : ℕ) (time : GiveTime limits) where
   prompt-makes : {event : Happening} {old : State} {outcome : Outcome} → Makes event old outcome → IsPrompt limits second old.under_way → IsPrompt limits second outcome.state.under_way
   prompt-makes (stays state) prompt = prompt
   prompt-makes (first quiet rest) prompt = prompt-makes rest (prompt-quiet quiet prompt)
-  prompt-makes (serves body_len port state found door nothing owed) prompt =
+  prompt-makes (serves body_len port state found door nothing owed own) prompt =
       prompt-served (serve-ends (asker_at state.moment port) state.held state.under_way (front_body body_len port.heard)) prompt
   prompt-makes (tells piece state) prompt =
       let told = telling piece state.under_way.link in

@@ -33,7 +33,7 @@ use Rattle.agent_model.specs.Verdicts.{Cause, HelperLost, NotConfirmed, Refuses,
 use Rattle.agent_model.proofs.FateLemmas.{answers_as, one_answer, one_lost, told-apart, told-here}
 use Rattle.agent_model.proofs.FatedMakeLemmas.{found_still, tied-close, tied_mid}
 use Rattle.agent_model.proofs.JobLemmas.{IsIn, in-found}
-use Rattle.agent_model.proofs.MakeLemmas.{Makes, MayClose, Quiet, alters, by_event, child, closes, ended, first, goes_on, grants, idle, links, loses, names, overs, serves, stays, tells}
+use Rattle.agent_model.proofs.MakeLemmas.{Change, Makes, MayClose, Quiet, alters, by_event, child, closes, ended, first, goes_on, grants, hears, idle, links, loses, mild_of, names, overs, serves, stays, takes, tells}
 use Rattle.agent_model.proofs.TiedLemmas.{tied-quiet}
 use Rattle.agent_model.proofs.TieLemmas.{not_asker}
 use Rattle.agent_model.proofs.WaitLemmas.{told-close_confirmer, told-close_helper, told-removed}
@@ -104,12 +104,12 @@ module _ (number : ℕ) (verdict : Verdict) (heard : HasHeard verdict) where
   ]
 
   still-quiet : {event : Happening} {old new : State} → Quiet event old new → event ≢ Ended number → ((count : ℕ) → event ≢ Took number count) → IsTold number verdict old.ports → IsTold number verdict new.ports
-  still-quiet {event = event} {old = old} (alters at f mild) open_yet untaken told =
-      still-kept at f old.ports mild.number mild.door mild.waits (owes mild.owes) told
+  still-quiet {event = event} {old = old} (alters at f change) open_yet untaken told =
+      still-kept at f old.ports (mild_of change).number (mild_of change).door (mild_of change).waits (owes change) told
     where
-      owes : ((p : Port) → (f p).owed ≡ p.owed) ⊎ ((count : ℕ) × (event ≡ Took at count)) → number ≡ at → (p : Port) → (f p).owed ≡ p.owed
-      owes (inl keeps) same = keeps
-      owes (inr took) same = absurd (untaken took.0 (took.1 ∙ ap (λ n. Took n took.0) (sym same)))
+      owes : {g : Port → Port} → Change event at g → number ≡ at → (p : Port) → (g p).owed ≡ p.owed
+      owes (hears piece is) same p = refl
+      owes (takes count is) same p = absurd (untaken count (is ∙ ap (λ n. Took n count) (sym same)))
   still-quiet {event = event} {old = old} (closes at may) open_yet untaken told =
       told-removed number verdict at old.ports (other may) told
     where
@@ -119,10 +119,10 @@ module _ (number : ℕ) (verdict : Verdict) (heard : HasHeard verdict) where
           let doors : Clients ≡ Children = sym told.door ∙ ap (λ (p : Port). p.door) (its_port at old.ports port told equal found) ∙ door in
           absurd (cc)
       other (ended is) equal = open_yet (is ∙ ap Ended (sym equal))
-  still-quiet (goes_on new asks) open_yet untaken told = told
-  still-quiet {old = old} (names job at port found door free) open_yet untaken told =
+  still-quiet (goes_on new goes) open_yet untaken told = told
+  still-quiet {old = old} (names job at new) open_yet untaken told =
       still-kept at unheard old.ports (λ p. refl) (λ p. refl) (λ p. refl) (λ same p. refl) told
-  still-quiet {old = old} (links job at port found door free unhelped) open_yet untaken told =
+  still-quiet {old = old} (links job at new) open_yet untaken told =
       still-kept at unheard old.ports (λ p. refl) (λ p. refl) (λ p. refl) (λ same p. refl) told
 
   -- another's confirmation ends
@@ -144,7 +144,7 @@ module _ (number : ℕ) (verdict : Verdict) (heard : HasHeard verdict) where
   still-makes (stays state) open_yet untaken tied told = told
   still-makes (first quiet rest) open_yet untaken tied told =
       still-makes rest open_yet untaken (tied-quiet quiet tied) (still-quiet quiet open_yet untaken told)
-  still-makes (serves body_len port state found door nothing owed) open_yet untaken tied told =
+  still-makes (serves body_len port state found door nothing owed own) open_yet untaken tied told =
       let other = owes_other port.number state.ports port told found owed in
       told-apart number port.number verdict _ _ (λ p. refl) other (told-apart number port.number verdict _ state.ports (λ p. refl) other told)
   still-makes (tells piece state) open_yet untaken tied told = still-tells number verdict unasked piece state tied told

@@ -12,7 +12,7 @@ use Rattle.agent_model.specs.Events.{Happening}
 use Rattle.agent_model.specs.Sound.{AreTied, IsTied}
 use Rattle.agent_model.specs.State.{Port, State, change_port, find_port}
 use Rattle.agent_model.proofs.LeadLemmas.{Follows, follows-quiet, same}
-use Rattle.agent_model.proofs.MakeLemmas.{Quiet, alters, closes, goes_on, links, mild-unheard, mild_of, names}
+use Rattle.agent_model.proofs.MakeLemmas.{Quiet, alters, closes, goes_on, links, mild-unheard, mild_of, names, same_asks}
 use Rattle.agent_model.proofs.PortsLemmas.{found_within}
 use Rattle.agent_model.proofs.RaisedLemmas.{Fewer, fewer-changed, fewer-removed, raised-fewer, raised-kept, raised-linked}
 use Rattle.agent_model.proofs.RunLemmas.{leads-found, leads-rising, rising_behind}
@@ -48,14 +48,14 @@ linked_number : (a b : ℕ) → states.Linked a ≡ states.Linked b → a ≡ b
 linked_number a b is = cc
 
 pub tied-quiet : {event : Happening} {old new : State} → Quiet event old new → IsTied old → IsTied new
-tied-quiet {event = event} {old = old} (alters number f mild) tied =
-    assemble old _ (follows-quiet event old (alters number f mild) record { last = refl; ports = same }) tied tied.order (tied-fewer old.ports _ _ (fewer-changed number f old.ports (mild_of mild)) tied.tied) tied.askers (λ n is. is) (raised-fewer old.ports _ (fewer-changed number f old.ports (mild_of mild)) tied.raised)
+tied-quiet {event = event} {old = old} (alters number f change) tied =
+    assemble old _ (follows-quiet event old (alters number f change) record { last = refl; ports = same }) tied tied.order (tied-fewer old.ports _ _ (fewer-changed number f old.ports (mild_of change)) tied.tied) tied.askers (λ n is. is) (raised-fewer old.ports _ (fewer-changed number f old.ports (mild_of change)) tied.raised)
 tied-quiet {event = event} {old = old} (closes number may) tied =
     assemble old _ (follows-quiet event old (closes number may) record { last = refl; ports = same }) tied tied.order (tied-fewer old.ports _ _ (fewer-removed number 0 old.last_port old.ports tied.rising) tied.tied) tied.askers (λ n is. is) (raised-fewer old.ports _ (fewer-removed number 0 old.last_port old.ports tied.rising) tied.raised)
-tied-quiet {event = event} {old = old} (goes_on new asks) tied =
-    assemble old _ (follows-quiet event old (goes_on new asks) record { last = refl; ports = same }) tied (rw (asks.asks, asks.last) tied.order) (rw asks.asks tied.tied) (λ ask one found. tied.askers ask one (ap (find_ask ask) (sym asks.asks) ∙ found)) (λ n is. sym asks.state ∙ is) (rw asks.jobs (raised-kept old.ports asks.kept tied.raised))
-tied-quiet {event = event} {old = old} (names job number port found door free) tied =
-    let follows = follows-quiet event old {old = old} (names job number port found door free) record { last = refl; ports = same } in
+tied-quiet {event = event} {old = old} (goes_on new goes) tied =
+    assemble old _ (follows-quiet event old (goes_on new goes) record { last = refl; ports = same }) tied (rw ((same_asks goes).asks, (same_asks goes).last) tied.order) (rw (same_asks goes).asks tied.tied) (λ ask one found. tied.askers ask one (ap (find_ask ask) (sym (same_asks goes).asks) ∙ found)) (λ n is. sym (same_asks goes).state ∙ is) (rw (same_asks goes).jobs (raised-kept old.ports (same_asks goes).kept tied.raised))
+tied-quiet {event = event} {old = old} (names job number new) tied =
+    let follows = follows-quiet event old {old = old} (names job number new) record { last = refl; ports = same } in
     record {
       rising = leads-rising 0 old.last_port old.ports follows.ports tied.rising;
       order = tied.order;
@@ -64,18 +64,18 @@ tied-quiet {event = event} {old = old} (names job number port found door free) t
       helper = λ n q linked there.
           let before = leads-found n 0 old.last_port old.ports q follows.ports tied.rising there in
           let same_port : number ≡ n = linked_number number n linked in
-          let is : Some before.0 ≡ Some port = sym before.1 ∙ ap (λ m. find_port m old.ports) (sym same_port) ∙ found in
-          let equal : before.0 ≡ port = cc in
-          before.2 ∙ ap (λ (p : Port). p.door) equal ∙ door;
-      known = λ n linked. rw (← linked_number number n linked) (found_within number 0 old.last_port old.ports port tied.rising found);
+          let is : Some before.0 ≡ Some new.port = sym before.1 ∙ ap (λ m. find_port m old.ports) (sym same_port) ∙ new.found in
+          let equal : before.0 ≡ new.port = cc in
+          before.2 ∙ ap (λ (p : Port). p.door) equal ∙ new.door;
+      known = λ n linked. rw (← linked_number number n linked) (found_within number 0 old.last_port old.ports new.port tied.rising new.found);
       raised = raised-fewer old.ports _ (fewer-changed number unheard old.ports mild-unheard) tied.raised;
     }
-tied-quiet {event = event} {old = old} (links job number port found door free other) tied =
+tied-quiet {event = event} {old = old} (links job number new) tied =
     let fewer = fewer-changed number unheard old.ports mild-unheard in
     let child : (q : Port) → find_port number (change_port number unheard old.ports) ≡ Some q → q.door ≡ Children = λ q there.
     let was = fewer number q there in
-    let is : Some was.0 ≡ Some port = sym was.1 ∙ found in
-    let equal : was.0 ≡ port = cc in
-    was.4 ∙ ap (λ (p : Port). p.door) equal ∙ door in
-    assemble old _ (follows-quiet event old {old = old} (links job number port found door free other) record { last = refl; ports = same }) tied tied.order (tied-fewer old.ports _ _ fewer tied.tied) tied.askers (λ n is. is)
-    (raised-linked _ job number child (found_within number 0 old.last_port old.ports port tied.rising found) (raised-fewer old.ports _ fewer tied.raised))
+    let is : Some was.0 ≡ Some new.port = sym was.1 ∙ new.found in
+    let equal : was.0 ≡ new.port = cc in
+    was.4 ∙ ap (λ (p : Port). p.door) equal ∙ new.door in
+    assemble old _ (follows-quiet event old {old = old} (links job number new) record { last = refl; ports = same }) tied tied.order (tied-fewer old.ports _ _ fewer tied.tied) tied.askers (λ n is. is)
+    (raised-linked _ job number child (found_within number 0 old.last_port old.ports new.port tied.rising new.found) (raised-fewer old.ports _ fewer tied.raised))

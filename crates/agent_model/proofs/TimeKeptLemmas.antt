@@ -15,7 +15,7 @@ use Rattle.agent_model.specs.State.{State, UnderWay}
 use Rattle.agent_model.specs.Step.{asker_at, handle}
 use Rattle.agent_model.specs.Time.{at_moment}
 use Rattle.agent_model.proofs.GrantLemmas.{IsGranted, allowed, disallowed, grant-ends, unasked}
-use Rattle.agent_model.proofs.MakeLemmas.{Makes, Quiet, alters, by_event, closes, first, goes_on, grants, links, loses, names, overs, serves, stays, tells}
+use Rattle.agent_model.proofs.MakeLemmas.{Makes, Quiet, alters, by_event, closes, first, goes_on, grants, links, loses, names, overs, same_asks, serves, stays, tells}
 use Rattle.agent_model.proofs.ServeLemmas.{IsServed, answered, asked, raised, refused, serve-ends}
 use Rattle.agent_model.proofs.TimeLemmas.{at_moment-keeps}
 
@@ -28,11 +28,11 @@ keeps_time-in_turn : (old mid new : State) → KeepsTime old mid → KeepsTime m
 keeps_time-in_turn old mid new one two = record { moment = two.moment ∙ one.moment; limits = two.limits ∙ one.limits }
 
 keeps_time-quiet : {event : Happening} {old new : State} → Quiet event old new → KeepsTime old new
-keeps_time-quiet (alters number f mild) = record { moment = refl; limits = refl }
+keeps_time-quiet (alters number f change) = record { moment = refl; limits = refl }
 keeps_time-quiet (closes number may) = record { moment = refl; limits = refl }
-keeps_time-quiet (goes_on new kept) = record { moment = refl; limits = kept.limits }
-keeps_time-quiet (names job number port found door free) = record { moment = refl; limits = refl }
-keeps_time-quiet (links job number port found door free other) = record { moment = refl; limits = refl }
+keeps_time-quiet (goes_on new goes) = record { moment = refl; limits = (same_asks goes).limits }
+keeps_time-quiet (names job number new) = record { moment = refl; limits = refl }
+keeps_time-quiet (links job number new) = record { moment = refl; limits = refl }
 
 served-limits : {asker : Asker} {held : KeyState} {under_way : UnderWay} {served : Served}
     → IsServed asker held under_way served → served.work.under_way.limits ≡ under_way.limits
@@ -55,7 +55,7 @@ keeps_time-makes : {event : Happening} {old : State} {outcome : Outcome} → Mak
 keeps_time-makes (stays state) = record { moment = refl; limits = refl }
 keeps_time-makes {old = old} (first {mid = mid} {outcome = outcome} quiet rest) =
     keeps_time-in_turn old mid outcome.state (keeps_time-quiet quiet) (keeps_time-makes rest)
-keeps_time-makes (serves body_len port state found door nothing owed) = record {
+keeps_time-makes (serves body_len port state found door nothing owed own) = record {
   moment = refl;
   limits =
       served-limits (serve-ends (asker_at state.moment port) state.held state.under_way (front_body body_len port.heard));

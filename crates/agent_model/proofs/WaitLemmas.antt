@@ -90,7 +90,7 @@ module _ (number : ℕ) (on : Waits) (some : on ≢ Nothing) where
   -- its port stays unless it ended
   pub waits-quiet : {event : Happening} {old new : State} → Quiet event old new →
       event ≢ Ended number → IsPending old.ports → IsPending new.ports
-  waits-quiet {old = old} (alters at f mild) open_yet told = waits-mild at f old.ports (mild_of mild) told
+  waits-quiet {old = old} (alters at f change) open_yet told = waits-mild at f old.ports (mild_of change) told
   waits-quiet {event = event} {old = old} (closes at may) open_yet told =
       told-removed number (Awaits on) at old.ports (other may) told
     where
@@ -103,10 +103,10 @@ module _ (number : ℕ) (on : Waits) (some : on ≢ Nothing) where
           ∙ door in
           absurd (cc)
       other (ended is) equal = open_yet (is ∙ ap Ended (sym equal))
-  waits-quiet (goes_on new asks) open_yet told = told
-  waits-quiet {old = old} (names job at port found door free) open_yet told =
+  waits-quiet (goes_on new goes) open_yet told = told
+  waits-quiet {old = old} (names job at new) open_yet told =
       waits-mild at unheard old.ports mild-unheard told
-  waits-quiet {old = old} (links job at port found door free unhelped) open_yet told =
+  waits-quiet {old = old} (links job at new) open_yet told =
       waits-mild at unheard old.ports mild-unheard told
 
   -- while another client is served

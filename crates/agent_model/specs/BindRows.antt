@@ -18,6 +18,7 @@ use Rattle.agent_model.specs.Step.{step}
 abbrev pub host : ℕ → List ℕ
 host tag = 0 ∷ 0 ∷ 0 ∷ 11 ∷ (codes "ssh-ed25519" ++ 0 ∷ 0 ∷ 0 ∷ 32 ∷ replicate 32 tag)
 
+-- the session identifier of 32 equal bytes
 abbrev pub session : ℕ → List ℕ
 session tag = replicate 32 tag
 
@@ -28,6 +29,7 @@ bind_body tag of forwarding =
     27 ∷ 0 ∷ 0 ∷ 0 ∷ 24 ∷ (codes "session-bind@openssh.com" ++ 0 ∷ 0 ∷ 0 ∷ 51 ∷ (host tag
     ++ 0 ∷ 0 ∷ 0 ∷ 32 ∷ (session of ++ 0 ∷ 0 ∷ 0 ∷ 3 ∷ (codes "sig" ++ forwarding ∷ []))))
 
+-- the frame of such a request
 abbrev pub bind : ℕ → ℕ → ℕ → List ℕ
 bind tag of forwarding = 0 ∷ 0 ∷ 0 ∷ 128 ∷ bind_body tag of forwarding
 
@@ -35,6 +37,7 @@ bind tag of forwarding = 0 ∷ 0 ∷ 0 ∷ 128 ∷ bind_body tag of forwarding
 abbrev pub bind_trailing : List ℕ
 bind_trailing = 0 ∷ 0 ∷ 0 ∷ 129 ∷ (bind_body 161 193 1 ++ 0 ∷ [])
 
+-- such a request whose host key lacks its last byte
 abbrev pub bind_unreadable : List ℕ
 bind_unreadable =
     0 ∷ 0 ∷ 0 ∷ 127 ∷ 27 ∷ 0 ∷ 0 ∷ 0 ∷ 24 ∷ (codes "session-bind@openssh.com" ++ 0 ∷ 0 ∷ 0 ∷ 50
@@ -58,6 +61,7 @@ verify_frame ask tag of =
 abbrev pub right : ℕ → List ℕ
 right ask = 0 ∷ 0 ∷ 0 ∷ 9 ∷ 103 ∷ number ask
 
+-- FALSE: the ask's number
 abbrev pub wrong : ℕ → List ℕ
 wrong ask = 0 ∷ 0 ∷ 0 ∷ 9 ∷ 104 ∷ number ask
 
@@ -141,16 +145,19 @@ at_wall wall event state = (step state (record { mono = 0; wall = wall }) event)
 abbrev pub authority_hop : List ℕ
 authority_hop = string [] ++ string (codes "h") ++ string [] ++ string (host 9) ++ 1 ∷ []
 
+-- SSH_AGENTC_ADD_ID_CONSTRAINED of the key of tag 17 with that constraint
 abbrev pub add_certified : List ℕ
 add_certified =
     string (25 ∷ key 17 (codes "one") ++ 255 ∷ string (codes "restrict-destination-v00@openssh.com")
     ++ string (string (string (replicate 12 0) ++ string authority_hop ++ string [])))
 
+-- a session-bind whose host key is a certificate for the host `h`
 abbrev pub bind_certified : List ℕ
 bind_certified =
     string (27 ∷ string (codes "session-bind@openssh.com") ++ string (certificate_for (codes "h"))
     ++ string (session 193) ++ string (codes "sig") ++ 0 ∷ [])
 
+-- SSH_AGENTC_SIGN_REQUEST for a host-bound login as root to that host
 abbrev pub sign_certified : List ℕ
 sign_certified =
     string (13 ∷ string (blob 17) ++ string (string (session 193) ++ 50 ∷ string (codes "root")
@@ -159,6 +166,7 @@ sign_certified =
     ++ string (certificate_for (codes "h")))
     ++ 0 ∷ 0 ∷ 0 ∷ 0 ∷ [])
 
+-- the key is held so, and the client of port 1 is bound to that host
 abbrev pub certified : State
 certified = then (first_state no_settings) (Joined Clients ∷ Heard 1 add_certified ∷ Took 1 5
     ∷ Heard 1 bind_certified

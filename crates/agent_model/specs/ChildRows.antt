@@ -24,6 +24,7 @@ abbrev pub holding_once : List Happening → State
 holding_once events =
     then (first_state no_settings) (Joined Clients ∷ Heard 1 (add_once 17) ∷ Took 1 5 ∷ events)
 
+-- the client of port 1 added the key of tag 17 with two uses, and these events came
 abbrev pub holding_for_two : List Happening → State
 holding_for_two events =
     then (first_state no_settings) (Joined Clients ∷ Heard 1 (add_for_two 17) ∷ Took 1 5 ∷ events)

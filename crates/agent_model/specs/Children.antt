@@ -5,6 +5,7 @@ use Rattle.lists.specs.Keyed.{remove_by}
 use Rattle.world_ports.specs.declared.Job.{Job}
 use Rattle.world_ports.specs.declared.JobKind.{JobKind}
 use Rattle.world_ports.specs.declared.JobKind.TheVariants as kinds
+use Rattle.wire_text.specs.Bounds.{longest_body}
 use Rattle.wire_text.specs.Frames.{Bad, Front, More, Whole, after_front, front, front_body}
 use Rattle.child_msg.specs.Messages.{Denied, False, FromChildMessage, Granted, Hello, Refused, Signed, True}
 use Rattle.child_msg.specs.Reading.{from_child_of}
@@ -176,5 +177,5 @@ first_frame More number heard state = stay state
 -- a child process that hasn't named itself sent more behind what was heard of it
 abbrev pub unnamed_heard : (heard piece : List ℕ) → ℕ → State → Outcome
 unnamed_heard heard piece number state =
-    first_frame (front 262144 (heard ++ piece)) number (heard ++ piece)
+    first_frame (front longest_body (heard ++ piece)) number (heard ++ piece)
     (changed number (heard_more piece) state)

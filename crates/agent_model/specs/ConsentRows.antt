@@ -15,6 +15,7 @@ use Rattle.agent_model.specs.Step.{step}
 abbrev pub granted : ℕ → List ℕ
 granted job = 0 ∷ 0 ∷ 0 ∷ 9 ∷ 105 ∷ number job
 
+-- DENIED: the job's number
 abbrev pub denied : ℕ → List ℕ
 denied job = 0 ∷ 0 ∷ 0 ∷ 9 ∷ 106 ∷ number job
 

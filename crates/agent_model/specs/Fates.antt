@@ -47,6 +47,7 @@ abbrev pub settled_fate : ℕ → List Settled → Fate
 settled_fate ask [] = Unanswered
 settled_fate ask (one ∷ later) = if one.ask == ask then Gets one.answer else settled_fate ask later
 
+-- a fault of the helper's stream fails what it left unanswered
 abbrev pub fault_fate : Option LinkFault → Fate
 fault_fate None = Unanswered
 fault_fate (Some fault) = Fails
@@ -115,5 +116,6 @@ asks_by ask Lost = 0
 abbrev pub times_answered : ℕ → List Action → ℕ
 times_answered ask actions = sum_by (answers_by ask) actions
 
+-- how often an ask is put under this number
 abbrev pub times_asked : ℕ → List Action → ℕ
 times_asked ask actions = sum_by (asks_by ask) actions

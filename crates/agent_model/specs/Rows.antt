@@ -20,6 +20,7 @@ now bytes = record { second = 0; bytes = bytes }
 abbrev pub at : ℕ → List ℕ → Sent
 at second bytes = record { second = second; bytes = bytes }
 
+-- both clocks at this second
 abbrev pub moment_at : ℕ → Moment
 moment_at second = record { mono = second; wall = second }
 
@@ -31,6 +32,7 @@ one_client = (step (first_state no_settings) (moment_at 0) (Joined Clients)).sta
 abbrev pub asked : Sent → State → State
 asked sent state = (step state (moment_at sent.second) (Heard 1 sent.bytes)).state
 
+-- the state after the client took all that it is owed
 abbrev pub took_all : Sent → State → State
 took_all sent state = (step state (moment_at sent.second) (Took 1 (length (owed_of 1 state)))).state
 
@@ -58,9 +60,11 @@ state_after sent = after one_client sent
 abbrev pub failed : List ℕ
 failed = 0 ∷ 0 ∷ 0 ∷ 1 ∷ 5 ∷ []
 
+-- SSH_AGENT_SUCCESS
 abbrev pub done : List ℕ
 done = 0 ∷ 0 ∷ 0 ∷ 1 ∷ 6 ∷ []
 
+-- SSH_AGENT_IDENTITIES_ANSWER with no identity
 abbrev pub none_listed : List ℕ
 none_listed = 0 ∷ 0 ∷ 0 ∷ 5 ∷ 12 ∷ 0 ∷ 0 ∷ 0 ∷ 0 ∷ []
 
@@ -71,6 +75,7 @@ none_listed = 0 ∷ 0 ∷ 0 ∷ 5 ∷ 12 ∷ 0 ∷ 0 ∷ 0 ∷ 0 ∷ []
 abbrev pub blob : ℕ → List ℕ
 blob tag = 0 ∷ 0 ∷ 0 ∷ 24 ∷ (codes "keyed-sha256@example.com" ++ 0 ∷ 0 ∷ 0 ∷ 32 ∷ replicate 32 tag)
 
+-- the fields of an addition: the blob's, a secret of 32 equal bytes, and a comment of three bytes
 abbrev pub key : ℕ → List ℕ → List ℕ
 key tag comment = blob tag ++ 0 ∷ 0 ∷ 0 ∷ 32 ∷ replicate 32 33 ++ 0 ∷ 0 ∷ 0 ∷ 3 ∷ comment
 
@@ -80,12 +85,15 @@ key tag comment = blob tag ++ 0 ∷ 0 ∷ 0 ∷ 32 ∷ replicate 32 33 ++ 0 ∷ 
 abbrev pub add : ℕ → List ℕ
 add tag = 0 ∷ 0 ∷ 0 ∷ 108 ∷ 17 ∷ key tag (codes "one")
 
+-- SSH_AGENTC_ADD_ID_CONSTRAINED with a lifetime of 10 seconds
 abbrev pub add_for_ten : ℕ → List ℕ
 add_for_ten tag = 0 ∷ 0 ∷ 0 ∷ 113 ∷ 25 ∷ (key tag (codes "one") ++ 1 ∷ 0 ∷ 0 ∷ 0 ∷ 10 ∷ [])
 
+-- the addition of a key that asks the user
 abbrev pub add_asking : ℕ → List ℕ
 add_asking tag = 0 ∷ 0 ∷ 0 ∷ 109 ∷ 25 ∷ (key tag (codes "one") ++ 2 ∷ [])
 
+-- an addition with a constraint of an unknown number
 abbrev pub add_unknown : ℕ → List ℕ
 add_unknown tag = 0 ∷ 0 ∷ 0 ∷ 109 ∷ 25 ∷ (key tag (codes "one") ++ 9 ∷ [])
 
@@ -93,15 +101,19 @@ add_unknown tag = 0 ∷ 0 ∷ 0 ∷ 109 ∷ 25 ∷ (key tag (codes "one") ++ 9 �
 abbrev pub uses : ℕ → List ℕ
 uses count = 255 ∷ 0 ∷ 0 ∷ 0 ∷ 20 ∷ (codes "uses-v00@example.com" ++ 0 ∷ 0 ∷ 0 ∷ count ∷ [])
 
+-- the addition of a key that may be used once
 abbrev pub add_once : ℕ → List ℕ
 add_once tag = 0 ∷ 0 ∷ 0 ∷ 137 ∷ 25 ∷ (key tag (codes "one") ++ uses 1)
 
+-- the addition of a key that may be used twice
 abbrev pub add_for_two : ℕ → List ℕ
 add_for_two tag = 0 ∷ 0 ∷ 0 ∷ 137 ∷ 25 ∷ (key tag (codes "one") ++ uses 2)
 
+-- an addition with no use, which is refused
 abbrev pub add_never : ℕ → List ℕ
 add_never tag = 0 ∷ 0 ∷ 0 ∷ 137 ∷ 25 ∷ (key tag (codes "one") ++ uses 0)
 
+-- an addition that has the constraint of uses twice, which is refused
 abbrev pub add_once_twice : ℕ → List ℕ
 add_once_twice tag = 0 ∷ 0 ∷ 0 ∷ 166 ∷ 25 ∷ (key tag (codes "one") ++ (uses 1 ++ uses 1))
 
@@ -109,6 +121,7 @@ add_once_twice tag = 0 ∷ 0 ∷ 0 ∷ 166 ∷ 25 ∷ (key tag (codes "one") ++ 
 abbrev pub add_once_asking : ℕ → List ℕ
 add_once_asking tag = 0 ∷ 0 ∷ 0 ∷ 138 ∷ 25 ∷ (key tag (codes "one") ++ uses 1 ++ 2 ∷ [])
 
+-- the addition of a key that may be used twice and asks the user
 abbrev pub add_for_two_asking : ℕ → List ℕ
 add_for_two_asking tag = 0 ∷ 0 ∷ 0 ∷ 138 ∷ 25 ∷ (key tag (codes "one") ++ uses 2 ++ 2 ∷ [])
 
@@ -116,6 +129,7 @@ add_for_two_asking tag = 0 ∷ 0 ∷ 0 ∷ 138 ∷ 25 ∷ (key tag (codes "one")
 abbrev pub list : List ℕ
 list = 0 ∷ 0 ∷ 0 ∷ 1 ∷ 11 ∷ []
 
+-- SSH_AGENT_IDENTITIES_ANSWER with the key of this tag alone
 abbrev pub listed : ℕ → List ℕ
 listed tag =
     0 ∷ 0 ∷ 0 ∷ 80 ∷ 12 ∷ 0 ∷ 0 ∷ 0 ∷ 1 ∷ 0 ∷ 0 ∷ 0 ∷ 64 ∷ (blob tag ++ 0 ∷ 0 ∷ 0 ∷ 3 ∷ codes "one")
@@ -126,9 +140,11 @@ abbrev pub sign : ℕ → List ℕ
 sign tag =
     0 ∷ 0 ∷ 0 ∷ 79 ∷ 13 ∷ 0 ∷ 0 ∷ 0 ∷ 64 ∷ (blob tag ++ 0 ∷ 0 ∷ 0 ∷ 2 ∷ 1 ∷ 2 ∷ 0 ∷ 0 ∷ 0 ∷ 0 ∷ [])
 
+-- SSH_AGENTC_REMOVE_IDENTITY
 abbrev pub remove : ℕ → List ℕ
 remove tag = 0 ∷ 0 ∷ 0 ∷ 69 ∷ 18 ∷ 0 ∷ 0 ∷ 0 ∷ 64 ∷ blob tag
 
+-- SSH_AGENTC_REMOVE_ALL_IDENTITIES
 abbrev pub remove_all : List ℕ
 remove_all = 0 ∷ 0 ∷ 0 ∷ 1 ∷ 19 ∷ []
 
@@ -136,9 +152,11 @@ remove_all = 0 ∷ 0 ∷ 0 ∷ 1 ∷ 19 ∷ []
 abbrev pub lock : List ℕ → List ℕ
 lock two = 0 ∷ 0 ∷ 0 ∷ 7 ∷ 22 ∷ 0 ∷ 0 ∷ 0 ∷ 2 ∷ two
 
+-- SSH_AGENTC_UNLOCK with two bytes
 abbrev pub unlock : List ℕ → List ℕ
 unlock two = 0 ∷ 0 ∷ 0 ∷ 7 ∷ 23 ∷ 0 ∷ 0 ∷ 0 ∷ 2 ∷ two
 
+-- SSH_AGENTC_LOCK with no bytes
 abbrev pub lock_empty : List ℕ
 lock_empty = 0 ∷ 0 ∷ 0 ∷ 5 ∷ 22 ∷ 0 ∷ 0 ∷ 0 ∷ 0 ∷ []
 

@@ -16,9 +16,11 @@ use Rattle.agent_model.specs.Step.{step}
 abbrev pub limited : Settings
 limited = record { life = None; limits = record { ask = Some 60; confirmation = Some 300 } }
 
+-- the helper's limit alone
 abbrev pub asks_limited : Settings
 asks_limited = record { life = None; limits = record { ask = Some 60; confirmation = None } }
 
+-- the user's limit alone
 abbrev pub consents_limited : Settings
 consents_limited = record { life = None; limits = record { ask = None; confirmation = Some 300 } }
 
@@ -45,6 +47,7 @@ holding_by settings events = run (first_state settings) (on 0 (Joined Clients)
 abbrev pub waiting : List Timed → State
 waiting events = holding_by limited (on 0 (Heard 1 (sign 17)) ∷ events)
 
+-- the client waits for the helper, and nothing limits it
 abbrev pub waiting_for_ever : List Timed → State
 waiting_for_ever events = holding_by no_settings (on 0 (Heard 1 (sign 17)) ∷ events)
 
@@ -74,6 +77,7 @@ abbrev pub asked_by : Settings → List Timed → State
 asked_by settings events = asking_by settings (on 0 (Started 1 (ticket 9)) ∷ on 0 (Joined Children)
     ∷ on 0 (Heard 2 (hello 1 9)) ∷ events)
 
+-- the child process of port 2 asks the user, with both limits
 abbrev pub asked : List Timed → State
 asked events = asked_by limited events
 

@@ -1,6 +1,6 @@
 -- Each private string of a key that is held was read as an addition, and so was each that a request, or a grant, puts to
 -- the helper.
-use Rattle.std.proofs.Common.{◌≡◌, inl, inr, ℕ, ◌-◌, ◌==◌, List, [], ◌∷◌, refl, Bool, true, false, cond, nat_lt, Option, Some, None, Result, Ok, Err}
+use Rattle.std.proofs.Common.{◌≡◌, inl, inr, ℕ, ◌-◌, ◌==◌, List, [], ◌∷◌, refl, subst, Bool, true, false, cond, Option, Some, None, Result, Ok, Err}
 use Rattle.std.specs.List.{All}
 use Rattle.std.specs.Str.{bytes_eq}
 use Rattle.std.proofs.lemmas.List.Elements.{All-cons, All-filter, All-head, All-nil, All-tail}
@@ -11,27 +11,23 @@ use Rattle.key_blob.specs.PublicKeys.{KeyParts, public_key_of}
 use Rattle.key_blob.specs.declared.added.AddedKey.{AddedKey}
 use Rattle.key_blob.specs.declared.fault.KeyFault.{KeyFault}
 use Rattle.identity_table.specs.Deaths.{lives_at}
-use Rattle.identity_table.specs.Identities.{HeldKey, alive_at, find_identity, find_number, has_blob, in_front, max_answer, new_identity, number_of, put_identity, remove_identity, spend_identity, used_by}
+use Rattle.identity_table.specs.Identities.{HeldKey, alive_at, find_identity, find_number, has_blob, in_front, new_identity, number_of, put_identity, remove_identity, spend_identity, used_by}
 use Rattle.lists.specs.Keyed.{has_key}
 use Rattle.agent_msg.specs.declared.fault.MsgFault.{MsgFault}
 use Rattle.agent_msg.specs.Reading.{request_of}
-use Rattle.agent_msg.specs.Requests.{Addition, BindRequest, ClientRequest, IsRequest, Signing, ListIdentities, Sign, Add, Remove, RemoveAll, Lock, Unlock, Bind, OtherExtension, Unsupported}
+use Rattle.agent_msg.specs.Requests.{BindRequest, ClientRequest, IsRequest, ListIdentities, Sign, Add, Remove, RemoveAll, Lock, Unlock, Bind, OtherExtension, Unsupported}
 use Rattle.agent_msg.proofs.FoundLemmas.{request_is_found}
-use Rattle.dest_rule.specs.Chains.{judge}
-use Rattle.dest_rule.specs.Rules.{denial_under}
 use Rattle.dest_rule.specs.declared.binding.Binding.{Binding}
-use Rattle.dest_rule.specs.declared.denial.Denial.{Denial}
-use Rattle.dest_rule.specs.declared.fault.Next.{Next as Judgement}
-use Rattle.dest_rule.specs.declared.fault.Next.TheVariants.{New, Refuse, Same}
 use Rattle.confirm_desk.specs.Confirmations.{Confirmation}
 use Rattle.agent_model.specs.Binds.{agent_request_of, and_host_key, bind_with, with_host_key}
-use Rattle.agent_model.specs.Consents.{grant_by, grant_unless, grant_with, signing_of}
-use Rattle.agent_model.specs.Dispatch.{Asker, Served, add_by, add_fault, add_seen, add_unless, bind_by, length_with, lock_by, remove_by, remove_seen, sees, serve, serve_by, serve_locked, serve_unlocked, sign_by, sign_unless, sign_with, unlock_by}
-use Rattle.agent_model.specs.Errands.{Errand, Signs, Verifies, ask_fault, put_unless, raise_fault, raise_unless}
+use Rattle.agent_model.specs.Actions.{Work}
+use Rattle.agent_model.specs.Consents.{signing_of}
+use Rattle.agent_model.specs.Dispatch.{Asker, Served, serve}
+use Rattle.agent_model.specs.Errands.{Errand, Signs, Verifies, put_unless}
 use Rattle.agent_model.specs.KeyStates.{KeyState, after_use}
-use Rattle.agent_model.specs.Limits.{last_number}
 use Rattle.agent_model.specs.State.{UnderWay}
-use Rattle.agent_model.specs.Verdicts.{Cause}
+use Rattle.agent_model.proofs.GrantLemmas.{IsGranted, allowed, disallowed, unasked}
+use Rattle.agent_model.proofs.ServeLemmas.{Serves, adds, confirms, denies, empties, lists, locks, removes, serves-any, signs, unlocks, verifies}
 use Rattle.agent_secrecy.proofs.EachLemmas.{each_found, each_left}
 
 -- ---- keys
@@ -144,112 +140,34 @@ abbrev IsFor : Errand → Type 0
 IsFor (Signs key signing) = IsAddition key
 IsFor (Verifies bind is_new) = Unit {0}
 
-asks : (fault : Option Cause) (errand : Errand) (asker : ℕ) (under_way : UnderWay) → IsFor errand → ArePut (put_unless fault errand asker under_way).put
-asks (Some cause) errand asker under_way is = none
-asks None (Signs key signing) asker under_way is = All-cons IsOfAddition _ [] is none
-asks None (Verifies bind is_new) asker under_way is = All-cons IsOfAddition _ [] tt none
-
-raises : (fault : Option Cause) (key : HeldKey) (signing : Signing) (asker : ℕ) (under_way : UnderWay) → ArePut (raise_unless fault key signing asker under_way).put
-raises (Some cause) key signing asker under_way = none
-raises None key signing asker under_way = none
-
-signs_with : (confirm : Bool) (asker : Asker) (key : HeldKey) (signing : Signing) (under_way : UnderWay) → IsAddition key → ArePut (sign_with confirm asker key signing under_way).put
-signs_with true asker key signing under_way is = raises (raise_fault under_way) key signing asker.port under_way
-signs_with false asker key signing under_way is = asks (ask_fault under_way) (Signs key signing) asker.port under_way is
-
-signs_unless : (denial : Option Denial) (asker : Asker) (key : HeldKey) (signing : Signing) (under_way : UnderWay) → IsAddition key → ArePut (sign_unless denial asker key signing under_way).put
-signs_unless (Some denial) asker key signing under_way is = none
-signs_unless None asker key signing under_way is = signs_with key.confirm asker key signing under_way is
-
-signs : (keys : List HeldKey) (found : Option HeldKey) (asker : Asker) (signing : Signing) (under_way : UnderWay) → find_identity signing.blob keys ≡ found → AreHeld keys → ArePut (sign_by found asker signing under_way).put
-signs keys None asker signing under_way is held = none
-signs keys (Some key) asker signing under_way is held =
-    signs_unless (denial_under key.rules signing.blob asker.chain signing.message asker.wall) asker key signing under_way (identity signing.blob keys key is held)
-
-binds : (judgement : Judgement) (asker : Asker) (bind : BindRequest) (under_way : UnderWay) → ArePut (bind_by judgement asker bind under_way).put
-binds (Refuse fault) asker bind under_way = none
-binds Same asker bind under_way = asks (ask_fault under_way) (Verifies bind false) asker.port under_way tt
-binds New asker bind under_way = asks (ask_fault under_way) (Verifies bind true) asker.port under_way tt
+puts : (errand : Errand) (asker : ℕ) (under_way : UnderWay) → IsFor errand → ArePut (put_unless None errand asker under_way).put
+puts (Signs key signing) asker under_way is = All-cons IsOfAddition _ [] is none
+puts (Verifies bind is_new) asker under_way is = All-cons IsOfAddition _ [] tt none
 
 pub record AreKept (served : Served) : Type 0 where
   pub keys : AreHeld served.held.table.identities
   pub put : ArePut served.work.put
 
-adds_unless : (fault : Option Cause) (new : Addition) (now : ℕ) (held : KeyState) (under_way : UnderWay) → IsAddedKey new.key → AreHeld held.table.identities → AreKept (add_unless fault new now held under_way)
-adds_unless (Some cause) new now held under_way is keys = record { keys = keys; put = none }
-adds_unless None new now held under_way is keys = record {
-  keys = with_one (new_identity held.table new.key new.terms new.comment now) held.table.identities is keys;
-  put = none;
-}
-
-adds_seen : (seen : Bool) (new : Addition) (now : ℕ) (held : KeyState) (under_way : UnderWay) → IsAddedKey new.key → AreHeld held.table.identities → AreKept (add_seen seen new now held under_way)
-adds_seen false new now held under_way is keys = record { keys = keys; put = none }
-adds_seen true new now held under_way is keys =
-    adds_unless (add_fault (nat_lt max_answer (length_with new now held.table)) (held.table.last == last_number)) new now held under_way is keys
-
-adds : (found : Option HeldKey) (asker : Asker) (new : Addition) (held : KeyState) (under_way : UnderWay) → IsAddedKey new.key → AreHeld held.table.identities → AreKept (add_by found asker new held under_way)
-adds None asker new held under_way is keys = adds_seen true new asker.mono held under_way is keys
-adds (Some key) asker new held under_way is keys = adds_seen (sees asker key) new asker.mono held under_way is keys
-
-removes_seen : (seen : Bool) (blob : List ℕ) (held : KeyState) (under_way : UnderWay) → AreHeld held.table.identities → AreKept (remove_seen seen blob held under_way)
-removes_seen false blob held under_way keys = record { keys = keys; put = none }
-removes_seen true blob held under_way keys = record { keys = without blob held.table.identities keys; put = none }
-
-removes : (found : Option HeldKey) (asker : Asker) (blob : List ℕ) (held : KeyState) (under_way : UnderWay) → AreHeld held.table.identities → AreKept (remove_by found asker blob held under_way)
-removes None asker blob held under_way keys = record { keys = keys; put = none }
-removes (Some key) asker blob held under_way keys = removes_seen (sees asker key) blob held under_way keys
-
-locks : (passphrase : List ℕ) (held : KeyState) (under_way : UnderWay) → AreHeld held.table.identities → AreKept (lock_by passphrase held under_way)
-locks [] held under_way keys = record { keys = keys; put = none }
-locks (byte ∷ bytes) held under_way keys = record { keys = keys; put = none }
-
-unlocks : (same : Bool) (held : KeyState) (under_way : UnderWay) → AreHeld held.table.identities → AreKept (unlock_by same held under_way)
-unlocks true held under_way keys = record { keys = keys; put = none }
-unlocks false held under_way keys = record { keys = keys; put = none }
-
-unlocked : (request : ClientRequest) (asker : Asker) (held : KeyState) (under_way : UnderWay) → Adds request → AreHeld held.table.identities → AreKept (serve_unlocked request asker held under_way)
-unlocked ListIdentities asker held under_way is keys = record { keys = keys; put = none }
-unlocked (Sign signing) asker held under_way is keys =
-    record { keys = used (sign_by (find_identity signing.blob held.table.identities) asker signing under_way).used held keys; put = signs held.table.identities (find_identity signing.blob held.table.identities) asker signing under_way refl keys }
-unlocked (Add new) asker held under_way is keys = adds (find_identity new.key.blob held.table.identities) asker new held under_way is keys
-unlocked (Remove blob) asker held under_way is keys = removes (find_identity blob held.table.identities) asker blob held under_way keys
-unlocked RemoveAll asker held under_way is keys = record { keys = All-nil IsAddition; put = none }
-unlocked (Lock passphrase) asker held under_way is keys = locks passphrase held under_way keys
-unlocked (Unlock passphrase) asker held under_way is keys = record { keys = keys; put = none }
-unlocked (Bind bind) asker held under_way is keys = record { keys = keys; put = binds (judge bind.host_key bind.session asker.chain) asker bind under_way }
-unlocked (OtherExtension name) asker held under_way is keys = record { keys = keys; put = none }
-unlocked (Unsupported number) asker held under_way is keys = record { keys = keys; put = none }
-
-locked : (passphrase : List ℕ) (request : ClientRequest) (asker : Asker) (held : KeyState) (under_way : UnderWay) → AreHeld held.table.identities → AreKept (serve_locked passphrase request held under_way)
-locked passphrase ListIdentities asker held under_way keys = record { keys = keys; put = none }
-locked passphrase (Sign signing) asker held under_way keys = record { keys = keys; put = none }
-locked passphrase (Add new) asker held under_way keys = record { keys = keys; put = none }
-locked passphrase (Remove blob) asker held under_way keys = record { keys = keys; put = none }
-locked passphrase RemoveAll asker held under_way keys = record { keys = keys; put = none }
-locked passphrase (Lock other) asker held under_way keys = record { keys = keys; put = none }
-locked passphrase (Unlock other) asker held under_way keys = unlocks (bytes_eq passphrase other) held under_way keys
-locked passphrase (Bind bind) asker held under_way keys = record { keys = keys; put = none }
-locked passphrase (OtherExtension name) asker held under_way keys = record { keys = keys; put = none }
-locked passphrase (Unsupported number) asker held under_way keys = record { keys = keys; put = none }
-
-by_lock : (lock : Option (List ℕ)) (request : ClientRequest) (asker : Asker) (held : KeyState) (under_way : UnderWay) → Adds request → AreHeld held.table.identities → AreKept (serve_by lock request asker held under_way)
-by_lock None request asker held under_way is keys = unlocked request asker held under_way is keys
-by_lock (Some passphrase) request asker held under_way is keys = locked passphrase request asker held under_way keys
+served : {read : Result ClientRequest MsgFault} {asker : Asker} {held : KeyState} {under_way : UnderWay} {served : Served} → Serves read asker held under_way served → AddsWhereRead read → AreHeld held.table.identities → AreKept served
+served (denies cause) is keys = record { keys = keys; put = none }
+served (lists identities read) is keys = record { keys = keys; put = none }
+served {asker = asker} {held = held} (adds new read) is keys =
+    record { keys = with_one (new_identity held.table new.key new.terms new.comment asker.mono) held.table.identities (subst AddsWhereRead read is) keys; put = none }
+served {held = held} (removes blob read) is keys = record { keys = without blob held.table.identities keys; put = none }
+served (empties read) is keys = record { keys = All-nil IsAddition; put = none }
+served (locks passphrase read) is keys = record { keys = keys; put = none }
+served (unlocks passphrase read) is keys = record { keys = keys; put = none }
+served {asker = asker} {held = held} {under_way = under_way} (signs signing key read found plain free) is keys =
+    record { keys = used (Some key.number) held keys; put = puts (Signs key signing) asker.port under_way (identity signing.blob held.table.identities key found keys) }
+served (confirms signing key read found free) is keys = record { keys = keys; put = none }
+served {asker = asker} {under_way = under_way} (verifies bind is_new read stands free) is keys =
+    record { keys = keys; put = puts (Verifies bind is_new) asker.port under_way tt }
 
 pub serves : (read : Result ClientRequest MsgFault) (asker : Asker) (held : KeyState) (under_way : UnderWay) → AddsWhereRead read → AreHeld held.table.identities → AreKept (serve read asker held under_way)
-serves (Ok request) asker held under_way is keys = by_lock held.lock request asker held under_way is keys
-serves (Err fault) asker held under_way is keys = record { keys = keys; put = none }
+serves read asker held under_way is keys = served (serves-any read asker held under_way) is keys
 
-grants_unless : (denial : Option Denial) (key : HeldKey) (confirmation : Confirmation) (under_way : UnderWay) → IsAddition key → ArePut (grant_unless denial key confirmation under_way).put
-grants_unless (Some denial) key confirmation under_way is = none
-grants_unless None key confirmation under_way is = asks (ask_fault under_way) (Signs key (signing_of key confirmation)) confirmation.asker under_way is
-
-grants_with : (keys : List HeldKey) (found : Option HeldKey) (chain : List Binding) (confirmation : Confirmation) (wall : ℕ) (under_way : UnderWay) → find_number confirmation.addition keys ≡ found → AreHeld keys → ArePut (grant_with found chain confirmation wall under_way).put
-grants_with keys None chain confirmation wall under_way is held = none
-grants_with keys (Some key) chain confirmation wall under_way is held =
-    grants_unless (denial_under key.rules key.blob chain confirmation.message wall) key confirmation under_way (addition confirmation.addition keys key is held)
-
-pub grants_by : (lock : Option (List ℕ)) (held : KeyState) (chain : List Binding) (confirmation : Confirmation) (wall : ℕ) (under_way : UnderWay) → AreHeld held.table.identities → ArePut (grant_by lock held chain confirmation wall under_way).put
-grants_by (Some passphrase) held chain confirmation wall under_way keys = none
-grants_by None held chain confirmation wall under_way keys =
-    grants_with held.table.identities (find_number confirmation.addition held.table.identities) chain confirmation wall under_way refl keys
+pub granted : {chain : List Binding} {confirmation : Confirmation} {wall : ℕ} {held : KeyState} {under_way : UnderWay} {work : Work} → IsGranted chain confirmation wall held under_way work → AreHeld held.table.identities → ArePut work.put
+granted (disallowed never) keys = none
+granted (unasked cause key may fault) keys = none
+granted {confirmation = confirmation} {held = held} {under_way = under_way} (allowed key may free) keys =
+    puts (Signs key (signing_of key confirmation)) confirmation.asker under_way (addition confirmation.addition held.table.identities key may.found keys)

@@ -66,40 +66,45 @@ module _ (keeps : (bytes : List ℕ) → length (hidden bytes) ≡ length bytes)
   take_frame-hidden body_len attempt port =
       ap (λ bytes. let p : Port = record port { heard = bytes; attempted = port.attempted || attempt } in p) (frame_by port.door port.number (4 + body_len) port.heard)
 
-  concluded-seen : (number : ℕ) (body : List ℕ) (served : Served) (state : State) → seen_of (concluded number body served state) ≡ concluded_seen number (served_seen hidden served) (without_secrets state)
-  concluded-seen number body served state =
-      ap (λ ports. let new : Seen = record (seen_of (concluded number body served state)) { state = record (without_secrets (concluded number body served state).state) { ports = ports } } in new)
-      (sym (tell-hidden blanked number served.work.verdict state.ports))
+  module _ (heard : ℕ → List ℕ → List ℕ) where
+    pub concluded-seen : (number : ℕ) (body : List ℕ) (served : Served) (state : State) → seen hidden heard (concluded number body served state) ≡ concluded_seen number (served_seen hidden served) (hide_state hidden heard state)
+    concluded-seen number body served state =
+        ap (λ ports. let new : Seen = record (seen hidden heard (concluded number body served state)) { state = record (hide_state hidden heard (concluded number body served state).state) { ports = ports } } in new)
+        (sym (tell-hidden heard number served.work.verdict state.ports))
 
-  taken-seen : (body_len : ℕ) (body : List ℕ) (port : Port) (state : State) → seen_of (taken body_len body port state) ≡ taken_of body_len (hide_read hidden (agent_request_of body)) (attempts state.held.lock body) (hide_port blanked port) (without_secrets state)
-  taken-seen body_len body port state =
-      concluded-seen port.number body (serve (agent_request_of body) (asker_at state.moment port) state.held state.under_way) (changed port.number (take_frame body_len (attempts state.held.lock body)) state)
-      ∙ ap (λ served. concluded_seen port.number served (without_secrets (changed port.number (take_frame body_len (attempts state.held.lock body)) state)))
-      (sym (serve-hidden hidden keeps (agent_request_of body) (asker_at state.moment port) state.held state.under_way))
-      ∙ ap (concluded_seen port.number (served_bare (serve (hide_read hidden (agent_request_of body)) (asker_at state.moment port) (hide_held hidden state.held) (hide_under_way state.under_way))))
-      (sym (changed-hidden hidden keeps blanked port.number (take_frame body_len (attempts state.held.lock body)) (take_frame body_len (attempts state.held.lock body)) state
-      (λ one found. take_frame-hidden body_len (attempts state.held.lock body) one)))
+    -- a request that is taken, where a frame of another length goes in the other run
+    pub taken-seen : (body_len other_len : ℕ) (attempt : Bool) (body : List ℕ) (read : Result ClientRequest MsgFault) (port : Port) (state : State) → ((one : Port) → find_port port.number state.ports ≡ Some one → take_frame other_len attempt (hide_port heard one) ≡ hide_port heard (take_frame body_len attempt one)) → seen hidden heard (concluded port.number body (serve read (asker_at state.moment port) state.held state.under_way) (changed port.number (take_frame body_len attempt) state)) ≡ taken_of other_len (hide_read hidden read) attempt (hide_port heard port) (hide_state hidden heard state)
+    taken-seen body_len other_len attempt body read port state goes =
+        concluded-seen port.number body (serve read (asker_at state.moment port) state.held state.under_way) (changed port.number (take_frame body_len attempt) state)
+        ∙ ap (λ served. concluded_seen port.number served (hide_state hidden heard (changed port.number (take_frame body_len attempt) state))) (sym (serve-hidden hidden keeps read (asker_at state.moment port) state.held state.under_way))
+        ∙ ap (concluded_seen port.number (served_bare (serve (hide_read hidden read) (asker_at state.moment port) (hide_held hidden state.held) (hide_under_way state.under_way))))
+        (sym (changed-hidden hidden keeps heard port.number (take_frame body_len attempt) (take_frame other_len attempt) state goes))
+
+    pub shut-seen : (number : ℕ) (state : State) → seen hidden heard (shut number state) ≡ bare (shut number (hide_state hidden heard state))
+    shut-seen number state = sym (exactly hidden keeps heard (shut number state) _ (shut-hidden hidden keeps heard number state))
+
+  taken-blanked : (body_len : ℕ) (body : List ℕ) (port : Port) (state : State) → seen_of (taken body_len body port state) ≡ taken_of body_len (hide_read hidden (agent_request_of body)) (attempts state.held.lock body) (hide_port blanked port) (without_secrets state)
+  taken-blanked body_len body port state =
+      let attempt = attempts state.held.lock body in
+      taken-seen blanked body_len body_len attempt body (agent_request_of body) port state (λ one found. take_frame-hidden body_len attempt one)
 
   module _ (p q : Port) (s t : State) (same_port : hide_port blanked p ≡ hide_port blanked q) (same : without_secrets s ≡ without_secrets t) where
     taken-alike : (body_len : ℕ) (one other : List ℕ) → AreAlikeBodies one other → seen_of (taken body_len one p s) ≡ seen_of (taken body_len other q t)
     taken-alike body_len one other alike =
-        taken-seen body_len one p s
+        taken-blanked body_len one p s
         ∙ ap (λ read. taken_of body_len read (attempts s.held.lock one) (hide_port blanked p) (without_secrets s)) (bodies_read one other alike)
         ∙ ap (λ attempt. taken_of body_len (hide_read hidden (agent_request_of other)) attempt (hide_port blanked p) (without_secrets s))
         (bodies_attempt s.held.lock one other alike ∙ ap (λ (x : State). attempts x.held.lock other) same)
         ∙ ap (λ port. taken_of body_len (hide_read hidden (agent_request_of other)) (attempts t.held.lock other) port (without_secrets s)) same_port
         ∙ ap (taken_of body_len (hide_read hidden (agent_request_of other)) (attempts t.held.lock other) (hide_port blanked q)) same
-        ∙ sym (taken-seen body_len other q t)
-
-    shut-seen : (number : ℕ) (state : State) → seen_of (shut number state) ≡ bare (shut number (without_secrets state))
-    shut-seen number state = sym (exactly hidden keeps blanked (shut number state) _ (shut-hidden hidden keeps blanked number state))
+        ∙ sym (taken-blanked body_len other q t)
 
     closed-alike : seen_of (shut p.number s) ≡ seen_of (shut q.number t)
     closed-alike =
-        shut-seen p.number s
+        shut-seen blanked p.number s
         ∙ ap (λ (port : Port). bare (shut port.number (without_secrets s))) same_port
         ∙ ap (λ state. bare (shut q.number state)) same
-        ∙ sym (shut-seen q.number t)
+        ∙ sym (shut-seen blanked q.number t)
 
     pub look_front-alike : {f g : List ℕ} (one other : Front) → AreAlikeFronts p.heard q.heard f g one other → seen_of (look_front one p s) ≡ seen_of (look_front other q t)
     look_front-alike one other (both_whole body_len bodies streams) = taken-alike body_len (front_body body_len p.heard) (front_body body_len q.heard) bodies

@@ -21,7 +21,8 @@ use Rattle.agent_secrecy.specs.Alike.{AreAlikeStreams, heard_in, hide_piece, sha
 use Rattle.agent_secrecy.proofs.BlankLemmas.{blank-append, length-blank}
 use Rattle.agent_secrecy.proofs.PortLemmas.{find_port-hidden}
 use Rattle.agent_secrecy.proofs.StateLemmas.{changed-hidden, exactly}
-use Rattle.agent_secrecy.proofs.EventLemmas.{IsChild, join-hidden}
+use Rattle.agent_model.proofs.BothLemmas.{IsChild}
+use Rattle.agent_secrecy.proofs.EventLemmas.{join-hidden}
 use Rattle.agent_secrecy.proofs.LengthLemmas.{length-hidden_bytes}
 use Rattle.agent_secrecy.proofs.LookLemmas.{blanked, due-alike, looked-alike, seen_of as seen_by, without_secrets as without_by}
 use Rattle.agent_secrecy.proofs.QuietLemmas.{IsQuiet, quiet-alike, quiet_keeps}

@@ -6,7 +6,7 @@ use Rattle.wire_text.specs.Wire.{announced_len}
 use Rattle.wire_text.specs.Frames.{Bad, Front, More, Whole, after_front, front, front_body, split, split_from, then_split, unsplit}
 use Rattle.wire_text.proofs.WireLemmas.{announced_len-append, announced_len-take}
 use Rattle.wire_text.proofs.FrontLemmas.{front-append_bad, front-append_whole, front-bad, front-whole, front_says, length-front_body}
-use Rattle.wire_text.proofs.SplitLemmas.{split-bad, split-front, split-whole}
+use Rattle.wire_text.proofs.SplitLemmas.{after_front-append, front_body-append, split-bad, split-front, split-whole}
 use Rattle.wire_text.specs.Bounds.{longest_body}
 use Rattle.agent_secrecy.specs.Alike.{AreAlikeAdditions, AreAlikeBodies, AreAlikeSplits, AreAlikeStreams, AreAllAlike}
 use Rattle.agent_secrecy.proofs.KeyLemmas.{alike_lengths, alike_sym}
@@ -54,29 +54,12 @@ body_lengths one other (inr alike) = omega (
   alike_lengths alike.key alike.other_key alike.keys,
 )
 
--- ---- a frame at a front (as in wire_text's SplitLemmas, where these aren't public)
-
-body-append : (max : ℕ) (s t : List ℕ) (body_len : ℕ) → front max s ≡ Whole body_len → front_body body_len (s ++ t) ≡ front_body body_len s
-body-append max s t body_len found =
-    let is = front_says max s (Whole body_len) found in
-    let follows : 4 + announced_len s ≤ length s = is.0.follows in
-    let same : body_len ≡ announced_len s = is.1 in
-    ap (take body_len) (drop-append-le 4 s t (omega arith))
-    ∙ take-append-le body_len (drop 4 s) t (omega (arith, length-drop 4 s))
-
-after-append : (max : ℕ) (s t : List ℕ) (body_len : ℕ) → front max s ≡ Whole body_len → after_front body_len (s ++ t) ≡ after_front body_len s ++ t
-after-append max s t body_len found =
-    let is = front_says max s (Whole body_len) found in
-    let follows : 4 + announced_len s ≤ length s = is.0.follows in
-    let same : body_len ≡ announced_len s = is.1 in
-    drop-append-le (4 + body_len) s t (omega arith)
-
 -- the split of a stream of which a whole frame was heard
 split-heard : (max : ℕ) (s t : List ℕ) (body_len : ℕ) → front max s ≡ Whole body_len → split max (s ++ t) ≡ then_split (front_body body_len s ∷ []) (split max (after_front body_len s ++ t))
 split-heard max s t body_len found =
     split-whole max (s ++ t) body_len (front-append_whole max s t body_len found)
-    ∙ ap (λ (b : List ℕ). then_split (b ∷ []) (split max (after_front body_len (s ++ t)))) (body-append max s t body_len found)
-    ∙ ap (λ (r : List ℕ). then_split (front_body body_len s ∷ []) (split max r)) (after-append max s t body_len found)
+    ∙ ap (λ (b : List ℕ). then_split (b ∷ []) (split max (after_front body_len (s ++ t)))) (front_body-append max s t body_len found)
+    ∙ ap (λ (r : List ℕ). then_split (front_body body_len s ∷ []) (split max r)) (after_front-append max s t body_len found)
 
 -- a whole frame that was heard to its end
 heard_whole : (max : ℕ) (s t : List ℕ) (body_len : ℕ) → front max (s ++ t) ≡ Whole body_len → 4 + body_len ≤ length s → front max s ≡ Whole body_len
@@ -123,8 +106,8 @@ module _ (h k f g : List ℕ) (lengths : length h ≡ length k) where
       record { bodies = alike.bodies.1; lengths = alike.lengths; heads = alike.heads } in
       record {
         front = here;
-        bodies = subst (AreAlikeBodies (front_body body_len h)) (ap (λ (n : ℕ). front_body n (k ++ g)) (sym same) ∙ body-append longest_body k g body_len here) first;
-        streams = subst (AreAlikeStreams (after_front body_len h ++ f)) (ap (λ (n : ℕ). after_front n (k ++ g)) (sym same) ∙ after-append longest_body k g body_len here) later;
+        bodies = subst (AreAlikeBodies (front_body body_len h)) (ap (λ (n : ℕ). front_body n (k ++ g)) (sym same) ∙ front_body-append longest_body k g body_len here) first;
+        streams = subst (AreAlikeStreams (after_front body_len h ++ f)) (ap (λ (n : ℕ). after_front n (k ++ g)) (sym same) ∙ after_front-append longest_body k g body_len here) later;
       }
   whole_by body_len (Bad announced) found is alike = absurd (alike.bodies)
   whole_by body_len More found is alike = absurd (alike.bodies)

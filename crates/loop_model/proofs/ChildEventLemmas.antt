@@ -1,49 +1,34 @@
 -- What each event leaves of the child processes that were owed bytes.
-use Rattle.std.proofs.Common.{◌≡◌, ◌≢◌, ℕ, Bool, true, false, List, ◌++◌, Option, Some, None, Result, Ok, Err, is_some, refl, sym, ap, ◌∙◌}
-use Rattle.std.specs.Option.{option_map}
-use Rattle.std.specs.Str.{bytes_eq}
-use Rattle.lists.proofs.KeyedLemmas.{find_by-change, found_key}
-use Rattle.world_ports.specs.declared.events.Door.{Door}
-use Rattle.world_ports.specs.declared.events.Job.{Job}
+use Rattle.std.proofs.Common.{◌≡◌, ◌≢◌, ℕ, true, List, Some, None, is_some, refl, sym, ap, ◌∙◌}
 use Rattle.world_ports.specs.declared.events.JobKind.TheVariants as kinds
-use Rattle.world_ports.specs.declared.events.JobKind.{JobKind}
 use Rattle.world_ports.specs.declared.events.Moment.{Moment}
-use Rattle.wire_text.specs.Frames.{Bad, Front, More, Whole, after_front, front, front_body}
-use Rattle.child_msg.specs.Messages.{Denied, False, FromChildMessage, Granted, Hello, Refused, Signed, True}
-use Rattle.child_msg.specs.Reading.{from_child_of}
-use Rattle.child_msg.specs.declared.fault.ChildFault.{ChildFault}
+use Rattle.wire_text.specs.Frames.{front_body}
 use Rattle.confirm_desk.specs.Confirmations as desk
-use Rattle.confirm_desk.specs.Confirmations.{Confirmation, change_job, consent, find_asker, find_job, find_linked, linked, linked_at}
+use Rattle.confirm_desk.specs.Confirmations.{Confirmation, change_job, find_job, find_linked}
 use Rattle.helper_link.specs.declared.state.LinkState.TheVariants as states
-use Rattle.agent_model.specs.Children.{changed, closed, confirmer_named, failed_by, start_failed, first_frame, first_message, heard_more, hello_heard, helper_named, is_started_by, job_left, job_started, named_by, ticket_shown, unheard}
-use Rattle.agent_model.specs.Consents.{find_started, started_number}
-use Rattle.agent_model.specs.Events.{Ended, Happening, Heard, Joined, StartFailed, Started, Tick, Took}
-use Rattle.agent_model.specs.State.{Client, Confirmer, Helper, Port, Role, StartedJob, State, UnderWay, Unnamed, find_port, find_to_start, job_number, role_of}
-use Rattle.agent_model.specs.Step.{ended_at, ended_by_role, handle, heard_at, heard_by_role, helper_took, took_at, took_by_role, took_some}
+use Rattle.agent_model.specs.Actions.{Outcome}
+use Rattle.agent_model.specs.Children.{confirmer_named, helper_named, job_left, job_started, unheard}
+use Rattle.agent_model.specs.Consents.{find_started}
+use Rattle.agent_model.specs.Events.{Happening, Took}
+use Rattle.agent_model.specs.Sound.{IsRising}
+use Rattle.agent_model.specs.State.{Port, StartedJob, State, UnderWay, find_port, find_to_start}
+use Rattle.agent_model.specs.Step.{helper_took}
 use Rattle.agent_model.specs.Time.{at_moment, taken_in}
-use Rattle.agent_model.proofs.JobLemmas.{in-by_asker, in-by_port, in-found, linked_port}
-use Rattle.agent_model.proofs.LeadLemmas.{changes, same}
-use Rattle.agent_model.proofs.MakeLemmas.{role-confirmer, role-free, role-helper, role-other}
-use Rattle.agent_model.proofs.PortsLemmas.{found_number}
-use Rattle.agent_model.proofs.RunLemmas.{leads-rising}
+use Rattle.agent_model.proofs.GrantLemmas.{grant-ends}
+use Rattle.agent_model.proofs.JobLemmas.{in-by_port, in-found, linked_port}
+use Rattle.agent_model.proofs.LeadLemmas.{changes, follows-quiet, same}
+use Rattle.agent_model.proofs.MakeLemmas.{Goes, Makes, Quiet, alters, closes, first, goes_on, grants, leaves, links, loses, mild_of, names, overs, prompts, says, sends, serves, starts, stays, tells}
+use Rattle.agent_model.proofs.RunLemmas.{leads-found, leads-rising}
 use Rattle.agent_model.proofs.TimeLemmas.{at_moment-keeps}
 use Rattle.loop_model.specs.Orderly.{IsStaffed}
-use Rattle.loop_model.proofs.ChildLemmas.{Keeps, Owes, answered_owes, by_desk, by_link, keeps-changed, keeps-closed, keeps-consent, keeps-goes_on, keeps-helper_heard, keeps-look, keeps-lose, keeps-lose_where, keeps-over, keeps-over_if, linked_owes, named_owes}
+use Rattle.loop_model.proofs.ChildLemmas.{Keeps, Owes, answered_owes, by_desk, by_link, heard_owes, keeps-changed, keeps-closed, keeps-granted, keeps-helper_heard, keeps-lose, keeps-over, keeps-taken, linked_owes, named_owes}
 use Rattle.loop_model.proofs.OpenLemmas.{leads-open, linked-elsewhere}
 use Rattle.loop_model.proofs.StaffLemmas.{awaited, not_linked, staffed-changed, staffed-helper, staffed-left, staffed-linked, staffed-started}
 
 module _ (number high : ℕ) where
-  -- whose child process came to this port
-  came_by : (own job : ℕ) (was : Option Confirmation) (one : Confirmation) → option_map (linked_at own) was ≡ Some one
-      → one.port ≡ Some own
-  came_by own job None one is = absurd (cc)
-  came_by own job (Some was) one is =
-      let made : linked_at own was ≡ one = cc in sym (ap (λ (c : Confirmation). c.port) made)
+  -- ---- a child process names itself, at another port
 
   module _ (own : ℕ) (apart : own ≢ number) (state : State) (keeps : Keeps number high state) where
-    keeps-shut : Keeps number high (closed own state)
-    keeps-shut = keeps-closed number high own state keeps
-
     keeps-helper_named : (job : ℕ) (one : StartedJob) → find_started job state.under_way.started ≡ Some one
         → one.job.kind ≡ kinds.Helper → Keeps number high (helper_named job own state)
     keeps-helper_named job one found is =
@@ -72,105 +57,21 @@ module _ (number high : ℕ) where
               (keeps.owes (leads-open number high state.ports leads keeps.rising opened));
         }
 
-    keeps-named : (kind : JobKind) (job : ℕ) (one : StartedJob) (rest : List ℕ)
-        → find_started job state.under_way.started ≡ Some one → one.job.kind ≡ kind
-        → Keeps number high (named_by kind job own rest state).state
-    keeps-named kinds.Helper job one rest found is =
-        keeps-helper_heard number high rest (helper_named job own state) (keeps-helper_named job one found is)
-    keeps-named kinds.Confirm job one rest found is =
-        let next = confirmer_named job own state in
-        keeps-goes_on number high (find_job job next.under_way.confirmations) job own rest next refl
-        (λ c there. (
-          found_key desk.job_of job next.under_way.confirmations c there,
-          came_by own job (find_job job state.under_way.confirmations) c
-              (sym (find_by-change desk.job_of job (linked_at own) state.under_way.confirmations (λ d. refl)) ∙ there),
-        )) (keeps-confirmer_named job one found is)
-
-    keeps-ticket : (right : Bool) (job : ℕ) (one : StartedJob) (rest : List ℕ)
-        → find_started job state.under_way.started ≡ Some one
-        → Keeps number high (ticket_shown right one.job own rest state).state
-    keeps-ticket true job one rest found =
-        let own_job : one.job.number ≡ job = found_key started_number job state.under_way.started one found in
-        keeps-named one.job.kind one.job.number one rest
-        (ap (λ j. find_started j state.under_way.started) own_job ∙ found) refl
-    keeps-ticket false job one rest found = keeps-shut
-
-    keeps-hello : (found : Option StartedJob) (job : ℕ) (ticket rest : List ℕ)
-        → find_started job state.under_way.started ≡ found
-        → Keeps number high (hello_heard found ticket own rest state).state
-    keeps-hello None job ticket rest found = keeps-shut
-    keeps-hello (Some one) job ticket rest found = keeps-ticket (bytes_eq one.ticket ticket) job one rest found
-
-    keeps-message : (read : Result FromChildMessage ChildFault) (rest : List ℕ)
-        → Keeps number high (first_message read own rest state).state
-    keeps-message (Ok (Hello job ticket)) rest =
-        keeps-hello (find_started job state.under_way.started) job ticket rest refl
-    keeps-message (Ok (Signed ask signature)) rest = keeps-shut
-    keeps-message (Ok (Refused ask)) rest = keeps-shut
-    keeps-message (Ok (True ask)) rest = keeps-shut
-    keeps-message (Ok (False ask)) rest = keeps-shut
-    keeps-message (Ok (Granted job)) rest = keeps-shut
-    keeps-message (Ok (Denied job)) rest = keeps-shut
-    keeps-message (Err fault) rest = keeps-shut
-
-    keeps-frame : (answer : Front) (heard : List ℕ) → Keeps number high (first_frame answer own heard state).state
-    keeps-frame (Whole body_len) heard =
-        keeps-message (from_child_of (front_body body_len heard)) (after_front body_len heard)
-    keeps-frame (Bad announced) heard = keeps-shut
-    keeps-frame More heard = keeps
-
-  -- ---- bytes that came
-
-  -- a child process that hasn't named itself is owed nothing
-  unnamed_apart : (at : Port) (state : State) → Keeps number high state → find_port at.number state.ports ≡ Some at
-      → role_of at.door at.number state.under_way ≡ Unnamed → at.number ≢ number
-  unnamed_apart at state keeps found is here =
+  -- one that hasn't is owed nothing
+  unnamed_apart : (own : ℕ) (at : Port) (state : State) → Keeps number high state → find_port own state.ports ≡ Some at
+      → find_linked own state.under_way.confirmations ≡ None → state.under_way.link.state ≢ states.Linked own
+      → own ≢ number
+  unnamed_apart own at state keeps found free unlinked here =
       let opened : is_some (find_port number state.ports) ≡ true =
       ap (λ n. is_some (find_port n state.ports)) (sym here) ∙ ap is_some found in
       nobody (keeps.owes opened)
     where
       nobody : Owes number state.under_way → ⊥
-      nobody (by_link linked some) =
-          role-other at.door at.number state.under_way is (linked ∙ ap states.Linked (sym here))
+      nobody (by_link linked some) = unlinked (linked ∙ ap states.Linked (sym here))
       nobody (by_desk one there some other) =
-          let none : find_linked number state.under_way.confirmations ≡ None =
-          ap (λ n. find_linked n state.under_way.confirmations) (sym here)
-          ∙ role-free at.door at.number state.under_way is in
-          let no : None ≡ Some one = sym none ∙ there in
+          let no : None ≡ Some one =
+          sym (ap (λ n. find_linked n state.under_way.confirmations) (sym here) ∙ free) ∙ there in
           absurd (cc)
-
-  -- the confirmation at a port has its job, and its child process came there
-  its_job : (at : Port) (state : State) (one : Confirmation) → IsStaffed state.under_way
-      → role_of at.door at.number state.under_way ≡ Confirmer one
-      → (find_job one.job state.under_way.confirmations ≡ Some one) × (one.port ≡ Some at.number)
-  its_job at state one staffed is =
-      let found = role-confirmer at.door at.number state.under_way one is in (
-        in-found one 0 state.under_way.last_job staffed.jobs.order
-            (in-by_port at.number state.under_way.confirmations one found),
-        linked_port at.number state.under_way.confirmations one found,
-      )
-
-  keeps-heard_role : (role : Role) (at : Port) (piece : List ℕ) (state : State) → Keeps number high state
-      → find_port at.number state.ports ≡ Some at → role_of at.door at.number state.under_way ≡ role
-      → Keeps number high (heard_by_role role at piece state).state
-  keeps-heard_role Client at piece state keeps found is =
-      keeps-look number high _ (changed at.number (heard_more piece) state)
-      (keeps-changed number high at.number (heard_more piece) state (λ p. refl) (λ p. refl) keeps)
-  keeps-heard_role Unnamed at piece state keeps found is =
-      keeps-frame at.number (unnamed_apart at state keeps found is) (changed at.number (heard_more piece) state)
-      (keeps-changed number high at.number (heard_more piece) state (λ p. refl) (λ p. refl) keeps)
-      (front 262144 (at.heard ++ piece)) (at.heard ++ piece)
-  keeps-heard_role Helper at piece state keeps found is = keeps-helper_heard number high piece state keeps
-  keeps-heard_role (Confirmer one) at piece state keeps found is =
-      let own = its_job at state one keeps.staffed is in
-      keeps-consent number high (consent one.job (one.heard ++ piece)) one at.number piece state own.0 own.1 keeps
-
-  keeps-heard : (other : ℕ) (found : Option Port) (piece : List ℕ) (state : State) → find_port other state.ports ≡ found
-      → Keeps number high state → Keeps number high (heard_at found piece state).state
-  keeps-heard other None piece state is keeps = keeps
-  keeps-heard other (Some at) piece state is keeps =
-      keeps-heard_role (role_of at.door at.number state.under_way) at piece state keeps
-      (ap (λ n. find_port n state.ports) (found_number other state.ports at is) ∙ is) refl
 
   -- ---- bytes that went, at another port
 
@@ -202,60 +103,6 @@ module _ (number high : ℕ) where
       (linked-elsewhere number one.job (desk.took_some count) u.confirmations other differs (λ c miss. miss) found) some
       free
 
-  keeps-took_role : (role : Role) (at : Port) (count : ℕ) (state : State) → Keeps number high state
-      → at.number ≢ number → role_of at.door at.number state.under_way ≡ role
-      → Keeps number high (took_by_role role at.number count state).state
-  keeps-took_role Client at count state keeps apart is =
-      keeps-look number high _ (changed at.number (took_some count) state)
-      (keeps-changed number high at.number (took_some count) state (λ p. refl) (λ p. refl) keeps)
-  keeps-took_role Unnamed at count state keeps apart is = keeps
-  keeps-took_role Helper at count state keeps apart is = record {
-    rising = keeps.rising;
-    staffed = record { jobs = keeps.staffed.jobs; coming = keeps.staffed.coming };
-    owes = λ opened.
-        sent_owes state.under_way (helper_took count state).under_way at.number apart
-        (role-helper at.door at.number state.under_way is) refl refl (keeps.owes opened);
-  }
-  keeps-took_role (Confirmer one) at count state keeps apart is =
-      let own = its_job at state one keeps.staffed is in
-      record {
-        rising = keeps.rising;
-        staffed = staffed-changed state.under_way at.number one (desk.took_some count) keeps.staffed own.0 own.1 (λ c. refl);
-        owes = λ opened.
-            took_owes one at.number count state.under_way apart keeps.staffed own.0 own.1 (keeps.owes opened);
-      }
-
-  keeps-took : (other : ℕ) (found : Option Port) (count : ℕ) (state : State) → find_port other state.ports ≡ found
-      → ((at : Port) → found ≡ Some at → other ≢ number) → Keeps number high state
-      → Keeps number high (took_at found count state).state
-  keeps-took other None count state is apart keeps = keeps
-  keeps-took other (Some at) count state is apart keeps =
-      keeps-took_role (role_of at.door at.number state.under_way) at count state keeps
-      (λ here. apart at refl (sym (found_number other state.ports at is) ∙ here)) refl
-
-  -- ---- a port that ended
-
-  keeps-ended_role : (role : Role) (at : Port) (state : State) → Keeps number high state
-      → role_of at.door at.number state.under_way ≡ role
-      → Keeps number high (ended_by_role role at.number state).state
-  keeps-ended_role Client at state keeps is =
-      keeps-over_if number high (find_asker at.number state.under_way.confirmations) (closed at.number state)
-      (λ one found.
-      in-found one 0 state.under_way.last_job keeps.staffed.jobs.order
-      (in-by_asker at.number state.under_way.confirmations one found)) (keeps-closed number high at.number state keeps)
-  keeps-ended_role Unnamed at state keeps is = keeps-closed number high at.number state keeps
-  keeps-ended_role Helper at state keeps is =
-      keeps-lose number high (closed at.number state) (keeps-closed number high at.number state keeps)
-  keeps-ended_role (Confirmer one) at state keeps is =
-      keeps-over number high one (closed at.number state) (its_job at state one keeps.staffed is).0
-      (keeps-closed number high at.number state keeps)
-
-  keeps-ended_at : (found : Option Port) (state : State) → Keeps number high state
-      → Keeps number high (ended_at found state).state
-  keeps-ended_at None state keeps = keeps
-  keeps-ended_at (Some at) state keeps =
-      keeps-ended_role (role_of at.door at.number state.under_way) at state keeps refl
-
   -- ---- jobs
 
   pub keeps-started : (job : ℕ) (ticket : List ℕ) (state : State) → Keeps number high state
@@ -273,44 +120,79 @@ module _ (number high : ℕ) where
     owes = λ opened. answered_owes number high state.under_way (job_left job state).under_way (keeps.owes opened) refl refl refl;
   }
 
-  keeps-failed_by : (kind : JobKind) (job : Job) (state : State) → Keeps number high state
-      → find_to_start job.number state.under_way.to_start ≡ Some job → job.kind ≡ kind
-      → Keeps number high (failed_by kind job.number (job_left job.number state)).state
-  keeps-failed_by kinds.Helper job state keeps found is =
-      keeps-lose_where number high (is_started_by job.number state.under_way.link.state) (job_left job.number state)
-      (keeps-left job.number state keeps)
-  keeps-failed_by kinds.Confirm job state keeps found is =
-      keeps-over_if number high (find_job job.number state.under_way.confirmations) (job_left job.number state)
-      (λ one there.
-      ap (λ j. find_job j state.under_way.confirmations) (found_key desk.job_of job.number state.under_way.confirmations one there)
-      ∙ there) (keeps-left job.number state keeps)
-
-  keeps-failed : (found : Option Job) (job : ℕ) (state : State) → find_to_start job state.under_way.to_start ≡ found
-      → Keeps number high state → Keeps number high (start_failed found state).state
-  keeps-failed None job state is keeps = keeps
-  keeps-failed (Some one) job state is keeps =
-      let own : one.number ≡ job = found_key job_number job state.under_way.to_start one is in
-      keeps-failed_by one.kind one state keeps
-      (ap (λ j. find_to_start j state.under_way.to_start) own ∙ is) refl
-
   -- ---- every event but a joining
 
   -- bytes that went at an open port went at another
-  abbrev TakesElsewhere : Happening → State → Type 0
+  abbrev pub TakesElsewhere : Happening → State → Type 0
   TakesElsewhere event state = (other count : ℕ) (at : Port) → event ≡ Took other count
       → find_port other state.ports ≡ Some at → other ≢ number
 
-  pub keeps-event : (event : Happening) (state : State) → ((door : Door) → event ≡ Joined door → ⊥)
-      → TakesElsewhere event state → Keeps number high state → Keeps number high (handle event state).state
-  keeps-event (Joined door) state never elsewhere keeps = absurd (never door refl)
-  keeps-event (Heard other piece) state never elsewhere keeps = keeps-heard other _ piece state refl keeps
-  keeps-event (Took other count) state never elsewhere keeps =
-      keeps-took other _ count state refl (λ at found. elsewhere other count at refl found) keeps
-  keeps-event (Ended other) state never elsewhere keeps = keeps-ended_at (find_port other state.ports) state keeps
-  keeps-event (Started job ticket) state never elsewhere keeps = keeps-started job ticket state keeps
-  keeps-event (StartFailed job) state never elsewhere keeps =
-      keeps-failed (find_to_start job state.under_way.to_start) job state refl keeps
-  keeps-event Tick state never elsewhere keeps = keeps
+  keeps-goes : {event : Happening} {state : State} {new : UnderWay} → Goes event state new → TakesElsewhere event state
+      → Keeps number high state → Keeps number high (record state { under_way = new })
+  keeps-goes {state = state} (starts job ticket is) elsewhere keeps = keeps-started job ticket state keeps
+  keeps-goes {state = state} (leaves job is) elsewhere keeps = keeps-left job state keeps
+  keeps-goes {state = state} (sends own count at is found linked) elsewhere keeps = record {
+    rising = keeps.rising;
+    staffed = record { jobs = keeps.staffed.jobs; coming = keeps.staffed.coming };
+    owes = λ opened.
+        sent_owes state.under_way (helper_took count state).under_way own (elsewhere own count at is found) linked refl
+        refl (keeps.owes opened);
+  }
+  keeps-goes {state = state} (prompts own count at one is found linked) elsewhere keeps =
+      let there =
+      in-found one 0 state.under_way.last_job keeps.staffed.jobs.order
+      (in-by_port own state.under_way.confirmations one linked) in
+      let came = linked_port own state.under_way.confirmations one linked in
+      record {
+        rising = keeps.rising;
+        staffed = staffed-changed state.under_way own one (desk.took_some count) keeps.staffed there came (λ c. refl);
+        owes = λ opened.
+            took_owes one own count state.under_way (elsewhere own count at is found) keeps.staffed there came
+            (keeps.owes opened);
+      }
+  keeps-goes {state = state} (says own piece one at there) elsewhere keeps = record {
+    rising = keeps.rising;
+    staffed = staffed-changed state.under_way own one (desk.heard_more piece) keeps.staffed
+        (in-found one 0 state.under_way.last_job keeps.staffed.jobs.order there) at (λ c. refl);
+    owes = λ opened.
+        heard_owes number high one (desk.heard_more piece) state.under_way (λ c. refl) (λ c. refl) (keeps.owes opened);
+  }
+
+  keeps-quiet : {event : Happening} {old new : State} → Quiet event old new → TakesElsewhere event old
+      → Keeps number high old → Keeps number high new
+  keeps-quiet {old = old} (alters own f change) elsewhere keeps =
+      keeps-changed number high own f old (mild_of change).number (mild_of change).door keeps
+  keeps-quiet {old = old} (closes own may) elsewhere keeps = keeps-closed number high own old keeps
+  keeps-quiet (goes_on new goes) elsewhere keeps = keeps-goes goes elsewhere keeps
+  keeps-quiet {old = old} (names job own new) elsewhere keeps =
+      keeps-helper_named own (unnamed_apart own new.port old keeps new.found new.free new.other) old keeps job new.one
+      new.started new.own
+  keeps-quiet {old = old} (links job own new) elsewhere keeps =
+      keeps-confirmer_named own (unnamed_apart own new.port old keeps new.found new.free new.other) old keeps job new.one
+      new.started new.own
+
+  -- what is taken was taken before
+  elsewhere-quiet : {event : Happening} {old new : State} → Quiet event old new → IsRising 0 high old.ports
+      → TakesElsewhere event old → TakesElsewhere event new
+  elsewhere-quiet {event = event} {old = old} quiet rising elsewhere other count at is found =
+      let leads = (follows-quiet event old quiet record { last = refl; ports = same }).ports in
+      let was = leads-found other 0 high old.ports at leads rising found in
+      elsewhere other count was.0 is was.1
+
+  pub keeps-makes : {event : Happening} {old : State} {outcome : Outcome} → Makes event old outcome
+      → TakesElsewhere event old → Keeps number high old → Keeps number high outcome.state
+  keeps-makes (stays state) elsewhere keeps = keeps
+  keeps-makes (first quiet rest) elsewhere keeps =
+      keeps-makes rest (elsewhere-quiet quiet keeps.rising elsewhere) (keeps-quiet quiet elsewhere keeps)
+  keeps-makes (serves body_len port state found door waits owed own) elsewhere keeps =
+      keeps-taken number high body_len (front_body body_len port.heard) port state keeps
+  keeps-makes (tells piece state) elsewhere keeps = keeps-helper_heard number high piece state keeps
+  keeps-makes (loses state) elsewhere keeps = keeps-lose number high state keeps
+  keeps-makes (overs one state there) elsewhere keeps =
+      keeps-over number high one state (in-found one 0 state.under_way.last_job keeps.staffed.jobs.order there) keeps
+  keeps-makes (grants one asker state there opened) elsewhere keeps =
+      keeps-granted number high one asker state (in-found one 0 state.under_way.last_job keeps.staffed.jobs.order there)
+      (grant-ends asker.chain one state) keeps
 
   -- ---- a moment, before its event
 

@@ -1,33 +1,30 @@
 -- What an event leaves of the child processes that were owed bytes.
-use Rattle.std.proofs.Common.{◌≡◌, ◌≢◌, ℕ, ◌+◌, Bool, true, false, List, [], ◌∷◌, ◌++◌, Option, Some, None, is_some, refl, sym, ap, ◌∙◌, ◌==◌, inl, inr}
+use Rattle.std.proofs.Common.{◌≡◌, ◌≢◌, ℕ, ◌+◌, true, false, List, [], ◌∷◌, ◌++◌, Option, Some, None, is_some, refl, sym, ap, ◌∙◌, ◌==◌, inl, inr}
 use Rattle.std.specs.Option.{option_map}
 use Rattle.lists.proofs.KeyedLemmas.{differ}
 use Rattle.std.proofs.lemmas.Bool.{cases_eq}
 use Rattle.lists.proofs.FirstLemmas.{find-before}
 use Rattle.world_ports.specs.declared.events.Moment.{Moment}
-use Rattle.wire_text.specs.Bounds.{longest_body}
-use Rattle.wire_text.specs.Frames.{Bad, Front, More, Whole, front, front_body}
-use Rattle.confirm_desk.specs.Confirmations as desk
-use Rattle.confirm_desk.specs.Confirmations.{Confirmation, Consent, No, NotYet, Yes, came_to, change_job, consent, find_job, find_linked, linked, linked_at}
+use Rattle.confirm_desk.specs.Confirmations.{Confirmation, came_to, change_job, find_job, find_linked, linked, linked_at}
 use Rattle.helper_link.specs.HelperLink.{askers}
 use Rattle.helper_link.specs.Telling.{telling}
 use Rattle.helper_link.specs.declared.fault.LinkFault.{LinkFault}
 use Rattle.helper_link.specs.declared.state.LinkState.TheVariants as states
 use Rattle.helper_link.specs.declared.state.LinkState.{LinkState}
 use Rattle.agent_model.specs.Actions.{Work}
-use Rattle.agent_model.specs.Answers.{answers_in, close_helper, helper_heard, lose, lose_if, lose_where, with_answers}
+use Rattle.agent_model.specs.Answers.{answers_in, close_helper, helper_heard, lose, lose_if, with_answers}
 use Rattle.agent_model.specs.Binds.{agent_request_of}
-use Rattle.agent_model.specs.Children.{changed, closed, confirmer_goes_on}
-use Rattle.agent_model.specs.Consents.{close_confirmer, consent_by, grant_concluded, grant_to, over, over_if, signing_of, without_confirmation}
+use Rattle.agent_model.specs.Children.{changed, closed}
+use Rattle.agent_model.specs.Consents.{close_confirmer, grant_concluded, over, signing_of, without_confirmation}
 use Rattle.agent_model.specs.Dispatch.{Served, serve}
 use Rattle.agent_model.specs.Errands.{Errand, Signs, begun_by, with_ask}
 use Rattle.agent_model.specs.KeyStates.{KeyState, after_use}
 use Rattle.agent_model.specs.Sound.{IsRising}
-use Rattle.agent_model.specs.State.{Nothing, OnAsk, OnConfirmation, Port, State, UnderWay, Waits, change_port, find_port, is_some_bytes, remove_port}
-use Rattle.agent_model.specs.Step.{asker_at, attempts, look_front, look_owed, look_port, look_waits, take_frame, taken}
+use Rattle.agent_model.specs.State.{Port, State, UnderWay, change_port, find_port, is_some_bytes, remove_port}
+use Rattle.agent_model.specs.Step.{asker_at, attempts, take_frame, taken}
 use Rattle.agent_model.specs.Verdicts.{HelperLost, NotConfirmed, Refuses, tell}
 use Rattle.agent_model.proofs.FatedServeLemmas.{linked-begun}
-use Rattle.agent_model.proofs.GrantLemmas.{IsGranted, allowed, disallowed, grant-ends, unasked}
+use Rattle.agent_model.proofs.GrantLemmas.{IsGranted, allowed, disallowed, unasked}
 use Rattle.agent_model.proofs.JobLemmas.{in-by_port, in-found, linked-change, linked_port}
 use Rattle.agent_model.proofs.LeadLemmas.{Leads, changes, leads-answers, leads-close_confirmer, leads-tell_each, removes, same}
 use Rattle.agent_model.proofs.PortsLemmas.{rising-change_port, rising-remove_port}
@@ -37,7 +34,7 @@ use Rattle.under_way.specs.Parts.{IsAwaited}
 use Rattle.loop_model.specs.Orderly.{IsStaffed}
 use Rattle.loop_model.proofs.ClientOwedLemmas.{some-more}
 use Rattle.loop_model.proofs.OpenLemmas.{leads-open, linked-elsewhere, linked-left, never_open, open-changed, open-removed}
-use Rattle.loop_model.proofs.StaffLemmas.{staffed-changed, staffed-lost, staffed-over, staffed-put, staffed-raised}
+use Rattle.loop_model.proofs.StaffLemmas.{staffed-lost, staffed-over, staffed-put, staffed-raised}
 
 -- ---- what a child process is owed
 
@@ -124,11 +121,6 @@ module _ (number high : ℕ) where
   keeps-lose_if None state keeps = keeps
   keeps-lose_if (Some fault) state keeps = keeps-lose state keeps
 
-  pub keeps-lose_where : (test : Bool) (state : State) → Keeps number high state
-      → Keeps number high (lose_where test state).state
-  keeps-lose_where false state keeps = keeps
-  keeps-lose_where true state keeps = keeps-lose state keeps
-
   pub answered_owes : (u new : UnderWay) → Owes number u → new.link.state ≡ u.link.state → new.link.owed ≡ u.link.owed
       → new.confirmations ≡ u.confirmations → Owes number new
   answered_owes u new (by_link linked some) state_is owed_is desk_is =
@@ -136,6 +128,7 @@ module _ (number high : ℕ) where
   answered_owes u new (by_desk one found some other) state_is owed_is desk_is =
       by_desk one (ap (find_linked number) desk_is ∙ found) some (λ linked. other (sym state_is ∙ linked))
 
+  -- the helper sent something
   pub keeps-helper_heard : (piece : List ℕ) (state : State) → Keeps number high state
       → Keeps number high (helper_heard piece state).state
   keeps-helper_heard piece state keeps =
@@ -207,12 +200,6 @@ module _ (number high : ℕ) where
   keeps-over one state there keeps =
       keeps-ended one (tell (Refuses NotConfirmed)) state _ (λ p. refl) (λ p. refl) there (λ s. s) (λ o. o) keeps
 
-  pub keeps-over_if : (found : Option Confirmation) (state : State)
-      → ((one : Confirmation) → found ≡ Some one → find_job one.job state.under_way.confirmations ≡ Some one)
-      → Keeps number high state → Keeps number high (over_if found state).state
-  keeps-over_if None state there keeps = keeps
-  keeps-over_if (Some one) state there keeps = keeps-over one state (there one refl) keeps
-
   keeps-held : (held : KeyState) (state : State) → Keeps number high state
       → Keeps number high (record state { held = held })
   keeps-held held state keeps = record { rising = keeps.rising; staffed = keeps.staffed; owes = keeps.owes }
@@ -231,13 +218,6 @@ module _ (number high : ℕ) where
       (staffed-put (Signs key (signing_of key one)) one.asker _) (owes-put (Signs key (signing_of key one)) one.asker _)
       (keeps-held held state keeps)
 
-  pub keeps-grant : (found : Option Port) (one : Confirmation) (state : State)
-      → find_job one.job state.under_way.confirmations ≡ Some one → Keeps number high state
-      → Keeps number high (grant_to found one state).state
-  keeps-grant None one state there keeps = keeps
-  keeps-grant (Some asker) one state there keeps =
-      keeps-granted one asker state there (grant-ends asker.chain one state) keeps
-
   -- more was heard of a child process that asks
   pub heard_owes : (one : Confirmation) (f : Confirmation → Confirmation) (u : UnderWay)
       → ((c : Confirmation) → (f c).port ≡ c.port) → ((c : Confirmation) → (f c).owed ≡ c.owed) → Owes number u
@@ -249,19 +229,6 @@ module _ (number high : ℕ) where
         | inr made ↦
             by_desk (f other) (made ∙ ap (option_map f) found) (ap is_some_bytes (owed_is other) ∙ some) free
       ]
-
-  pub keeps-consent : (said : Consent) (one : Confirmation) (port : ℕ) (piece : List ℕ) (state : State)
-      → find_job one.job state.under_way.confirmations ≡ Some one → one.port ≡ Some port → Keeps number high state
-      → Keeps number high (consent_by said one piece state).state
-  keeps-consent NotYet one port piece state there at keeps = record {
-    rising = keeps.rising;
-    staffed = staffed-changed state.under_way port one (desk.heard_more piece) keeps.staffed there at (λ c. refl);
-    owes = λ opened.
-        heard_owes one (desk.heard_more piece) state.under_way (λ c. refl) (λ c. refl) (keeps.owes opened);
-  }
-  keeps-consent Yes one port piece state there at keeps =
-      keeps-grant (find_port one.asker state.ports) one state there keeps
-  keeps-consent No one port piece state there at keeps = keeps-over one state there keeps
 
   -- ---- a client is served
 
@@ -305,28 +272,6 @@ module _ (number high : ℕ) where
             (keeps.owes (leads-open number high state.ports leads keeps.rising opened));
       }
 
-  pub keeps-front : (answer : Front) (port : Port) (state : State) → Keeps number high state
-      → Keeps number high (look_front answer port state).state
-  keeps-front (Whole body_len) port state keeps = keeps-taken body_len (front_body body_len port.heard) port state keeps
-  keeps-front (Bad announced) port state keeps = keeps-closed port.number state keeps
-  keeps-front More port state keeps = keeps
-
-  pub keeps-look_owed : (owed : List ℕ) (port : Port) (state : State) → Keeps number high state
-      → Keeps number high (look_owed owed port state).state
-  keeps-look_owed [] port state keeps = keeps-front (front longest_body port.heard) port state keeps
-  keeps-look_owed (byte ∷ bytes) port state keeps = keeps
-
-  pub keeps-look_waits : (waits : Waits) (port : Port) (state : State) → Keeps number high state
-      → Keeps number high (look_waits waits port state).state
-  keeps-look_waits Nothing port state keeps = keeps-look_owed port.owed port state keeps
-  keeps-look_waits (OnAsk ask) port state keeps = keeps
-  keeps-look_waits (OnConfirmation job) port state keeps = keeps
-
-  pub keeps-look : (found : Option Port) (state : State) → Keeps number high state
-      → Keeps number high (look_port found state).state
-  keeps-look None state keeps = keeps
-  keeps-look (Some port) state keeps = keeps-look_waits port.waits port state keeps
-
   -- ---- a child process names itself, at another port
 
   pub named_owes : (u new : UnderWay) (own : ℕ) → own ≢ number → u.link.state ≢ states.Linked number
@@ -363,14 +308,3 @@ module _ (number high : ℕ) where
       (ap (find_linked number) desk_is
       ∙ linked-elsewhere number job (linked_at own) u.confirmations one differs (λ c miss. misses) found)
       some (λ linked. other (sym state_is ∙ linked))
-
-  -- the confirmation of a job hears what came behind its child process's name
-  pub keeps-goes_on : (found : Option Confirmation) (job port : ℕ) (rest : List ℕ) (state : State)
-      → find_job job state.under_way.confirmations ≡ found
-      → ((one : Confirmation) → found ≡ Some one → (one.job ≡ job) × (one.port ≡ Some port))
-      → Keeps number high state → Keeps number high (confirmer_goes_on found rest state).state
-  keeps-goes_on None job port rest state is at keeps = keeps
-  keeps-goes_on (Some one) job port rest state is at keeps =
-      let own = at one refl in
-      keeps-consent (consent one.job (one.heard ++ rest)) one port rest state
-      (ap (λ j. find_job j state.under_way.confirmations) own.0 ∙ is) own.1 keeps

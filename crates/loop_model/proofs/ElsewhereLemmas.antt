@@ -1,28 +1,28 @@
 -- What an event leaves of the ports other than its own: none of them is to be read that wasn't, and where a client is
 -- served, no other client is owed bytes that wasn't.
-use Rattle.std.proofs.Common.{◌≡◌, ◌≢◌, ℕ, suc, List, [], ◌∷◌, ◌++◌, refl, ap, arith, sym, subst, ◌∙◌, ◌==◌, not, Option, Some, None, Bool, true, false, inl, inr}
-use Rattle.std.proofs.lemmas.Bool.{cases_eq}
+use Rattle.std.proofs.Common.{◌≡◌, ◌≢◌, ℕ, suc, List, [], ◌∷◌, ◌++◌, refl, ap, arith, sym, subst, ◌∙◌, ◌==◌, not, Option, Some, None, Bool, true, false}
 use Rattle.std.proofs.lemmas.Bool.Decides.{nat_tests}
-use Rattle.std.specs.Option.{option_map}
 use Rattle.world_ports.specs.declared.events.Door.{Door}
 use Rattle.world_ports.specs.declared.events.Door.TheVariants.{Clients, Children}
 use Rattle.world_ports.specs.declared.events.Moment.{Moment}
 use Rattle.confirm_desk.specs.Confirmations.{Confirmation, find_asker}
-use Rattle.agent_model.specs.Answers.{prove}
-use Rattle.agent_model.specs.Children.{closed}
+use Rattle.agent_model.specs.Actions.{Outcome}
+use Rattle.agent_model.specs.Children.{changed, closed, heard_more}
 use Rattle.agent_model.specs.Consents.{over_if}
 use Rattle.agent_model.specs.Events.{Happening, Joined, Heard, Ended, Took, Started, StartFailed, Tick}
 use Rattle.agent_model.specs.Sound.{IsRising}
-use Rattle.agent_model.specs.State.{Client, Port, State, UnderWay, Verification, change_port, find_port, find_to_start, is_client, is_some_bytes, new_port, owed_as, owed_by, owed_of, remove_port, role_of, wants, wants_more, wants_by}
-use Rattle.agent_model.specs.Step.{admitted, ended_at, ended_by_role, handle, has_room, heard_at, heard_by_role, step}
+use Rattle.agent_model.specs.State.{Client, Port, State, UnderWay, find_port, is_client, is_some_bytes, new_port, owed_as, owed_by, owed_of, role_of, wants, wants_more, wants_by}
+use Rattle.agent_model.specs.Step.{admitted, ended_at, ended_by_role, handle, has_room, looked, step, took_some}
 use Rattle.agent_model.specs.Time.{at_moment, taken_in}
-use Rattle.agent_model.specs.Verdicts.{Verdict, tell}
+use Rattle.agent_model.proofs.ClientLemmas.{handle-heard, handle-took, took-child}
 use Rattle.agent_model.proofs.JobLemmas.{asker_own}
-use Rattle.agent_model.proofs.PortsLemmas.{find_port-apart, find_port-change_port, find_port-left, find_port-remove_port, find_port-removed_apart}
+use Rattle.agent_model.proofs.MakeLemmas.{by_event_as}
+use Rattle.agent_model.proofs.PortsLemmas.{found_number}
 use Rattle.agent_model.proofs.RunLemmas.{at_moment-follows}
+use Rattle.agent_model.proofs.NewsLemmas.{IsNews, proves, says, told-moment}
 use Rattle.loop_model.specs.Elsewhere.{ends_waits, is_clients, is_of, tells_others}
 use Rattle.loop_model.proofs.MomentLemmas.{quiet-moment, rising-moment}
-use Rattle.loop_model.proofs.SparedLemmas.{KeepsNumber, Spares, alters, apart_from, quiet, removes, same, spared-ended, spared-failed, spared-heard, spared-heard_client, spared-moment, spared-took, spares-close_confirmer, spares-rising}
+use Rattle.loop_model.proofs.SparedLemmas.{KeepsNumber, Spares, alters, elsewhere, holds-spared, removes, same, spared-looked, spared-makes, spares-close_confirmer, spares-told}
 
 -- one more that joins leaves the others
 find-joined : (port last : ℕ) (door : Door) (ports : List Port) → port ≢ last
@@ -47,73 +47,42 @@ pub record IsSilent (f : Port → Port) : Type 0 where
   pub heard : (p : Port) → (f p).heard ≡ p.heard
 
 -- what a client is told, and what its connection is bound to, is such a change
-pub silent-tell : (verdict : Verdict) → IsSilent (tell verdict)
-silent-tell verdict = record { door = λ p. refl; heard = λ p. refl }
+pub silent-news : (f : Port → Port) → IsNews f → IsSilent f
+silent-news f (says verdict is) = record { door = λ p. refl; heard = λ p. refl }
+silent-news f (proves verification) = record { door = λ p. refl; heard = λ p. refl }
 
-pub silent-prove : (verification : Verification) → IsSilent (prove verification)
-silent-prove verification = record { door = λ p. refl; heard = λ p. refl }
+-- what is to be read behind such changes was before them
+was_read : (f : Port → Port) → IsSilent f → (p : Port) → wants_more (f p).door (f p).heard ≡ wants_more p.door p.heard
+was_read f is p = ap (λ d. wants_more d (f p).heard) (is.door p) ∙ ap (wants_more p.door) (is.heard p)
 
--- such a change leaves which ports are to be read
-wants-silent : (port number : ℕ) (f : Port → Port) (ports : List Port) → KeepsNumber f → IsSilent f
-    → wants_by (find_port port (change_port number f ports)) ≡ wants_by (find_port port ports)
-wants-silent port number f ports keeps is = elim (cases_eq port number) [
-  | inl here ↦
-      ap (λ n. wants_by (find_port port (change_port n f ports))) (sym here)
-      ∙ ap wants_by (find_port-change_port port f ports keeps) ∙ by_found (find_port port ports)
-  | inr other ↦ ap wants_by (find_port-apart port number f ports keeps other)
-]
-  where
-    by_found : (found : Option Port) → wants_by (option_map f found) ≡ wants_by found
-    by_found None = refl
-    by_found (Some p) = ap (λ d. wants_more d (f p).heard) (is.door p) ∙ ap (wants_more p.door) (is.heard p)
-
--- one that is to be read after a removal was before
-wants-removed : (port number low high : ℕ) (ports : List Port) → IsRising low high ports
-    → wants_by (find_port port (remove_port number ports)) ≡ true → wants_by (find_port port ports) ≡ true
-wants-removed port number low high ports rising wanted = elim (cases_eq port number) [
-  | inl here ↦
-      (let none : find_port port (remove_port number ports) ≡ None =
-      ap (λ n. find_port n (remove_port number ports)) here ∙ find_port-remove_port number low high ports rising in
-      let no : false ≡ true = sym (ap wants_by none) ∙ wanted in
-      absurd (cc))
-  | inr other ↦ sym (ap wants_by (find_port-removed_apart port number ports other)) ∙ wanted
-]
+-- where this port is to be read, it was before
+abbrev WasRead : ℕ → List Port → Port → Type 0
+WasRead port old at = wants_more at.door at.heard ≡ true → wants_by (find_port port old) ≡ true
 
 -- one that is to be read where others changed was before
 wants-spared : (port low high : ℕ) (old : List Port) {new : List Port} → Spares IsSilent port old new
     → IsRising low high old → wants_by (find_port port new) ≡ true → wants_by (find_port port old) ≡ true
-wants-spared port low high old same rising wanted = wanted
-wants-spared port low high old (quiet number f ports keeps is spares) rising wanted =
-    wants-spared port low high old spares rising (sym (wants-silent port number f ports keeps is) ∙ wanted)
-wants-spared port low high old (alters number f ports keeps other spares) rising wanted =
-    wants-spared port low high old spares rising
-    (sym (ap wants_by (find_port-apart port number f ports keeps other)) ∙ wanted)
-wants-spared port low high old (removes number ports spares) rising wanted =
-    wants-spared port low high old spares rising
-    (wants-removed port number low high ports (spares-rising IsSilent port old low high spares rising) wanted)
+wants-spared port low high old {new} spares rising = by_found (find_port port new) refl
+  where
+    by_found : (found : Option Port) → find_port port new ≡ found → wants_by found ≡ true
+        → wants_by (find_port port old) ≡ true
+    by_found None is wanted = absurd (cc)
+    by_found (Some at) is wanted =
+        holds-spared IsSilent (WasRead port old) (λ f silent p was read. was (sym (was_read f silent p) ∙ read)) port low high old
+        spares rising (λ p there read. ap wants_by there ∙ read) at is wanted
 
 -- each event, after the moment was taken in
 wanted_by : (event : Happening) (state : State) (port : ℕ) → IsRising 0 state.last_port state.ports
     → is_of event state.last_port port ≡ false → wants port (handle event state).state ≡ true
     → wants port state ≡ true
-wanted_by (Joined door) state port rising other wanted =
-    let is_in = has_room door state.ports state.under_way in
-    sym (ap wants_by (find-admitted is_in port (suc state.last_port) door state.ports other)) ∙ wanted
-wanted_by (Heard number piece) state port rising other wanted =
+wanted_by event state port rising other =
+    by_event_as (λ outcome. wants port outcome.state ≡ true → wants port state ≡ true) event state
+    (λ door is wanted.
+    sym (ap wants_by (find-admitted (has_room door state.ports state.under_way) port (suc state.last_port) door state.ports (sym (ap (λ e. is_of e state.last_port port) is) ∙ other)))
+    ∙ wanted)
+    (λ outcome makes.
     wants-spared port 0 state.last_port state.ports
-    (spared-heard IsSilent port state.ports silent-tell silent-prove number _ piece state refl other same) rising wanted
-wanted_by (Ended number) state port rising other wanted =
-    wants-spared port 0 state.last_port state.ports
-    (spared-ended IsSilent port state.ports silent-tell silent-prove number _ state refl other same) rising wanted
-wanted_by (Took number count) state port rising other wanted =
-    wants-spared port 0 state.last_port state.ports
-    (spared-took IsSilent port state.ports number _ count state refl other same) rising wanted
-wanted_by (Started job ticket) state port rising other wanted = wanted
-wanted_by (StartFailed job) state port rising other wanted =
-    wants-spared port 0 state.last_port state.ports
-    (spared-failed IsSilent port state.ports silent-tell silent-prove (find_to_start job state.under_way.to_start)
-    state same) rising wanted
-wanted_by Tick state port rising other wanted = wanted
+    (spared-makes IsSilent port state.ports silent-news event (elsewhere event state.last_port port other) makes same) rising)
 
 -- a port that is to be read after an event of another port was before
 pub wanted_before : (state : State) (moment : Moment) (event : Happening) (port : ℕ)
@@ -121,7 +90,7 @@ pub wanted_before : (state : State) (moment : Moment) (event : Happening) (port 
     → wants port (step state moment event).state ≡ true → wants port state ≡ true
 wanted_before state moment event port rising other wanted =
     wants-spared port 0 state.last_port state.ports
-    (spared-moment IsSilent port state.ports silent-tell silent-prove moment state same) rising
+    (spares-told IsSilent port state.ports silent-news (told-moment moment state) same) rising
     (wanted_by event (at_moment moment state) port (rising-moment moment state rising)
     (ap (λ n. is_of event n port) (at_moment-follows moment state).last ∙ other) wanted)
 
@@ -134,19 +103,20 @@ NoChange f = ⊥
 -- a port that is open where only others changed is as it was
 found-spared : (port low high : ℕ) (old : List Port) {new : List Port} → Spares NoChange port old new
     → IsRising low high old → (at : Port) → find_port port new ≡ Some at → find_port port old ≡ Some at
-found-spared port low high old same rising at found = found
-found-spared port low high old (quiet number f ports keeps none spares) rising at found = absurd none
-found-spared port low high old (alters number f ports keeps other spares) rising at found =
-    found-spared port low high old spares rising at (sym (find_port-apart port number f ports keeps other) ∙ found)
-found-spared port low high old (removes number ports spares) rising at found =
-    found-spared port low high old spares rising at
-    (find_port-left port number low high ports at (spares-rising NoChange port old low high spares rising) found)
+found-spared port low high old spares rising =
+    holds-spared NoChange (λ p. find_port port old ≡ Some p) (λ f none p there. absurd none) port low high old spares
+    rising (λ at there. there)
 
 -- what a client is owed stands at its port
 pub owed-client : (door : Door) (number : ℕ) (port : Port) (under_way : UnderWay) → is_client door ≡ true
     → owed_as (role_of door number under_way) port under_way ≡ port.owed
 owed-client Clients number port under_way client = refl
 owed-client Children number port under_way client = absurd (cc)
+
+-- it came through the clients' door
+pub clients : (door : Door) → is_client door ≡ true → door ≡ Clients
+clients Clients client = refl
+clients Children client = absurd (cc)
 
 -- and it is told as one
 pub role-client : (door : Door) (number : ℕ) (under_way : UnderWay) → is_client door ≡ true
@@ -169,15 +139,39 @@ not-false : (test : Bool) → not test ≡ false → test ≡ true
 not-false true is = refl
 not-false false is = absurd (cc)
 
+-- what a client sends or takes is of its port alone
+found-client : (port number : ℕ) (at : Port) (f : Port → Port) (state : State) {outcome : Outcome}
+    → outcome ≡ looked number (changed number f state) → find_port number state.ports ≡ Some at → KeepsNumber f
+    → (number == port) ≡ false → Spares NoChange port state.ports outcome.state.ports
+found-client port number at f state looks is keeps other =
+    subst (λ (o : Outcome). Spares NoChange port state.ports o.state.ports) (sym looks)
+    (spared-looked NoChange port state.ports number at f state is keeps (λ equal. grind (arith, nat_tests)) same)
+
 -- a client that sent something is served alone
 found-heard : (port number : ℕ) (found : Option Port) (piece : List ℕ) (state : State)
     → find_port number state.ports ≡ found → is_clients found ≡ true → (number == port) ≡ false
-    → Spares NoChange port state.ports (heard_at found piece state).state.ports
+    → Spares NoChange port state.ports (handle (Heard number piece) state).state.ports
 found-heard port number None piece state is client other = absurd (cc)
 found-heard port number (Some at) piece state is client other =
-    subst (λ role. Spares NoChange port state.ports (heard_by_role role at piece state).state.ports)
-    (sym (role-client at.door at.number state.under_way client))
-    (spared-heard_client NoChange port state.ports at state (apart_from port number state.ports at other is) same piece)
+    found-client port number at (heard_more piece) state
+    (handle-heard number piece at state is (clients at.door client)) is (λ p. refl) other
+
+-- so is one that took bytes, and what a child process takes leaves the ports
+found-took : (port number count : ℕ) (found : Option Port) (state : State) → find_port number state.ports ≡ found
+    → (number == port) ≡ false → Spares NoChange port state.ports (handle (Took number count) state).state.ports
+found-took port number count None state is other =
+    subst (Spares NoChange port state.ports)
+    (sym (took-child number count state (λ p there. let no : None ≡ Some p = sym is ∙ there in absurd (cc)))) same
+found-took port number count (Some at) state is other = by_door at.door refl
+  where
+    by_door : (door : Door) → at.door ≡ door
+        → Spares NoChange port state.ports (handle (Took number count) state).state.ports
+    by_door Clients client =
+        found-client port number at (took_some count) state (handle-took number count at state is client) is (λ p. refl) other
+    by_door Children child =
+        subst (Spares NoChange port state.ports)
+        (sym (took-child number count state (λ p there. let both : Some at ≡ Some p = sym is ∙ there in let e : at ≡ p = cc in ap (λ (q : Port). q.door) (sym e) ∙ child)))
+        same
 
 -- a client's confirmation ends with it, and tells nobody else
 found-over : (port number : ℕ) (found : Option Confirmation) (start : List Port) (state : State)
@@ -198,7 +192,7 @@ found-ended port number (Some at) state is client other =
     (sym (role-client at.door at.number state.under_way client))
     (found-over port at.number (find_asker at.number state.under_way.confirmations) state.ports (closed at.number state)
     (asker_own at.number state.under_way.confirmations)
-    (apart_from port number state.ports at other is) (removes at.number state.ports same))
+    (λ equal. grind (arith, nat_tests, found_number number state.ports at is)) (removes at.number state.ports same))
 
 -- each event that tells no others, after the moment was taken in
 was_open : (event : Happening) (state : State) (port : ℕ) → IsRising 0 state.last_port state.ports
@@ -217,7 +211,7 @@ was_open (Ended number) state port rising quiet_yet other at found =
     rising at found
 was_open (Took number count) state port rising quiet_yet other at found =
     found-spared port 0 state.last_port state.ports
-    (spared-took NoChange port state.ports number _ count state refl other same) rising at found
+    (found-took port number count _ state refl other) rising at found
 was_open (Started job ticket) state port rising quiet_yet other at found = found
 was_open (StartFailed job) state port rising quiet_yet other at found = absurd (cc)
 was_open Tick state port rising quiet_yet other at found = found

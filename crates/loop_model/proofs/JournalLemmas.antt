@@ -6,7 +6,8 @@ use Rattle.world_ports.specs.declared.entry.Entry.{Entry}
 use Rattle.world_ports.specs.declared.entry.Entry.TheVariants as entry
 use Rattle.agent_model.specs.State.{State, owed_of}
 use Rattle.loop_model.specs.Dues.{is_free}
-use Rattle.loop_model.specs.LegalJournal.{LoopState, comes_next, led, read_room, taken, taken_if, turned}
+use Rattle.loop_model.specs.LegalJournal.{LoopState, comes_next, led, taken, taken_if, turned}
+use Rattle.world_ports.specs.Worlds.{read_room}
 use Rattle.loop_model.specs.Queues.{is_next}
 use Rattle.loop_model.specs.declared.thing.Thing.{Thing}
 use Rattle.loop_model.specs.declared.thing.Thing.TheVariants.{Accept, Read, Write}

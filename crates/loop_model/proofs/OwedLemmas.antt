@@ -8,17 +8,17 @@ use Rattle.confirm_desk.specs.Confirmations.{Confirmation, find_linked}
 use Rattle.helper_link.specs.HelperLink.{sendable}
 use Rattle.helper_link.specs.declared.state.LinkState.TheVariants as states
 use Rattle.helper_link.specs.declared.state.LinkState.{LinkState}
-use Rattle.agent_model.specs.Events.{Ended, Happening, Heard, Joined, StartFailed, Started, Tick, Took}
+use Rattle.agent_model.specs.Events.{Happening, Joined, Tick, Took}
 use Rattle.agent_model.specs.Sound.{IsRising}
 use Rattle.agent_model.specs.State.{Port, Settings, State, UnderWay, find_port, first_state, is_client, is_linked_to, is_some_bytes, owed_as, owed_by, owed_of, role_by_helper, role_by_link, role_of}
 use Rattle.agent_model.specs.Step.{handle, has_room, step}
 use Rattle.agent_model.specs.Time.{at_moment}
-use Rattle.agent_model.proofs.MakeLemmas.{role-helper}
+use Rattle.agent_model.proofs.MakeLemmas.{by_event_as, role-helper}
 use Rattle.agent_model.proofs.PortsLemmas.{find_port-below, found_above, found_number}
 use Rattle.agent_model.proofs.RunLemmas.{first_is_sound, step_keeps-sound}
 use Rattle.loop_model.specs.Elsewhere.{is_child, takes_bytes}
 use Rattle.loop_model.specs.Orderly.{IsOrderly, IsStaffed}
-use Rattle.loop_model.proofs.ChildEventLemmas.{keeps-event, keeps-moment}
+use Rattle.loop_model.proofs.ChildEventLemmas.{keeps-makes, keeps-moment}
 use Rattle.loop_model.proofs.ChildLemmas.{Owes, by_desk, by_link}
 use Rattle.loop_model.proofs.ElsewhereLemmas.{find-admitted}
 use Rattle.loop_model.proofs.LeftLemmas.{never_joins}
@@ -33,33 +33,19 @@ none-zero state rising opened =
     let no : false ≡ true = sym (ap is_some none) ∙ opened in
     absurd (cc)
 
-staffed_event : (event : Happening) (state : State) → IsRising 0 state.last_port state.ports
-    → IsStaffed state.under_way → ((door : Door) → event ≡ Joined door → ⊥)
+staffed_by : (event : Happening) (state : State) → IsRising 0 state.last_port state.ports → IsStaffed state.under_way
     → IsStaffed (handle event state).state.under_way
-staffed_event event state rising staffed never =
-    (keeps-event 0 state.last_port event state never
+staffed_by event state rising staffed =
+    by_event_as (λ outcome. IsStaffed outcome.state.under_way) event state (λ door is. staffed)
+    (λ outcome makes.
+    (keeps-makes 0 state.last_port makes
     (λ other count at is found none.
     let above : 0 < other = found_above other 0 state.last_port state.ports at rising found in omega (arith, above, none))
     record {
       rising = rising;
       staffed = staffed;
       owes = λ opened. absurd (none-zero state rising opened);
-    }).staffed
-
-staffed_by : (event : Happening) (state : State) → IsRising 0 state.last_port state.ports → IsStaffed state.under_way
-    → IsStaffed (handle event state).state.under_way
-staffed_by (Joined door) state rising staffed = staffed
-staffed_by (Heard other piece) state rising staffed =
-    staffed_event (Heard other piece) state rising staffed (λ door is. absurd (cc))
-staffed_by (Took other count) state rising staffed =
-    staffed_event (Took other count) state rising staffed (λ door is. absurd (cc))
-staffed_by (Ended other) state rising staffed =
-    staffed_event (Ended other) state rising staffed (λ door is. absurd (cc))
-staffed_by (Started job ticket) state rising staffed =
-    staffed_event (Started job ticket) state rising staffed (λ door is. absurd (cc))
-staffed_by (StartFailed job) state rising staffed =
-    staffed_event (StartFailed job) state rising staffed (λ door is. absurd (cc))
-staffed_by Tick state rising staffed = staffed
+    }).staffed)
 
 pub orderly_at : (state : State) (moment : Moment) → IsOrderly state → IsOrderly (at_moment moment state)
 orderly_at state moment orderly = record {
@@ -163,25 +149,6 @@ child_open : (found : Option Port) → is_child found ≡ true → is_some found
 child_open None child = absurd (cc)
 child_open (Some at) child = refl
 
-child_event : (event : Happening) (state : State) (port : ℕ) → IsRising 0 state.last_port state.ports
-    → IsStaffed state.under_way → ((door : Door) → event ≡ Joined door → ⊥) → takes_bytes event port ≡ false
-    → is_child (find_port port state.ports) ≡ true → is_some_bytes (owed_of port state) ≡ true
-    → is_child (find_port port (handle event state).state.ports) ≡ true
-    → is_some_bytes (owed_of port (handle event state).state) ≡ true
-child_event event state port rising staffed never silent child some still =
-    let owes = child_before (find_port port state.ports) state.under_way port
-    (λ at found. found_number port state.ports at found) child some in
-    let keeps = keeps-event port state.last_port event state never
-    (λ other count at is found here.
-    let takes : takes_bytes (Took other count) port ≡ false = ap (λ e. takes_bytes e port) (sym is) ∙ silent in
-    let same_port : (other == port) ≡ true = eq-eqb other port here in
-    let no : false ≡ true = sym takes ∙ same_port in
-    absurd (cc))
-    record { rising = rising; staffed = staffed; owes = λ opened. owes } in
-    child_after (find_port port (handle event state).state.ports) (handle event state).state.under_way port
-    (λ at found. found_number port (handle event state).state.ports at found) still
-    (keeps.owes (child_open (find_port port (handle event state).state.ports) still))
-
 child_joined : (door : Door) (state : State) (port : ℕ) → IsRising 0 state.last_port state.ports
     → is_child (find_port port state.ports) ≡ true → is_some_bytes (owed_of port state) ≡ true
     → is_some_bytes (owed_of port (handle (Joined door) state).state) ≡ true
@@ -197,30 +164,25 @@ child_joined door state port rising child some =
     some_child None child = absurd (cc)
     some_child (Some at) child = (at, refl)
 
-child_by : (event : Happening) (state : State) (port : ℕ) → IsRising 0 state.last_port state.ports
-    → IsStaffed state.under_way → takes_bytes event port ≡ false
-    → is_child (find_port port state.ports) ≡ true → is_some_bytes (owed_of port state) ≡ true
-    → is_child (find_port port (handle event state).state.ports) ≡ true
-    → is_some_bytes (owed_of port (handle event state).state) ≡ true
-child_by (Joined door) state port rising staffed silent child some still = child_joined door state port rising child some
-child_by (Heard other piece) state port rising staffed silent child some still =
-    child_event (Heard other piece) state port rising staffed (λ door is. absurd (cc)) silent child some still
-child_by (Took other count) state port rising staffed silent child some still =
-    child_event (Took other count) state port rising staffed (λ door is. absurd (cc)) silent child some still
-child_by (Ended other) state port rising staffed silent child some still =
-    child_event (Ended other) state port rising staffed (λ door is. absurd (cc)) silent child some still
-child_by (Started job ticket) state port rising staffed silent child some still =
-    child_event (Started job ticket) state port rising staffed (λ door is. absurd (cc)) silent child some still
-child_by (StartFailed job) state port rising staffed silent child some still =
-    child_event (StartFailed job) state port rising staffed (λ door is. absurd (cc)) silent child some still
-child_by Tick state port rising staffed silent child some still = some
-
 pub child_owed_after : (state : State) (event : Happening) (port : ℕ) → IsOrderly state
     → takes_bytes event port ≡ false → is_child (find_port port state.ports) ≡ true
     → is_some_bytes (owed_of port state) ≡ true → is_child (find_port port (handle event state).state.ports) ≡ true
     → is_some_bytes (owed_of port (handle event state).state) ≡ true
-child_owed_after state event port orderly silent child some still =
-    child_by event state port orderly.sound.rising orderly.staffed silent child some still
+child_owed_after state event port orderly silent child some =
+    let owes = child_before (find_port port state.ports) state.under_way port
+    (λ at found. found_number port state.ports at found) child some in
+    by_event_as (λ outcome. is_child (find_port port outcome.state.ports) ≡ true → is_some_bytes (owed_of port outcome.state) ≡ true) event state
+    (λ door is still. child_joined door state port orderly.sound.rising child some) (λ outcome makes still.
+    let keeps = keeps-makes port state.last_port makes
+    (λ other count at is found here.
+    let takes : takes_bytes (Took other count) port ≡ false = ap (λ e. takes_bytes e port) (sym is) ∙ silent in
+    let same_port : (other == port) ≡ true = eq-eqb other port here in
+    let no : false ≡ true = sym takes ∙ same_port in
+    absurd (cc))
+    record { rising = orderly.sound.rising; staffed = orderly.staffed; owes = λ opened. owes } in
+    child_after (find_port port outcome.state.ports) outcome.state.under_way port
+    (λ at found. found_number port outcome.state.ports at found) still
+    (keeps.owes (child_open (find_port port outcome.state.ports) still)))
 
 -- so it is at a moment, before its event
 pub child_owed_at : (state : State) (moment : Moment) (port : ℕ) → IsOrderly state

@@ -1,12 +1,13 @@
 -- What can be served stays so, unless its own service brought the event, or it was closed.
 use Rattle.std.proofs.Common.{◌≡◌, ◌∙◌, ℕ, ◌-◌, ◌^◌, suc, Bool, true, false, List, Option, Some, None, is_some, nat_lt, not, refl, sym, ap, ◌==◌}
 use Rattle.world_ports.specs.declared.events.Moment.{Moment}
-use Rattle.agent_model.specs.Events.{Ended, Happening, Heard, Joined, StartFailed, Started, Tick, Took}
+use Rattle.agent_model.specs.Events.{Happening}
 use Rattle.agent_model.specs.Sound.{IsRising}
 use Rattle.agent_model.specs.State.{Port, State, find_port, is_client, is_open, is_some_bytes, owed_of}
 use Rattle.agent_model.specs.Step.{handle, has_room, step}
 use Rattle.agent_model.specs.Time.{at_moment}
-use Rattle.agent_model.proofs.LeadLemmas.{same}
+use Rattle.agent_model.proofs.LeadLemmas.{follows-makes, same}
+use Rattle.agent_model.proofs.MakeLemmas.{by_event_as}
 use Rattle.agent_model.proofs.RunLemmas.{at_moment-follows, handle-follows, leads-found}
 use Rattle.loop_model.specs.Elsewhere.{is_child, is_clients, is_joining, may_end, stands, takes_bytes}
 use Rattle.loop_model.specs.Orderly.{IsOrderly}
@@ -25,13 +26,8 @@ use Rattle.loop_model.proofs.ThingLemmas.{false_by}
 
 last_left : (event : Happening) (state : State) → is_joining event ≡ false
     → (handle event state).state.last_port ≡ state.last_port
-last_left (Joined door) state other = absurd (cc)
-last_left (Heard number piece) state other = (handle-follows (Heard number piece) state (λ door is. absurd (cc))).last
-last_left (Ended number) state other = (handle-follows (Ended number) state (λ door is. absurd (cc))).last
-last_left (Took number count) state other = (handle-follows (Took number count) state (λ door is. absurd (cc))).last
-last_left (Started job ticket) state other = refl
-last_left (StartFailed job) state other = (handle-follows (StartFailed job) state (λ door is. absurd (cc))).last
-last_left Tick state other = refl
+last_left event state other =
+    (handle-follows event state (λ door is. let no : true ≡ false = sym (ap is_joining is) ∙ other in absurd (cc))).last
 
 -- ---- a client stays one, and a child process does
 
@@ -67,19 +63,14 @@ kept_by : (event : Happening) (state : State) (port : ℕ) → IsRising 0 state.
     → (suc state.last_port == port) ≡ false → (at : Port)
     → find_port port (handle event state).state.ports ≡ Some at
     → (was : Port) × (find_port port state.ports ≡ Some was) × (at.door ≡ was.door)
-kept_by (Joined door) state port rising other at found =
-    let is_in = has_room door state.ports state.under_way in
-    (at, sym (find-admitted is_in port (suc state.last_port) door state.ports other) ∙ found, refl)
-kept_by (Heard number piece) state port rising other at found =
-    leads-found port 0 state.last_port state.ports at (handle-follows (Heard number piece) state (λ door is. absurd (cc))).ports rising found
-kept_by (Ended number) state port rising other at found =
-    leads-found port 0 state.last_port state.ports at (handle-follows (Ended number) state (λ door is. absurd (cc))).ports rising found
-kept_by (Took number count) state port rising other at found =
-    leads-found port 0 state.last_port state.ports at (handle-follows (Took number count) state (λ door is. absurd (cc))).ports rising found
-kept_by (Started job ticket) state port rising other at found = (at, found, refl)
-kept_by (StartFailed job) state port rising other at found =
-    leads-found port 0 state.last_port state.ports at (handle-follows (StartFailed job) state (λ door is. absurd (cc))).ports rising found
-kept_by Tick state port rising other at found = (at, found, refl)
+kept_by event state port rising other =
+    by_event_as
+    (λ outcome. (at : Port) → find_port port outcome.state.ports ≡ Some at → (was : Port) × (find_port port state.ports ≡ Some was) × (at.door ≡ was.door)) event state
+    (λ door is at found.
+    (at, sym (find-admitted (has_room door state.ports state.under_way) port (suc state.last_port) door state.ports other) ∙ found, refl))
+    (λ outcome makes at found.
+    leads-found port 0 state.last_port state.ports at (follows-makes event state makes record { last = refl; ports = same }).ports
+    rising found)
 
 -- so it was open
 opened_before : (event : Happening) (state : State) (port : ℕ) → IsRising 0 state.last_port state.ports

@@ -24,10 +24,12 @@ abbrev pub accepts_of : List Door → List Thing
 accepts_of [] = []
 accepts_of (door ∷ doors) = Accept door ∷ accepts_of doors
 
+-- these ports to be read, as things
 abbrev pub reads_of : List ℕ → List Thing
 reads_of [] = []
 reads_of (port ∷ ports) = Read port ∷ reads_of ports
 
+-- these ports to be written to, as things
 abbrev pub writes_of : List ℕ → List Thing
 writes_of [] = []
 writes_of (port ∷ ports) = Write port ∷ writes_of ports

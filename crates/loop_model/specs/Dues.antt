@@ -28,6 +28,7 @@ pub data Due : Type 0 where
 
 -- ---- which it is
 
+-- any call may come that the list of ready things allows
 abbrev pub is_free : Due → Bool
 is_free Free = true
 is_free (NowFor event) = false
@@ -43,6 +44,7 @@ is_closing number (Closing port later) = number == port
 is_closing number Polling = false
 is_closing number Nothing = false
 
+-- a poll has to come
 abbrev pub is_polling : Due → Bool
 is_polling Free = false
 is_polling (NowFor event) = false
@@ -91,6 +93,7 @@ abbrev pub due_accepted : Door → Accepted → Due
 due_accepted door (accepted.Port number) = NowFor (Joined door)
 due_accepted door accepted.NotNow = Free
 
+-- what has to come behind an accept at this door
 abbrev pub due_accept : Door → Result Accepted WorldFault → Due
 due_accept door (Ok answer) = due_accepted door answer
 due_accept door (Err Failed) = Free
@@ -102,6 +105,7 @@ due_got port bytes (got.Bytes n) = NowFor (Heard port bytes)
 due_got port bytes got.End = NowFor (Ended port)
 due_got port bytes got.NotNow = Free
 
+-- what has to come behind a read of this port
 abbrev pub due_read : ℕ → List ℕ → Result Got WorldFault → Due
 due_read port bytes (Ok answer) = due_got port bytes answer
 due_read port bytes (Err Failed) = NowFor (Ended port)
@@ -112,6 +116,7 @@ abbrev pub due_wrote : ℕ → Wrote → Due
 due_wrote port (wrote.Took n) = NowFor (Took port n)
 due_wrote port wrote.NotNow = Free
 
+-- what has to come behind a write to this port
 abbrev pub due_write : ℕ → Result Wrote WorldFault → Due
 due_write port (Ok answer) = due_wrote port answer
 due_write port (Err Failed) = NowFor (Ended port)
@@ -136,6 +141,7 @@ closes_later (Closing port later) = later
 closes_later Polling = []
 closes_later Nothing = []
 
+-- what has to come behind a closing: the next port's, or anything
 abbrev pub due_close : {E : Type 0} → Due → Result Unit E → Due
 due_close due (Ok unit) = due_of (closes_later due)
 due_close due (Err want) = Nothing
@@ -154,6 +160,7 @@ due_event (Closing port later) closes idle = Nothing
 due_event Polling closes idle = Nothing
 due_event Nothing closes idle = Nothing
 
+-- what has to come behind a look at the clocks, which take the event in
 abbrev pub due_now : {E : Type 0} → Due → List ℕ → (idle : Bool) → Result Moment E → Due
 due_now due closes idle (Ok moment) = due_event due closes idle
 due_now due closes idle (Err want) = Nothing

@@ -17,6 +17,7 @@ use Rattle.loop_model.specs.Dues.{Due, due_after, event_due, is_closing, is_free
 use Rattle.loop_model.specs.Lines.{Line, is_idle}
 use Rattle.loop_model.specs.Queues.{is_next}
 use Rattle.loop_model.specs.declared.thing.Thing.TheVariants.{Accept, Read, Write}
+use Rattle.world_ports.specs.Worlds.{read_room}
 
 -- how a journal was read so far: the agent's state, what is ready, and what has to come next
 pub record LoopState : Type 0 where
@@ -29,10 +30,6 @@ abbrev pub in_state : State → Line → Due → LoopState
 in_state state line due = record { state = state; line = line; due = due }
 
 -- ---- which entries may come
-
--- the room of each read, in bytes
-abbrev pub read_room : ℕ
-read_room = 16384
 
 -- both are of one kind
 abbrev pub same_kind : JobKind → JobKind → Bool

@@ -28,6 +28,7 @@ no_ports = first_state no_settings
 abbrev pub one_client : State
 one_client = record (first_state no_settings) { ports = new_port 1 Clients ∷ []; last_port = 1 }
 
+-- two clients are open; each is to be read, and none is owed bytes
 abbrev pub two_clients : State
 two_clients = record (first_state no_settings) { ports = new_port 1 Clients ∷ new_port 2 Clients ∷ []; last_port = 2 }
 

@@ -23,7 +23,8 @@ use Rattle.agent_model.specs.State.{State, find_port, owed_of, starts}
 use Rattle.agent_model.specs.Step.{step}
 use Rattle.loop_model.specs.Calls.{served_of}
 use Rattle.loop_model.specs.Dues.{Closing, Free, NowFor, Polling, due_look, due_of, port_of, same_wait, wait_of}
-use Rattle.loop_model.specs.LegalJournal.{in_state, is_first_job, led, read_room, taken}
+use Rattle.loop_model.specs.LegalJournal.{in_state, is_first_job, led, taken}
+use Rattle.world_ports.specs.Worlds.{read_room}
 use Rattle.loop_model.specs.Lines.{Line, after_event, in_hand, is_idle}
 use Rattle.loop_model.specs.Queues.{first_servable, is_next, is_thing}
 use Rattle.loop_model.specs.declared.thing.Thing.{Thing}

@@ -13,11 +13,11 @@ use Rattle.agent_model.proofs.MakeLemmas.{Makes, Quiet, alters, by_event, closes
 use Rattle.loop_model.proofs.MomentLemmas.{clocks-moment}
 
 moment-quiet : {event : Happening} {old new : State} → Quiet event old new → new.moment ≡ old.moment
-moment-quiet (alters number f mild) = refl
+moment-quiet (alters number f change) = refl
 moment-quiet (closes number may) = refl
-moment-quiet (goes_on new same) = refl
-moment-quiet (names job number port found door free) = refl
-moment-quiet (links job number port found door free other) = refl
+moment-quiet (goes_on new goes) = refl
+moment-quiet (names job number new) = refl
+moment-quiet (links job number new) = refl
 
 moment-lose_if : (fault : Option LinkFault) (state : State) → (lose_if fault state).state.moment ≡ state.moment
 moment-lose_if None state = refl
@@ -27,7 +27,7 @@ moment-makes : {event : Happening} {old : State} {outcome : Outcome} → Makes e
     → outcome.state.moment ≡ old.moment
 moment-makes (stays state) = refl
 moment-makes (first quiet makes) = moment-makes makes ∙ moment-quiet quiet
-moment-makes (serves body_len port state found door waits owed) = refl
+moment-makes (serves body_len port state found door waits owed own) = refl
 moment-makes (tells piece state) =
     let told = telling piece state.under_way.link in
     moment-lose_if told.fault (with_answers told.link (answers_in told.settled state) state)

@@ -18,6 +18,7 @@ is_listed at.Neither = false
 is_listed at.Listed = true
 is_listed at.Aside = false
 
+-- it is set aside
 abbrev pub is_aside : Standing → Bool
 is_aside at.Neither = false
 is_aside at.Listed = false
@@ -34,6 +35,7 @@ abbrev pub ports_at : (Mark → Bool) → List Mark → List ℕ
 ports_at test [] = []
 ports_at test (mark ∷ marks) = if test mark then mark.port ∷ ports_at test marks else ports_at test marks
 
+-- the ports that have a mark
 abbrev pub ports_of : List Mark → List ℕ
 ports_of marks = ports_at (λ mark. true) marks
 
@@ -57,6 +59,7 @@ changed mark marks = if is_among mark.port (ports_of marks) then marked mark mar
 abbrev pub with_read : Standing → Mark → Mark
 with_read standing mark = record mark { read = standing }
 
+-- the mark with what is to be written standing there
 abbrev pub with_write : Standing → Mark → Mark
 with_write standing mark = record mark { write = standing }
 
@@ -93,6 +96,7 @@ pub record Standings : Type 0 where
   pub listed : Aside
   pub aside : Aside
 
+-- nothing stands anywhere
 abbrev pub none_standing : Standings
 none_standing = record { listed = none_aside; aside = none_aside }
 

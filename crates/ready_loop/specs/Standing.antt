@@ -52,6 +52,7 @@ without thing line =
 abbrev pub without_port : ℕ → Line → Line
 without_port port line = without (Write port) (without (Read port) line)
 
+-- the line without what was to be read or written at any of these ports
 abbrev pub without_ports : List ℕ → Line → Line
 without_ports [] line = line
 without_ports (port ∷ ports) line = without_ports ports (without_port port line)
@@ -69,6 +70,7 @@ is_at_any ports (Accept door) = false
 is_at_any ports (Read port) = is_among port ports
 is_at_any ports (Write port) = is_among port ports
 
+-- the thing is a listener's
 abbrev pub is_listener : Thing → Bool
 is_listener (Accept door) = true
 is_listener (Read port) = false

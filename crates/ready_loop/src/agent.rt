@@ -7,7 +7,8 @@ ghost use Rattle.agent_core.specs.Happenings.{happening};
 ghost use Rattle.agent_core.specs.Owing.{next_child_owed};
 ghost use Rattle.loop_model.specs.Elsewhere.{is_clients};
 
-use agent_core::{Agent, CoreMemory, Event};
+use agent_core::{Agent, Event};
+use std::alloc::AllocError;
 use world_ports::{Job, Moment};
 
 /// An agent that is told one event at a time, and tells what it owes to whom. The loop is proved over any such
@@ -20,7 +21,7 @@ pub trait Core {
     ghost closes: { Self → List ℕ };
 
     /// Takes one event at a moment. Where memory runs out the agent can only be dropped.
-    fn step(&mut self, moment: Moment, event: &Event<'_>) -> Result<(), CoreMemory>
+    fn step(&mut self, moment: Moment, event: &Event<'_>) -> Result<(), AllocError>
         requires { Fits (happening event.now) (state self.old) }
         ensures stepped { OnOk result
             (state self.new ≡ (step (state self.old) moment (happening event.now)).state) }
@@ -85,7 +86,7 @@ impl Core for Agent {
 
     ghost closes = { λ agent. agent.closes };
 
-    fn step(&mut self, moment: Moment, event: &Event<'_>) -> Result<(), CoreMemory> {
+    fn step(&mut self, moment: Moment, event: &Event<'_>) -> Result<(), AllocError> {
         Agent::step(self, moment, event)
     }
 

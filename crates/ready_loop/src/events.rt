@@ -15,8 +15,9 @@ ghost use Rattle.ready_loop.specs.Standing.{IsCold};
 
 use crate::Core;
 use crate::queue::Queue;
-use agent_core::{CoreMemory, Event};
+use agent_core::Event;
 use loop_model::Thing;
+use std::alloc::AllocError;
 use world_ports::{Moment, World};
 
 // Closes the ports that the last event closed.
@@ -24,7 +25,7 @@ pub fn close_all<A: Core, W: World>(
     queue: &Queue,
     agent: &A,
     world: &mut W,
-) -> Result<(), CoreMemory>
+) -> Result<(), AllocError>
     ensures legal { Goes result
         (in_state (A.state agent.now) queue.now (due_of (A.closes agent.now)))
         (W.journal world.old) (W.journal world.new)
@@ -36,7 +37,7 @@ pub fn close_all<A: Core, W: World>(
 {
     'ports: for port in agent.closes() {
         let Ok(()) = world.close(*port) else {
-            return Err(CoreMemory);
+            return Err(AllocError);
         };
     }
     Ok(())
@@ -109,7 +110,7 @@ pub fn tell<A: Core>(
     agent: &mut A,
     moment: Moment,
     event: &Event<'_>,
-) -> Result<(), CoreMemory>
+) -> Result<(), AllocError>
     requires fits { Fits (happening event.now) (A.state agent.old) }
     requires orderly { IsOrderly (A.state agent.old) }
     requires ordered { IsOrdered (A.state agent.old) queue.old }
@@ -135,7 +136,7 @@ pub fn happen<A: Core, W: World>(
     agent: &mut A,
     world: &mut W,
     event: &Event<'_>,
-) -> Result<(), CoreMemory>
+) -> Result<(), AllocError>
     requires fits { Fits (happening event.now) (A.state agent.old) }
     requires orderly { IsOrderly (A.state agent.old) }
     requires ordered { IsOrdered (A.state agent.old) queue.old }
@@ -158,10 +159,10 @@ pub fn happen<A: Core, W: World>(
     ensures led { W.leads world.old world.new }
 {
     let Ok(moment) = world.now() else {
-        return Err(CoreMemory);
+        return Err(AllocError);
     };
     let Ok(()) = tell(queue, agent, moment, event) else {
-        return Err(CoreMemory);
+        return Err(AllocError);
     };
     close_all(queue, agent, world)
 }

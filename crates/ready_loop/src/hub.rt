@@ -16,7 +16,6 @@ use crate::queue::Queue;
 use crate::room::Room;
 use crate::turn::{accept, read, start, write};
 use crate::{Core, HubFault, Turn};
-use agent_core::CoreMemory;
 use loop_model::Thing;
 use std::alloc::{AllocError, Global};
 use std::marker::Model;
@@ -44,7 +43,7 @@ impl Model for Hub {
 
 // The turn served something, where memory sufficed.
 #[inline(always)]
-fn served(outcome: Result<(), CoreMemory>) -> Result<Turn, HubFault>
+fn served(outcome: Result<(), AllocError>) -> Result<Turn, HubFault>
     ensures { result ≡ served_by outcome }
 {
     match outcome {

@@ -1,12 +1,10 @@
 // Room for reads.
 ghost use Rattle.std.specs.Prelude.{◌≡◌, ◌<◌, IfOk, OnOk, length};
-ghost use Rattle.loop_model.specs.LegalJournal.{read_room};
+ghost use Rattle.world_ports.specs.Worlds.{read_room};
 ghost use Rattle.ready_loop.specs.Rooms.{IsWiped};
 
 use std::alloc::{AllocError, Global};
-
-/// The room of each read, in bytes.
-const ROOM: usize = 16_384;
+use world_ports::READ_ROOM;
 
 /// Room for a read, zero whenever none is under way. It is taken by the first read.
 #[derive(Drop)]
@@ -40,7 +38,7 @@ impl Room {
         ensures { OnOk result (length self.new.bytes.items ≡ read_room) }
     {
         if self.bytes.is_empty() {
-            self.bytes = zeros(self.alloc, ROOM)?;
+            self.bytes = zeros(self.alloc, READ_ROOM)?;
         }
         Ok(())
     }

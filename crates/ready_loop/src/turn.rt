@@ -4,7 +4,8 @@ ghost use Rattle.agent_model.specs.Events.{Ended, Heard, Took};
 ghost use Rattle.agent_model.specs.State.{Fits, starts};
 ghost use Rattle.loop_model.specs.Dues.{Free, NowFor};
 ghost use Rattle.loop_model.specs.Fairness.{GoesRound, KeepsOrder};
-ghost use Rattle.loop_model.specs.LegalJournal.{in_state, is_first_job, read_room};
+ghost use Rattle.loop_model.specs.LegalJournal.{in_state, is_first_job};
+ghost use Rattle.world_ports.specs.Worlds.{read_room};
 ghost use Rattle.loop_model.specs.declared.thing.Thing.TheVariants.{Accept, Read, Write};
 ghost use Rattle.loop_model.specs.Lines.{IsOrdered, in_hand};
 ghost use Rattle.loop_model.specs.Orderly.{IsOrderly};
@@ -16,8 +17,9 @@ ghost use Rattle.ready_loop.specs.Standing.{IsAt};
 use crate::Core;
 use crate::events::happen;
 use crate::queue::Queue;
-use agent_core::{CoreMemory, Event};
+use agent_core::Event;
 use loop_model::Thing;
+use std::alloc::AllocError;
 use world_ports::{Accepted, Door, Got, Job, World, WorldFault, Wrote};
 
 // Accepts a connection.
@@ -26,7 +28,7 @@ pub fn accept<A: Core, W: World>(
     agent: &mut A,
     world: &mut W,
     door: Door,
-) -> Result<(), CoreMemory>
+) -> Result<(), AllocError>
     requires next { first_servable (A.state agent.old) queue.old.queue ≡ Some (Accept door) }
     requires orderly { IsOrderly (A.state agent.old) }
     requires ordered { IsOrdered (A.state agent.old) queue.old }
@@ -45,7 +47,7 @@ pub fn accept<A: Core, W: World>(
         Ok(Accepted::Port(number)) => {
             queue.take(Thing::Accept(door));
             let Ok(()) = queue.accept(agent, door, number) else {
-                return Err(CoreMemory);
+                return Err(AllocError);
             };
             happen(queue, agent, world, &Event::Joined(door))
         }
@@ -57,7 +59,7 @@ pub fn accept<A: Core, W: World>(
             queue.take(Thing::Accept(door));
             Ok(())
         }
-        Err(WorldFault::Memory) => Err(CoreMemory),
+        Err(WorldFault::Memory) => Err(AllocError),
     }
 }
 
@@ -68,7 +70,7 @@ fn hear<A: Core, W: World>(
     world: &mut W,
     port: u64,
     piece: &[u8],
-) -> Result<(), CoreMemory>
+) -> Result<(), AllocError>
     requires fits { Fits (Heard port piece.now) (A.state agent.old) }
     requires next { first_servable (A.state agent.old) queue.old.queue ≡ Some (Read port) }
     requires orderly { IsOrderly (A.state agent.old) }
@@ -98,7 +100,7 @@ fn end<A: Core, W: World>(
     world: &mut W,
     port: u64,
     found: Thing,
-) -> Result<(), CoreMemory>
+) -> Result<(), AllocError>
     requires fits { Fits (Ended port) (A.state agent.old) }
     requires next { first_servable (A.state agent.old) queue.old.queue ≡ Some found }
     requires at { IsAt port found }
@@ -128,7 +130,7 @@ pub fn read<A: Core, W: World>(
     world: &mut W,
     port: u64,
     room: &mut [u8],
-) -> Result<(), CoreMemory>
+) -> Result<(), AllocError>
     requires next { first_servable (A.state agent.old) queue.old.queue ≡ Some (Read port) }
     requires orderly { IsOrderly (A.state agent.old) }
     requires ordered { IsOrdered (A.state agent.old) queue.old }
@@ -158,7 +160,7 @@ pub fn read<A: Core, W: World>(
             Ok(())
         }
         Err(WorldFault::Failed) => end(queue, agent, world, port, Thing::Read(port)),
-        Err(WorldFault::Memory) => Err(CoreMemory),
+        Err(WorldFault::Memory) => Err(AllocError),
     }
 }
 
@@ -169,7 +171,7 @@ fn send<A: Core, W: World>(
     world: &mut W,
     port: u64,
     count: usize,
-) -> Result<(), CoreMemory>
+) -> Result<(), AllocError>
     requires fits { Fits (Took port count) (A.state agent.old) }
     requires next { first_servable (A.state agent.old) queue.old.queue ≡ Some (Write port) }
     requires orderly { IsOrderly (A.state agent.old) }
@@ -197,7 +199,7 @@ pub fn write<A: Core, W: World>(
     agent: &mut A,
     world: &mut W,
     port: u64,
-) -> Result<(), CoreMemory>
+) -> Result<(), AllocError>
     requires next { first_servable (A.state agent.old) queue.old.queue ≡ Some (Write port) }
     requires orderly { IsOrderly (A.state agent.old) }
     requires ordered { IsOrdered (A.state agent.old) queue.old }
@@ -219,7 +221,7 @@ pub fn write<A: Core, W: World>(
             Ok(())
         }
         Err(WorldFault::Failed) => end(queue, agent, world, port, Thing::Write(port)),
-        Err(WorldFault::Memory) => Err(CoreMemory),
+        Err(WorldFault::Memory) => Err(AllocError),
     }
 }
 
@@ -229,7 +231,7 @@ pub fn start<A: Core, W: World>(
     agent: &mut A,
     world: &mut W,
     job: Job,
-) -> Result<(), CoreMemory>
+) -> Result<(), AllocError>
     requires first { is_first_job job (starts (A.state agent.old)) ≡ true }
     requires orderly { IsOrderly (A.state agent.old) }
     requires ordered { IsOrdered (A.state agent.old) queue.old }
@@ -256,6 +258,6 @@ pub fn start<A: Core, W: World>(
             },
         ),
         Err(WorldFault::Failed) => happen(queue, agent, world, &Event::StartFailed { job: number }),
-        Err(WorldFault::Memory) => Err(CoreMemory),
+        Err(WorldFault::Memory) => Err(AllocError),
     }
 }

@@ -1,5 +1,5 @@
 -- Nothing is to be taken of a client behind an event: it waits, or is owed bytes, or its request isn't whole.
-use Rattle.std.proofs.Common.{◌≡◌, ◌≢◌, ℕ, suc, List, [], refl, sym, ap, subst, ◌∙◌, arith, inl, inr, Bool, Option, Some, None}
+use Rattle.std.proofs.Common.{◌≡◌, ◌≢◌, ℕ, suc, List, [], refl, sym, ap, subst, ◌∙◌, arith, inl, inr, Bool, Some, None}
 use Rattle.std.proofs.lemmas.Bool.{cases_eq}
 use Rattle.std.specs.Option.{option_map}
 use Rattle.world_ports.specs.declared.Door.{Door}
@@ -8,32 +8,25 @@ use Rattle.world_ports.specs.declared.Moment.{Moment}
 use Rattle.wire_text.specs.Bounds.{longest_body}
 use Rattle.wire_text.specs.Frames.{Bad, Front, More, Whole, front_body}
 use Rattle.wire_text.proofs.FrontLemmas.{front-short}
-use Rattle.confirm_desk.specs.Confirmations.{Confirmation}
 use Rattle.agent_model.specs.Actions.{Outcome}
-use Rattle.agent_model.specs.Answers.{lose}
 use Rattle.agent_model.specs.Children.{changed, heard_more}
-use Rattle.agent_model.specs.Consents.{over}
 use Rattle.agent_model.specs.Events.{Happening, Joined, Heard, Ended, Took, Started, StartFailed, Tick}
 use Rattle.agent_model.specs.Looks.{due, due_front}
 use Rattle.agent_model.specs.Sound.{IsRising}
-use Rattle.agent_model.specs.State.{Client, Confirmer, Helper, Port, Role, State, Unnamed, Waits, change_port, find_port, remove_port, role_of}
-use Rattle.agent_model.specs.Step.{asker_at, attempts, handle, has_room, look_front, looked, take_frame, took_at, took_by_role, took_some}
+use Rattle.agent_model.specs.State.{Port, State, Waits, change_port, find_port, remove_port}
+use Rattle.agent_model.specs.Step.{asker_at, attempts, handle, has_room, look_front, looked, take_frame, took_some}
 use Rattle.agent_model.specs.Time.{at_moment}
 use Rattle.agent_model.specs.Verdicts.{Verdict, tell}
-use Rattle.agent_model.proofs.ClientLemmas.{handle-heard, handle-took, looked-found}
-use Rattle.agent_model.proofs.JobLemmas.{IsIn}
-use Rattle.agent_model.proofs.LeadLemmas.{follows-makes, same as led}
-use Rattle.agent_model.proofs.MakeLemmas.{loses, makes-handle, overs}
+use Rattle.agent_model.proofs.ClientLemmas.{handle-heard, handle-took, looked-found, took-child}
+use Rattle.agent_model.proofs.MakeLemmas.{makes-handle}
 use Rattle.agent_model.proofs.PortsLemmas.{find_port-apart, find_port-change_port, find_port-left, find_port-remove_port, found_number, rising-change_port}
-use Rattle.agent_model.proofs.RunLemmas.{rising_behind}
 use Rattle.agent_model.proofs.ServeLemmas.{serve-ends}
-use Rattle.agent_model.proofs.TimeLemmas.{at_moment-keeps}
-use Rattle.agent_secrecy.proofs.EventLemmas.{IsChild}
+use Rattle.agent_model.proofs.NewsLemmas.{told-moment}
+use Rattle.agent_model.proofs.BothLemmas.{IsChild}
 use Rattle.agent_secrecy.proofs.LengthLemmas.{length-hidden_bytes}
 use Rattle.agent_secrecy.proofs.QuietLemmas.{IsQuiet, moment_keeps, quiet_keeps}
 use Rattle.agent_secrecy.proofs.TrackLemmas.{WasAt, admitted_found, another, that, was_at}
-use Rattle.replay_laws.proofs.EventLemmas.{no_client}
-use Rattle.replay_laws.proofs.BusyLemmas.{Busies, Left, left_then, lose_left, makes_left, over_left, same_left, served_busy}
+use Rattle.replay_laws.proofs.BusyLemmas.{Busies, Left, makes_left, news_left, same_left, served_busy}
 
 -- ---- nothing is to be taken
 
@@ -56,36 +49,10 @@ due_left number state port none left client heard =
     ]
 
 -- as time passes
-record Behind (number : ℕ) (old new : State) : Type 0 where
-  rising : IsRising 0 new.last_port new.ports
-  left : (port : Port) → find_port number new.ports ≡ Some port → Left number old.ports port
-
-behind_lose : (number : ℕ) (old state : State) → Behind number old state → Behind number old (lose state).state
-behind_lose number old state behind = record {
-  rising =
-      rising_behind state (lose state).state (follows-makes Tick state (loses state) record { last = refl; ports = led }) behind.rising;
-  left = λ port found.
-      let later =
-      lose_left state number port behind.rising found in left_then number old.ports state.ports port later
-      (behind.left later.was later.found);
-}
-
-behind_over : (number : ℕ) (old : State) (one : Confirmation) (state : State) → IsIn one state.under_way.confirmations
-    → Behind number old state → Behind number old (over one state).state
-behind_over number old one state there behind = record {
-  rising =
-      rising_behind state (over one state).state (follows-makes Tick state (overs one state there) record { last = refl; ports = led }) behind.rising;
-  left = λ port found.
-      let later =
-      over_left one state number port behind.rising found in left_then number old.ports state.ports port later
-      (behind.left later.was later.found);
-}
-
 moment_left : (number : ℕ) (moment : Moment) (state : State) (port : Port) → IsRising 0 state.last_port state.ports
     → find_port number (at_moment moment state).ports ≡ Some port → Left number state.ports port
 moment_left number moment state port rising found =
-    (at_moment-keeps (Behind number state) moment state (behind_lose number state) (behind_over number state)
-    record { rising = rising; left = λ p there. same_left number state.ports p there }).left port found
+    news_left (told-moment moment state) number state.last_port port rising found
 
 pub moment_due : (moment : Moment) (state : State) → IsRising 0 state.last_port state.ports → NothingIsDue state
     → NothingIsDue (at_moment moment state)
@@ -95,28 +62,10 @@ moment_due moment state rising none number port found client =
     (moment_keeps length-hidden_bytes moment state number port left.was rising found client left.found)
 
 -- a child process takes bytes
-took_ports : (number count : ℕ) (state : State) → IsChild number state
-    → (handle (Took number count) state).state.ports ≡ state.ports
-took_ports number count state child = by_found (find_port number state.ports) refl
-  where
-    by_role : (role : Role) (at : ℕ) → (role ≡ Client → ⊥)
-        → (took_by_role role at count state).state.ports ≡ state.ports
-    by_role Client at other = absurd (other refl)
-    by_role Unnamed at other = refl
-    by_role Helper at other = refl
-    by_role (Confirmer confirmation) at other = refl
-
-    by_found : (found : Option Port) → find_port number state.ports ≡ found
-        → (took_at found count state).state.ports ≡ state.ports
-    by_found None is = refl
-    by_found (Some port) is =
-        by_role (role_of port.door port.number state.under_way) port.number
-        (no_client port.door port.number state (child port is))
-
 took_left : (number other count : ℕ) (state : State) (port : Port) → IsChild other state
     → find_port number (handle (Took other count) state).state.ports ≡ Some port → Left number state.ports port
 took_left number other count state port child found =
-    same_left number state.ports port (ap (find_port number) (sym (took_ports other count state child)) ∙ found)
+    same_left number state.ports port (ap (find_port number) (sym (took-child other count state child)) ∙ found)
 
 -- the events of no client
 handle_left : (event : Happening) (state : State) (number : ℕ) (port : Port) → IsQuiet event state

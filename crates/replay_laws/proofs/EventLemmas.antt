@@ -1,22 +1,22 @@
 -- Moments and events, in a run and in that of what is told of it.
-use Rattle.std.proofs.Common.{◌≡◌, ℕ, List, [], ◌++◌, refl, sym, ap, subst, ◌∙◌, Bool, true, false, Option, Some, None}
+use Rattle.std.proofs.Common.{◌≡◌, ℕ, List, [], ◌++◌, refl, sym, ap, subst, ◌∙◌, Option, Some, None}
 use Rattle.std.specs.Option.{option_map}
 use Rattle.world_ports.specs.declared.Door.{Door}
 use Rattle.world_ports.specs.declared.Door.TheVariants.{Clients, Children}
 use Rattle.world_ports.specs.declared.Moment.{Moment}
 use Rattle.wire_text.specs.Bounds.{longest_body}
 use Rattle.wire_text.specs.Frames.{front}
-use Rattle.confirm_desk.specs.Confirmations.{Confirmation, find_linked}
 use Rattle.agent_model.specs.Children.{changed, heard_more}
 use Rattle.agent_model.specs.Events.{Happening, Joined, Heard, Ended, Took, Started, StartFailed, Tick}
-use Rattle.agent_model.specs.State.{Client, Confirmer, Helper, Port, Role, State, Unnamed, change_port, find_port, find_to_start, is_linked_to, role_by_helper, role_by_link, role_of}
-use Rattle.agent_model.specs.Step.{handle, heard_at, heard_by_role, join, looked, took_at, took_by_role, took_some}
+use Rattle.agent_model.specs.State.{Port, State, change_port, find_port}
+use Rattle.agent_model.specs.Step.{ended_at, handle, heard_at, join, looked, took_at, took_some}
 use Rattle.agent_model.specs.Time.{at_moment}
+use Rattle.agent_model.proofs.BothLemmas.{IsChild, both-ended, both-failed, both-heard, both-took}
 use Rattle.agent_model.proofs.ClientLemmas.{handle-heard, handle-took}
 use Rattle.agent_model.proofs.PortsLemmas.{find_port-change_port, found_number}
 use Rattle.agent_secrecy.specs.Hiding.{bare, hide_heard, hide_port, hide_state, seen}
 use Rattle.agent_secrecy.specs.Secrets.{hidden}
-use Rattle.agent_secrecy.proofs.EventLemmas.{IsChild, join-hidden}
+use Rattle.agent_secrecy.proofs.EventLemmas.{join-hidden}
 use Rattle.agent_secrecy.proofs.LengthLemmas.{length-hidden_bytes}
 use Rattle.agent_secrecy.proofs.MomentLemmas.{at_moment-hidden}
 use Rattle.agent_secrecy.proofs.PortLemmas.{find_port-hidden}
@@ -24,67 +24,40 @@ use Rattle.agent_secrecy.proofs.QuietLemmas.{IsQuiet, quiet-hidden}
 use Rattle.agent_secrecy.proofs.StateLemmas.{changed-hidden, exactly}
 use Rattle.replay_laws.specs.Redacting.{IsRenaming, as_is, blanked_seen, blanked_state, redacted_seen, redacted_state, relocked_outcome, relocked_state, told_at}
 use Rattle.replay_laws.proofs.LookLemmas.{AreToldFronts, looked-told}
-use Rattle.replay_laws.proofs.RelockLemmas.{at_moment-relocked, confirmer_heard-relocked, ended_at-relocked, start_failed-relocked, helper_heard-relocked, unnamed_heard-relocked}
-
--- a child process isn't a client
-pub no_client : (door : Door) (number : ℕ) (state : State) → door ≡ Children
-    → role_of door number state.under_way ≡ Client → ⊥
-no_client Clients number state is same = cc
-no_client Children number state is same = by_helper (is_linked_to number state.under_way.link.state) same
-  where
-    by_link : (found : Option Confirmation) → role_by_link found ≡ Client → ⊥
-    by_link None there = cc
-    by_link (Some confirmation) there = cc
-
-    by_helper : (helper : Bool) → role_by_helper helper number state.under_way.confirmations ≡ Client → ⊥
-    by_helper true there = cc
-    by_helper false there = by_link (find_linked number state.under_way.confirmations) there
+use Rattle.replay_laws.proofs.RelockLemmas.{at_moment-relocked, relocks}
 
 -- ---- a name for the passphrase that locks
 
 module _ (rename : List ℕ → List ℕ) where
-  -- whoever sends, but for a client
-  role_heard : (role : Role) (port : Port) (piece : List ℕ) (state : State) → (role ≡ Client → ⊥)
-      → heard_by_role role port piece (relocked_state rename state)
-      ≡ relocked_outcome rename (heard_by_role role port piece state)
-  role_heard Client port piece state other = absurd (other refl)
-  role_heard Unnamed port piece state other = unnamed_heard-relocked rename port.heard piece port.number state
-  role_heard Helper port piece state other = helper_heard-relocked rename piece state
-  role_heard (Confirmer confirmation) port piece state other = confirmer_heard-relocked rename confirmation piece state
-
-  role_took : (role : Role) (number count : ℕ) (state : State) → (role ≡ Client → ⊥)
-      → took_by_role role number count (relocked_state rename state)
-      ≡ relocked_outcome rename (took_by_role role number count state)
-  role_took Client number count state other = absurd (other refl)
-  role_took Unnamed number count state other = refl
-  role_took Helper number count state other = refl
-  role_took (Confirmer confirmation) number count state other = refl
-
   heard_found : (found : Option Port) (number : ℕ) (piece : List ℕ) (state : State)
       → find_port number state.ports ≡ found → IsChild number state
       → heard_at found piece (relocked_state rename state) ≡ relocked_outcome rename (heard_at found piece state)
   heard_found None number piece state is child = refl
   heard_found (Some port) number piece state is child =
-      role_heard (role_of port.door port.number state.under_way) port piece state
-      (no_client port.door port.number state (child port is))
+      both-heard _ _ (relocks rename) port state (relocked_state rename state) (child port is) refl piece
+      (subst (λ n. IsChild n state) (sym (found_number number state.ports port is)) child)
 
   took_found : (found : Option Port) (number count : ℕ) (state : State) → find_port number state.ports ≡ found
       → IsChild number state
       → took_at found count (relocked_state rename state) ≡ relocked_outcome rename (took_at found count state)
   took_found None number count state is child = refl
   took_found (Some port) number count state is child =
-      role_took (role_of port.door port.number state.under_way) port.number count state
-      (no_client port.door port.number state (child port is))
+      both-took _ _ (relocks rename) port state (relocked_state rename state) (child port is) refl count
+
+  ended_found : (found : Option Port) (state : State)
+      → ended_at found (relocked_state rename state) ≡ relocked_outcome rename (ended_at found state)
+  ended_found None state = refl
+  ended_found (Some port) state = both-ended _ _ (relocks rename) port state (relocked_state rename state) refl
 
   pub quiet-relocked : (event : Happening) (state : State) → IsQuiet event state
       → handle event (relocked_state rename state) ≡ relocked_outcome rename (handle event state)
   quiet-relocked (Joined door) state quiet = absurd quiet
   quiet-relocked (Heard port piece) state quiet = heard_found (find_port port state.ports) port piece state refl quiet
-  quiet-relocked (Ended port) state quiet = ended_at-relocked rename (find_port port state.ports) state
+  quiet-relocked (Ended port) state quiet = ended_found (find_port port state.ports) state
   quiet-relocked (Took port count) state quiet = took_found (find_port port state.ports) port count state refl quiet
   quiet-relocked (Started job ticket) state quiet = refl
   quiet-relocked (StartFailed job) state quiet =
-      start_failed-relocked rename (find_to_start job state.under_way.to_start) state
+      both-failed _ _ (relocks rename) job state (relocked_state rename state) refl
   quiet-relocked Tick state quiet = refl
 
 -- ---- both runs

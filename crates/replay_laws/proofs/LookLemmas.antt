@@ -18,7 +18,7 @@ use Rattle.agent_model.proofs.ClientLemmas.{looked-found}
 use Rattle.agent_secrecy.specs.Hiding.{Seen, bare, hide_heard, hide_held, hide_port, hide_read, hide_state, hide_under_way, seen, served_bare, served_seen}
 use Rattle.agent_secrecy.specs.Secrets.{hidden}
 use Rattle.agent_secrecy.proofs.LengthLemmas.{length-hidden_bytes}
-use Rattle.agent_secrecy.proofs.LookLemmas.{concluded_seen, taken_of}
+use Rattle.agent_secrecy.proofs.LookLemmas.{concluded-seen, concluded_seen, shut-seen, taken-seen, taken_of}
 use Rattle.agent_secrecy.proofs.PortLemmas.{tell-hidden}
 use Rattle.agent_secrecy.proofs.ServeLemmas.{serve-hidden}
 use Rattle.agent_secrecy.proofs.StateLemmas.{changed-hidden, exactly, shut-hidden}
@@ -40,47 +40,17 @@ refused_of body_len attempt port state = record {
 }
 
 module _ (heard : ℕ → List ℕ → List ℕ) where
-  concluded-seen : (number : ℕ) (body : List ℕ) (served : Served) (state : State)
-      → seen hidden heard (concluded number body served state)
-      ≡ concluded_seen number (served_seen hidden served) (hide_state hidden heard state)
-  concluded-seen number body served state =
-      ap
-      (λ ports. let new : Seen = record (seen hidden heard (concluded number body served state)) { state = record (hide_state hidden heard (concluded number body served state).state) { ports = ports } } in new)
-      (sym (tell-hidden heard number served.work.verdict state.ports))
-
-  -- a request that is taken, where a frame of another length goes in the other run
-  taken-seen : (body_len other_len : ℕ) (attempt : Bool) (body : List ℕ) (read : Result ClientRequest MsgFault) (port : Port) (state : State)
-      → ((one : Port) → find_port port.number state.ports ≡ Some one → take_frame other_len attempt (hide_port heard one) ≡ hide_port heard (take_frame body_len attempt one)) →
-      seen hidden heard
-      (concluded port.number body (serve read (asker_at state.moment port) state.held state.under_way) (changed port.number (take_frame body_len attempt) state))
-      ≡ taken_of other_len (hide_read hidden read) attempt (hide_port heard port) (hide_state hidden heard state)
-  taken-seen body_len other_len attempt body read port state goes =
-      concluded-seen port.number body (serve read (asker_at state.moment port) state.held state.under_way)
-      (changed port.number (take_frame body_len attempt) state)
-      ∙ ap
-      (λ served. concluded_seen port.number served (hide_state hidden heard (changed port.number (take_frame body_len attempt) state)))
-      (sym (serve-hidden hidden length-hidden_bytes read (asker_at state.moment port) state.held state.under_way))
-      ∙ ap
-      (concluded_seen port.number (served_bare (serve (hide_read hidden read) (asker_at state.moment port) (hide_held hidden state.held) (hide_under_way state.under_way))))
-      (sym (changed-hidden hidden length-hidden_bytes heard port.number (take_frame body_len attempt) (take_frame other_len attempt) state goes))
-
   refused-seen : (body_len other_len : ℕ) (attempt : Bool) (body : List ℕ) (what : MsgFault) (port : Port) (state : State)
       → ((one : Port) → find_port port.number state.ports ≡ Some one → take_frame other_len attempt (hide_port heard one) ≡ hide_port heard (take_frame body_len attempt one)) →
       seen hidden heard
       (concluded port.number body (refuses (unread what state.held.lock) state.held state.under_way) (changed port.number (take_frame body_len attempt) state))
       ≡ refused_of other_len attempt (hide_port heard port) (hide_state hidden heard state)
   refused-seen body_len other_len attempt body what port state goes =
-      concluded-seen port.number body (refuses (unread what state.held.lock) state.held state.under_way)
+      concluded-seen length-hidden_bytes heard port.number body (refuses (unread what state.held.lock) state.held state.under_way)
       (changed port.number (take_frame body_len attempt) state)
       ∙ ap
       (λ (left : State). concluded_seen port.number (served_seen hidden (refuses (unread what state.held.lock) state.held state.under_way)) left)
       (sym (changed-hidden hidden length-hidden_bytes heard port.number (take_frame body_len attempt) (take_frame other_len attempt) state goes))
-
-  shut-seen : (number : ℕ) (state : State)
-      → seen hidden heard (shut number state) ≡ bare (shut number (hide_state hidden heard state))
-  shut-seen number state =
-      sym
-      (exactly hidden length-hidden_bytes heard (shut number state) _ (shut-hidden hidden length-hidden_bytes heard number state))
 
 -- a frame goes of what was heard as it is
 stays : (body_len : ℕ) (attempt : Bool) (port : Port)
@@ -148,7 +118,7 @@ module _ (rename : List ℕ → List ℕ) (renaming : IsRenaming rename) (told :
         ap
         (λ (served : Served). seen hidden (told_at told) (concluded p.number one served (changed p.number (take_frame body_len attempt) (relocked_state rename s))))
         (sym (serve-relocked rename renaming (agent_request_of one) (asker_at s.moment p) s.held s.under_way))
-        ∙ taken-seen (told_at told) body_len other_len attempt one (renamed_read rename (agent_request_of one)) p
+        ∙ taken-seen length-hidden_bytes (told_at told) body_len other_len attempt one (renamed_read rename (agent_request_of one)) p
         (relocked_state rename s) (goes body_len other_len attempt after)
         ∙ ap (λ read. taken_of other_len read attempt (hide_port (told_at told) p) (redacted_state rename told s))
         (sym reads)
@@ -160,7 +130,7 @@ module _ (rename : List ℕ → List ℕ) (renaming : IsRenaming rename) (told :
         ∙ ap
         (taken_of other_len (hide_read hidden (agent_request_of other)) (attempts t.held.lock other) (hide_port as_is q)) same
         ∙ sym
-        (taken-seen as_is other_len other_len (attempts t.held.lock other) other (agent_request_of other) q t (λ port there. stays other_len (attempts t.held.lock other) port))
+        (taken-seen length-hidden_bytes as_is other_len other_len (attempts t.held.lock other) other (agent_request_of other) q t (λ port there. stays other_len (attempts t.held.lock other) port))
     taken-told body_len other_len one other (unread_both what whatever one_is other_is) names after =
         let attempt = attempts s.held.lock one in
         ap
@@ -178,10 +148,10 @@ module _ (rename : List ℕ → List ℕ) (renaming : IsRenaming rename) (told :
 
     closed-told : redacted_seen rename told (shut p.number s) ≡ blanked_seen (shut q.number t)
     closed-told =
-        shut-seen (told_at told) p.number (relocked_state rename s)
+        shut-seen length-hidden_bytes (told_at told) p.number (relocked_state rename s)
         ∙ ap (λ (port : Port). bare (shut port.number (redacted_state rename told s))) same_port
         ∙ ap (λ state. bare (shut q.number state)) same
-        ∙ sym (shut-seen as_is q.number t)
+        ∙ sym (shut-seen length-hidden_bytes as_is q.number t)
 
     heard_is : q.heard ≡ told p.heard
     heard_is =

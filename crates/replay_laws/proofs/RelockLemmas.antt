@@ -1,27 +1,20 @@
 -- Steps of a state that is locked with a passphrase of another name: all but a client's request.
-use Rattle.std.proofs.Common.{◌≡◌, ℕ, List, [], ◌∷◌, ◌++◌, refl, ap, ◌∙◌, Bool, true, false, Option, Some, None, Result, Ok, Err}
+use Rattle.std.proofs.Common.{◌≡◌, ℕ, List, [], ◌∷◌, ◌++◌, refl, ap, sym, subst, ◌∙◌, Bool, true, false, Option, Some, None}
 use Rattle.std.specs.Option.{option_map}
-use Rattle.std.specs.Str.{bytes_eq}
-use Rattle.world_ports.specs.declared.Job.{Job}
-use Rattle.world_ports.specs.declared.JobKind.{JobKind}
-use Rattle.world_ports.specs.declared.JobKind.TheVariants as kinds
 use Rattle.world_ports.specs.declared.Moment.{Moment}
-use Rattle.wire_text.specs.Frames.{Bad, Front, More, Whole, after_front, front, front_body}
-use Rattle.child_msg.specs.Messages.{Denied, False, FromChildMessage, Granted, Hello, Refused, Signed, True}
-use Rattle.child_msg.specs.Reading.{from_child_of}
-use Rattle.child_msg.specs.declared.fault.ChildFault.{ChildFault}
 use Rattle.helper_link.specs.Telling.{telling}
 use Rattle.helper_link.specs.declared.fault.LinkFault.{LinkFault}
 use Rattle.dest_rule.specs.declared.binding.Binding.{Binding}
-use Rattle.confirm_desk.specs.Confirmations.{Confirmation, Consent, No, NotYet, Yes, consent, find_asker, find_job}
-use Rattle.agent_model.specs.Actions.{Outcome, Work, acted, and_then, behind, closing}
-use Rattle.agent_model.specs.Answers.{answers_in, helper_heard, lose_if, lose_where, with_answers}
-use Rattle.agent_model.specs.Children.{changed, closed, confirmer_goes_on, confirmer_named, failed_by, start_failed, first_frame, first_message, heard_more, hello_heard, helper_named, is_started_by, job_left, named_by, shut_then, ticket_shown, unnamed_heard}
-use Rattle.agent_model.specs.Consents.{confirmer_heard, consent_by, find_started, grant_by, grant_concluded, grant_to, grant_work, over_if, without_confirmation}
+use Rattle.confirm_desk.specs.Confirmations.{Confirmation, Consent, No, NotYet, Yes, consent}
+use Rattle.agent_model.specs.Actions.{Outcome, Work, acted, and_then, behind, closing, stay}
+use Rattle.agent_model.specs.Answers.{answers_in, helper_heard, lose, lose_if, lose_where, with_answers}
+use Rattle.agent_model.specs.Children.{changed, closed, confirmer_named, heard_more, helper_named, job_left}
+use Rattle.agent_model.specs.Consents.{confirmer_heard, consent_by, grant_by, grant_concluded, grant_to, grant_work, over, over_if, without_confirmation}
 use Rattle.agent_model.specs.KeyStates.{KeyState, after_use}
-use Rattle.agent_model.specs.State.{Client, Confirmer, Helper, Port, Role, StartedJob, State, UnderWay, Unnamed, find_port, role_of}
-use Rattle.agent_model.specs.Step.{ended_at, ended_by_role}
+use Rattle.agent_model.specs.State.{Port, State, UnderWay, find_port}
+use Rattle.agent_model.specs.Step.{confirmer_took, helper_took}
 use Rattle.agent_model.specs.Time.{all_over, at_moment, end_late, first_late, is_helper_late, lose_late, taken_in, time_passes}
+use Rattle.agent_model.proofs.BothLemmas.{AreAlikeInBoth, IsSameWay}
 use Rattle.replay_laws.specs.Redacting.{relocked, relocked_outcome, relocked_state}
 
 module _ (rename : List ℕ → List ℕ) where
@@ -35,13 +28,6 @@ module _ (rename : List ℕ → List ℕ) where
       → next (state_of one.state) ≡ outcome_of (next one.state) → and_then other next ≡ outcome_of (and_then one next)
   and_then-relocked one other next same later =
       ap (λ first. and_then first next) same ∙ ap (behind (outcome_of one)) later
-
-  pub shut_then-relocked : (number : ℕ) (next : State → Outcome) (state : State)
-      → next (state_of (closed number state)) ≡ outcome_of (next (closed number state))
-      → shut_then number next (state_of state) ≡ outcome_of (shut_then number next state)
-  shut_then-relocked number next state same =
-      ap
-      (λ left. let new : Outcome = record { state = left.state; actions = left.actions; put = left.put; closes = closing number state.ports left.closes } in new) same
 
   -- ---- what ends
 
@@ -129,79 +115,34 @@ module _ (rename : List ℕ → List ℕ) where
   confirmer_heard-relocked confirmation piece state =
       consent_by-relocked (consent confirmation.job (confirmation.heard ++ piece)) confirmation piece state
 
-  -- ---- child processes that name themselves
+  -- ---- events of no client
 
-  goes_on-relocked : (found : Option Confirmation) (rest : List ℕ) (state : State)
-      → confirmer_goes_on found rest (state_of state) ≡ outcome_of (confirmer_goes_on found rest state)
-  goes_on-relocked None rest state = refl
-  goes_on-relocked (Some confirmation) rest state = confirmer_heard-relocked confirmation rest state
+  abbrev IsRelocked : State → State → Type 0
+  IsRelocked one other = other ≡ state_of one
 
-  named_by-relocked : (kind : JobKind) (job number : ℕ) (rest : List ℕ) (state : State)
-      → named_by kind job number rest (state_of state) ≡ outcome_of (named_by kind job number rest state)
-  named_by-relocked kinds.Helper job number rest state = helper_heard-relocked rest (helper_named job number state)
-  named_by-relocked kinds.Confirm job number rest state =
-      goes_on-relocked (find_job job (confirmer_named job number state).under_way.confirmations) rest
-      (confirmer_named job number state)
+  abbrev AreRelocked : Outcome → Outcome → Type 0
+  AreRelocked one other = other ≡ outcome_of one
 
-  ticket_shown-relocked : (own : Bool) (job : Job) (number : ℕ) (rest : List ℕ) (state : State)
-      → ticket_shown own job number rest (state_of state) ≡ outcome_of (ticket_shown own job number rest state)
-  ticket_shown-relocked true job number rest state = named_by-relocked job.kind job.number number rest state
-  ticket_shown-relocked false job number rest state = refl
+  abbrev with_closes : Outcome → List ℕ → Outcome
+  with_closes left closes = record { state = left.state; actions = left.actions; put = left.put; closes = closes }
 
-  hello_heard-relocked : (found : Option StartedJob) (ticket : List ℕ) (number : ℕ) (rest : List ℕ) (state : State)
-      → hello_heard found ticket number rest (state_of state) ≡ outcome_of (hello_heard found ticket number rest state)
-  hello_heard-relocked None ticket number rest state = refl
-  hello_heard-relocked (Some one) ticket number rest state =
-      ticket_shown-relocked (bytes_eq one.ticket ticket) one.job number rest state
-
-  message-relocked : (message : Result FromChildMessage ChildFault) (number : ℕ) (rest : List ℕ) (state : State)
-      → first_message message number rest (state_of state) ≡ outcome_of (first_message message number rest state)
-  message-relocked (Ok (Hello job ticket)) number rest state =
-      hello_heard-relocked (find_started job state.under_way.started) ticket number rest state
-  message-relocked (Ok (Signed ask signature)) number rest state = refl
-  message-relocked (Ok (Refused ask)) number rest state = refl
-  message-relocked (Ok (True ask)) number rest state = refl
-  message-relocked (Ok (False ask)) number rest state = refl
-  message-relocked (Ok (Granted job)) number rest state = refl
-  message-relocked (Ok (Denied job)) number rest state = refl
-  message-relocked (Err fault) number rest state = refl
-
-  frame-relocked : (answer : Front) (number : ℕ) (bytes : List ℕ) (state : State)
-      → first_frame answer number bytes (state_of state) ≡ outcome_of (first_frame answer number bytes state)
-  frame-relocked (Whole body_len) number bytes state =
-      message-relocked (from_child_of (front_body body_len bytes)) number (after_front body_len bytes) state
-  frame-relocked (Bad announced) number bytes state = refl
-  frame-relocked More number bytes state = refl
-
-  pub unnamed_heard-relocked : (bytes piece : List ℕ) (number : ℕ) (state : State)
-      → unnamed_heard bytes piece number (state_of state) ≡ outcome_of (unnamed_heard bytes piece number state)
-  unnamed_heard-relocked bytes piece number state =
-      frame-relocked (front 262144 (bytes ++ piece)) number (bytes ++ piece) (changed number (heard_more piece) state)
-
-  -- ---- ends and starts
-
-  ended_by_role-relocked : (role : Role) (number : ℕ) (state : State)
-      → ended_by_role role number (state_of state) ≡ outcome_of (ended_by_role role number state)
-  ended_by_role-relocked Client number state =
-      shut_then-relocked number (over_if (find_asker number state.under_way.confirmations)) state
-      (over_if-relocked (find_asker number state.under_way.confirmations) (closed number state))
-  ended_by_role-relocked Unnamed number state = refl
-  ended_by_role-relocked Helper number state = refl
-  ended_by_role-relocked (Confirmer confirmation) number state = refl
-
-  pub ended_at-relocked : (found : Option Port) (state : State)
-      → ended_at found (state_of state) ≡ outcome_of (ended_at found state)
-  ended_at-relocked None state = refl
-  ended_at-relocked (Some port) state =
-      ended_by_role-relocked (role_of port.door port.number state.under_way) port.number state
-
-  failed_by-relocked : (kind : JobKind) (number : ℕ) (state : State)
-      → failed_by kind number (state_of state) ≡ outcome_of (failed_by kind number state)
-  failed_by-relocked kinds.Helper number state =
-      lose_where-relocked (is_started_by number state.under_way.link.state) state
-  failed_by-relocked kinds.Confirm number state = over_if-relocked (find_job number state.under_way.confirmations) state
-
-  pub start_failed-relocked : (found : Option Job) (state : State)
-      → start_failed found (state_of state) ≡ outcome_of (start_failed found state)
-  start_failed-relocked None state = refl
-  start_failed-relocked (Some job) state = failed_by-relocked job.kind job.number (job_left job.number state)
+  pub relocks : AreAlikeInBoth IsRelocked AreRelocked
+  relocks = record {
+    way = λ one other is. subst (IsSameWay one) (sym is) record { role = λ door number. refl; link = refl; confirmations = refl; started = refl; to_start = refl };
+    hears = λ number piece one other child is. ap (changed number (heard_more piece)) is;
+    closes = λ number one other is. ap (closed number) is;
+    names = λ job number one other child is. ap (helper_named job number) is;
+    links = λ job number one other child is. ap (confirmer_named job number) is;
+    leaves = λ job one other is. ap (job_left job) is;
+    sends = λ count one other is. ap (helper_took count) is;
+    prompts = λ job count one other is. ap (confirmer_took job count) is;
+    stays = λ one other is. ap stay is;
+    shuts = λ number next one other is same.
+        ap (λ (left : Outcome). with_closes left (closing number other.ports left.closes)) same
+        ∙ ap (λ (s : State). with_closes (outcome_of (next (closed number one))) (closing number s.ports (next (closed number one)).closes)) is;
+    tells = λ piece one other is. ap (helper_heard piece) is ∙ helper_heard-relocked piece one;
+    loses = λ one other is. ap lose is;
+    overs = λ confirmation one other there is. ap (over confirmation) is;
+    consents = λ confirmation piece one other there is.
+        ap (confirmer_heard confirmation piece) is ∙ confirmer_heard-relocked confirmation piece one;
+  }

@@ -25,10 +25,10 @@ pub returns-in-Helper : goal.returns-in-Helper
 returns-in-Helper c = λ (port : Port) there.
     let going = c.args.under_way.now in
     let body = c.first_body.ensures.body ∙ ap (front_body c.args.body_len) (c.heard.ensures ∙ ap heard_in there) in
-    let rest = c.behind-rest.ensures ∙ ap (after_front c.args.body_len) (c.live.ensures ∙ c.take_heard-heard.ensures.heard port there) in
+    let rest = c.after_front-rest.ensures ∙ ap (after_front c.args.body_len) (c.live.ensures ∙ c.take_heard-heard.ensures.heard port there) in
     let named = ap (λ b. named_job (from_child_of b) going) (sym body) ∙ sym c.job_named.ensures.job ∙ c.in-Some.is in
     after_ok c.hear_helper.result (λ told.
-    told ∙ child_named c.args.wall c.args.keys.now going c.helper_named.new.self c.args.ports.now c.take_heard-heard.new.self (from_child_of (front_body c.args.body_len port.heard)) c.in-Some.job c.args.number c.behind-rest.result.now (after_front c.args.body_len port.heard) named c.in-Helper.is c.helper_named.ensures c.take_heard-heard.ensures.ports rest)
+    told ∙ child_named c.args.wall c.args.keys.now going c.helper_named.new.self c.args.ports.now c.take_heard-heard.new.self (from_child_of (front_body c.args.body_len port.heard)) c.in-Some.job c.args.number c.after_front-rest.result.now (after_front c.args.body_len port.heard) named c.in-Helper.is c.helper_named.ensures c.take_heard-heard.ensures.ports rest)
     (c.hear_helper.ensures c.args.wall c.args.keys.now)
 
 pub hear_confirmer-requires : goal.hear_confirmer-requires
@@ -48,10 +48,10 @@ returns c = λ (port : Port) there.
     let going = c.args.under_way.now in
     let number = c.args.number in
     let body = c.first_body.ensures.body ∙ ap (front_body c.args.body_len) (c.heard.ensures ∙ ap heard_in there) in
-    let rest = c.behind-rest.ensures ∙ ap (after_front c.args.body_len) (c.live.ensures ∙ c.take_heard-heard.ensures.heard port there) in
+    let rest = c.after_front-rest.ensures ∙ ap (after_front c.args.body_len) (c.live.ensures ∙ c.take_heard-heard.ensures.heard port there) in
     let named = ap (λ b. named_job (from_child_of b) going) (sym body) ∙ sym c.job_named.ensures.job ∙ c.in-Some.is in
     let one = confirmation_named c.in-Some.job going c.in-Some.ensures.named c.in-Confirm.is in
     let linked = ap (λ (u : UnderWay). find_linked number u.confirmations) c.confirmer_named.ensures ∙ linked_there c.in-Some.job.number number going.confirmations one.0 one.1 c.requires.free in
     after_ok c.hear_confirmer.result (λ told.
-    told ∙ child_asks c.args.wall c.args.keys.now going c.confirmer_named.new.self c.args.ports.now c.take_heard-heard.new.self (from_child_of (front_body c.args.body_len port.heard)) c.in-Some.job number c.behind-rest.result.now (after_front c.args.body_len port.heard) one.0 named c.in-Confirm.is one.1 c.confirmer_named.ensures c.take_heard-heard.ensures.ports rest)
+    told ∙ child_asks c.args.wall c.args.keys.now going c.confirmer_named.new.self c.args.ports.now c.take_heard-heard.new.self (from_child_of (front_body c.args.body_len port.heard)) c.in-Some.job number c.after_front-rest.result.now (after_front c.args.body_len port.heard) one.0 named c.in-Confirm.is one.1 c.confirmer_named.ensures c.take_heard-heard.ensures.ports rest)
     (c.hear_confirmer.ensures (linked_at number one.0) linked)
