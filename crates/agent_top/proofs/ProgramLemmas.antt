@@ -5,8 +5,7 @@ use Rattle.schedule_text.specs.declared.fault.LineFault.{LineFault}
 use Rattle.replay_run.specs.declared.run_end.RunEnd.{RunEnd}
 use Rattle.replay_run.specs.declared.run_end.RunEnd.TheVariants.{Done, Refused, Memory, ReadFault, WriteFault}
 use Rattle.agent_laws.proofs.AnsweredLemmas.{first-answered}
-use Rattle.replay_run.specs.Brought.{events_of}
-use Rattle.replay_run.specs.Replay.{run_of, settings_of}
+use Rattle.replay_run.specs.Replay.{events_of, run_of, settings_of}
 use Rattle.replay_run.specs.Claims.{Seen, IsRefused, Ends}
 use Rattle.replay_run.proofs.BroughtLemmas.{run-schedule, schedule-lawful}
 use Rattle.agent_top.specs.Program.{status_of, ReplaysExactly, IsComplete, IsFinished, IsLawfulRun, HasNoFault, Completes, RunsLawfully}

@@ -1,9 +1,9 @@
 -- What the end of the program says of its input and its output (ours): `ReplaysExactly`, a line a
 -- status, and `RunsLawfully` of what it ran. From here on down, each file read from its end:
 --   replay_run, specs/Claims.antt: how the run of a schedule may end
---   replay_run, specs/Replay.antt: what a schedule prints, by what each line brings
+--   replay_run, specs/Replay.antt: the events that each line brings, and the run that they lead to
 --   replay_run, specs/Settling.antt: what ports take after each line
---   replay_run, specs/Brought.antt: the events that the lines and these takings bring
+--   replay_run, specs/Told.antt: what is printed of each event
 --   agent_laws, specs/History.antt, Dues.antt, Past.antt: which signature is put to the helper, by what was done before
 --   schedule_text, specs/Lines.antt and Deeds.antt: the lines that are read, and those that are printed
 --   agent_model, specs/Step.antt: one step of the abstract agent
@@ -18,8 +18,7 @@ use Rattle.agent_top.specs.declared.status.Status.{Status}
 use Rattle.agent_top.specs.declared.status.Status.TheVariants as status
 use Rattle.replay_run.specs.declared.run_end.RunEnd.{RunEnd}
 use Rattle.replay_run.specs.declared.run_end.RunEnd.TheVariants.{Done, Refused, Memory, ReadFault, WriteFault}
-use Rattle.replay_run.specs.Brought.{events_of}
-use Rattle.replay_run.specs.Replay.{run_of, settings_of}
+use Rattle.replay_run.specs.Replay.{events_of, run_of, settings_of}
 use Rattle.replay_run.specs.Claims.{Seen, HasRead, HoldsOfInput, EndsDone, EndsRefused, EndsEarly, EndsAtReadFault, EndsAtWriteFault}
 
 -- the status of a run that ended so

@@ -28,6 +28,8 @@ abbrev pub done_by : Bool → Status
 done_by true = status.WriteFault
 done_by false = status.Done
 
+-- the status of a recorded loop with this end, by whether memory ran out for the record and
+-- whether a write of it failed
 abbrev pub status_of_recorded : Bool → Bool → ServeEnd → Status
 status_of_recorded true failed end = status.Memory
 status_of_recorded false failed ends.Over = done_by failed

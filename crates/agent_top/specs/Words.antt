@@ -30,9 +30,11 @@ pub record Drilling : Type 0 where
 abbrev pub most_rounds : ℕ
 most_rounds = 100000
 
+-- the number of rounds, where it is at most the bound
 abbrev pub if_few : ℕ → Option ℕ
 if_few rounds = if nat_le rounds most_rounds then Some rounds else None
 
+-- the number of rounds that a word says
 abbrev pub rounds_in : List ℕ → Option ℕ
 rounds_in text = option_and_then if_few (number_of text)
 

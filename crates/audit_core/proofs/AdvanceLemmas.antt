@@ -1,52 +1,18 @@
 -- A record that is run line by line.
-use Rattle.std.proofs.Common.{◌≡◌, ℕ, ◌+◌, List, [], ◌∷◌, ◌++◌, length, take, drop, refl, ap, sym, subst, ◌∙◌, arith, Option, None, Some, true, false, is_some, Result, Ok, Err, OnOk, length-take}
+use Rattle.std.proofs.Common.{◌≡◌, ℕ, ◌+◌, ◌<◌, ◌≤◌, List, [], ◌++◌, length, take, drop, refl, ap, sym, subst, ◌∙◌, arith, Option, None, Some, true, false, is_some, length-take}
+use Rattle.std.proofs.lemmas.Grind.{flat_map-append}
 use Rattle.std.proofs.lemmas.List.{append-nil}
-use Rattle.agent_core.specs.declared.event.CoreMemory.{CoreMemory}
+use Rattle.std.specs.List.{flat_map}
 use Rattle.schedule_text.specs.declared.fault.LineFault.{LineFault}
-use Rattle.audit_core.specs.Passes.{EndsPrinting, NotesOn, PrintsOn}
-use Rattle.audit_core.specs.Puts.{puts_from, puts_of}
+use Rattle.audit_core.specs.Passes.{Notes, TurnsOn}
+use Rattle.audit_core.specs.Puts.{puts_from, puts_in}
 use Rattle.audit_core.specs.declared.put.Put.{Put}
-use Rattle.replay_run.specs.Brought.{events_by, last_events, whole_events}
 use Rattle.replay_run.specs.Counts.{IsCounted}
 use Rattle.replay_run.specs.GoesOn.{HasNoLf, IsLineEnd}
-use Rattle.replay_run.specs.Replay.{Run, ending, last_turned, parts_of, printed, ran, turned, whole_turned}
-use Rattle.replay_run.proofs.GoesOnLemmas.{printed-last, ran-last}
+use Rattle.replay_run.specs.Replay.{Run, Turned, course, ending, last_turned, parts_of, printed, ran, then_turned, turned}
+use Rattle.replay_run.specs.Told.{Told, text_of}
 use Rattle.replay_run.proofs.RunCounts.{turned-next}
-use Rattle.replay_run.proofs.RunLemmas.{parts_of-cons, parts_of-line, parts_of-part, printed-line, printed-refused, ran-line, ran-refused, turned-refused}
-
--- ---- what the parts of a schedule put
-
-nothing_more : (line : List ℕ) (size : ℕ) (run : Run) (fault : LineFault) → run.refused ≡ Some fault → events_by run.refused line size run ≡ []
-nothing_more line size run fault refused = ap (λ r. events_by r line size run) refused
-
-last-nothing : (part : List ℕ) (run : Run) (fault : LineFault) → run.refused ≡ Some fault → last_events part run ≡ []
-last-nothing [] run fault refused = refl
-last-nothing (byte ∷ bytes) run fault refused = nothing_more (byte ∷ bytes) (length (byte ∷ bytes)) run fault refused
-
--- a run that was refused puts nothing more
-pub puts-refused : (run : Run) (fault : LineFault) (parts : List (List ℕ)) → run.refused ≡ Some fault → puts_from run parts ≡ []
-unfolding puts_from
-puts-refused run fault [] refused = refl
-puts-refused run fault (part ∷ []) refused = ap (puts_of run) (last-nothing part run fault refused)
-puts-refused run fault (line ∷ next ∷ parts) refused =
-    ap (λ events. puts_of run events ++ puts_from (whole_turned line run).run (next ∷ parts)) (nothing_more line (length line + 1) run fault refused)
-    ∙ ap (λ t. puts_from t.run (next ∷ parts)) (turned-refused line (length line + 1) run fault refused)
-    ∙ puts-refused run fault (next ∷ parts) refused
-
-puts_by-line : (run : Run) (line : List ℕ) (rest : List (List ℕ)) (first : List ℕ) (others : List (List ℕ)) → rest ≡ first ∷ others → puts_from run (line ∷ rest) ≡ puts_of run (whole_events line run) ++ puts_from (whole_turned line run).run rest
-unfolding puts_from
-puts_by-line run line rest first others is = rw is refl
-
--- a line at the front
-pub puts-line : (run : Run) (line rest : List ℕ) → HasNoLf line → puts_from run (parts_of (line ++ 10 ∷ rest)) ≡ puts_of run (whole_events line run) ++ puts_from (whole_turned line run).run (parts_of rest)
-puts-line run line rest part =
-    let cut = parts_of-cons rest in
-    ap (puts_from run) (parts_of-line line rest part) ∙ puts_by-line run line (parts_of rest) cut.0 cut.1 cut.2
-
--- a last part
-pub puts-last : (run : Run) (part : List ℕ) → HasNoLf part → puts_from run (parts_of part) ≡ puts_of run (last_events part run)
-unfolding puts_from
-puts-last run part none = ap (puts_from run) (parts_of-part part none)
+use Rattle.replay_run.proofs.RunLemmas.{course-last, course-line, course-refused, output-then}
 
 -- ---- a line
 
@@ -62,6 +28,9 @@ module _ (run : Run) (left : List ℕ) (place : ℕ) (at : IsLineEnd left place)
   abbrev rest : List ℕ
   rest = drop (place + 1) left
 
+  abbrev says : List Told
+  says = (turned line (place + 1) run).told
+
   size : length line + 1 ≡ place + 1
   size = omega (arith, at.within, length-take place left)
 
@@ -70,89 +39,93 @@ module _ (run : Run) (left : List ℕ) (place : ℕ) (at : IsLineEnd left place)
       subst IsCounted (sym run_is)
       (turned-next line (place + 1) run (omega arith) counted (sym (ap (λ (r : Run). r.refused) run_is) ∙ accepted)).counted
 
-  ran_is : ran true run (parts_of left) ≡ ran true new (parts_of rest)
-  ran_is =
-      ap (λ l. ran true run (parts_of l)) (sym at.split)
-      ∙ ran-line true run line rest at.front
-      ∙ ap (λ n. ran true (turned line n run).run (parts_of rest)) size
-      ∙ ap (λ r. ran true r (parts_of rest)) (sym run_is)
+  goes : course true run (parts_of left) ≡ then_turned (record { run = new; told = says }) (course true new (parts_of rest))
+  goes =
+      ap (λ l. course true run (parts_of l)) (sym at.split)
+      ∙ course-line true run line rest at.front
+      ∙ ap (λ n. then_turned (turned line n run) (course true (turned line n run).run (parts_of rest))) size
+      ∙ ap (λ r. then_turned (record { run = r; told = says }) (course true r (parts_of rest))) (sym run_is)
 
-  -- what it prints, where nothing was printed before
-  module _ (before text : List ℕ) (empty : before ≡ []) (appended : text ≡ before ++ (turned line (place + 1) run).output) where
-    text_is : text ≡ (turned line (place + 1) run).output
-    text_is = appended ∙ ap (λ b. b ++ (turned line (place + 1) run).output) empty
-
-    printed_is : printed true run (parts_of left) ≡ text ++ printed true new (parts_of rest)
-    printed_is =
-        ap (λ l. printed true run (parts_of l)) (sym at.split)
-        ∙ printed-line true run line rest at.front
-        ∙ ap (λ n. (turned line n run).output ++ printed true (turned line n run).run (parts_of rest)) size
-        ∙ ap (λ t. t ++ printed true (turned line (place + 1) run).run (parts_of rest)) (sym text_is)
-        ∙ ap (λ r. text ++ printed true r (parts_of rest)) (sym run_is)
-
+  -- what was noted of it
+  module _ (N : Type 0) (notes_of : Told → List N) (before after : List N) (noted : after ≡ before ++ flat_map notes_of says) where
     -- one that isn't refused
-    pub line_prints : IsCounted run → is_some new.refused ≡ false → PrintsOn run left new (place + 1) text
-    line_prints counted none = record {
-      some = omega arith;
-      within = omega (arith, at.within);
-      text_is = printed_is;
-      run_is = ran_is;
-      counted = counted_next counted (none_of new.refused none);
+    pub line_notes : IsCounted run → is_some new.refused ≡ false → Notes N notes_of (Some (place + 1)) run left new before after
+    line_notes counted none = record {
+      told = says;
+      turns = record {
+        some = omega arith;
+        within = omega (arith, at.within);
+        turned = goes;
+        counted = counted_next counted (none_of new.refused none);
+      };
+      noted = noted;
     }
 
     -- one that is refused
-    pub line_ends : (found : Option LineFault) → new.refused ≡ found → is_some found ≡ true → EndsPrinting run left new text
+    pub line_ends : (found : Option LineFault) → new.refused ≡ found → is_some found ≡ true → Notes N notes_of None run left new before after
     line_ends None is some = absurd (cc)
     line_ends (Some fault) is some = record {
-      text_is = printed_is ∙ ap (λ t. text ++ t) (printed-refused true new fault (parts_of rest) is) ∙ append-nil text;
-      run_is = ran_is ∙ ran-refused true new fault (parts_of rest) is;
+      told = says;
+      turns =
+          goes
+          ∙ ap (then_turned (record { run = new; told = says })) (course-refused true new fault (parts_of rest) is)
+          ∙ ap (λ (all : List Told). record { run = new; told = all }) (append-nil says);
+      noted = noted;
     }
 
-  -- what it puts, where nothing was put before
-  module _ (before puts : List Put) (nothing : before ≡ []) (noted : puts ≡ before ++ puts_of run (events_by run.refused line (place + 1) run)) where
-    puts_are : puts ≡ puts_of run (events_by run.refused line (place + 1) run)
-    puts_are = noted ∙ ap (λ b. b ++ puts_of run (events_by run.refused line (place + 1) run)) nothing
-
-    put_is : puts_from run (parts_of left) ≡ puts ++ puts_from new (parts_of rest)
-    put_is =
-        ap (λ l. puts_from run (parts_of l)) (sym at.split)
-        ∙ puts-line run line rest at.front
-        ∙ ap (λ n. puts_of run (events_by run.refused line n run) ++ puts_from (turned line n run).run (parts_of rest)) size
-        ∙ ap (λ p. p ++ puts_from (turned line (place + 1) run).run (parts_of rest)) (sym puts_are)
-        ∙ ap (λ r. puts ++ puts_from r (parts_of rest)) (sym run_is)
-
-    -- one that isn't refused
-    pub line_puts : IsCounted run → is_some new.refused ≡ false → NotesOn run left new (place + 1) puts
-    line_puts counted none = record {
-      some = omega arith;
-      within = omega (arith, at.within);
-      puts_are = put_is;
-      counted = counted_next counted (none_of new.refused none);
-    }
-
-    -- one that is refused
-    pub line_put : (found : Option LineFault) → new.refused ≡ found → is_some found ≡ true → puts_from run (parts_of left) ≡ puts
-    line_put None is some = absurd (cc)
-    line_put (Some fault) is some = put_is ∙ ap (λ p. puts ++ p) (puts-refused new fault (parts_of rest) is) ∙ append-nil puts
-
--- ---- what stands behind the last LF
-
--- what it prints, where nothing was printed before
-pub last_prints : (run : Run) (part : List ℕ) (new : Run) (before mid text : List ℕ)
-    (result : Result (Unit {0}) CoreMemory) → HasNoLf part → before ≡ [] → new ≡ (last_turned part run).run
-    → mid ≡ before ++ (last_turned part run).output → OnOk result (text ≡ mid ++ ending true new.refused)
-    → OnOk result (EndsPrinting run part new text)
-last_prints run part new before mid text (Ok done) none empty run_is mid_is ended = record {
-  text_is =
-      printed-last run part none
-      ∙ ap (λ r. (last_turned part run).output ++ ending true r.refused) (sym run_is)
-      ∙ sym (ended ∙ ap (λ t. t ++ ending true new.refused) (mid_is ∙ ap (λ b. b ++ (last_turned part run).output) empty));
-  run_is = ran-last run part none ∙ sym run_is;
+-- what stands behind the last LF
+pub last_notes : (N : Type 0) (notes_of : Told → List N) (run : Run) (part : List ℕ) (new : Run) (before after : List N)
+    → HasNoLf part → new ≡ (last_turned part run).run → after ≡ before ++ flat_map notes_of (last_turned part run).told
+    → Notes N notes_of None run part new before after
+last_notes N notes_of run part new before after none run_is noted = record {
+  told = (last_turned part run).told;
+  turns = course-last true run part none ∙ ap (λ (r : Run). record { run = r; told = (last_turned part run).told }) (sym run_is);
+  noted = noted;
 }
-last_prints run part new before mid text (Err memory) none empty run_is mid_is ended = tt
 
--- what it puts, where nothing was put before
-pub last_puts : (run : Run) (part : List ℕ) (before puts : List Put) → HasNoLf part → before ≡ []
-    → puts ≡ before ++ puts_of run (last_events part run) → puts_from run (parts_of part) ≡ puts
-last_puts run part before puts none nothing noted =
-    puts-last run part none ∙ sym (noted ∙ ap (λ b. b ++ puts_of run (last_events part run)) nothing)
+-- ---- what is printed
+
+pub printed-next : (run : Run) (left : List ℕ) (new : Run) (size : ℕ) (told : List Told) → TurnsOn run left new size told
+    → printed true run (parts_of left) ≡ flat_map text_of told ++ printed true new (parts_of (drop size left))
+unfolding printed
+printed-next run left new size told turns =
+    let later = course true new (parts_of (drop size left)) in
+    ap (λ (t : Turned). flat_map text_of t.told ++ ending true t.run.refused) turns.turned
+    ∙ output-then (record { run = new; told = told }) later (ending true later.run.refused)
+
+pub printed-end : (run : Run) (left : List ℕ) (new : Run) (told : List Told) → course true run (parts_of left) ≡ record { run = new; told = told }
+    → printed true run (parts_of left) ≡ flat_map text_of told ++ ending true new.refused
+unfolding printed
+printed-end run left new told is = ap (λ (t : Turned). flat_map text_of t.told ++ ending true t.run.refused) is
+
+-- ---- what is put
+
+-- a line of so many bytes was run, which put these requests, and the rest goes on from there
+pub record NotesOn (run : Run) (left : List ℕ) (new : Run) (size : ℕ) (puts : List Put) : Type 0 where
+  pub some : 0 < size
+  pub within : size ≤ length left
+  pub puts_are : puts_from run (parts_of left) ≡ puts ++ puts_from new (parts_of (drop size left))
+  pub counted : IsCounted new
+
+pub notes_on : (run : Run) (left : List ℕ) (new : Run) (size : ℕ) (before puts : List Put) → Notes Put puts_in (Some size) run left new before puts
+    → before ≡ [] → NotesOn run left new size puts
+unfolding puts_from
+notes_on run left new size before puts notes nothing = record {
+  some = notes.turns.some;
+  within = notes.turns.within;
+  puts_are =
+      ap (λ (t : Turned). flat_map puts_in t.told) notes.turns.turned
+      ∙ flat_map-append puts_in notes.told (course true new (parts_of (drop size left))).told
+      ∙ ap (λ b. (b ++ flat_map puts_in notes.told) ++ flat_map puts_in (course true new (parts_of (drop size left))).told) (sym nothing)
+      ∙ ap (λ p. p ++ flat_map puts_in (course true new (parts_of (drop size left))).told) (sym notes.noted);
+  counted = notes.turns.counted;
+}
+
+-- or it was the last one
+pub notes_end : (run : Run) (left : List ℕ) (new : Run) (before puts : List Put) → Notes Put puts_in None run left new before puts
+    → before ≡ [] → puts_from run (parts_of left) ≡ puts
+unfolding puts_from
+notes_end run left new before puts notes nothing =
+    ap (λ (t : Turned). flat_map puts_in t.told) notes.turns
+    ∙ ap (λ b. b ++ flat_map puts_in notes.told) (sym nothing)
+    ∙ sym notes.noted

@@ -7,7 +7,7 @@ use Rattle.identity_table.specs.Identities.{IsSound}
 use Rattle.agent_core.specs.Awaiting.{awaited_of}
 use Rattle.agent_core.specs.Owing.{is_client_at}
 use Rattle.agent_core.specs.Slots.{heard_in}
-use Rattle.agent_core.specs.declared.event.CoreMemory.{CoreMemory}
+use Rattle.std.specs.declared.alloc.AllocError.{AllocError}
 use Rattle.agent_model.specs.Events.{Heard, Took}
 use Rattle.agent_model.specs.Sound.{IsSteady}
 use Rattle.agent_model.specs.State.{Port, State, find_port}
@@ -38,10 +38,10 @@ module _ (number : ℕ) (piece bytes : List ℕ) (state : State) where
   child_is some client heard = child-found (find_port number state.ports) refl some client heard
 
 -- what the calls told is foreseen
-pub heard_foreseen : (result : Result (Option Claim) CoreMemory) (number : ℕ) (piece : List ℕ) (state : State) → IfOk result (λ claim. claim ≡ claim_for (find_port number state.ports) piece state) → OnOk result (IsSteady state) → OnOk result (desk.IsSound state.under_way.confirmations) → IfOk result (λ claim. is_client_at (find_port number state.ports) ≡ false → IsSome claim → IsSound state.held.table.identities state.held.table.last) → IfOk result (λ claim. Foresees claim state (Heard number piece))
+pub heard_foreseen : (result : Result (Option Claim) AllocError) (number : ℕ) (piece : List ℕ) (state : State) → IfOk result (λ claim. claim ≡ claim_for (find_port number state.ports) piece state) → OnOk result (IsSteady state) → OnOk result (desk.IsSound state.under_way.confirmations) → IfOk result (λ claim. is_client_at (find_port number state.ports) ≡ false → IsSome claim → IsSound state.held.table.identities state.held.table.last) → IfOk result (λ claim. Foresees claim state (Heard number piece))
 heard_foreseen (Ok claim) number piece state is steady desk_sound sound = foresees_heard claim number piece state is steady desk_sound sound
 heard_foreseen (Err memory) number piece state is steady desk_sound sound = tt
 
-pub took_foreseen : (result : Result (Option Claim) CoreMemory) (number count : ℕ) (state : State) → IfOk result (λ claim. claim ≡ claim_for (find_port number state.ports) [] state) → OnOk result (IsSteady state) → OnOk result (desk.IsSound state.under_way.confirmations) → IfOk result (λ claim. is_client_at (find_port number state.ports) ≡ false → IsSome claim → IsSound state.held.table.identities state.held.table.last) → IfOk result (λ claim. Foresees claim state (Took number count))
+pub took_foreseen : (result : Result (Option Claim) AllocError) (number count : ℕ) (state : State) → IfOk result (λ claim. claim ≡ claim_for (find_port number state.ports) [] state) → OnOk result (IsSteady state) → OnOk result (desk.IsSound state.under_way.confirmations) → IfOk result (λ claim. is_client_at (find_port number state.ports) ≡ false → IsSome claim → IsSound state.held.table.identities state.held.table.last) → IfOk result (λ claim. Foresees claim state (Took number count))
 took_foreseen (Ok claim) number count state is steady desk_sound sound = foresees_took claim number count state is steady desk_sound sound
 took_foreseen (Err memory) number count state is steady desk_sound sound = tt

@@ -1,8 +1,9 @@
 -- A record that is compared line by line.
-use Rattle.std.proofs.Common.{◌≡◌, ℕ, List, [], ◌++◌, refl, ap, sym, subst, ◌∙◌, arith, Option, None, Some, true, false}
+use Rattle.std.proofs.Common.{◌≡◌, ℕ, List, [], ◌++◌, drop, refl, ap, sym, subst, ◌∙◌, arith, Option, None, Some, true, false}
 use Rattle.std.proofs.lemmas.List.{append-nil}
 use Rattle.schedule_text.specs.declared.fault.LineFault.{LineFault}
-use Rattle.audit_core.specs.Passes.{EndsPrinting, Prints, difference, finding_by, finding_of, mismatch}
+use Rattle.std.specs.List.{flat_map}
+use Rattle.audit_core.specs.Passes.{Notes, difference, finding_by, finding_of, mismatch}
 use Rattle.audit_core.specs.Reports.{first_difference, verdict_by, verdict_of}
 use Rattle.audit_core.specs.Puts.{puts}
 use Rattle.audit_core.proofs.MismatchLemmas.{first_by_bytes}
@@ -10,18 +11,39 @@ use Rattle.audit_core.specs.declared.comparison.Finding.{Finding}
 use Rattle.audit_core.specs.declared.comparison.Matching.{Matching}
 use Rattle.audit_core.specs.declared.put.Put.{Put}
 use Rattle.replay_run.specs.Counts.{IsCounted}
-use Rattle.replay_run.specs.Replay.{Run, output_of, parts_of, printed, ran, run_of, start_run}
+use Rattle.replay_run.specs.Replay.{Run, Turned, ending, output_of, parts_of, printed, ran, run_of, start_run}
+use Rattle.replay_run.specs.Told.{text_of}
+use Rattle.audit_core.proofs.AdvanceLemmas.{printed-end, printed-next}
 
 -- before the first line
 pub counted_start : (life : Option ℕ) → IsCounted (start_run life)
 counted_start life = record { accepted = refl; ports = omega arith; lines = omega arith; within = omega arith }
 
--- the last line was compared
-pub same_end : (old new : Matching) (run after : Run) (left text deeds : List ℕ) (all : Option ℕ) → EndsPrinting run left after text → ((more : List ℕ) → difference new more deeds ≡ difference old (text ++ more) deeds) → difference old (printed true run (parts_of left)) deeds ≡ all → difference new [] deeds ≡ all
-same_end old new run after left text deeds all ends same before =
+-- a line was compared
+pub same_next : (run : Run) (left : List ℕ) (new : Run) (size : ℕ) (before text deeds : List ℕ) (old next : Matching) (all : Option ℕ)
+    → Notes ℕ text_of (Some size) run left new before text → before ≡ []
+    → ((more : List ℕ) → difference next more deeds ≡ difference old (text ++ more) deeds)
+    → difference old (printed true run (parts_of left)) deeds ≡ all
+    → difference next (printed true new (parts_of (drop size left))) deeds ≡ all
+same_next run left new size before text deeds old next all notes empty same so_far =
+    let later = printed true new (parts_of (drop size left)) in
+    same later
+    ∙ ap (λ t. difference old (t ++ later) deeds) (notes.noted ∙ ap (λ b. b ++ flat_map text_of notes.told) empty)
+    ∙ sym (ap (λ t. difference old t deeds) (printed-next run left new size notes.told notes.turns))
+    ∙ so_far
+
+-- the last line was compared, and that the record ended
+same_end : (run : Run) (left : List ℕ) (new : Run) (before mid text deeds : List ℕ) (old next : Matching) (all : Option ℕ)
+    → Notes ℕ text_of None run left new before mid → before ≡ [] → text ≡ mid ++ ending true new.refused
+    → ((more : List ℕ) → difference next more deeds ≡ difference old (text ++ more) deeds)
+    → difference old (printed true run (parts_of left)) deeds ≡ all → difference next [] deeds ≡ all
+same_end run left new before mid text deeds old next all notes empty text_is same so_far =
     same []
-    ∙ ap (λ t. difference old t deeds) (append-nil text ∙ sym ends.text_is)
-    ∙ before
+    ∙ ap (λ t. difference old t deeds)
+    (append-nil text ∙ text_is
+    ∙ ap (λ m. m ++ ending true new.refused) (notes.noted ∙ ap (λ b. b ++ flat_map text_of notes.told) empty)
+    ∙ sym (printed-end run left new notes.told notes.turns))
+    ∙ so_far
 
 -- what was found is what the verdict says
 finding_is : (refused : Option LineFault) (found : Option ℕ) (line : ℕ) (puts : List Put) → finding_by refused found line ≡ finding_of (verdict_by refused found line puts)
@@ -44,9 +66,14 @@ same_start life text deeds run matching run_is is =
     ∙ first_by_bytes (output_of life text) deeds
 
 -- behind the last line
-pub found_last : (life : Option ℕ) (all text deeds left : List ℕ) (old new : Matching) (run after : Run) (turn : Option ℕ) (found : Option ℕ) (result : Finding) → turn ≡ None → Prints turn run left after text → ((more : List ℕ) → difference new more deeds ≡ difference old (text ++ more) deeds) → difference old (printed true run (parts_of left)) deeds ≡ first_difference (output_of life all) deeds → ran true run (parts_of left) ≡ run_of life all → found ≡ difference new [] deeds → result ≡ finding_by after.refused found after.line → result ≡ finding_of (verdict_of life all deeds)
-found_last life all text deeds left old new run after turn found result none turns same before run_is found_by is =
-    let ends : EndsPrinting run left after text = subst (λ t. Prints t run left after text) none turns in
-    found_is life all deeds after found result is
-    (found_by ∙ same_end old new run after left text deeds (first_difference (output_of life all) deeds) ends same before)
-    (sym ends.run_is ∙ run_is)
+pub found_last : (life : Option ℕ) (all deeds left before mid text : List ℕ) (old next : Matching) (run new : Run) (turn : Option ℕ) (found : Option ℕ) (result : Finding)
+    → turn ≡ None → Notes ℕ text_of turn run left new before mid → before ≡ [] → text ≡ mid ++ ending true new.refused
+    → ((more : List ℕ) → difference next more deeds ≡ difference old (text ++ more) deeds)
+    → difference old (printed true run (parts_of left)) deeds ≡ first_difference (output_of life all) deeds
+    → ran true run (parts_of left) ≡ run_of life all
+    → found ≡ difference next [] deeds → result ≡ finding_by new.refused found new.line → result ≡ finding_of (verdict_of life all deeds)
+found_last life all deeds left before mid text old next run new turn found result none turns empty text_is same so_far run_is found_by is =
+    let notes : Notes ℕ text_of None run left new before mid = subst (λ t. Notes ℕ text_of t run left new before mid) none turns in
+    found_is life all deeds new found result is
+    (found_by ∙ same_end run left new before mid text deeds old next (first_difference (output_of life all) deeds) notes empty text_is same so_far)
+    (sym (ap (λ (t : Turned). t.run) notes.turns) ∙ run_is)

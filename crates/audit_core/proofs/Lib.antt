@@ -1,5 +1,3 @@
-pub mod TakingsLemmas
-pub mod PutsLemmas
 pub mod AdvanceLemmas
 pub mod SeenLemmas
 pub mod SinceLemmas

@@ -12,7 +12,7 @@ use Rattle.replay_run.proofs.FeedsLemmas.{Wrote-then}
 use Rattle.audit_core.specs.declared.put.Put.{Put}
 use Rattle.audit_core.specs.declared.writing.Stop.{Stop}
 use Rattle.audit_core.specs.declared.writing.Stop.TheVariants as stops
-use Rattle.audit_core.specs.Passes.{NotesOn}
+use Rattle.audit_core.proofs.AdvanceLemmas.{NotesOn}
 use Rattle.audit_core.specs.Puts.{puts_from}
 use Rattle.audit_core.specs.Reports.{number_line, put_line}
 use Rattle.audit_core.specs.Writing.{IsListing, Lists, ListsAll, Stops, Writes, yes_report}

@@ -1,46 +1,36 @@
 -- A record that is run line by line, and texts that are compared piece by piece (ours).
 use Rattle.std.specs.Prelude.{◌≡◌, ◌<◌, ◌≤◌, ℕ, suc, ◌==◌, true, List, [], ◌∷◌, ◌++◌, drop, length, Option, None, Some, if◌then◌else◌}
+use Rattle.std.specs.List.{flat_map}
 use Rattle.schedule_text.specs.declared.fault.LineFault.{LineFault}
-use Rattle.audit_core.specs.Puts.{puts_from}
 use Rattle.audit_core.specs.Reports.{Agrees, Differs, IsBad, Verdict}
 use Rattle.audit_core.specs.declared.comparison.Finding.{Finding}
 use Rattle.audit_core.specs.declared.comparison.Matching.{Matching}
 use Rattle.audit_core.specs.declared.comparison.Finding.TheVariants as findings
-use Rattle.audit_core.specs.declared.put.Put.{Put}
 use Rattle.replay_run.specs.Counts.{IsCounted}
-use Rattle.replay_run.specs.Replay.{Run, parts_of, printed, ran}
+use Rattle.replay_run.specs.Replay.{Run, course, parts_of, then_turned}
+use Rattle.replay_run.specs.Told.{Told}
 
 -- ---- a record, line by line
 
--- a line of so many bytes was run, which printed this, and the rest goes on from there
-pub record PrintsOn (run : Run) (left : List ℕ) (new : Run) (size : ℕ) (text : List ℕ) : Type 0 where
+-- a line of so many bytes was run, which told this, and the rest goes on from there
+pub record TurnsOn (run : Run) (left : List ℕ) (new : Run) (size : ℕ) (told : List Told) : Type 0 where
   pub some : 0 < size
   pub within : size ≤ length left
-  pub text_is : printed true run (parts_of left) ≡ text ++ printed true new (parts_of (drop size left))
-  pub run_is : ran true run (parts_of left) ≡ ran true new (parts_of (drop size left))
+  pub turned : course true run (parts_of left)
+      ≡ then_turned (record { run = new; told = told }) (course true new (parts_of (drop size left)))
   pub counted : IsCounted new
 
--- the last line was run, or one that is refused, which is the end
-pub record EndsPrinting (run : Run) (left : List ℕ) (new : Run) (text : List ℕ) : Type 0 where
-  pub text_is : printed true run (parts_of left) ≡ text
-  pub run_is : ran true run (parts_of left) ≡ new
+-- the last line was run, or one that is refused, which is the end; else the rest goes on
+abbrev pub Turns : Option ℕ → Run → List ℕ → Run → List Told → Type 0
+Turns None run left new told = course true run (parts_of left) ≡ record { run = new; told = told }
+Turns (Some size) run left new told = TurnsOn run left new size told
 
--- by whether the rest goes on
-abbrev pub Prints : Option ℕ → Run → List ℕ → Run → List ℕ → Type 0
-Prints None run left new text = EndsPrinting run left new text
-Prints (Some size) run left new text = PrintsOn run left new size text
-
--- a line of so many bytes was run, which put these requests, and the rest goes on from there
-pub record NotesOn (run : Run) (left : List ℕ) (new : Run) (size : ℕ) (puts : List Put) : Type 0 where
-  pub some : 0 < size
-  pub within : size ≤ length left
-  pub puts_are : puts_from run (parts_of left) ≡ puts ++ puts_from new (parts_of (drop size left))
-  pub counted : IsCounted new
-
--- by whether the rest goes on
-abbrev pub Notes : Option ℕ → Run → List ℕ → Run → List Put → Type 0
-Notes None run left new puts = puts_from run (parts_of left) ≡ puts
-Notes (Some size) run left new puts = NotesOn run left new size puts
+-- and this was noted of what it told
+pub record Notes (N : Type 0) (notes_of : Told → List N) (size : Option ℕ) (run : Run) (left : List ℕ) (new : Run)
+    (before after : List N) : Type 0 where
+  pub told : List Told
+  pub turns : Turns size run left new told
+  pub noted : after ≡ before ++ flat_map notes_of told
 
 -- ---- texts
 

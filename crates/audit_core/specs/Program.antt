@@ -5,9 +5,8 @@ use Rattle.world_ports.specs.Streams.{StreamView}
 use Rattle.agent_laws.specs.History.{HasNumbers, IsLawful}
 use Rattle.agent_model.specs.Runs.{history, run}
 use Rattle.agent_model.specs.State.{first_state}
-use Rattle.replay_run.specs.Brought.{events_of}
 use Rattle.replay_run.specs.Feeding.{Wrote}
-use Rattle.replay_run.specs.Replay.{output_of, run_of, settings_of}
+use Rattle.replay_run.specs.Replay.{events_of, output_of, run_of, settings_of}
 use Rattle.audit_core.specs.declared.comparison.Finding.{Finding}
 use Rattle.audit_core.specs.declared.comparison.Finding.TheVariants as findings
 use Rattle.audit_core.specs.declared.status.AuditStatus.{AuditStatus}

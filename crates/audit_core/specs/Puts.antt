@@ -1,14 +1,12 @@
 -- The signing requests that the run of a schedule puts to a helper (ours). The file is read from its end.
-use Rattle.std.specs.Prelude.{ℕ, suc, List, [], ◌∷◌, ◌++◌, Option, None, Some}
-use Rattle.std.specs.List.{filter_map}
+use Rattle.std.specs.Prelude.{ℕ, true, List, [], Option, None, Some}
+use Rattle.std.specs.List.{filter_map, flat_map}
 use Rattle.agent_model.specs.Actions.{Action, Answered, Asked, ForBinding, ForSignature, Granted, Lost, Over, Proved, Purpose, Raised, Requested}
-use Rattle.agent_model.specs.Events.{Timed}
 use Rattle.agent_model.specs.Runs.{Stamped}
-use Rattle.agent_model.specs.State.{State}
 use Rattle.agent_model.specs.Step.{step}
 use Rattle.audit_core.specs.declared.put.Put.{Put}
-use Rattle.replay_run.specs.Brought.{last_events, whole_events}
-use Rattle.replay_run.specs.Replay.{Run, parts_of, start_run, whole_turned}
+use Rattle.replay_run.specs.Replay.{Run, course, parts_of, start_run}
+use Rattle.replay_run.specs.Told.{Told, Barred, Came}
 
 -- an ask for a signature, at a line of the schedule; one for a binding is none
 abbrev pub put_for : ℕ → ℕ → ℕ → Purpose → Option Put
@@ -31,23 +29,14 @@ put_by line Lost = None
 abbrev pub puts_by : ℕ → List Action → List Put
 puts_by line actions = filter_map (put_by line) actions
 
--- what these events put that a line of this number brings
-abbrev pub puts_at : ℕ → State → List Timed → List Put
-puts_at line state [] = []
-puts_at line state (timed ∷ later) =
-    puts_by line (step state timed.moment timed.event).actions
-    ++ puts_at line (step state timed.moment timed.event).state later
-
--- what the next line puts, which brings these events, those of its settling among them
-abbrev pub puts_of : Run → List Timed → List Put
-puts_of run events = puts_at (suc run.line) run.agent events
+-- what is put of what is told of a run
+abbrev pub puts_in : Told → List Put
+puts_in (Came line state timed) = puts_by line (step state timed.moment timed.event).actions
+puts_in (Barred line fault) = []
 
 -- what the parts of a schedule put, from this run on
 unfoldable pub puts_from : Run → List (List ℕ) → List Put
-puts_from run [] = []
-puts_from run (part ∷ []) = puts_of run (last_events part run)
-puts_from run (line ∷ next ∷ parts) =
-    puts_of run (whole_events line run) ++ puts_from (whole_turned line run).run (next ∷ parts)
+puts_from run parts = flat_map puts_in (course true run parts).told
 
 -- all that a schedule puts, where identities that come without a lifetime live for so many seconds
 abbrev pub puts : Option ℕ → List ℕ → List Put

@@ -2,7 +2,7 @@
 ghost use Rattle.std.specs.Prelude.{◌≡◌, ◌++◌, ℕ, List, IfOk, IsSome, OnOk, false};
 ghost use Rattle.std.specs.Option.{option_copied};
 ghost use Rattle.wire_text.specs.Bounds.{longest_body};
-ghost use Rattle.wire_text.specs.Frames.{Whole, front, front_body};
+ghost use Rattle.wire_text.specs.Frames.{front};
 ghost use Rattle.agent_msg.specs.Requests.{client_request};
 ghost use Rattle.confirm_desk.specs.Sound as desk;
 ghost use Rattle.identity_table.specs.Identities.{IsSound};
@@ -13,15 +13,12 @@ ghost use Rattle.agent_model.specs.Sound.{IsSteady};
 ghost use Rattle.agent_model.specs.State.{Fits, find_port};
 ghost use Rattle.audit_core.specs.Claims.{Foresees, awaited_claim, blob_in, child_claim, claim_for, client_claim, job_at};
 
-use agent_core::{Agent, Awaited, CoreMemory, Event};
+use agent_core::{Agent, Awaited, Event};
 use agent_msg::{MsgFault, Request, read_request};
 use child_msg::{FromChild, read_from_child};
-use frame_core::{Look, look};
+use frame_core::{Front, LONGEST_BODY, first};
 use plain_lists::Bytes;
 use std::alloc::{AllocError, Global};
-
-/// The longest body of a message, in bytes.
-const LONGEST_BODY: u32 = 262_144;
 
 /// For whom, and with which key, a signature may be put.
 #[derive(Debug, PartialEq, Eq, Drop)]
@@ -37,16 +34,6 @@ fn joined(alloc: Global, heard: &[u8], piece: &[u8]) -> Result<Vec<u8>, AllocErr
     let mut bytes = Vec::from_slice(alloc, heard)?;
     bytes.extend_from_slice(piece)?;
     Ok(bytes)
-}
-
-// The body of the first frame.
-#[tactic(auto, using(agent_core::proofs::LookLemmas::whole_within))]
-fn first_body(bytes: &[u8], body_len: u32) -> &[u8]
-    requires { front longest_body bytes.now ≡ Whole body_len }
-    ensures { result.now ≡ front_body body_len bytes.now }
-{
-    let end = body_len as usize + 4;
-    &bytes[4..end]
 }
 
 fn blob_of<'a>(request: &Request<'a>) -> Option<&'a [u8]>
@@ -66,18 +53,18 @@ fn claim_on(alloc: Global, port: u64, blob: &[u8]) -> Result<Claim, AllocError>
 }
 
 // The signing request that stands whole at the front of a client's bytes.
-fn client_claim(alloc: Global, port: u64, bytes: &[u8]) -> Result<Option<Claim>, CoreMemory>
+fn client_claim(alloc: Global, port: u64, bytes: &[u8]) -> Result<Option<Claim>, AllocError>
     ensures { IfOk result (λ claim. claim ≡ client_claim port bytes.now) }
 {
-    let Look::Whole { body } = look(bytes, LONGEST_BODY) else {
+    let Front::Whole { body, .. } = first(bytes, LONGEST_BODY) else {
         return Ok(None);
     };
-    match read_request(alloc, first_body(bytes, body)) {
+    match read_request(alloc, body) {
         Ok(request) => match blob_of(&request) {
             Some(blob) => Ok(Some(claim_on(alloc, port, blob)?)),
             None => Ok(None),
         },
-        Err(MsgFault::Memory) => Err(CoreMemory),
+        Err(MsgFault::Memory) => Err(AllocError),
         Err(_) => Ok(None),
     }
 }
@@ -86,10 +73,10 @@ fn client_claim(alloc: Global, port: u64, bytes: &[u8]) -> Result<Option<Claim>,
 fn job_named(bytes: &[u8]) -> Option<u64>
     ensures { result ≡ job_at (front longest_body bytes.now) bytes.now }
 {
-    let Look::Whole { body } = look(bytes, LONGEST_BODY) else {
+    let Front::Whole { body, .. } = first(bytes, LONGEST_BODY) else {
         return None;
     };
-    match read_from_child(first_body(bytes, body)) {
+    match read_from_child(body) {
         Ok(FromChild::Hello { job, .. }) => Some(job),
         _ => None,
     }
@@ -100,7 +87,7 @@ fn awaited_claim(
     alloc: Global,
     agent: &Agent,
     awaited: Option<Awaited>,
-) -> Result<Option<Claim>, CoreMemory>
+) -> Result<Option<Claim>, AllocError>
     ensures claim { IfOk result (λ claim.
         claim ≡ awaited_claim awaited agent.now.state.held.table.identities) }
     ensures sound { IfOk result (λ claim. IsSome claim
@@ -121,7 +108,7 @@ fn child_claim(
     agent: &Agent,
     awaited: Option<Awaited>,
     bytes: &[u8],
-) -> Result<Option<Claim>, CoreMemory>
+) -> Result<Option<Claim>, AllocError>
     ensures claim { IfOk result (λ claim. claim ≡ child_claim awaited bytes.now agent.now.state) }
     ensures sound { IfOk result (λ claim. IsSome claim
         → IsSound agent.now.state.held.table.identities agent.now.state.held.table.last) }
@@ -141,7 +128,7 @@ fn claim_in(
     agent: &Agent,
     port: u64,
     bytes: &[u8],
-) -> Result<Option<Claim>, CoreMemory>
+) -> Result<Option<Claim>, AllocError>
     requires { IsSome (find_port port agent.now.state.ports) }
     ensures claim { (piece : List ℕ) → bytes.now ≡ heard_in (find_port port agent.now.state.ports) ++ piece
         → IfOk result (λ claim. claim ≡ claim_for (find_port port agent.now.state.ports) piece agent.now.state) }
@@ -163,7 +150,7 @@ fn claim_at(
     agent: &Agent,
     port: u64,
     piece: &[u8],
-) -> Result<Option<Claim>, CoreMemory>
+) -> Result<Option<Claim>, AllocError>
     requires { IsSome (find_port port agent.now.state.ports) }
     ensures claim { IfOk result (λ claim.
         claim ≡ claim_for (find_port port agent.now.state.ports) piece.now agent.now.state) }
@@ -184,7 +171,7 @@ fn claim_at(
 }
 
 /// What the event may put, which counts where the number of asks rises.
-pub fn foresee(alloc: Global, agent: &Agent, event: &Event<'_>) -> Result<Option<Claim>, CoreMemory>
+pub fn foresee(alloc: Global, agent: &Agent, event: &Event<'_>) -> Result<Option<Claim>, AllocError>
     requires { Fits (happening event.now) agent.now.state }
     ensures { IfOk result (λ claim. Foresees claim agent.now.state (happening event.now)) }
 {

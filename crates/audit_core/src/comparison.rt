@@ -3,10 +3,9 @@ ghost use Rattle.std.specs.Prelude.{◌≡◌, ◌≤◌, ◌<◌, ◌+◌, ◌-
 ghost use Rattle.audit_core.specs.Passes.{difference, finding_by, finding_of};
 ghost use Rattle.audit_core.specs.Reports.{verdict_of};
 
-use crate::lines::print_next;
-use agent_core::CoreMemory;
+use crate::lines::{put_end, run_next};
 use replay_run::Replay;
-use std::alloc::Global;
+use std::alloc::{AllocError, Global};
 
 /// What a record and deeds were found to be.
 #[derive(Clone, Copy, Debug, PartialEq, Eq)]
@@ -117,18 +116,19 @@ pub fn compare(
     life: Option<u32>,
     text: &[u8],
     deeds: &[u8],
-) -> Result<Finding, CoreMemory>
+) -> Result<Finding, AllocError>
     ensures { IfOk result (λ found. found ≡ finding_of (verdict_of life text.now deeds.now)) }
 {
     let mut run = Replay::new(alloc, life);
     let mut out = Vec::new(alloc);
     let mut matching = Matching::new();
     let mut rest = text;
-    'lines: while let Some(size) = print_next(&mut run, rest, &mut out)? {
+    'lines: while let Some(size) = run_next(&mut run, rest, &mut out)? {
         matching = take_all(matching, &out, deeds);
         out.clear();
         rest = &rest[size..];
     }
+    put_end(&run, &mut out)?;
     let matching = take_all(matching, &out, deeds);
     Ok(found(&run, matching.end(deeds)))
 }

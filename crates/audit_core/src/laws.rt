@@ -10,8 +10,7 @@ ghost use Rattle.agent_model.specs.Runs.{history};
 ghost use Rattle.agent_model.specs.State.{State, find_port, first_state};
 ghost use Rattle.audit_core.specs.Claims.{Foresees, claim_for};
 ghost use Rattle.audit_core.specs.Puts.{puts, signed_in, without_line};
-ghost use Rattle.replay_run.specs.Brought.{events_of};
-ghost use Rattle.replay_run.specs.Replay.{settings_of};
+ghost use Rattle.replay_run.specs.Replay.{events_of, settings_of};
 
 /// At whatever moment an event comes, it puts one ask at most. Where the number of the last ask is another one behind it
 /// and the ask is for a signature, it is for the client and with the key that were foreseen from what is unread at the

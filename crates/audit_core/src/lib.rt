@@ -6,13 +6,11 @@
 
 mod claim;
 mod comparison;
-mod event;
 mod laws;
 mod lines;
-mod notes;
+mod noting;
 mod put;
 mod report;
-mod rerun;
 mod rows;
 mod status;
 mod texts;
@@ -22,11 +20,10 @@ mod writing;
 
 pub use comparison::{Finding, compare};
 pub use laws::{all_that_is_put_is_listed, an_event_puts_what_was_foreseen};
-pub use lines::print_next;
-pub use notes::note_next;
+pub use lines::{put_end, run_next};
+pub use noting::Noting;
 pub use put::Put;
 pub use report::{put_sign, put_total};
-pub use rerun::Rerun;
 pub use rows::{audits_are_reported, texts_differ_at_a_line};
 pub use status::AuditStatus;
 pub use top::{audit, audit_main};

@@ -11,9 +11,10 @@ ghost use Rattle.world_ports.specs.Streams.{OnlyWrites};
 
 use crate::Put;
 use crate::comparison::Finding;
-use crate::notes::note_next;
+use crate::lines::run_next;
+use crate::noting::Noting;
 use crate::report::{put_sign, put_total};
-use crate::rerun::Rerun;
+use replay_run::Replay;
 use std::alloc::{AllocError, Global};
 use world_ports::{Sink, write_all};
 
@@ -95,7 +96,7 @@ fn list_puts<O: Sink>(alloc: Global, puts: &[Put], count: u64, output: &mut O) -
 // Runs a record on, and writes the line of each request that it puts. Gives how many there are.
 fn list_run<O: Sink>(
     alloc: Global,
-    run: &mut Rerun,
+    run: &mut Replay,
     recording: &[u8],
     output: &mut O,
 ) -> Result<u64, Stop>
@@ -104,17 +105,17 @@ fn list_run<O: Sink>(
         (O.seen output.old) (O.seen output.new) }
     ensures only { OnlyWrites (O.seen output.old) (O.seen output.new) }
 {
-    let mut puts = Vec::new(alloc);
+    let mut noting = Noting::new(alloc);
     let mut rest = recording;
     let mut count = 0;
     'lines: loop {
-        match note_next(run, rest, &mut puts) {
+        match run_next(run, rest, &mut noting) {
             Ok(Some(size)) => {
-                count = list_puts(alloc, &puts, count, output)?;
-                puts.clear();
+                count = list_puts(alloc, &noting.puts, count, output)?;
+                noting.puts.clear();
                 rest = &rest[size..];
             }
-            Ok(None) => return list_puts(alloc, &puts, count, output),
+            Ok(None) => return list_puts(alloc, &noting.puts, count, output),
             Err(_) => return Err(Stop::Memory),
         }
     }
@@ -131,7 +132,7 @@ fn write_yes<O: Sink>(
         (O.seen output.old) (O.seen output.new) }
     ensures only { OnlyWrites (O.seen output.old) (O.seen output.new) }
 {
-    let mut run = Rerun::new(alloc, life);
+    let mut run = Replay::new(alloc, life);
     match list_run(alloc, &mut run, recording, output) {
         Ok(count) => write_total(alloc, b"yes ", count, output),
         Err(stop) => Err(stop),

@@ -1,110 +1,123 @@
 -- The run of a schedule is that of the events which it brings.
-use Rattle.std.proofs.Common.{◌≡◌, ℕ, zero, suc, ◌+◌, ◌≤◌, ◌==◌, ◌&&◌, nat_lt, Bool, true, false, List, [], ◌∷◌, ◌++◌, length, refl, ap, arith, sym, subst, ◌∙◌, Option, None, Some, Result, Ok, Err}
+use Rattle.std.proofs.Common.{◌≡◌, ℕ, suc, ◌+◌, ◌≤◌, ◌==◌, ◌&&◌, nat_lt, if◌then◌else◌, Bool, true, false, List, [], ◌∷◌, ◌++◌, length, refl, ap, arith, sym, subst, ◌∙◌, Option, None, Some, Result, Ok, Err}
+use Rattle.std.specs.List.{list_any}
 use Rattle.world_ports.specs.declared.Job.{Job}
-use Rattle.world_ports.specs.declared.Moment.{Moment}
 use Rattle.agent_laws.specs.History.{HasNumbers, IsLawful}
 use Rattle.agent_laws.proofs.HistoryLemmas.{first-lawful}
-use Rattle.agent_model.specs.Budget.{budget}
-use Rattle.agent_model.specs.Events.{Happening, Timed, Joined, Heard, Ended, StartFailed, Started as JobStarted, Tick}
+use Rattle.agent_model.specs.Events.{Timed, Heard, Ended, StartFailed, Started as JobStarted, Took}
 use Rattle.agent_model.specs.Runs.{history, run}
 use Rattle.agent_model.specs.State.{Port, State, find_port, find_to_start, first_state, owed_of, starts}
 use Rattle.agent_model.specs.Step.{step}
 use Rattle.schedule_text.specs.declared.fault.LineFault.{LineFault}
+use Rattle.schedule_text.specs.declared.fault.LineFault.TheVariants.{Order, UnknownPort, Word}
 use Rattle.schedule_text.specs.Lines.{step_of}
 use Rattle.schedule_text.proofs.Theorems.{step_of-empty}
 use Rattle.schedule_text.specs.declared.step.Step.{Step}
 use Rattle.schedule_text.specs.declared.step.Step.TheVariants.{Skip, Format2, At, Join, Hear, End, Hold, Free, Take, Started, Failed}
-use Rattle.replay_run.specs.Brought.{brought, events_by, events_from, events_of, last_events, line_events, step_events, taken_by, takings, takings_by, takings_from, where_open, where_waits, whole_events}
 use Rattle.replay_run.specs.Holding.{free_port, hold_port}
 use Rattle.replay_run.specs.Formats.{is_format, is_second, names_format, settings_by}
-use Rattle.replay_run.specs.Replay.{Run, Turned, at_job, at_port, format_turned, happened, last_turned, line_turned, longest_schedule, missed, parts_of, peer_turned, ran, run_of, settings_of, settling_turn, start_run, step_at, step_turned, took_by, turned, turned_by, was_closed, whole_turned}
+use Rattle.replay_run.specs.Replay.{Brought, Brings, Refuses, Run, Turned, at_job, at_peer, at_port, brought_turned, course, events_of, happens, last_turned, line_brings, longest_schedule, parts_of, run_of, settings_of, settles, skips, start_run, step_at, step_brings, turned, turned_by, whole_turned}
+use Rattle.replay_run.specs.Told.{Told, Barred, Came, events_in, told_from}
 use Rattle.replay_run.proofs.FormatLemmas.{IsPlain, asked_is_short, begun-turned, names_the_format, plain_at, plain_later}
-use Rattle.replay_run.proofs.RunLemmas.{step_at-asked, turned-step}
-use Rattle.replay_run.specs.Settling.{delivered, next_to_take, sent, settled, settled_by, settled_from}
+use Rattle.replay_run.proofs.RunLemmas.{turned-step}
 
--- events after events
-run-append : (state : State) (some more : List Timed) → run state (some ++ more) ≡ run (run state some) more
-run-append state [] more = refl
-run-append state (timed ∷ some) more = run-append (step state timed.moment timed.event).state some more
+-- ---- what is told
 
--- ---- takings
+-- each event finds the state that those before it lead to, and all lead to the last one
+abbrev pub IsCourse : State → List Told → State → Type 0
+IsCourse state [] end = state ≡ end
+IsCourse state (Came line before timed ∷ later) end =
+    (state ≡ before) × IsCourse (step before timed.moment timed.event).state later end
+IsCourse state (Barred line fault ∷ later) end = IsCourse state later end
 
-takings-settle : (moment : Moment) (held : List ℕ) (fuel : ℕ) (state : State) → (settled_by moment held fuel state).agent ≡ run state (takings_by moment held fuel state)
-takings-settle moment held zero state = refl
-takings-settle moment held (suc fuel) state = by_next (next_to_take held state) (λ port. takings-settle moment held fuel (delivered moment port state))
-  where
-    by_next : (next : Option ℕ) → ((port : ℕ) → (settled_by moment held fuel (delivered moment port state)).agent ≡ run (delivered moment port state) (takings_by moment held fuel (delivered moment port state))) → (settled_from moment (settled_by moment held fuel) state next).agent ≡ run state (takings_from moment (takings_by moment held fuel) state next)
-    by_next None later = refl
-    by_next (Some port) later = later port
+course-then : (start : State) (some more : List Told) (mid end : State) → IsCourse start some mid → IsCourse mid more end → IsCourse start (some ++ more) end
+course-then start [] more mid end first later = subst (λ (s : State). IsCourse s more end) (sym first) later
+course-then start (Came line before timed ∷ some) more mid end first later =
+    (first.0, course-then (step before timed.moment timed.event).state some more mid end first.1 later)
+course-then start (Barred line fault ∷ some) more mid end first later = course-then start some more mid end first later
 
--- a settling
-settles : (moment : Moment) (held : List ℕ) (state : State) → (settled moment held state).agent ≡ run state (takings moment held state)
-unfolding settled
-settles moment held state = takings-settle moment held (budget state) state
+-- they are its events
+course-run : (state : State) (told : List Told) (end : State) → IsCourse state told end → run state (events_in told) ≡ end
+course-run state [] end is = is
+course-run state (Came line before timed ∷ later) end is =
+    ap (λ (s : State). run (step s timed.moment timed.event).state (events_in later)) is.0
+    ∙ course-run (step before timed.moment timed.event).state later end is.1
+course-run state (Barred line fault ∷ later) end is = course-run state later end is
+
+told-course : (line : ℕ) (state : State) (events : List Timed) → IsCourse state (told_from line state events) (run state events)
+told-course line state [] = refl
+told-course line state (timed ∷ later) = (refl, told-course line (step state timed.moment timed.event).state later)
 
 -- ---- a line
 
 -- what it leaves is what its events lead to
-abbrev IsRun : Turned → Run → List Timed → Type 0
-IsRun turned before events = turned.run.agent ≡ run before.agent events
+abbrev IsLed : Turned → State → Type 0
+IsLed turned before = IsCourse before turned.told turned.run.agent
 
-run-happened : (event : Happening) (size : ℕ) (before : Run) → IsRun (happened event size before) before (brought event before)
-run-happened event size before = settles before.moment before.held _
+-- its events find the agent as it was
+abbrev FindsAgent : Brought → Run → Type 0
+FindsAgent (Brings found events) before = before.agent ≡ found.agent
+FindsAgent (Refuses fault) before = Unit {0}
 
-run-open : (found : Option Port) (turned : Turned) (before : Run) (events : List Timed) → IsRun turned before events → IsRun (at_port found turned before) before (where_open found events)
-run-open None turned before events is = refl
-run-open (Some port) turned before events is = is
+led-brought : (brought : Brought) (size : ℕ) (before : Run) → FindsAgent brought before → IsLed (brought_turned brought size before) before.agent
+led-brought (Brings found events) size before same =
+    subst (λ (s : State). IsCourse s (told_from (suc before.line) found.agent events) (run found.agent events)) (sym same)
+    (told-course (suc before.line) found.agent events)
+led-brought (Refuses fault) size before same = refl
 
-run-missed : (closed : Bool) (size : ℕ) (before : Run) → IsRun (missed closed size before) before []
-run-missed true size before = refl
-run-missed false size before = refl
+finds-port : (found : Option Port) (brought : Brought) (before : Run) → FindsAgent brought before → FindsAgent (at_port found brought) before
+finds-port None brought before is = tt
+finds-port (Some port) brought before is = is
 
-run-peer : (found : Option Port) (number : ℕ) (turned : Turned) (size : ℕ) (before : Run) (events : List Timed) → IsRun turned before events → IsRun (peer_turned found number turned size before) before (where_open found events)
-run-peer None number turned size before events is = run-missed (was_closed number before) size before
-run-peer (Some port) number turned size before events is = is
+finds-job : (found : Option Job) (brought : Brought) (before : Run) → FindsAgent brought before → FindsAgent (at_job found brought) before
+finds-job None brought before is = tt
+finds-job (Some job) brought before is = is
 
-run-format : (first : Bool) (size : ℕ) (before : Run) → first ≡ false → IsRun (format_turned first size before) before []
-run-format true size before later = absurd cc
-run-format false size before later = refl
+finds-if : (test : Bool) (one other : Brought) (before : Run) → FindsAgent one before → FindsAgent other before → FindsAgent (if test then one else other) before
+finds-if true one other before is also = is
+finds-if false one other before is also = also
 
-run-waits : (found : Option Job) (turned : Turned) (before : Run) (events : List Timed) → IsRun turned before events → IsRun (at_job found turned before) before (where_waits found events)
-run-waits None turned before events is = refl
-run-waits (Some job) turned before events is = is
+finds-peer : (found : Option Port) (number : ℕ) (brought : Brought) (before : Run) → FindsAgent brought before → FindsAgent (at_peer found number brought before) before
+finds-peer None number brought before is =
+    finds-if (list_any (λ other. other == number) before.closed) (skips before) (Refuses UnknownPort) before refl tt
+finds-peer (Some port) number brought before is = is
 
-run-took : (more : Bool) (port count size : ℕ) (before : Run) → IsRun (took_by more port count size before) before (taken_by more port count before)
-run-took true port count size before = refl
-run-took false port count size before = settles before.moment before.held (sent before.moment port count before.agent)
+finds-later : (first : Bool) (begun : Brought) (before : Run) → first ≡ false → FindsAgent (if first then begun else Refuses Word) before
+finds-later true begun before later = absurd cc
+finds-later false begun before later = tt
 
-run-step : (step : Step) (size : ℕ) (before : Run) → (is_format step && (before.line == 0)) ≡ false → IsRun (step_turned step size before) before (step_events step before)
-run-step Skip size before plain = refl
-run-step Format2 size before plain = run-format (before.line == 0) size before plain
-run-step (At moment) size before plain = run-happened Tick size (record before { moment = moment })
-run-step (Join door) size before plain = run-happened (Joined door) size before
-run-step (Hear port bytes) size before plain = run-peer (find_port port before.agent.ports) port _ size before _ (run-happened (Heard port bytes) size before)
-run-step (End port) size before plain = run-peer (find_port port before.agent.ports) port _ size before _ (run-happened (Ended port) size before)
-run-step (Hold port) size before plain = run-open (find_port port before.agent.ports) _ before _ (settles before.moment (hold_port port before.held) before.agent)
-run-step (Free port) size before plain = run-open (find_port port before.agent.ports) _ before _ (settles before.moment (free_port port before.held) before.agent)
-run-step (Take port count) size before plain =
-    run-peer (find_port port before.agent.ports) port _ size before _ (run-took (nat_lt (length (owed_of port before.agent)) count) port count size before)
-run-step (Started job ticket) size before plain = run-waits (find_to_start job (starts before.agent)) _ before _ (run-happened (JobStarted job ticket) size before)
-run-step (Failed job) size before plain = run-waits (find_to_start job (starts before.agent)) _ before _ (run-happened (StartFailed job) size before)
+finds-step : (step : Step) (before : Run) → (is_format step && (before.line == 0)) ≡ false → FindsAgent (step_brings step before) before
+finds-step Skip before plain = refl
+finds-step Format2 before plain = finds-later (before.line == 0) _ before plain
+finds-step (At moment) before plain = refl
+finds-step (Join door) before plain = refl
+finds-step (Hear port bytes) before plain = finds-peer (find_port port before.agent.ports) port (happens (Heard port bytes) before) before refl
+finds-step (End port) before plain = finds-peer (find_port port before.agent.ports) port (happens (Ended port) before) before refl
+finds-step (Hold port) before plain = finds-port (find_port port before.agent.ports) (settles (record before { held = hold_port port before.held })) before refl
+finds-step (Free port) before plain = finds-port (find_port port before.agent.ports) (settles (record before { held = free_port port before.held })) before refl
+finds-step (Take port count) before plain =
+    finds-peer (find_port port before.agent.ports) port (if nat_lt (length (owed_of port before.agent)) count then Refuses Order else happens (Took port count) before) before
+    (finds-if (nat_lt (length (owed_of port before.agent)) count) (Refuses Order) (happens (Took port count) before) before tt refl)
+finds-step (Started job ticket) before plain = finds-job (find_to_start job (starts before.agent)) (happens (JobStarted job ticket) before) before refl
+finds-step (Failed job) before plain = finds-job (find_to_start job (starts before.agent)) (happens (StartFailed job) before) before refl
 
-run-line : (read : Result Step LineFault) (size : ℕ) (before : Run) → (names_format read && (before.line == 0)) ≡ false → IsRun (line_turned read size before) before (line_events read before)
-run-line (Ok step) size before plain = run-step step size before plain
-run-line (Err fault) size before plain = refl
+finds-line : (read : Result Step LineFault) (before : Run) → (names_format read && (before.line == 0)) ≡ false → FindsAgent (line_brings read before) before
+finds-line (Ok step) before plain = finds-step step before plain
+finds-line (Err fault) before plain = tt
 
-run-by : (refused : Option LineFault) (line : List ℕ) (size : ℕ) (before : Run) → before.refused ≡ refused → IsPlain line before → IsRun (turned_by refused line size before) before (events_by refused line size before)
-run-by None line size before is plain =
-    run-line (step_at (before.read + size) line) size before (plain_at (nat_lt longest_schedule (before.read + size)) line (before.line == 0) (plain is))
-run-by (Some fault) line size before is plain = refl
+led-by : (refused : Option LineFault) (line : List ℕ) (size : ℕ) (before : Run) → before.refused ≡ refused → IsPlain line before → IsLed (turned_by refused line size before) before.agent
+led-by None line size before is plain =
+    led-brought (line_brings (step_at (before.read + size) line) before) size before
+    (finds-line (step_at (before.read + size) line) before (plain_at (nat_lt longest_schedule (before.read + size)) line (before.line == 0) (plain is)))
+led-by (Some fault) line size before is plain = refl
 
-run-turned : (line : List ℕ) (size : ℕ) (before : Run) → IsPlain line before → IsRun (turned line size before) before (events_by before.refused line size before)
+led-turned : (line : List ℕ) (size : ℕ) (before : Run) → IsPlain line before → IsLed (turned line size before) before.agent
 unfolding turned
-run-turned line size before plain = run-by before.refused line size before refl plain
+led-turned line size before plain = led-by before.refused line size before refl plain
 
-run-last : (part : List ℕ) (before : Run) → IsPlain part before → IsRun (last_turned part before) before (last_events part before)
-run-last [] before plain = refl
-run-last (byte ∷ bytes) before plain = run-turned (byte ∷ bytes) (length (byte ∷ bytes)) before plain
+led-last : (part : List ℕ) (before : Run) → IsPlain part before → IsLed (last_turned part before) before.agent
+led-last [] before plain = refl
+led-last (byte ∷ bytes) before plain = led-turned (byte ∷ bytes) (length (byte ∷ bytes)) before plain
 
 -- ---- a schedule
 
@@ -113,53 +126,59 @@ abbrev BeginPlain : List (List ℕ) → Run → Type 0
 BeginPlain [] run = Unit {0}
 BeginPlain (line ∷ lines) run = IsPlain line run
 
-run-parts : (before : Run) (parts : List (List ℕ)) → BeginPlain parts before → (ran true before parts).agent ≡ run before.agent (events_from before parts)
-unfolding ran events_from
-run-parts before [] plain = refl
-run-parts before (part ∷ []) plain = run-last part before plain
-run-parts before (line ∷ next ∷ parts) plain =
-    run-parts (whole_turned line before).run (next ∷ parts) (plain_later next (whole_turned line before).run (begun-turned line (length line + 1) before))
-    ∙ ap (λ state. run state (events_from (whole_turned line before).run (next ∷ parts))) (run-turned line (length line + 1) before plain)
-    ∙ sym (run-append before.agent (whole_events line before) (events_from (whole_turned line before).run (next ∷ parts)))
+-- a whole line, and the parts behind it
+led-whole : (start : State) (line next : List ℕ) (parts : List (List ℕ)) (before : Run) → IsLed (whole_turned line before) start
+    → IsLed (course true (whole_turned line before).run (next ∷ parts)) (whole_turned line before).run.agent
+    → IsLed (course true before (line ∷ next ∷ parts)) start
+unfolding course
+led-whole start line next parts before first rest =
+    let mid = whole_turned line before in
+    let later = course true mid.run (next ∷ parts) in
+    course-then start mid.told later.told mid.run.agent later.run.agent first rest
+
+behind-plain : (line next : List ℕ) (before : Run) → IsPlain next (whole_turned line before).run
+behind-plain line next before =
+    plain_later next (whole_turned line before).run (begun-turned line (length line + 1) before)
+
+led-parts : (before : Run) (parts : List (List ℕ)) → BeginPlain parts before → IsLed (course true before parts) before.agent
+unfolding course
+led-parts before [] plain = refl
+led-parts before (part ∷ []) plain = led-last part before plain
+led-parts before (line ∷ next ∷ parts) plain =
+    led-whole before.agent line next parts before (led-turned line (length line + 1) before plain)
+    (led-parts (whole_turned line before).run (next ∷ parts) (behind-plain line next before))
 
 -- line 1 of a schedule of format 2 leaves the agent with limits, and brings nothing
-pub record BeginsSecond (life : Option ℕ) (line : List ℕ) (size : ℕ) : Type 0 where
-  pub agent : (turned line size (start_run life)).run.agent ≡ first_state (settings_by true life)
-  pub events : events_by None line size (start_run life) ≡ []
-
-begins_second : (life : Option ℕ) (line : List ℕ) (size : ℕ) → step_of line ≡ Ok Format2 → size ≤ length line + 1 → BeginsSecond life line size
-begins_second life line size asked most =
+led-second : (life : Option ℕ) (line : List ℕ) (size : ℕ) → step_of line ≡ Ok Format2 → size ≤ length line + 1 → IsLed (turned line size (start_run life)) (first_state (settings_by true life))
+led-second life line size asked most =
     let short = asked_is_short line Format2 asked in
     let within : (start_run life).read + size ≤ longest_schedule = omega arith in
-    record {
-      agent = ap (λ (t : Turned). t.run.agent) (turned-step line size (start_run life) Format2 refl within asked);
-      events = ap (λ (read : Result Step LineFault). line_events read (start_run life)) (step_at-asked line ((start_run life).read + size) within asked);
-    }
+    subst (λ (t : Turned). IsLed t (first_state (settings_by true life))) (sym (turned-step line size (start_run life) Format2 refl within asked)) refl
 
-run-second : (life : Option ℕ) (line : List ℕ) (parts : List (List ℕ)) → step_of line ≡ Ok Format2 → (ran true (start_run life) (line ∷ parts)).agent ≡ run (first_state (settings_by true life)) (events_from (start_run life) (line ∷ parts))
-unfolding ran events_from
-run-second life [] [] asked = let no : Ok Skip ≡ Ok Format2 = sym step_of-empty ∙ asked in absurd cc
-run-second life (byte ∷ bytes) [] asked =
-    let begins = begins_second life (byte ∷ bytes) (length (byte ∷ bytes)) asked (omega arith) in
-    begins.agent ∙ sym (ap (run (first_state (settings_by true life))) begins.events)
-run-second life line (next ∷ parts) asked =
-    let begins = begins_second life line (length line + 1) asked (omega arith) in
-    run-parts (whole_turned line (start_run life)).run (next ∷ parts) (plain_later next (whole_turned line (start_run life)).run (begun-turned line (length line + 1) (start_run life)))
-    ∙ ap (λ state. run state (events_from (whole_turned line (start_run life)).run (next ∷ parts))) begins.agent
-    ∙ sym (ap (λ events. run (first_state (settings_by true life)) (events ++ events_from (whole_turned line (start_run life)).run (next ∷ parts))) begins.events)
+led-format : (life : Option ℕ) (line : List ℕ) (parts : List (List ℕ)) → step_of line ≡ Ok Format2 → IsLed (course true (start_run life) (line ∷ parts)) (first_state (settings_by true life))
+unfolding course
+led-format life [] [] asked = let no : Ok Skip ≡ Ok Format2 = sym step_of-empty ∙ asked in absurd cc
+led-format life (byte ∷ bytes) [] asked = led-second life (byte ∷ bytes) (length (byte ∷ bytes)) asked (omega arith)
+led-format life line (next ∷ parts) asked =
+    led-whole (first_state (settings_by true life)) line next parts (start_run life) (led-second life line (length line + 1) asked (omega arith))
+    (led-parts (whole_turned line (start_run life)).run (next ∷ parts) (behind-plain line next (start_run life)))
 
 -- by whether line 1 names format 2
-run-begun : (life : Option ℕ) (parts : List (List ℕ)) → (ran true (start_run life) parts).agent ≡ run (first_state (settings_by (is_second parts) life)) (events_from (start_run life) parts)
-unfolding ran events_from
-run-begun life [] = refl
-run-begun life (line ∷ parts) = by_test (names_format (step_of line)) refl
+led-begun : (life : Option ℕ) (parts : List (List ℕ)) → IsLed (course true (start_run life) parts) (first_state (settings_by (is_second parts) life))
+unfolding course
+led-begun life [] = refl
+led-begun life (line ∷ parts) = by_test (names_format (step_of line)) refl
   where
-    by_test : (second : Bool) → names_format (step_of line) ≡ second → (ran true (start_run life) (line ∷ parts)).agent ≡ run (first_state (settings_by second life)) (events_from (start_run life) (line ∷ parts))
-    by_test true is = run-second life line parts (names_the_format (step_of line) is)
-    by_test false is = run-parts (start_run life) (line ∷ parts) (λ accepted. ap (λ test. test && true) is)
+    by_test : (second : Bool) → names_format (step_of line) ≡ second → IsLed (course true (start_run life) (line ∷ parts)) (first_state (settings_by second life))
+    by_test true is = led-format life line parts (names_the_format (step_of line) is)
+    by_test false is = led-parts (start_run life) (line ∷ parts) (λ accepted. ap (λ test. test && true) is)
+
+-- what is told of a schedule are the events of its run
+pub schedule-course : (life : Option ℕ) (text : List ℕ) → IsCourse (first_state (settings_of life text)) (course true (start_run life) (parts_of text)).told (run_of life text).agent
+schedule-course life text = led-begun life (parts_of text)
 
 pub run-schedule : (life : Option ℕ) (text : List ℕ) → (run_of life text).agent ≡ run (first_state (settings_of life text)) (events_of life text)
-run-schedule life text = run-begun life (parts_of text)
+run-schedule life text = sym (course-run (first_state (settings_of life text)) (course true (start_run life) (parts_of text)).told (run_of life text).agent (schedule-course life text))
 
 pub schedule-lawful : (life : Option ℕ) (text : List ℕ) → HasNumbers (run_of life text).agent → IsLawful life [] (history (first_state (settings_of life text)) (events_of life text))
 schedule-lawful life text numbers = first-lawful (settings_of life text) (events_of life text) (subst HasNumbers (run-schedule life text) numbers)

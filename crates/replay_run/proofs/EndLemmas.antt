@@ -3,7 +3,7 @@ use Rattle.std.proofs.Common.{◌≡◌, ℕ, List, [], ◌++◌, refl, ap, sym,
 use Rattle.std.proofs.KnownBytes.{Appends-nil}
 use Rattle.world_ports.specs.Causes.{Rose}
 use Rattle.schedule_text.specs.declared.fault.LineFault.{LineFault}
-use Rattle.replay_run.specs.Replay.{Run, last_turned, ending}
+use Rattle.replay_run.specs.Replay.{Run, last_turned, ending, output}
 use Rattle.replay_run.specs.Feeding.{Feeding, Wrote, IsReady}
 use Rattle.world_ports.specs.Streams.{StreamView, WritesPart}
 use Rattle.replay_run.specs.Finishing.{end_by, end_of, ending_text, ending_run, Finishes, FinishesAtWriteFault}
@@ -14,14 +14,14 @@ pub nothing_left : (all : List ℕ) (seen : StreamView) → WritesPart all seen 
 nothing_left all seen = (all, record { front = []; whole = refl; written = Appends-nil seen.written })
 
 -- the last line and `end` were printed
-pub ends_text : (old mid new : Feeding) → IsReady old → mid.run ≡ (last_turned old.pending old.run).run → mid.out ≡ old.out ++ (last_turned old.pending old.run).output → new.run ≡ mid.run → new.out ≡ mid.out ++ ending true mid.run.refused → (new.run ≡ ending_run old) × (new.out ≡ ending_text old)
+pub ends_text : (old mid new : Feeding) → IsReady old → mid.run ≡ (last_turned old.pending old.run).run → mid.out ≡ old.out ++ output (last_turned old.pending old.run) → new.run ≡ mid.run → new.out ≡ mid.out ++ ending true mid.run.refused → (new.run ≡ ending_run old) × (new.out ≡ ending_text old)
 ends_text old mid new ready mid_run mid_out new_run new_out =
     let last = last_turned old.pending old.run in (
       new_run ∙ mid_run ∙ sym (ran-last old.run old.pending ready.begun.part),
       new_out
           ∙ ap (λ (o : List ℕ). o ++ ending true mid.run.refused) mid_out
-          ∙ ap (λ (r : Run). (old.out ++ last.output) ++ ending true r.refused) mid_run
-          ∙ append_assoc old.out last.output (ending true last.run.refused)
+          ∙ ap (λ (r : Run). (old.out ++ output last) ++ ending true r.refused) mid_run
+          ∙ append_assoc old.out (output last) (ending true last.run.refused)
           ∙ sym (ap (λ (o : List ℕ). old.out ++ o) (printed-last old.run old.pending ready.begun.part)),
     )
 

@@ -3,9 +3,9 @@ use Rattle.std.proofs.Common.{◌≡◌, ℕ, ◌+◌, ◌<◌, ◌≤◌, ◌�
 use Rattle.std.proofs.lemmas.List.{append-nil}
 use Rattle.schedule_text.specs.declared.fault.LineFault.{LineFault}
 use Rattle.schedule_text.specs.declared.fault.LineFault.TheVariants.{TooLong}
-use Rattle.replay_run.specs.Replay.{Run, unturned, refuse, turned, whole_turned, last_turned, part_turned, ending, parts_of, printed, ran, longest_line, longest_schedule}
+use Rattle.replay_run.specs.Replay.{Run, Turned, unturned, refuse, turned, whole_turned, then_turned, course, output, last_turned, part_turned, ending, parts_of, printed, ran, longest_line, longest_schedule}
 use Rattle.replay_run.specs.GoesOn.{HasNoLf, IsBegun, GoesOn}
-use Rattle.replay_run.proofs.RunLemmas.{parts_of-cons, parts_of-append, parts_of-part, printed-refused, ran-refused, printed-line, ran-line, turned-too_long, too_long-true, too_long-false, last_turned-some}
+use Rattle.replay_run.proofs.RunLemmas.{parts_of-cons, parts_of-append, course-last, course-refused, printed-refused, ran-refused, printed-line, ran-line, turned-too_long, too_long-true, too_long-false, last_turned-some}
 
 -- ---- pieces, one after another
 
@@ -46,12 +46,12 @@ goes_on-front {out} {new_out} {run} {new_run} {bytes} {left} front a = record {
 -- ---- lines
 
 -- a whole line is run
-pub goes_on-line : (out : List ℕ) (run : Run) (line rest : List ℕ) → HasNoLf line → GoesOn out run (line ++ 10 ∷ rest) (out ++ (whole_turned line run).output) (whole_turned line run).run rest
+pub goes_on-line : (out : List ℕ) (run : Run) (line rest : List ℕ) → HasNoLf line → GoesOn out run (line ++ 10 ∷ rest) (out ++ output (whole_turned line run)) (whole_turned line run).run rest
 goes_on-line out run line rest part = record {
   printed_same = λ ended more.
       ap (λ b. out ++ printed ended run (parts_of b)) (append_assoc line (10 ∷ rest) more)
       ∙ ap (λ o. out ++ o) (printed-line ended run line (rest ++ more) part)
-      ∙ sym (append_assoc out (whole_turned line run).output (printed ended (whole_turned line run).run (parts_of (rest ++ more))));
+      ∙ sym (append_assoc out (output (whole_turned line run)) (printed ended (whole_turned line run).run (parts_of (rest ++ more))));
   ran_same = λ ended more.
       ap (λ b. ran ended run (parts_of b)) (append_assoc line (10 ∷ rest) more)
       ∙ ran-line ended run line (rest ++ more) part;
@@ -98,34 +98,33 @@ ending-some true fault = refl
 ending-some false fault = refl
 
 -- by what stands behind it
-printed-too_long : (ended : Bool) (run : Run) (line : List ℕ) (others : List (List ℕ)) → run.refused ≡ None → run.read ≤ longest_schedule → IsTooLong run line → printed ended run (line ∷ others) ≡ (refuse TooLong run).output
+course-too_long : (ended : Bool) (run : Run) (line : List ℕ) (others : List (List ℕ)) → run.refused ≡ None → run.read ≤ longest_schedule → IsTooLong run line → course ended run (line ∷ others) ≡ refuse TooLong run
+unfolding course
+course-too_long ended run line [] accepted within long = part_turned-too_long ended run line accepted within long
+course-too_long ended run line (next ∷ others) accepted within long =
+    ap (λ t. then_turned t (course ended t.run (next ∷ others))) (turned-too_long line (length line + 1) run accepted (too_long-line run line long))
+    ∙ ap (then_turned (refuse TooLong run)) (course-refused ended (refuse TooLong run).run TooLong (next ∷ others) refl)
+
+printed-too_long : (ended : Bool) (run : Run) (line : List ℕ) (others : List (List ℕ)) → run.refused ≡ None → run.read ≤ longest_schedule → IsTooLong run line → printed ended run (line ∷ others) ≡ output (refuse TooLong run)
 unfolding printed
-printed-too_long ended run line [] accepted within long =
-    ap (λ t. t.output ++ ending ended t.run.refused) (part_turned-too_long ended run line accepted within long)
-    ∙ ap (λ o. (refuse TooLong run).output ++ o) (ending-some ended TooLong)
-    ∙ append-nil (refuse TooLong run).output
-printed-too_long ended run line (next ∷ others) accepted within long =
-    ap (λ t. t.output ++ printed ended t.run (next ∷ others)) (turned-too_long line (length line + 1) run accepted (too_long-line run line long))
-    ∙ ap (λ o. (refuse TooLong run).output ++ o) (printed-refused ended (refuse TooLong run).run TooLong (next ∷ others) refl)
-    ∙ append-nil (refuse TooLong run).output
+printed-too_long ended run line others accepted within long =
+    ap (λ (t : Turned). output t ++ ending ended t.run.refused) (course-too_long ended run line others accepted within long)
+    ∙ ap (λ o. output (refuse TooLong run) ++ o) (ending-some ended TooLong)
+    ∙ append-nil (output (refuse TooLong run))
 
 ran-too_long : (ended : Bool) (run : Run) (line : List ℕ) (others : List (List ℕ)) → run.refused ≡ None → run.read ≤ longest_schedule → IsTooLong run line → ran ended run (line ∷ others) ≡ (refuse TooLong run).run
-unfolding ran
-ran-too_long ended run line [] accepted within long =
-    ap (λ t. t.run) (part_turned-too_long ended run line accepted within long)
-ran-too_long ended run line (next ∷ others) accepted within long =
-    ap (λ t. ran ended t.run (next ∷ others)) (turned-too_long line (length line + 1) run accepted (too_long-line run line long))
-    ∙ ran-refused ended (refuse TooLong run).run TooLong (next ∷ others) refl
+ran-too_long ended run line others accepted within long =
+    ap (λ (t : Turned). t.run) (course-too_long ended run line others accepted within long)
 
 -- a line that is too long already is refused, whatever follows
-pub goes_on-too_long : (out : List ℕ) (run : Run) (bytes left : List ℕ) → HasNoLf bytes → run.refused ≡ None → run.read ≤ longest_schedule → IsTooLong run bytes → GoesOn out run bytes (out ++ (refuse TooLong run).output) (refuse TooLong run).run left
+pub goes_on-too_long : (out : List ℕ) (run : Run) (bytes left : List ℕ) → HasNoLf bytes → run.refused ≡ None → run.read ≤ longest_schedule → IsTooLong run bytes → GoesOn out run bytes (out ++ output (refuse TooLong run)) (refuse TooLong run).run left
 goes_on-too_long out run bytes left part accepted within long = record {
   printed_same = λ ended more.
       let cut = parts_of-cons more in
       ap (λ p. out ++ printed ended run p) (parts_of-append bytes more cut.0 cut.1 part cut.2)
       ∙ ap (λ o. out ++ o) (printed-too_long ended run (bytes ++ cut.0) cut.1 accepted within (too_long-append run bytes cut.0 long))
-      ∙ sym (ap (λ o. (out ++ (refuse TooLong run).output) ++ o) (printed-refused ended (refuse TooLong run).run TooLong (parts_of (left ++ more)) refl)
-      ∙ append-nil (out ++ (refuse TooLong run).output));
+      ∙ sym (ap (λ o. (out ++ output (refuse TooLong run)) ++ o) (printed-refused ended (refuse TooLong run).run TooLong (parts_of (left ++ more)) refl)
+      ∙ append-nil (out ++ output (refuse TooLong run)));
   ran_same = λ ended more.
       let cut = parts_of-cons more in
       ap (ran ended run) (parts_of-append bytes more cut.0 cut.1 part cut.2)
@@ -136,31 +135,30 @@ goes_on-too_long out run bytes left part accepted within long = record {
 -- ---- the end of what was read
 
 -- the front of a line brings nothing yet
+course-begun : (run : Run) (bytes : List ℕ) → IsBegun run bytes → course false run (parts_of bytes) ≡ unturned run
+course-begun run bytes begun =
+    course-last false run bytes begun.part
+    ∙ ap (λ t. if t then turned bytes (length bytes) run else unturned run) (too_long-false (run.read + length bytes) bytes begun.short begun.within)
+
 pub begun-nothing : (run : Run) (bytes : List ℕ) → IsBegun run bytes → printed false run (parts_of bytes) ≡ []
 unfolding printed
-begun-nothing run bytes begun =
-    ap (printed false run) (parts_of-part bytes begun.part)
-    ∙ ap (λ t. (if t then turned bytes (length bytes) run else unturned run).output ++ []) (too_long-false (run.read + length bytes) bytes begun.short begun.within)
+begun-nothing run bytes begun = ap (λ (t : Turned). output t ++ ending false t.run.refused) (course-begun run bytes begun)
 
 -- and the run stays as it is
 pub begun-same : (run : Run) (bytes : List ℕ) → IsBegun run bytes → ran false run (parts_of bytes) ≡ run
-unfolding ran
-begun-same run bytes begun =
-    ap (ran false run) (parts_of-part bytes begun.part)
-    ∙ ap (λ t. (if t then turned bytes (length bytes) run else unturned run).run) (too_long-false (run.read + length bytes) bytes begun.short begun.within)
+begun-same run bytes begun = ap (λ (t : Turned). t.run) (course-begun run bytes begun)
 
 -- what a last part prints, and then `end`
 abbrev pub last_output : List ℕ → Run → List ℕ
-last_output bytes run = (last_turned bytes run).output ++ ending true (last_turned bytes run).run.refused
+last_output bytes run = output (last_turned bytes run) ++ ending true (last_turned bytes run).run.refused
 
 -- the schedule ends with it
 pub printed-last : (run : Run) (bytes : List ℕ) → HasNoLf bytes → printed true run (parts_of bytes) ≡ last_output bytes run
 unfolding printed
-printed-last run bytes part = ap (printed true run) (parts_of-part bytes part)
+printed-last run bytes part = ap (λ (t : Turned). output t ++ ending true t.run.refused) (course-last true run bytes part)
 
 pub ran-last : (run : Run) (bytes : List ℕ) → HasNoLf bytes → ran true run (parts_of bytes) ≡ (last_turned bytes run).run
-unfolding ran
-ran-last run bytes part = ap (ran true run) (parts_of-part bytes part)
+ran-last run bytes part = ap (λ (t : Turned). t.run) (course-last true run bytes part)
 
 -- ---- bytes without LF
 

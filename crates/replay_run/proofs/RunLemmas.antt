@@ -1,5 +1,6 @@
 -- Lemmas on the run of a schedule: a line at the front, and runs that were refused.
-use Rattle.std.proofs.Common.{◌≡◌, ℕ, ◌+◌, ◌<◌, ◌≤◌, ◌⊎◌, inl, inr, List, [], ◌∷◌, ◌++◌, length, refl, ap, sym, ◌∙◌, arith, Some, None, Bool, true, false, nat_lt, ◌==◌, cond, if◌then◌else◌, Ok, Err}
+use Rattle.std.proofs.Common.{◌≡◌, ℕ, ◌+◌, ◌<◌, ◌≤◌, ◌⊎◌, inl, inr, List, [], ◌∷◌, ◌++◌, length, refl, ap, sym, ◌∙◌, arith, Some, None, Bool, true, false, nat_lt, ◌==◌, cond, if◌then◌else◌, Ok, Err, append_assoc}
+use Rattle.std.proofs.lemmas.Grind.{flat_map-append}
 use Rattle.std.proofs.lemmas.List.{append-nil}
 use Rattle.std.proofs.lemmas.Bool.Decides.{nat_tests}
 use Rattle.std.specs.List.{onto_first}
@@ -8,7 +9,8 @@ use Rattle.schedule_text.specs.declared.fault.LineFault.TheVariants.{TooLong}
 use Rattle.schedule_text.specs.declared.step.Step.{Step}
 use Rattle.schedule_text.specs.Lines.{step_of}
 use Rattle.schedule_text.proofs.Theorems.{step_of-long}
-use Rattle.replay_run.specs.Replay.{Run, unturned, refuse, turned, turned_by, line_turned, step_turned, step_at, whole_turned, last_turned, is_too_long, part_turned, ending, parts_of, printed, ran, longest_line, longest_schedule}
+use Rattle.replay_run.specs.Replay.{Run, Turned, unturned, refuse, brought_turned, line_brings, step_brings, turned, turned_by, step_at, whole_turned, then_turned, course, output, last_turned, is_too_long, part_turned, ending, parts_of, printed, ran, longest_line, longest_schedule}
+use Rattle.replay_run.specs.Told.{text_of}
 use Rattle.replay_run.specs.GoesOn.{HasNoLf}
 
 -- ---- parts
@@ -62,47 +64,57 @@ ending-refused : (ended : Bool) (fault : LineFault) → ending ended (Some fault
 ending-refused true fault = refl
 ending-refused false fault = refl
 
+-- nothing comes of the parts of a text
+pub course-refused : (ended : Bool) (run : Run) (fault : LineFault) (parts : List (List ℕ)) → run.refused ≡ Some fault → course ended run parts ≡ unturned run
+unfolding course
+course-refused ended run fault [] refused = refl
+course-refused ended run fault (part ∷ []) refused = part_turned-refused ended part run fault refused
+course-refused ended run fault (line ∷ next ∷ parts) refused =
+    ap (λ t. then_turned t (course ended t.run (next ∷ parts))) (turned-refused line (length line + 1) run fault refused)
+    ∙ course-refused ended run fault (next ∷ parts) refused
+
 -- nothing more is printed
 pub printed-refused : (ended : Bool) (run : Run) (fault : LineFault) (parts : List (List ℕ)) → run.refused ≡ Some fault → printed ended run parts ≡ []
 unfolding printed
-printed-refused ended run fault [] refused = refl
-printed-refused ended run fault (part ∷ []) refused =
-    ap (λ t. t.output ++ ending ended t.run.refused) (part_turned-refused ended part run fault refused)
+printed-refused ended run fault parts refused =
+    ap (λ (t : Turned). output t ++ ending ended t.run.refused) (course-refused ended run fault parts refused)
     ∙ ap (ending ended) refused ∙ ending-refused ended fault
-printed-refused ended run fault (line ∷ next ∷ parts) refused =
-    ap (λ t. t.output ++ printed ended t.run (next ∷ parts)) (turned-refused line (length line + 1) run fault refused)
-    ∙ printed-refused ended run fault (next ∷ parts) refused
 
 -- the run stays as it is
 pub ran-refused : (ended : Bool) (run : Run) (fault : LineFault) (parts : List (List ℕ)) → run.refused ≡ Some fault → ran ended run parts ≡ run
-unfolding ran
-ran-refused ended run fault [] refused = refl
-ran-refused ended run fault (part ∷ []) refused =
-    ap (λ t. t.run) (part_turned-refused ended part run fault refused)
-ran-refused ended run fault (line ∷ next ∷ parts) refused =
-    ap (λ t. ran ended t.run (next ∷ parts)) (turned-refused line (length line + 1) run fault refused)
-    ∙ ran-refused ended run fault (next ∷ parts) refused
+ran-refused ended run fault parts refused = ap (λ (t : Turned). t.run) (course-refused ended run fault parts refused)
 
 -- ---- a line at the front
 
 -- by what stands behind the line
-printed_by-line : (ended : Bool) (run : Run) (line : List ℕ) (rest : List (List ℕ)) (first : List ℕ) (others : List (List ℕ)) → rest ≡ first ∷ others → printed ended run (line ∷ rest) ≡ (whole_turned line run).output ++ printed ended (whole_turned line run).run rest
-unfolding printed
-printed_by-line ended run line rest first others is = rw is refl
+course_by-line : (ended : Bool) (run : Run) (line : List ℕ) (rest : List (List ℕ)) (first : List ℕ) (others : List (List ℕ)) → rest ≡ first ∷ others → course ended run (line ∷ rest) ≡ then_turned (whole_turned line run) (course ended (whole_turned line run).run rest)
+unfolding course
+course_by-line ended run line rest first others is = rw is refl
 
-pub printed-line : (ended : Bool) (run : Run) (line rest : List ℕ) → HasNoLf line → printed ended run (parts_of (line ++ 10 ∷ rest)) ≡ (whole_turned line run).output ++ printed ended (whole_turned line run).run (parts_of rest)
-printed-line ended run line rest part =
+pub course-line : (ended : Bool) (run : Run) (line rest : List ℕ) → HasNoLf line → course ended run (parts_of (line ++ 10 ∷ rest)) ≡ then_turned (whole_turned line run) (course ended (whole_turned line run).run (parts_of rest))
+course-line ended run line rest part =
     let cut = parts_of-cons rest in
-    ap (printed ended run) (parts_of-line line rest part) ∙ printed_by-line ended run line (parts_of rest) cut.0 cut.1 cut.2
+    ap (course ended run) (parts_of-line line rest part) ∙ course_by-line ended run line (parts_of rest) cut.0 cut.1 cut.2
 
-ran_by-line : (ended : Bool) (run : Run) (line : List ℕ) (rest : List (List ℕ)) (first : List ℕ) (others : List (List ℕ)) → rest ≡ first ∷ others → ran ended run (line ∷ rest) ≡ ran ended (whole_turned line run).run rest
-unfolding ran
-ran_by-line ended run line rest first others is = rw is refl
+-- what is printed of lines and then others, and behind them
+pub output-then : (first later : Turned) (end : List ℕ) → output (then_turned first later) ++ end ≡ output first ++ (output later ++ end)
+output-then first later end =
+    ap (λ text. text ++ end) (flat_map-append text_of first.told later.told) ∙ append_assoc (output first) (output later) end
+
+pub printed-line : (ended : Bool) (run : Run) (line rest : List ℕ) → HasNoLf line → printed ended run (parts_of (line ++ 10 ∷ rest)) ≡ output (whole_turned line run) ++ printed ended (whole_turned line run).run (parts_of rest)
+unfolding printed
+printed-line ended run line rest part =
+    let later = course ended (whole_turned line run).run (parts_of rest) in
+    ap (λ (t : Turned). output t ++ ending ended t.run.refused) (course-line ended run line rest part)
+    ∙ output-then (whole_turned line run) later (ending ended later.run.refused)
 
 pub ran-line : (ended : Bool) (run : Run) (line rest : List ℕ) → HasNoLf line → ran ended run (parts_of (line ++ 10 ∷ rest)) ≡ ran ended (whole_turned line run).run (parts_of rest)
-ran-line ended run line rest part =
-    let cut = parts_of-cons rest in
-    ap (ran ended run) (parts_of-line line rest part) ∙ ran_by-line ended run line (parts_of rest) cut.0 cut.1 cut.2
+ran-line ended run line rest part = ap (λ (t : Turned). t.run) (course-line ended run line rest part)
+
+-- the last part
+pub course-last : (ended : Bool) (run : Run) (bytes : List ℕ) → HasNoLf bytes → course ended run (parts_of bytes) ≡ part_turned ended bytes run
+unfolding course
+course-last ended run bytes part = ap (course ended run) (parts_of-part bytes part)
 
 -- ---- a line that is too long
 
@@ -129,7 +141,7 @@ pub turned-too_long : (line : List ℕ) (size : ℕ) (run : Run) → run.refused
 unfolding turned
 turned-too_long line size run accepted long =
     ap (λ r. turned_by r line size run) accepted
-    ∙ ap (λ s. line_turned s size run) (step_at-too_long (run.read + size) line long)
+    ∙ ap (λ s. brought_turned (line_brings s run) size run) (step_at-too_long (run.read + size) line long)
 
 -- what the test of a begun line says
 pub too_long-true : (end : ℕ) (bytes : List ℕ) → (longest_line < length bytes) ⊎ (longest_schedule < end) → is_too_long end bytes ≡ true
@@ -146,23 +158,18 @@ last_turned-some (byte ∷ bytes) run some = refl
 -- ---- a line by what it asks for
 
 -- where the schedule isn't too long, the line decides
-turned-asked : (line : List ℕ) (size : ℕ) (run : Run) → run.refused ≡ None → run.read + size ≤ longest_schedule → turned line size run ≡ line_turned (step_of line) size run
+turned-asked : (line : List ℕ) (size : ℕ) (run : Run) → run.refused ≡ None → run.read + size ≤ longest_schedule → turned line size run ≡ brought_turned (line_brings (step_of line) run) size run
 unfolding turned
 turned-asked line size run accepted within =
     ap (λ r. turned_by r line size run) accepted
-    ∙ ap (λ t. line_turned (if t then Err TooLong else step_of line) size run) (lt-false longest_schedule (run.read + size) within)
-
--- what it asks for is what it says
-pub step_at-asked : (line : List ℕ) (end : ℕ) {step : Step} → end ≤ longest_schedule → step_of line ≡ Ok step → step_at end line ≡ Ok step
-step_at-asked line end within asked =
-    ap (λ t. if t then Err TooLong else step_of line) (lt-false longest_schedule end within) ∙ asked
+    ∙ ap (λ t. brought_turned (line_brings (if t then Err TooLong else step_of line) run) size run) (lt-false longest_schedule (run.read + size) within)
 
 -- it brings the step that it asks for
-pub turned-step : (line : List ℕ) (size : ℕ) (run : Run) (step : Step) → run.refused ≡ None → run.read + size ≤ longest_schedule → step_of line ≡ Ok step → turned line size run ≡ step_turned step size run
+pub turned-step : (line : List ℕ) (size : ℕ) (run : Run) (step : Step) → run.refused ≡ None → run.read + size ≤ longest_schedule → step_of line ≡ Ok step → turned line size run ≡ brought_turned (step_brings step run) size run
 turned-step line size run step accepted within asked =
-    turned-asked line size run accepted within ∙ ap (λ s. line_turned s size run) asked
+    turned-asked line size run accepted within ∙ ap (λ s. brought_turned (line_brings s run) size run) asked
 
 -- it is refused for its fault
 pub turned-fault : (line : List ℕ) (size : ℕ) (run : Run) (fault : LineFault) → run.refused ≡ None → run.read + size ≤ longest_schedule → step_of line ≡ Err fault → turned line size run ≡ refuse fault run
 turned-fault line size run fault accepted within asked =
-    turned-asked line size run accepted within ∙ ap (λ s. line_turned s size run) asked
+    turned-asked line size run accepted within ∙ ap (λ s. brought_turned (line_brings s run) size run) asked

@@ -1,9 +1,10 @@
 -- Lemmas on what is drawn, and on the frames that are counted: requests are short, and a frame in front is found.
-use Rattle.std.proofs.Common.{◌≡◌, ℕ, ◌+◌, ◌^◌, ◌==◌, ◌<◌, ◌≤◌, Bool, true, false, List, [], ◌∷◌, ◌++◌, length, take, drop, refl, ap, ◌∙◌, arith, nat_lt, if◌then◌else◌, ◌-◌, decimal, replicate, length-append, length-drop}
+use Rattle.std.proofs.Common.{◌≡◌, sym, ℕ, ◌+◌, ◌^◌, ◌==◌, ◌<◌, ◌≤◌, Bool, true, false, List, [], ◌∷◌, ◌++◌, length, take, drop, refl, ap, ◌∙◌, arith, nat_lt, if◌then◌else◌, ◌-◌, decimal, replicate, length-append, length-drop}
 use Rattle.std.proofs.lemmas.Fmt.{length-decimal-le}
 use Rattle.std.proofs.lemmas.List.{take_all}
-use Rattle.wire_text.specs.Frames.{Whole, front, split, then_split}
-use Rattle.wire_text.proofs.SplitLemmas.{split-whole}
+use Rattle.wire_text.specs.Bounds.{longest_to_child}
+use Rattle.wire_text.specs.Frames.{Whole, after_front, front, front_body, split, then_split}
+use Rattle.wire_text.proofs.SplitLemmas.{length-after_front, split-whole}
 use Rattle.wire_text.specs.Wire.{string, uint64}
 use Rattle.wire_text.proofs.WireLemmas.{length-string, length-uint64, wire_lengths}
 use Rattle.child_msg.specs.ChildFrames.{from_child_body}
@@ -75,12 +76,20 @@ eight-size items n is = ap length is ∙ length-uint64 n
 -- ---- the frame in front
 
 -- its body, and all that follows it
-pub first_whole : (bytes : List ℕ) (n : ℕ) → front 1048576 bytes ≡ Whole n
-    → split 1048576 bytes ≡ then_split (take (4 + n - 4) (drop 4 bytes) ∷ []) (split 1048576 (take (length bytes - (4 + n)) (drop (4 + n) bytes)))
-first_whole bytes n found =
-    let body : 4 + n - 4 ≡ n = omega arith in
-    let rest : take (length bytes - (4 + n)) (drop (4 + n) bytes) ≡ drop (4 + n) bytes = take_all _ _ (omega (arith, length-drop (4 + n) bytes)) in
-    rw (body, rest) (split-whole 1048576 bytes n found)
+pub first_whole : (bytes body rest : List ℕ) → Whole (length body) ≡ front longest_to_child bytes
+    → (body ≡ front_body (length body) bytes) × (rest ≡ after_front (length body) bytes)
+    → split longest_to_child bytes ≡ then_split (body ∷ []) (split longest_to_child rest)
+first_whole bytes body rest found cut =
+    split-whole longest_to_child bytes (length body) (sym found)
+    ∙ ap (λ (b : List ℕ). then_split (b ∷ []) (split longest_to_child (after_front (length body) bytes))) (sym cut.0)
+    ∙ ap (λ (r : List ℕ). then_split (body ∷ []) (split longest_to_child r)) (sym cut.1)
+
+-- fewer bytes follow it
+pub first_shorter : (bytes body rest : List ℕ) → Whole (length body) ≡ front longest_to_child bytes
+    → (body ≡ front_body (length body) bytes) × (rest ≡ after_front (length body) bytes)
+    → length rest < length bytes
+first_shorter bytes body rest found cut =
+    omega (arith, length-after_front longest_to_child bytes (length body) (sym found), ap (λ (l : List ℕ). length l) cut.1)
 
 -- ---- bytes behind none
 

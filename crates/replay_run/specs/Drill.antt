@@ -5,6 +5,7 @@ use Rattle.std.specs.Prelude.{ℕ, zero, suc, ◌+◌, ◌==◌, Bool, true, fal
 use Rattle.world_ports.specs.declared.Door.{Door}
 use Rattle.world_ports.specs.declared.Door.TheVariants.{Clients, Children}
 use Rattle.world_ports.specs.declared.Moment.{Moment}
+use Rattle.wire_text.specs.Bounds.{longest_to_child}
 use Rattle.wire_text.specs.Frames.{split}
 use Rattle.wire_text.specs.Wire.{string, uint64}
 use Rattle.child_msg.specs.ChildFrames.{from_child_body}
@@ -79,11 +80,11 @@ start_drill seed = record {
 
 -- ---- a line
 
--- what a port takes is noted: replies by a client, asks by a child process. All messages to an agent and from it have at
--- most 1048576 bytes
+-- what a port takes is noted: replies by a client, asks by a child process. No message of the agent has a
+-- longer body than one to a child process
 unfoldable pub noted : Bool → List ℕ → Drilled → Drilled
-noted true bytes drill = record drill { counts = counts_with (split 1048576 bytes).bodies drill.counts }
-noted false bytes drill = record drill { ask = last_ask (split 1048576 bytes).bodies drill.ask }
+noted true bytes drill = record drill { counts = counts_with (split longest_to_child bytes).bodies drill.counts }
+noted false bytes drill = record drill { ask = last_ask (split longest_to_child bytes).bodies drill.ask }
 
 -- a port takes all that it is owed
 unfoldable pub taking : Moment → ℕ → Drilled → Drilled

@@ -2,8 +2,8 @@
 pub mod Claims
 pub mod Replay
 pub mod Formats
-pub mod Brought
 pub mod Settling
+pub mod Told
 pub mod Holding
 -- what a drill draws, what comes of it, and how it ends
 pub mod Draws

@@ -1,22 +1,25 @@
 -- The run of a schedule: what it prints, `output_of`, and where it stops (ours: docs/PROTOCOL.md,
--- "Schedules"). The file is read from its end. A line is read by schedule_text's specs/Lines.antt;
--- its event is one step of the abstract agent, agent_model's specs/Step.antt, and what ports take
--- after it is in specs/Settling.antt.
+-- "Schedules"). The file is read from its end. A line is read by schedule_text's specs/Lines.antt, and
+-- brings events, each of them one step of the abstract agent, agent_model's specs/Step.antt: its own, and
+-- what ports take after it, specs/Settling.antt. A run is a fold over these events, and what is printed of
+-- each is in specs/Told.antt.
 use Rattle.std.specs.Prelude.{ℕ, suc, ◌+◌, ◌==◌, ◌||◌, nat_lt, Bool, true, false, if◌then◌else◌, List, [], ◌∷◌, ◌++◌, length, Option, None, Some, Result, Ok, Err}
-use Rattle.std.specs.List.{list_any, slice_split}
+use Rattle.std.specs.List.{flat_map, list_any, slice_split}
 use Rattle.world_ports.specs.declared.Job.{Job}
 use Rattle.world_ports.specs.declared.Moment.{Moment}
-use Rattle.agent_model.specs.Events.{Happening, Joined, Heard, Ended, StartFailed, Started as JobStarted, Tick}
+use Rattle.agent_model.specs.Events.{Happening, Timed, Joined, Heard, Ended, Took, StartFailed, Started as JobStarted, Tick}
+use Rattle.agent_model.specs.Runs as runs
 use Rattle.agent_model.specs.State.{State, Port, Settings, first_state, find_port, find_to_start, owed_of, starts}
 use Rattle.schedule_text.specs.declared.fault.LineFault.{LineFault}
 use Rattle.schedule_text.specs.declared.fault.LineFault.TheVariants.{Word, UnknownPort, Order, TooLong}
 use Rattle.schedule_text.specs.declared.step.Step.{Step}
 use Rattle.schedule_text.specs.declared.step.Step.TheVariants.{Skip, Format2, At, Join, Hear, End, Hold, Free, Take, Started, Failed}
-use Rattle.schedule_text.specs.Deeds.{refused_line, end_line}
+use Rattle.schedule_text.specs.Deeds.{end_line}
 use Rattle.schedule_text.specs.Lines.{step_of}
 use Rattle.replay_run.specs.Formats.{is_second, settings_by}
 use Rattle.replay_run.specs.Holding.{hold_port, free_port}
-use Rattle.replay_run.specs.Settling.{after_event, closed_at, event_lines, sending_lines, sent, settled}
+use Rattle.replay_run.specs.Settling.{after_event, at_moment, closed_at, takings}
+use Rattle.replay_run.specs.Told.{Told, Barred, events_in, text_of, told_from}
 
 -- a run so far: for how many seconds identities live that come without a lifetime, the agent, the moment of the last
 -- `at` line, the ports that it closed where it is the line before, the held ports, how many lines were run, how many
@@ -44,119 +47,98 @@ start_run life = record {
   refused = None;
 }
 
--- the run after a line, and what the line printed
+-- ---- what a line brings
+
+-- the run that its events find, and these events; or why the line is refused
+pub data Brought : Type 0 where
+  Brings : (run : Run) → (events : List Timed) → Brought
+  Refuses : (fault : LineFault) → Brought
+
+-- nothing: the line is counted
+abbrev pub skips : Run → Brought
+skips run = Brings (record run { closed = [] }) []
+
+-- the settling alone
+abbrev pub settles : Run → Brought
+settles run = Brings (record run { closed = [] }) (takings run.moment run.held run.agent)
+
+-- an event, and the settling after it
+abbrev pub comes : Happening → Run → List Timed
+comes event run =
+    at_moment run.moment event ∷ takings run.moment run.held (after_event run.moment run.agent event)
+
+abbrev pub happens : Happening → Run → Brought
+happens event run = Brings (record run { closed = [] }) (comes event run)
+
+-- what the line of a port brings, where that one is open
+abbrev pub at_port : Option Port → Brought → Brought
+at_port None brought = Refuses UnknownPort
+at_port (Some port) brought = brought
+
+-- a port that isn't open hears, ends and takes nothing: the line is refused, unless the moment of the line before
+-- closed the port
+abbrev pub at_peer : Option Port → ℕ → Brought → Run → Brought
+at_peer None number brought run =
+    if list_any (λ other. other == number) run.closed then skips run else Refuses UnknownPort
+at_peer (Some port) number brought run = brought
+
+-- what the line of a job brings, where that one waits to be started
+abbrev pub at_job : Option Job → Brought → Brought
+at_job None brought = Refuses Order
+at_job (Some job) brought = brought
+
+-- by what the line asks for: `schedule 2` may stand in line 1 alone, where nothing was run yet; which ports a moment
+-- closes is known to the next line; and a port takes no more than it is owed
+abbrev pub step_brings : Step → Run → Brought
+step_brings Skip run = skips run
+step_brings Format2 run =
+    if run.line == 0 then skips (record run { agent = first_state (settings_by true run.life) }) else Refuses Word
+step_brings (At moment) run =
+    let now = record run { moment = moment; closed = closed_at moment run.agent Tick } in Brings now (comes Tick now)
+step_brings (Join door) run = happens (Joined door) run
+step_brings (Hear port bytes) run =
+    at_peer (find_port port run.agent.ports) port (happens (Heard port bytes) run) run
+step_brings (End port) run = at_peer (find_port port run.agent.ports) port (happens (Ended port) run) run
+step_brings (Hold port) run =
+    at_port (find_port port run.agent.ports) (settles (record run { held = hold_port port run.held }))
+step_brings (Free port) run =
+    at_port (find_port port run.agent.ports) (settles (record run { held = free_port port run.held }))
+step_brings (Take port count) run =
+    at_peer (find_port port run.agent.ports) port
+    (if nat_lt (length (owed_of port run.agent)) count then Refuses Order else happens (Took port count) run) run
+step_brings (Started job ticket) run =
+    at_job (find_to_start job (starts run.agent)) (happens (JobStarted job ticket) run)
+step_brings (Failed job) run = at_job (find_to_start job (starts run.agent)) (happens (StartFailed job) run)
+
+-- ---- a line
+
+-- the run after lines, and what is told of them
 pub record Turned : Type 0 where
   pub run : Run
-  pub output : List ℕ
+  pub told : List Told
 
 -- the turning of a line from which nothing comes
 abbrev pub unturned : Run → Turned
-unturned run = record { run = run; output = [] }
-
--- one more line, of so many bytes
-abbrev pub counted : ℕ → Run → Run
-counted size run = record run { closed = []; line = suc run.line; read = run.read + size }
-
--- a skipped line is counted
-abbrev pub skipped : ℕ → Run → Turned
-skipped size run = unturned (counted size run)
+unturned run = record { run = run; told = [] }
 
 -- a line is refused: the run ends with it
 abbrev pub refuse : LineFault → Run → Turned
 refuse fault run = record {
   run = record run { line = suc run.line; refused = Some fault };
-  output = refused_line (suc run.line) fault;
+  told = Barred (suc run.line) fault ∷ [];
 }
 
--- a line that printed this so far, and the settling after it
-abbrev pub settling_turn : List ℕ → ℕ → Run → Turned
-settling_turn output size run =
-    let settling = settled run.moment run.held run.agent in
-    record {
-      run = record (counted size run) { agent = settling.agent };
-      output = output ++ settling.output;
-    }
-
--- the line's event, and the settling after it
-abbrev pub happened : Happening → ℕ → Run → Turned
-happened event size run =
-    settling_turn (event_lines run.moment run.agent event) size
-    (record run { agent = after_event run.moment run.agent event })
-
--- the line `schedule 2`: in line 1, where nothing was run yet, the schedule is of format 2; else it is refused
-abbrev pub format_turned : Bool → ℕ → Run → Turned
-format_turned true size run =
-    skipped size (record run { agent = first_state (settings_by true run.life) })
-format_turned false size run = refuse Word run
-
--- a line of a moment: the ports that this closed are known to the next line
-abbrev pub closing : List ℕ → Turned → Turned
-closing ports turned = record turned { run = record turned.run { closed = ports } }
-
-abbrev pub set_moment : Moment → ℕ → Run → Turned
-set_moment moment size run =
-    closing (closed_at moment run.agent Tick) (happened Tick size (record run { moment = moment }))
-
--- what a line of a port brings, where that one is open
-abbrev pub at_port : Option Port → Turned → Run → Turned
-at_port None turned run = refuse UnknownPort run
-at_port (Some port) turned run = turned
-
--- the moment of the line before closed the port
-abbrev pub was_closed : ℕ → Run → Bool
-was_closed port run = list_any (λ other. other == port) run.closed
-
--- a port that isn't open hears, ends and takes nothing: the line is refused, unless the moment of the line before
--- closed the port
-abbrev pub missed : Bool → ℕ → Run → Turned
-missed true size run = skipped size run
-missed false size run = refuse UnknownPort run
-
--- what a line brings that a port hears, ends or takes, where that one is open
-abbrev pub peer_turned : Option Port → ℕ → Turned → ℕ → Run → Turned
-peer_turned None number turned size run = missed (was_closed number run) size run
-peer_turned (Some port) number turned size run = turned
-
-abbrev pub at_peer : ℕ → Turned → ℕ → Run → Turned
-at_peer number turned size run =
-    peer_turned (find_port number run.agent.ports) number turned size run
-
--- what a line of a job brings, where that one waits to be started
-abbrev pub at_job : Option Job → Turned → Run → Turned
-at_job None turned run = refuse Order run
-at_job (Some job) turned run = turned
-
--- the port takes so many bytes, and the settling after it; it is refused where they are more than it is owed
-abbrev pub took_by : Bool → ℕ → ℕ → ℕ → Run → Turned
-took_by true port count size run = refuse Order run
-took_by false port count size run =
-    settling_turn (sending_lines run.moment port count run.agent) size
-    (record run { agent = sent run.moment port count run.agent })
-
-abbrev pub took : ℕ → ℕ → ℕ → Run → Turned
-took port count size run =
-    took_by (nat_lt (length (owed_of port run.agent)) count) port count size run
-
--- what a step brings
-abbrev pub step_turned : Step → ℕ → Run → Turned
-step_turned Skip size run = skipped size run
-step_turned Format2 size run = format_turned (run.line == 0) size run
-step_turned (At moment) size run = set_moment moment size run
-step_turned (Join door) size run = happened (Joined door) size run
-step_turned (Hear port bytes) size run =
-    at_peer port (happened (Heard port bytes) size run) size run
-step_turned (End port) size run = at_peer port (happened (Ended port) size run) size run
-step_turned (Hold port) size run =
-    at_port (find_port port run.agent.ports)
-    (settling_turn [] size (record run { held = hold_port port run.held })) run
-step_turned (Free port) size run =
-    at_port (find_port port run.agent.ports)
-    (settling_turn [] size (record run { held = free_port port run.held })) run
-step_turned (Take port count) size run = at_peer port (took port count size run) size run
-step_turned (Started job ticket) size run =
-    at_job (find_to_start job (starts run.agent)) (happened (JobStarted job ticket) size run) run
-step_turned (Failed job) size run =
-    at_job (find_to_start job (starts run.agent)) (happened (StartFailed job) size run) run
+-- a line of so many bytes, by what it brings
+abbrev pub brought_turned : Brought → ℕ → Run → Turned
+brought_turned (Brings found events) size run = record {
+  run = record found {
+    agent = runs.run found.agent events;
+    line = suc run.line;
+    read = run.read + size;
+  };
+  told = told_from (suc run.line) found.agent events;
+}
+brought_turned (Refuses fault) size run = refuse fault run
 
 -- the most bytes of a line, without its LF, and of a schedule
 abbrev pub longest_line : ℕ
@@ -170,13 +152,14 @@ abbrev pub step_at : ℕ → List ℕ → Result Step LineFault
 step_at end line = if nat_lt longest_schedule end then Err TooLong else step_of line
 
 -- what a line brings by what it asks for
-abbrev pub line_turned : Result Step LineFault → ℕ → Run → Turned
-line_turned (Ok step) size run = step_turned step size run
-line_turned (Err fault) size run = refuse fault run
+abbrev pub line_brings : Result Step LineFault → Run → Brought
+line_brings (Ok step) run = step_brings step run
+line_brings (Err fault) run = Refuses fault
 
 -- a run that was refused stays so
 abbrev pub turned_by : Option LineFault → List ℕ → ℕ → Run → Turned
-turned_by None line size run = line_turned (step_at (run.read + size) line) size run
+turned_by None line size run =
+    brought_turned (line_brings (step_at (run.read + size) line) run) size run
 turned_by (Some fault) line size run = unturned run
 
 -- what a line brings that takes so many bytes of the schedule
@@ -219,31 +202,46 @@ ending false refused = []
 abbrev pub parts_of : List ℕ → List (List ℕ)
 parts_of text = slice_split (λ byte. byte == 10) text
 
--- what the parts of a text print, from this run on
-unfoldable pub printed : Bool → Run → List (List ℕ) → List ℕ
-printed ended run [] = []
-printed ended run (part ∷ []) =
-    (part_turned ended part run).output ++ ending ended (part_turned ended part run).run.refused
-printed ended run (line ∷ next ∷ parts) =
-    (whole_turned line run).output ++ printed ended (whole_turned line run).run (next ∷ parts)
+-- ---- a schedule
+
+-- lines, and then others
+abbrev pub then_turned : Turned → Turned → Turned
+then_turned first later = record { run = later.run; told = first.told ++ later.told }
+
+-- the run of the parts of a text, from this run on
+unfoldable pub course : Bool → Run → List (List ℕ) → Turned
+course ended run [] = unturned run
+course ended run (part ∷ []) = part_turned ended part run
+course ended run (line ∷ next ∷ parts) =
+    then_turned (whole_turned line run) (course ended (whole_turned line run).run (next ∷ parts))
 
 -- the run after the parts of a text
-unfoldable pub ran : Bool → Run → List (List ℕ) → Run
-ran ended run [] = run
-ran ended run (part ∷ []) = (part_turned ended part run).run
-ran ended run (line ∷ next ∷ parts) = ran ended (whole_turned line run).run (next ∷ parts)
+abbrev pub ran : Bool → Run → List (List ℕ) → Run
+ran ended run parts = (course ended run parts).run
+
+-- what is printed of lines
+abbrev pub output : Turned → List ℕ
+output turned = flat_map text_of turned.told
+
+-- what the parts of a text print, from this run on
+unfoldable pub printed : Bool → Run → List (List ℕ) → List ℕ
+printed ended run parts = output (course ended run parts) ++ ending ended (ran ended run parts).refused
 
 -- the settings of a schedule
 abbrev pub settings_of : Option ℕ → List ℕ → Settings
 settings_of life text = settings_by (is_second (parts_of text)) life
 
--- all that a schedule prints, where identities that come without a lifetime live for so many seconds
-abbrev pub output_of : Option ℕ → List ℕ → List ℕ
-output_of life text = printed true (start_run life) (parts_of text)
-
--- the run after a schedule
+-- the run after a schedule, where identities that come without a lifetime live for so many seconds
 abbrev pub run_of : Option ℕ → List ℕ → Run
 run_of life text = ran true (start_run life) (parts_of text)
+
+-- all events that it brings, the takings of each settling among them
+abbrev pub events_of : Option ℕ → List ℕ → List Timed
+events_of life text = events_in (course true (start_run life) (parts_of text)).told
+
+-- all that it prints
+abbrev pub output_of : Option ℕ → List ℕ → List ℕ
+output_of life text = printed true (start_run life) (parts_of text)
 
 -- what the whole lines of the front of a schedule print
 abbrev pub output_so_far : Option ℕ → List ℕ → List ℕ

@@ -3,16 +3,16 @@ ghost use Rattle.std.specs.Prelude.{◌≡◌, ◌∷◌, [], ◌++◌, ◌≤�
 ghost use Rattle.std.specs.Prelude.{MatchOption, None, OnErr, OnOk};
 ghost use Rattle.world_ports.specs.Causes.{HasCause};
 ghost use Rattle.replay_run.specs.Finishing.{Finishes, agent_at, end_of, state_left};
-ghost use Rattle.replay_run.specs.Replay.{last_turned, ending};
+ghost use Rattle.replay_run.specs.Replay.{last_turned, ending, output};
 ghost use Rattle.replay_run.specs.Feeding.{Wrote, start_feeding, IsReady, GoesOnFed, Halts, fed_so_far};
 ghost use Rattle.replay_run.specs.GoesOn.{HasNoLf, IsLineEnd, GoesOn};
 ghost use Rattle.world_ports.specs.Streams.{OnlyWrites, WritesPart};
 
 use crate::limits::{LONGEST_LINE, LONGEST_SCHEDULE, ROOM};
 use crate::{Replay, RunEnd};
-use agent_core::{Agent, CoreMemory};
+use agent_core::Agent;
 use schedule_text::{Deed, LineFault, put_deed};
-use std::alloc::Global;
+use std::alloc::{AllocError, Global};
 use std::marker::Model;
 use world_ports::{Fault, Sink, write_all};
 
@@ -51,7 +51,7 @@ impl Feed {
     }
 
     // Runs the line that ends with these bytes. Where nothing waits, they aren't copied.
-    fn end_line(&mut self, line: &[u8]) -> Result<(), CoreMemory>
+    fn end_line(&mut self, line: &[u8]) -> Result<(), AllocError>
         requires ready { IsReady self.old }
         requires part { HasNoLf line.now }
         ensures goes { OnOk result (GoesOn
@@ -73,7 +73,7 @@ impl Feed {
     }
 
     // Keeps the front of a line, unless it is too long already.
-    fn begin_line(&mut self, front: &[u8]) -> Result<(), CoreMemory>
+    fn begin_line(&mut self, front: &[u8]) -> Result<(), AllocError>
         requires ready { IsReady self.old }
         requires part { HasNoLf front.now }
         ensures goes { OnOk result (GoesOn self.old.out self.old.run (self.old.pending ++ front.now)
@@ -188,11 +188,11 @@ impl Feed {
     }
 
     // Runs a last line without LF, where one waits.
-    fn run_pending(&mut self) -> Result<(), CoreMemory>
+    fn run_pending(&mut self) -> Result<(), AllocError>
         requires ready { IsReady self.old }
         ensures run { OnOk result (self.new.run ≡ (last_turned self.old.pending self.old.run).run) }
         ensures out { OnOk result (self.new.out
-            ≡ self.old.out ++ (last_turned self.old.pending self.old.run).output) }
+            ≡ self.old.out ++ output (last_turned self.old.pending self.old.run)) }
     {
         if self.pending.as_slice().is_empty() {
             return Ok(());
@@ -202,7 +202,7 @@ impl Feed {
     }
 
     // Prints `end`, unless the run was refused.
-    fn put_end(&mut self) -> Result<(), CoreMemory>
+    fn put_end(&mut self) -> Result<(), AllocError>
         ensures run { OnOk result (self.new.run ≡ self.old.run) }
         ensures out { OnOk result
             (self.new.out ≡ self.old.out ++ ending true self.old.run.refused) }

@@ -2,8 +2,7 @@
 ghost use Rattle.std.specs.Prelude.{◌≡◌, OnOk, []};
 ghost use Rattle.replay_run.specs.Holding.{free_port, hold_port, is_held};
 
-use agent_core::CoreMemory;
-use std::alloc::Global;
+use std::alloc::{AllocError, Global};
 use std::collections::BTreeSet;
 use std::marker::Model;
 
@@ -36,7 +35,7 @@ impl Held {
         self.ports.contains(&port)
     }
 
-    pub fn hold(&mut self, port: u64) -> Result<(), CoreMemory>
+    pub fn hold(&mut self, port: u64) -> Result<(), AllocError>
         ensures { OnOk result (self.new ≡ hold_port port self.old) }
     {
         self.ports.insert(port)?;

@@ -4,8 +4,7 @@ ghost use Rattle.std.specs.Prelude.{◌≡◌, ℕ, List, [], Option};
 ghost use Rattle.agent_laws.specs.History.{HasNumbers, IsLawful};
 ghost use Rattle.agent_model.specs.Runs as runs;
 ghost use Rattle.agent_model.specs.State.{first_state};
-ghost use Rattle.replay_run.specs.Brought.{events_of};
-ghost use Rattle.replay_run.specs.Replay.{run_of, settings_of};
+ghost use Rattle.replay_run.specs.Replay.{events_of, run_of, settings_of};
 
 /// The run of a schedule is that of the events which its lines and their settlings bring, and in it a signature is put
 /// to the helper exactly where the actions before say so.

@@ -13,7 +13,7 @@ ghost use Rattle.replay_run.specs.Settling.{closed_at, settled};
 pub fn nothing_is_owed_after_settling()
     ensures { (moment : Moment) (held : List ℕ) (state : State) (port : ℕ)
         → IsSteady state → is_held port held ≡ false
-        → owed_of port (settled moment held state).agent ≡ [] }
+        → owed_of port (settled moment held state) ≡ [] }
 {}
 
 /// Without limits of time a moment closes no port. So in format 1 every line for a port that isn't open is refused.

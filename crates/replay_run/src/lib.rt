@@ -14,6 +14,7 @@ mod replay;
 mod run;
 mod run_end;
 mod settle;
+mod watch;
 
 pub use drill::run_drill;
 use feed::Feed;
@@ -24,3 +25,4 @@ pub use limits::{ASK_LIMIT, CONFIRM_LIMIT, LONGEST_SCHEDULE};
 pub use replay::Replay;
 pub use run::run_replay;
 pub use run_end::RunEnd;
+pub use watch::Watch;

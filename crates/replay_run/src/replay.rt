@@ -1,20 +1,21 @@
 // A run of a schedule, a line at a time.
-ghost use Rattle.std.specs.Prelude.{◌≡◌, ◌≢◌, ◌+◌, ◌<◌, ◌≤◌, ◌++◌, ◌^◌, OnOk, []};
+ghost use Rattle.std.specs.Prelude.{◌≡◌, ◌≢◌, ◌+◌, ◌<◌, ◌≤◌, ◌++◌, ◌^◌, OnOk};
+ghost use Rattle.std.specs.List.{flat_map};
 ghost use Rattle.agent_core.specs.Happenings.{happening};
 ghost use Rattle.agent_model.specs.State.{Fits};
 ghost use Rattle.schedule_text.specs.Steps.{SaysSome};
 ghost use Rattle.replay_run.specs.Counts.{IsCounted};
-ghost use Rattle.replay_run.specs.Replay.{start_run, longest_schedule, turned, step_turned};
-ghost use Rattle.replay_run.specs.Replay.{counted, refuse, happened, settling_turn};
+ghost use Rattle.replay_run.specs.Replay.{brought_turned, happens, longest_schedule, refuse, settles, skips, start_run, step_brings, turned};
 
 mod steps;
 
 use crate::held::Held;
 use crate::limits::LONGEST_SCHEDULE;
-use crate::settle::{run_event, settle};
-use agent_core::{Agent, CoreMemory, Event, Settings};
-use schedule_text::{Deed, LineFault, Step, put_deed, read_line};
-use std::alloc::Global;
+use crate::settle::settle;
+use crate::watch::Watch;
+use agent_core::{Agent, Event, Settings};
+use schedule_text::{LineFault, Step, read_line};
+use std::alloc::{AllocError, Global};
 use std::marker::Model;
 use world_ports::Moment;
 
@@ -102,83 +103,117 @@ impl Replay {
     }
 
     /// Runs one line, which takes `size` bytes of the schedule, its LF among them.
-    pub fn turn(&mut self, line: &[u8], size: u64, out: &mut Vec<u8>) -> Result<(), CoreMemory>
+    pub fn turn<W: Watch>(
+        &mut self,
+        line: &[u8],
+        size: u64,
+        watch: &mut W,
+    ) -> Result<(), AllocError>
         requires counted { IsCounted self.old }
         requires some { 0 < size }
         requires fits { size + self.old.read < 2 ^ 64 }
         ensures run { OnOk result (self.new ≡ (turned line.now size self.old).run) }
-        ensures out { OnOk result
-            (out.new.items ≡ out.old.items ++ (turned line.now size self.old).output) }
+        ensures notes { OnOk result (W.notes watch.new ≡ W.notes watch.old
+            ++ flat_map W.notes_of (turned line.now size self.old).told) }
     {
         if self.read + size > LONGEST_SCHEDULE {
-            return self.refuse(LineFault::TooLong, out);
+            return self.refuse(LineFault::TooLong, watch);
         }
         match read_line(self.alloc, line) {
-            Ok(step) => self.take_step(&step, size, out),
-            Err(fault) => self.refuse_for(fault, out),
+            Ok(step) => self.take_step(&step, size, watch),
+            Err(fault) => self.refuse_for(fault, watch),
         }
     }
 
     // Does what a line asks for.
-    fn take_step(&mut self, step: &Step, size: u64, out: &mut Vec<u8>) -> Result<(), CoreMemory>
+    fn take_step<W: Watch>(
+        &mut self,
+        step: &Step,
+        size: u64,
+        watch: &mut W,
+    ) -> Result<(), AllocError>
         requires counted { IsCounted self.old }
         requires some { 0 < size }
         requires within { self.old.read + size ≤ longest_schedule }
         requires says { SaysSome step.now }
-        ensures run { OnOk result (self.new ≡ (step_turned step.now size self.old).run) }
-        ensures out { OnOk result (out.new.items ≡ out.old.items
-            ++ (step_turned step.now size self.old).output) }
+        ensures run { OnOk result (self.new
+            ≡ (brought_turned (step_brings step.now self.old) size self.old).run) }
+        ensures notes { OnOk result (W.notes watch.new ≡ W.notes watch.old
+            ++ flat_map W.notes_of
+            (brought_turned (step_brings step.now self.old) size self.old).told) }
     {
         match step {
             Step::Skip => {
                 self.skip(size);
                 Ok(())
             }
-            Step::Format2 => self.set_format(size, out),
-            Step::At(moment) => self.set_moment(*moment, size, out),
-            Step::Join(door) => self.happen(&Event::Joined(*door), size, out),
+            Step::Format2 => self.set_format(size, watch),
+            Step::At(moment) => self.set_moment(*moment, size, watch),
+            Step::Join(door) => self.happen(&Event::Joined(*door), size, watch),
             Step::Hear { port, bytes } => {
                 let piece = bytes.as_slice();
-                self.happen_at(*port, &Event::Heard { port: *port, piece }, size, out)
+                self.happen_at(*port, &Event::Heard { port: *port, piece }, size, watch)
             }
-            Step::End(port) => self.happen_at(*port, &Event::Ended { port: *port }, size, out),
-            Step::Hold(port) => self.hold(*port, size, out),
-            Step::Free(port) => self.free(*port, size, out),
-            Step::Take { port, count } => self.take(*port, *count, size, out),
+            Step::End(port) => self.happen_at(*port, &Event::Ended { port: *port }, size, watch),
+            Step::Hold(port) => self.hold(*port, size, watch),
+            Step::Free(port) => self.free(*port, size, watch),
+            Step::Take { port, count } => self.take(*port, *count, size, watch),
             Step::Started { job, ticket } => {
                 let event = Event::Started {
                     job: *job,
                     ticket: *ticket,
                 };
-                self.happen_to(*job, &event, size, out)
+                self.happen_to(*job, &event, size, watch)
             }
-            Step::Failed(job) => self.happen_to(*job, &Event::StartFailed { job: *job }, size, out),
+            Step::Failed(job) => self.happen_to(
+                *job,
+                &Event::StartFailed { job: *job },
+                size,
+                watch,
+            ),
         }
     }
 
     // The event, and the settling after it.
-    fn happen(&mut self, event: &Event<'_>, size: u64, out: &mut Vec<u8>) -> Result<(), CoreMemory>
+    fn happen<W: Watch>(
+        &mut self,
+        event: &Event<'_>,
+        size: u64,
+        watch: &mut W,
+    ) -> Result<(), AllocError>
         requires counted { IsCounted self.old }
         requires some { 0 < size }
         requires within { self.old.read + size ≤ longest_schedule }
         requires fits { Fits (happening event.now) self.old.agent }
-        ensures run { OnOk result (self.new ≡ (happened (happening event.now) size self.old).run) }
-        ensures out { OnOk result (out.new.items ≡ out.old.items
-            ++ (happened (happening event.now) size self.old).output) }
+        ensures run { OnOk result (self.new
+            ≡ (brought_turned (happens (happening event.now) self.old) size self.old).run) }
+        ensures notes { OnOk result (W.notes watch.new ≡ W.notes watch.old
+            ++ flat_map W.notes_of
+            (brought_turned (happens (happening event.now) self.old) size self.old).told) }
     {
-        run_event(self.alloc, &mut self.agent, self.moment, event, out)?;
-        self.end_turn(size, out)
+        let line = self.line + 1;
+        watch.step(self.alloc, &mut self.agent, line, self.moment, event)?;
+        self.end_turn(size, watch)
     }
 
     // Settles, and counts the line.
-    fn end_turn(&mut self, size: u64, out: &mut Vec<u8>) -> Result<(), CoreMemory>
+    fn end_turn<W: Watch>(&mut self, size: u64, watch: &mut W) -> Result<(), AllocError>
         requires lines { self.old.line ≤ longest_schedule }
         requires within { self.old.read + size ≤ longest_schedule }
-        ensures run { OnOk result (self.new ≡ (settling_turn [] size self.old).run) }
-        ensures out { OnOk result (out.new.items ≡ out.old.items
-            ++ (settling_turn [] size self.old).output) }
+        ensures run { OnOk result (self.new
+            ≡ (brought_turned (settles self.old) size self.old).run) }
+        ensures notes { OnOk result (W.notes watch.new ≡ W.notes watch.old
+            ++ flat_map W.notes_of (brought_turned (settles self.old) size self.old).told) }
     {
-        settle(self.alloc, &mut self.agent, self.moment, &self.held, out)?;
+        let line = self.line + 1;
+        settle(
+            self.alloc,
+            &mut self.agent,
+            line,
+            self.moment,
+            &self.held,
+            watch,
+        )?;
         self.skip(size);
         Ok(())
     }
@@ -187,7 +222,7 @@ impl Replay {
     fn skip(&mut self, size: u64)
         requires lines { self.old.line ≤ longest_schedule }
         requires within { self.old.read + size ≤ longest_schedule }
-        ensures { self.new ≡ counted size self.old }
+        ensures { self.new ≡ (brought_turned (skips self.old) size self.old).run }
     {
         self.closed.clear();
         self.line += 1;
@@ -195,36 +230,33 @@ impl Replay {
     }
 
     // Refuses the next line, unless its fault only says that memory ran out.
-    fn refuse_for(&mut self, fault: LineFault, out: &mut Vec<u8>) -> Result<(), CoreMemory>
+    fn refuse_for<W: Watch>(&mut self, fault: LineFault, watch: &mut W) -> Result<(), AllocError>
         requires counted { IsCounted self.old }
         ensures fault { OnOk result (fault ≢ LineFault.Memory) }
         ensures run { OnOk result (self.new ≡ (refuse fault self.old).run) }
-        ensures out { OnOk result
-            (out.new.items ≡ out.old.items ++ (refuse fault self.old).output) }
+        ensures notes { OnOk result (W.notes watch.new ≡ W.notes watch.old
+            ++ flat_map W.notes_of (refuse fault self.old).told) }
     {
         match fault {
-            LineFault::Memory => Err(CoreMemory),
-            _ => self.refuse(fault, out),
+            LineFault::Memory => Err(AllocError),
+            _ => self.refuse(fault, watch),
         }
     }
 
     // Refuses the next line.
-    pub(crate) fn refuse(&mut self, fault: LineFault, out: &mut Vec<u8>) -> Result<(), CoreMemory>
+    pub(crate) fn refuse<W: Watch>(
+        &mut self,
+        fault: LineFault,
+        watch: &mut W,
+    ) -> Result<(), AllocError>
         requires counted { IsCounted self.old }
         requires printable { fault ≢ LineFault.Memory }
         ensures run { OnOk result (self.new ≡ (refuse fault self.old).run) }
-        ensures out { OnOk result
-            (out.new.items ≡ out.old.items ++ (refuse fault self.old).output) }
+        ensures notes { OnOk result (W.notes watch.new ≡ W.notes watch.old
+            ++ flat_map W.notes_of (refuse fault self.old).told) }
     {
         self.line += 1;
         self.refused = Some(fault);
-        put_deed(
-            out,
-            &Deed::Refused {
-                line: self.line,
-                fault,
-            },
-        )?;
-        Ok(())
+        watch.refuse(self.line, fault)
     }
 }

@@ -1,16 +1,14 @@
 // What clients took, and what the helper is asked.
 ghost use Rattle.std.specs.Prelude.{◌≡◌, ◌+◌, ◌∷◌, ◌<◌, [], IfOk, IfSome, OnOk, MatchOption, length};
+ghost use Rattle.wire_text.specs.Bounds.{longest_to_child};
 ghost use Rattle.wire_text.specs.Frames.{split, then_split, unsplit};
 ghost use Rattle.child_msg.specs.Reading.{to_child_of};
 ghost use Rattle.replay_run.specs.Drill.{ask_of, counts_with, last_ask, no_counts};
 
-use agent_core::CoreMemory;
-use child_msg::{ToChild, read_to_child};
-use frame_core::{Look, look};
+use child_msg::{LONGEST_TO_CHILD, ToChild, read_to_child};
+use frame_core::{Front, first};
+use std::alloc::AllocError;
 use std::marker::Model;
-
-/// The longest body of a message that an agent writes (ours).
-const LONGEST_BODY: u32 = 1_048_576;
 
 /// How many replies of each kind clients took.
 #[derive(Drop)]
@@ -37,26 +35,23 @@ impl Model for Counts {
 // The body of the frame in front, and what follows it.
 fn first_frame(bytes: &[u8]) -> Option<(&[u8], &[u8])>
     ensures split { MatchOption result
-        (split 1048576 bytes.now ≡ unsplit bytes.now)
-        (λ frame. split 1048576 bytes.now
-        ≡ then_split (frame.0.now ∷ []) (split 1048576 frame.1.now)) }
+        (split longest_to_child bytes.now ≡ unsplit bytes.now)
+        (λ frame. split longest_to_child bytes.now
+        ≡ then_split (frame.0.now ∷ []) (split longest_to_child frame.1.now)) }
     ensures smaller { IfSome result (λ frame. length frame.1.now < length bytes.now) }
 {
-    match look(bytes, LONGEST_BODY) {
-        Look::Whole { body } => {
-            let end = 4 + body as usize;
-            Some((&bytes[4..end], &bytes[end..]))
-        }
-        Look::Bad { .. } => None,
-        Look::More => None,
+    match first(bytes, LONGEST_TO_CHILD) {
+        Front::Whole { body, rest } => Some((body, rest)),
+        Front::Bad { .. } => None,
+        Front::More => None,
     }
 }
 
 // One more. No agent answers so often that the number ends.
-fn next(count: u64) -> Result<u64, CoreMemory>
+fn next(count: u64) -> Result<u64, AllocError>
     ensures { IfOk result (λ next. next ≡ count + 1) }
 {
-    count.checked_add(1).ok_or(CoreMemory)
+    count.checked_add(1).ok_or(AllocError)
 }
 
 impl Counts {
@@ -72,7 +67,7 @@ impl Counts {
     }
 
     // Counts a reply by its number.
-    fn count(&mut self, body: &[u8]) -> Result<(), CoreMemory>
+    fn count(&mut self, body: &[u8]) -> Result<(), AllocError>
         ensures { OnOk result (self.new ≡ counts_with (body.now ∷ []) self.old) }
     {
         match body {
@@ -86,8 +81,8 @@ impl Counts {
     }
 
     /// Counts the whole replies at the front of these bytes.
-    pub fn count_replies(&mut self, bytes: &[u8]) -> Result<(), CoreMemory>
-        ensures { OnOk result (self.new ≡ counts_with (split 1048576 bytes.now).bodies self.old) }
+    pub fn count_replies(&mut self, bytes: &[u8]) -> Result<(), AllocError>
+        ensures { OnOk result (self.new ≡ counts_with (split longest_to_child bytes.now).bodies self.old) }
     {
         let mut rest = bytes;
         'frames: while let Some((body, after)) = first_frame(rest) {
@@ -112,7 +107,7 @@ fn ask_in(body: &[u8], before: Option<u64>) -> Option<u64>
 
 /// The last ask to sign among the whole messages at the front of these bytes, or the one before them.
 pub fn last_ask_in(bytes: &[u8], before: Option<u64>) -> Option<u64>
-    ensures { result ≡ last_ask (split 1048576 bytes.now).bodies before }
+    ensures { result ≡ last_ask (split longest_to_child bytes.now).bodies before }
 {
     let mut rest = bytes;
     let mut ask = before;

@@ -16,8 +16,8 @@ use crate::drill::asking::{put_asking, put_hello, put_signed};
 use crate::drill::counts::{Counts, last_ask_in};
 use crate::drill::draws::Draws;
 use crate::drill::texts::put_told;
-use crate::settle::is_among;
-use agent_core::{Agent, CoreMemory, Event, Settings};
+use crate::watch::is_among;
+use agent_core::{Agent, Event, Settings};
 use std::alloc::{AllocError, Global};
 use std::marker::Model;
 use wire_core::put_string;
@@ -104,7 +104,7 @@ impl Drill {
 
     // Notes what a port is about to take: replies of a client, asks of a child process.
     #[tactic(auto, unfolding(crate::specs::Drill::noted))]
-    fn note(&mut self, port: u64) -> Result<(), CoreMemory>
+    fn note(&mut self, port: u64) -> Result<(), AllocError>
         ensures noted { OnOk result
             (self.new ≡ noted (is_client_at (find_port port self.old.agent.ports))
             (owed_of port self.old.agent) self.old) }
@@ -119,7 +119,7 @@ impl Drill {
     }
 
     // The agent takes a step.
-    fn step(&mut self, moment: Moment, event: &Event<'_>) -> Result<(), CoreMemory>
+    fn step(&mut self, moment: Moment, event: &Event<'_>) -> Result<(), AllocError>
         requires { Fits (happening event.now) self.old.agent }
         ensures { OnOk result (self.new ≡ record self.old {
           agent = after_event moment self.old.agent (happening event.now);
@@ -129,7 +129,7 @@ impl Drill {
     }
 
     // The port takes all that it is owed.
-    fn take(&mut self, moment: Moment, port: u64) -> Result<(), CoreMemory>
+    fn take(&mut self, moment: Moment, port: u64) -> Result<(), AllocError>
         requires { 0 < length (owed_of port self.old.agent) }
         ensures { OnOk result (self.new ≡ taking moment port self.old) }
     {
@@ -140,7 +140,7 @@ impl Drill {
     }
 
     // Every port takes what it is owed, the least number first.
-    fn settle(&mut self, moment: Moment) -> Result<(), CoreMemory>
+    fn settle(&mut self, moment: Moment) -> Result<(), AllocError>
         ensures { OnOk result (self.new ≡ drill_settled moment self.old) }
     {
         'takings: while let Some(port) = self.next_owed() {
@@ -151,7 +151,7 @@ impl Drill {
 
     // A line's event, and the settling after it.
     #[tactic(auto, unfolding(crate::specs::Drill::lined))]
-    fn line(&mut self, moment: Moment, event: &Event<'_>) -> Result<(), CoreMemory>
+    fn line(&mut self, moment: Moment, event: &Event<'_>) -> Result<(), AllocError>
         requires { Fits (happening event.now) self.old.agent }
         ensures { OnOk result (self.new ≡ lined moment (happening event.now) self.old) }
     {
@@ -161,7 +161,7 @@ impl Drill {
     }
 
     // The frame of this body comes from a port, where that is open.
-    fn hear(&mut self, moment: Moment, port: u64, body: &[u8]) -> Result<(), CoreMemory>
+    fn hear(&mut self, moment: Moment, port: u64, body: &[u8]) -> Result<(), AllocError>
         requires { length body.now < 2 ^ 32 }
         ensures { OnOk result (self.new ≡ heard moment port body.now self.old) }
     {
@@ -176,7 +176,7 @@ impl Drill {
     }
 
     // The helper is started, joins and says hello, where the agent wants one.
-    fn help(&mut self, moment: Moment) -> Result<(), CoreMemory>
+    fn help(&mut self, moment: Moment) -> Result<(), AllocError>
         requires { self.old.agent.last_port < 2 ^ 64 - 1 }
         ensures { OnOk result (self.new ≡ helped moment self.old) }
     {
@@ -197,7 +197,7 @@ impl Drill {
 
     // The helper signs, where it was asked.
     #[tactic(auto, unfolding(crate::specs::Drill::signed))]
-    fn sign(&mut self, moment: Moment, round: u64) -> Result<(), CoreMemory>
+    fn sign(&mut self, moment: Moment, round: u64) -> Result<(), AllocError>
         ensures { OnOk result (self.new ≡ signed moment round self.old) }
     {
         let Some(ask) = self.ask.take() else {
@@ -210,7 +210,7 @@ impl Drill {
     }
 
     // Draws the request of a round: who asks, and its body.
-    fn draw(&mut self, round: u64) -> Result<(u64, Vec<u8>), CoreMemory>
+    fn draw(&mut self, round: u64) -> Result<(u64, Vec<u8>), AllocError>
         ensures client { IfOk result (λ drawn. drawn.0 ≡ 1 + (draws_of 8 64 8 self.old.number).one) }
         ensures body { IfOk result (λ drawn. drawn.1.items
             ≡ (drawn_asking round (draws_of 8 64 8 self.old.number)).body) }
@@ -232,7 +232,7 @@ impl Drill {
     }
 
     // A client asks for something, and all that comes of it happens.
-    fn round(&mut self, round: u64) -> Result<(), CoreMemory>
+    fn round(&mut self, round: u64) -> Result<(), AllocError>
         requires { self.old.agent.last_port < 2 ^ 64 - 1 }
         ensures { OnOk result (self.new ≡ round_of round self.old) }
     {
@@ -249,7 +249,7 @@ impl Drill {
     }
 
     // The clients join, and so many rounds follow.
-    fn run(&mut self, rounds: u32) -> Result<(), CoreMemory>
+    fn run(&mut self, rounds: u32) -> Result<(), AllocError>
         requires few { rounds ≤ 100000 }
         requires start { self.old ≡ start_drill self.old.number }
         ensures { OnOk result (self.new ≡ drilled rounds self.old.number) }
@@ -261,7 +261,7 @@ impl Drill {
         Ok(())
     }
 
-    fn join_clients(&mut self) -> Result<(), CoreMemory>
+    fn join_clients(&mut self) -> Result<(), AllocError>
         requires { self.old ≡ start_drill self.old.number }
         ensures { OnOk result (self.new ≡ joined 8 self.old) }
     {
@@ -291,7 +291,7 @@ impl Drill {
     }
 
     /// Runs so many rounds of this seed, and sums them up.
-    pub fn run_to_summary(&mut self, rounds: u32, seed: u64) -> Result<Vec<u8>, CoreMemory>
+    pub fn run_to_summary(&mut self, rounds: u32, seed: u64) -> Result<Vec<u8>, AllocError>
         requires few { rounds ≤ 100000 }
         requires start { self.old ≡ start_drill seed }
         ensures run { OnOk result (self.new ≡ drilled rounds seed) }

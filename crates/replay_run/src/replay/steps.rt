@@ -1,29 +1,37 @@
 // What single lines ask for: those of the clock, of ports, and of jobs.
-ghost use Rattle.std.specs.Prelude.{◌≡◌, ◌==◌, ◌+◌, ◌<◌, ◌≤◌, ◌++◌, IsSome, OnOk, []};
+ghost use Rattle.std.specs.Prelude.{◌≡◌, ◌+◌, ◌<◌, ◌≤◌, ◌++◌, IsSome, None, OnOk};
+ghost use Rattle.std.specs.List.{flat_map};
 ghost use Rattle.agent_core.specs.Happenings.{happening};
 ghost use Rattle.agent_model.specs.State.{Fits, find_port, find_to_start, starts};
 ghost use Rattle.replay_run.specs.Counts.{IsCounted};
-ghost use Rattle.replay_run.specs.Holding.{free_port, hold_port};
-ghost use Rattle.replay_run.specs.Replay.{at_job, at_peer, at_port, format_turned, happened, longest_schedule, missed, set_moment, settling_turn, took, was_closed};
+ghost use Rattle.replay_run.specs.Replay.{at_job, at_peer, brought_turned, happens, longest_schedule, skips, step_brings};
+ghost use Rattle.schedule_text.specs.declared.step.Step.TheVariants.{At, Format2, Free, Hold, Take};
 
 use crate::limits::{ASK_LIMIT, CONFIRM_LIMIT};
 use crate::replay::Replay;
-use crate::settle::{is_among, run_event, send};
-use agent_core::{Agent, CoreMemory, Event, Settings};
+use crate::watch::{Watch, is_among};
+use agent_core::{Agent, Event, Settings};
 use schedule_text::LineFault;
+use std::alloc::AllocError;
 use world_ports::Moment;
 
 impl Replay {
     // The schedule is of format 2, where this is its first line.
-    pub(crate) fn set_format(&mut self, size: u64, out: &mut Vec<u8>) -> Result<(), CoreMemory>
+    pub(crate) fn set_format<W: Watch>(
+        &mut self,
+        size: u64,
+        watch: &mut W,
+    ) -> Result<(), AllocError>
         requires counted { IsCounted self.old }
         requires within { self.old.read + size ≤ longest_schedule }
-        ensures run { OnOk result (self.new ≡ (format_turned (self.old.line == 0) size self.old).run) }
-        ensures out { OnOk result (out.new.items ≡ out.old.items
-            ++ (format_turned (self.old.line == 0) size self.old).output) }
+        ensures run { OnOk result (self.new
+            ≡ (brought_turned (step_brings Format2 self.old) size self.old).run) }
+        ensures notes { OnOk result (W.notes watch.new ≡ W.notes watch.old
+            ++ flat_map W.notes_of
+            (brought_turned (step_brings Format2 self.old) size self.old).told) }
     {
         if self.line != 0 {
-            return self.refuse(LineFault::Word, out);
+            return self.refuse(LineFault::Word, watch);
         }
         let settings = Settings {
             default_life: self.life,
@@ -37,160 +45,174 @@ impl Replay {
 
     // From here on events come at this moment. The agent is told at once, and which ports it closed is kept for the next
     // line.
-    pub(crate) fn set_moment(
+    pub(crate) fn set_moment<W: Watch>(
         &mut self,
         moment: Moment,
         size: u64,
-        out: &mut Vec<u8>,
-    ) -> Result<(), CoreMemory>
+        watch: &mut W,
+    ) -> Result<(), AllocError>
         requires counted { IsCounted self.old }
         requires some { 0 < size }
         requires within { self.old.read + size ≤ longest_schedule }
-        ensures run { OnOk result (self.new ≡ (set_moment moment size self.old).run) }
-        ensures out { OnOk result (out.new.items ≡ out.old.items
-            ++ (set_moment moment size self.old).output) }
+        ensures run { OnOk result (self.new
+            ≡ (brought_turned (step_brings (At moment) self.old) size self.old).run) }
+        ensures notes { OnOk result (W.notes watch.new ≡ W.notes watch.old
+            ++ flat_map W.notes_of
+            (brought_turned (step_brings (At moment) self.old) size self.old).told) }
     {
         self.moment = moment;
-        run_event(self.alloc, &mut self.agent, moment, &Event::Tick, out)?;
+        let line = self.line + 1;
+        watch.step(self.alloc, &mut self.agent, line, moment, &Event::Tick)?;
         let closed = Vec::from_slice(self.alloc, self.agent.closes())?;
-        self.end_turn(size, out)?;
+        self.end_turn(size, watch)?;
         self.closed = closed;
         Ok(())
     }
 
     // From here on the port takes bytes only by `take`.
-    pub(crate) fn hold(&mut self, port: u64, size: u64, out: &mut Vec<u8>) -> Result<(), CoreMemory>
+    pub(crate) fn hold<W: Watch>(
+        &mut self,
+        port: u64,
+        size: u64,
+        watch: &mut W,
+    ) -> Result<(), AllocError>
         requires counted { IsCounted self.old }
         requires within { self.old.read + size ≤ longest_schedule }
-        ensures run { OnOk result (self.new ≡ (at_port (find_port port self.old.agent.ports)
-            (settling_turn [] size (record self.old { held = hold_port port self.old.held }))
-            self.old).run) }
-        ensures out { OnOk result (out.new.items ≡ out.old.items
-            ++ (at_port (find_port port self.old.agent.ports)
-            (settling_turn [] size (record self.old { held = hold_port port self.old.held }))
-            self.old).output) }
+        ensures run { OnOk result (self.new
+            ≡ (brought_turned (step_brings (Hold port) self.old) size self.old).run) }
+        ensures notes { OnOk result (W.notes watch.new ≡ W.notes watch.old
+            ++ flat_map W.notes_of
+            (brought_turned (step_brings (Hold port) self.old) size self.old).told) }
     {
         if !self.agent.is_port(port) {
-            return self.refuse(LineFault::UnknownPort, out);
+            return self.refuse(LineFault::UnknownPort, watch);
         }
         self.held.hold(port)?;
-        self.end_turn(size, out)
+        self.end_turn(size, watch)
     }
 
     // The port takes all again.
-    pub(crate) fn free(&mut self, port: u64, size: u64, out: &mut Vec<u8>) -> Result<(), CoreMemory>
+    pub(crate) fn free<W: Watch>(
+        &mut self,
+        port: u64,
+        size: u64,
+        watch: &mut W,
+    ) -> Result<(), AllocError>
         requires counted { IsCounted self.old }
         requires within { self.old.read + size ≤ longest_schedule }
-        ensures run { OnOk result (self.new ≡ (at_port (find_port port self.old.agent.ports)
-            (settling_turn [] size (record self.old { held = free_port port self.old.held }))
-            self.old).run) }
-        ensures out { OnOk result (out.new.items ≡ out.old.items
-            ++ (at_port (find_port port self.old.agent.ports)
-            (settling_turn [] size (record self.old { held = free_port port self.old.held }))
-            self.old).output) }
+        ensures run { OnOk result (self.new
+            ≡ (brought_turned (step_brings (Free port) self.old) size self.old).run) }
+        ensures notes { OnOk result (W.notes watch.new ≡ W.notes watch.old
+            ++ flat_map W.notes_of
+            (brought_turned (step_brings (Free port) self.old) size self.old).told) }
     {
         if !self.agent.is_port(port) {
-            return self.refuse(LineFault::UnknownPort, out);
+            return self.refuse(LineFault::UnknownPort, watch);
         }
         self.held.free(port);
-        self.end_turn(size, out)
+        self.end_turn(size, watch)
     }
 
     // The port takes so many bytes, where it is open and owed them.
-    pub(crate) fn take(
+    pub(crate) fn take<W: Watch>(
         &mut self,
         port: u64,
         count: u64,
         size: u64,
-        out: &mut Vec<u8>,
-    ) -> Result<(), CoreMemory>
+        watch: &mut W,
+    ) -> Result<(), AllocError>
         requires counted { IsCounted self.old }
+        requires some { 0 < size }
         requires within { self.old.read + size ≤ longest_schedule }
         requires count { 0 < count }
         ensures run { OnOk result (self.new
-            ≡ (at_peer port (took port count size self.old) size self.old).run) }
-        ensures out { OnOk result (out.new.items ≡ out.old.items
-            ++ (at_peer port (took port count size self.old) size self.old).output) }
+            ≡ (brought_turned (step_brings (Take port count) self.old) size self.old).run) }
+        ensures notes { OnOk result (W.notes watch.new ≡ W.notes watch.old
+            ++ flat_map W.notes_of
+            (brought_turned (step_brings (Take port count) self.old) size self.old).told) }
     {
         if !self.agent.is_port(port) {
-            return self.miss(port, size, out);
+            return self.miss(port, size, watch);
         }
         if count > self.agent.owed(port).len() as u64 {
-            return self.refuse(LineFault::Order, out);
+            return self.refuse(LineFault::Order, watch);
         }
-        send(
-            self.alloc,
-            &mut self.agent,
-            self.moment,
+        let event = Event::Took {
             port,
-            count as usize,
-            out,
-        )?;
-        self.end_turn(size, out)
+            count: count as usize,
+        };
+        self.happen(&event, size, watch)
     }
 
     // The event of a port, where that one is open.
-    pub(crate) fn happen_at(
+    pub(crate) fn happen_at<W: Watch>(
         &mut self,
         port: u64,
         event: &Event<'_>,
         size: u64,
-        out: &mut Vec<u8>,
-    ) -> Result<(), CoreMemory>
+        watch: &mut W,
+    ) -> Result<(), AllocError>
         requires counted { IsCounted self.old }
         requires some { 0 < size }
         requires within { self.old.read + size ≤ longest_schedule }
         requires fits { IsSome (find_port port self.old.agent.ports) →
             Fits (happening event.now) self.old.agent }
         ensures run { OnOk result (self.new
-            ≡ (at_peer port (happened (happening event.now) size self.old) size self.old).run) }
-        ensures out { OnOk result (out.new.items ≡ out.old.items
-            ++ (at_peer port (happened (happening event.now) size self.old) size self.old).output) }
+            ≡ (brought_turned (at_peer (find_port port self.old.agent.ports) port
+            (happens (happening event.now) self.old) self.old) size self.old).run) }
+        ensures notes { OnOk result (W.notes watch.new ≡ W.notes watch.old
+            ++ flat_map W.notes_of
+            (brought_turned (at_peer (find_port port self.old.agent.ports) port
+            (happens (happening event.now) self.old) self.old) size self.old).told) }
     {
         if !self.agent.is_port(port) {
-            return self.miss(port, size, out);
+            return self.miss(port, size, watch);
         }
-        self.happen(event, size, out)
+        self.happen(event, size, watch)
     }
 
     // A port that isn't open hears, ends and takes nothing. The line is refused, unless the moment of the line before
     // closed the port.
-    fn miss(&mut self, port: u64, size: u64, out: &mut Vec<u8>) -> Result<(), CoreMemory>
+    fn miss<W: Watch>(&mut self, port: u64, size: u64, watch: &mut W) -> Result<(), AllocError>
         requires counted { IsCounted self.old }
         requires within { self.old.read + size ≤ longest_schedule }
-        ensures run { OnOk result (self.new ≡ (missed (was_closed port self.old) size self.old).run) }
-        ensures out { OnOk result (out.new.items ≡ out.old.items
-            ++ (missed (was_closed port self.old) size self.old).output) }
+        ensures run { OnOk result (self.new
+            ≡ (brought_turned (at_peer None port (skips self.old) self.old) size self.old).run) }
+        ensures notes { OnOk result (W.notes watch.new ≡ W.notes watch.old
+            ++ flat_map W.notes_of
+            (brought_turned (at_peer None port (skips self.old) self.old) size self.old).told) }
     {
         if !self.closed.contains(&port) {
-            return self.refuse(LineFault::UnknownPort, out);
+            return self.refuse(LineFault::UnknownPort, watch);
         }
         self.skip(size);
         Ok(())
     }
 
     // The event of a job, where that one waits to be started.
-    pub(crate) fn happen_to(
+    pub(crate) fn happen_to<W: Watch>(
         &mut self,
         job: u64,
         event: &Event<'_>,
         size: u64,
-        out: &mut Vec<u8>,
-    ) -> Result<(), CoreMemory>
+        watch: &mut W,
+    ) -> Result<(), AllocError>
         requires counted { IsCounted self.old }
         requires some { 0 < size }
         requires within { self.old.read + size ≤ longest_schedule }
         requires fits { IsSome (find_to_start job (starts self.old.agent)) →
             Fits (happening event.now) self.old.agent }
-        ensures run { OnOk result (self.new ≡ (at_job (find_to_start job (starts self.old.agent))
-            (happened (happening event.now) size self.old) self.old).run) }
-        ensures out { OnOk result (out.new.items ≡ out.old.items
-            ++ (at_job (find_to_start job (starts self.old.agent))
-            (happened (happening event.now) size self.old) self.old).output) }
+        ensures run { OnOk result (self.new
+            ≡ (brought_turned (at_job (find_to_start job (starts self.old.agent))
+            (happens (happening event.now) self.old)) size self.old).run) }
+        ensures notes { OnOk result (W.notes watch.new ≡ W.notes watch.old
+            ++ flat_map W.notes_of
+            (brought_turned (at_job (find_to_start job (starts self.old.agent))
+            (happens (happening event.now) self.old)) size self.old).told) }
     {
         if !is_among(self.agent.starts(), job) {
-            return self.refuse(LineFault::Order, out);
+            return self.refuse(LineFault::Order, watch);
         }
-        self.happen(event, size, out)
+        self.happen(event, size, watch)
     }
 }

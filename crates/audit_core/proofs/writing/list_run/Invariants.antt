@@ -10,7 +10,7 @@ use Rattle.audit_core.proofs.writing.list_run.Given as goal
 abbrev pub invariant-lines : goal.invariant-lines
 invariant-lines g l = record {
   counted : IsCounted l.run;
-  puts : l.puts.items ≡ [];
+  puts : l.noting.puts.items ≡ [];
   listing : IsListing (puts_from l.fn.run (parts_of l.recording)) (puts_from l.run (parts_of l.rest)) l.count
       (g.O.Stream.seen l.fn.output) (g.O.Stream.seen l.output);
   only : OnlyWrites (g.O.Stream.seen l.fn.output) (g.O.Stream.seen l.output);

@@ -24,4 +24,4 @@ returns-then-size-gt-LONGEST_LINE-clause-goes c =
       | then-size-gt-LONGEST_LINE-via-else-size-gt-LONGEST_LINE+then-read-size-gt-LONGEST_SCHEDULE w ↦ inr (omega arith)
     ] in
     rw (← c.self.view_is) (rw (← grown)
-    (late_goes_ok c.refuse.result old.out.items bytes old.run c.refuse.new.out.items c.refuse.new.self bytes part counted long c.refuse.ensures.run c.refuse.ensures.out))
+    (late_goes_ok c.refuse.result old.out.items bytes old.run c.refuse.new.watch.items c.refuse.new.self bytes part counted long c.refuse.ensures.run c.refuse.ensures.notes))

@@ -1,6 +1,6 @@
 use Rattle.std.proofs.Common.{◌≡◌, ◌++◌, drop}
-use Rattle.replay_run.specs.Settling.{close_lines}
-use Rattle.replay_run.proofs.settle.put_closes.Given as goal
+use Rattle.replay_run.specs.Told.{close_lines}
+use Rattle.replay_run.proofs.watch.put_closes.Given as goal
 
 -- what is printed, and the lines of the ports that are left, are all lines
 abbrev pub invariant-closes : goal.invariant-closes

@@ -5,7 +5,7 @@ use Rattle.std.proofs.lemmas.Iterator.Search.{any_from_yields_List}
 use Rattle.std.specs.List.{list_any}
 use Rattle.world_ports.specs.declared.Job.{Job}
 use Rattle.agent_model.specs.State.{find_to_start}
-use Rattle.audit_core.proofs.event.is_among.Goals as goal
+use Rattle.replay_run.proofs.watch.is_among.Goals as goal
 
 -- the test of the standard library
 finds : (number : ℕ) (jobs : List Job) → list_any (λ (job : Job). job.number == number) jobs ≡ is_some (find_to_start number jobs)

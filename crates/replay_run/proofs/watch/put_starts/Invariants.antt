@@ -1,6 +1,6 @@
 use Rattle.std.proofs.Common.{◌≡◌, ◌++◌, drop}
-use Rattle.replay_run.specs.Settling.{start_lines}
-use Rattle.replay_run.proofs.settle.put_starts.Given as goal
+use Rattle.replay_run.specs.Told.{start_lines}
+use Rattle.replay_run.proofs.watch.put_starts.Given as goal
 
 -- what is printed, and the lines of the jobs that are left, are all lines
 abbrev pub invariant-jobs : goal.invariant-jobs
