@@ -15,6 +15,7 @@ import signal
 import socket
 import subprocess
 import sys
+import tempfile
 import threading
 import time
 
@@ -78,40 +79,77 @@ def answers(agent, blob, seconds=20):
 # Tickets.
 
 
+class User:
+    """An agent of another user, whose programs are root's and of mode 0711, as `make install` leaves them; and what a
+    process of that user tries beside it."""
+
+    def __init__(self, folder, ask, *words, helper="standin_helper", **more):
+        if os.geteuid() != 0:
+            raise Skip("only root starts programs that a user can't read")
+        user = pwd.getpwnam("nobody")
+        self.as_user = dict(user=user.pw_uid, group=user.pw_gid, extra_groups=[])
+        folder.chmod(0o755)
+        for name, source in ((helper, rig.built(helper)), ("confirm_relay", rig.built("confirm_relay")), ("agent_prog", PROGRAM)):
+            shutil.copy(source, folder / name)
+            (folder / name).chmod(0o711)
+        self.place = folder / "run"
+        self.place.mkdir()
+        os.chown(self.place, user.pw_uid, user.pw_gid)
+        asker = rig.script(folder / "ask", ask.format(place=self.place))
+        asker.chmod(0o755)
+        more = dict(helper=folder / helper, stderr=subprocess.DEVNULL, **more, **self.as_user)
+        words = ["--relay", folder / "confirm_relay", "--askpass", asker, *words]
+        self.agent = our_agent(folder / "agent_prog", self.place, *words, **more)
+        self.helper_name = helper
+
+    def __enter__(self):
+        return self
+
+    def __exit__(self, *_):
+        self.agent.end()
+
+    def read(self, pid, name):
+        """What the user reads of a process."""
+        return subprocess.run(["cat", f"/proc/{pid}/{name}"], capture_output=True, timeout=20, **self.as_user)
+
+    def words(self, pid):
+        return self.read(pid, "cmdline").stdout
+
+    def python(self, text, *words, **more):
+        """Starts a program in Python as the user."""
+        more = dict(stdout=subprocess.PIPE, stderr=subprocess.PIPE, text=True, cwd="/", **more, **self.as_user)
+        # Another user may not reach the one that runs this.
+        python = "/usr/bin/python3" if os.path.exists("/usr/bin/python3") else sys.executable
+        return subprocess.Popen([python, "-c", text, *map(str, words)], **more)
+
+    def helper(self):
+        """The helper that runs."""
+        for pid in children(self.agent.process.pid):
+            if self.helper_name.encode() in self.words(pid):
+                return pid
+        return None
+
+    def end_helper(self):
+        helper = self.helper()
+        os.kill(helper, signal.SIGKILL)
+        until(lambda: not is_alive(helper))
+
+    def no_other_file(self):
+        """Of what is in the user's folder nothing is named for child processes."""
+        assert not list(self.place.glob("*children*")), list(self.place.iterdir())
+
+
 @check
 def no_process_of_the_user_reads_a_ticket(folder):
-    """The programs are root's and of mode 0711, as `make install` leaves them, and the agent is another user's."""
-    if os.geteuid() != 0:
-        raise Skip("only root starts programs that a user can't read")
-    user = pwd.getpwnam("nobody")
-    as_user = dict(user=user.pw_uid, group=user.pw_gid, extra_groups=[])
-    folder.chmod(0o755)
-    for name in ("standin_helper", "confirm_relay"):
-        rig.built(name)
-        shutil.copy(rig.BUILT / name, folder / name)
-        (folder / name).chmod(0o711)
-    shutil.copy(PROGRAM, folder / "agent_prog")
-    (folder / "agent_prog").chmod(0o711)
-    asker = rig.script(folder / "ask", "exec sleep 60")
-    asker.chmod(0o755)
-    place = folder / "run"
-    place.mkdir()
-    os.chown(place, user.pw_uid, user.pw_gid)
-
-    def read(pid, name):
-        """What the user reads of a process."""
-        return subprocess.run(["cat", f"/proc/{pid}/{name}"], capture_output=True, timeout=20, **as_user)
-
-    more = dict(helper=folder / "standin_helper", stderr=subprocess.DEVNULL, **as_user)
-    words = ["--relay", folder / "confirm_relay", "--askpass", asker]
-    with our_agent(folder / "agent_prog", place, *words, **more) as agent:
+    with User(folder, "exec sleep 60") as user:
+        agent, read = user.agent, user.read
         with agent.peer() as peer, agent.peer() as other:
             blob, asked = add(peer), add(peer, b"u" * 32, CONFIRM)
             assert peer.ask(request(blob)[0], request(blob)[1:])[0] == SIGNATURE
             other.send(request(asked))
             family = lambda: [pid for child in children(agent.process.pid) for pid in (child, *children(child))]
             until(lambda: len(family()) == 3, what="helper, relay and ASKPASS")
-            until(lambda: b"sleep" in b"".join(read(pid, "cmdline").stdout for pid in family()), what="ASKPASS")
+            until(lambda: b"sleep" in b"".join(map(user.words, family())), what="ASKPASS")
             for pid in (agent.process.pid, *family()):
                 said, kept = read(pid, "cmdline"), read(pid, "environ")
                 assert said.returncode == 0 and said.stdout, pid
@@ -119,26 +157,249 @@ def no_process_of_the_user_reads_a_ticket(folder):
                 assert not DIGITS.search(kept.stdout) and TICKET.encode() not in kept.stdout, kept.stdout
                 assert kept.returncode != 0 or b"sleep" in said.stdout, said.stdout
             # the attack: the helper ends, and the next one's words are read while it stands still
-            (helper,) = (pid for pid in children(agent.process.pid) if b"helper" in read(pid, "cmdline").stdout)
-            os.kill(helper, signal.SIGKILL)
-            until(lambda: not is_alive(helper))
+            user.end_helper()
             peer.send(request(blob))
-            found = until(
-                lambda: [pid for pid in children(agent.process.pid) if b"helper" in read(pid, "cmdline").stdout],
-                what="the next helper",
-            )
-            assert not DIGITS.search(read(found[0], "cmdline").stdout)
+            found = until(user.helper, what="the next helper")
+            assert not DIGITS.search(user.words(found))
             assert peer.reply()[0] == SIGNATURE
+
+
+# Takes the place of a socket for child processes, where there is one, says what comes there at the real one, and what
+# comes from that on standard output.
+LURE = """
+import os, socket, struct, sys
+path = sys.argv[1]
+real = path + ".real"
+try:
+    os.rename(path, real)
+except FileNotFoundError:
+    pass
+listener = socket.socket(socket.AF_UNIX)
+listener.bind(path)
+listener.listen()
+print("ready", flush=True)
+child = listener.accept()[0]
+hello = child.recv(100)
+agent = socket.socket(socket.AF_UNIX)
+agent.connect(real)
+agent.sendall(hello)
+body = agent.recv(1 << 16)
+print(body.hex(), flush=True)
+agent.sendall(struct.pack(">IB", 9, 105) + hello[5:13])
+agent.recv(1)
+"""
+
+
+@check
+def a_lure_beside_the_agent_catches_no_helper(folder):
+    with User(folder, "exit 1") as user, user.agent.peer() as peer:
+        blob = add(peer)
+        assert peer.ask(request(blob)[0], request(blob)[1:])[0] == SIGNATURE
+        with user.python(LURE, user.agent.path + ".children") as lure:
+            try:
+                assert lure.stdout.readline() == "ready\n"
+                user.end_helper()
+                peer.send(request(blob))
+                assert peer.reply()[0] == SIGNATURE, "another process took the helper's place"
+                lure.terminate()
+                assert lure.stdout.read() == "", "a request with its private key"
+            finally:
+                lure.kill()
+
+
+@check
+def a_lure_beside_the_agent_catches_no_relay(folder):
+    with User(folder, "echo asked > {place}/asked; exit 1") as user, user.agent.peer() as peer:
+        blob = add(peer, constraints=CONFIRM)
+        with user.python(LURE, user.agent.path + ".children") as lure:
+            try:
+                assert lure.stdout.readline() == "ready\n"
+                peer.send(request(blob))
+                assert peer.reply() == bytes([FAILURE]), "signed, and nobody consented"
+                assert (user.place / "asked").exists(), "ASKPASS never ran"
+                lure.terminate()
+                assert lure.stdout.read() == ""
+            finally:
+                lure.kill()
+
+
+# Reads the last ticket of a record, and says HELLO with it wherever it can, before the helper: what comes of that.
+FIRST = """
+import os, re, socket, struct, sys
+record, *paths = sys.argv[1:]
+job, ticket = re.findall(r"started (\\d+) ([0-9a-f]{32})", open(record).read())[-1]
+hello = struct.pack(">IBQI", 29, 1, int(job), 16) + bytes.fromhex(ticket)
+for path in paths:
+    try:
+        agent = socket.socket(socket.AF_UNIX)
+        agent.settimeout(2)
+        agent.connect(path)
+        agent.sendall(hello)
+        print(agent.recv(1 << 16).hex(), flush=True)
+    except OSError:
+        pass
+"""
+
+
+@check
+def a_ticket_of_a_record_is_worth_nothing(folder):
+    private = bytes(range(32)).hex()
+    record = folder / "record"
+    with open(record, "w") as output, User(folder, "exit 1", "--record", stdout=output) as user:
+        with user.agent.peer(seconds=60) as peer:
+            blob = add(peer)
+            assert peer.ask(request(blob)[0], request(blob)[1:])[0] == SIGNATURE
+            for _ in range(3):
+                user.end_helper()
+                before = record.read_text().count("started ")
+                peer.send(request(blob))
+                helper = until(user.helper, what="the next helper")
+                os.kill(helper, signal.SIGSTOP)
+                until(lambda: record.read_text().count("started ") > before, what="the line of the record")
+                with user.python(FIRST, record, user.agent.path + ".children", user.agent.path) as first:
+                    said, errors = first.communicate(timeout=60)
+                assert not errors and private not in said, "the private key"
+                os.kill(helper, signal.SIGCONT)
+                assert peer.reply()[0] == SIGNATURE
+        user.no_other_file()
+
+
+STRANGERS = """
+import socket, sys, time
+kept = []
+for path in sys.argv[1:]:
+    for _ in range(64):
+        try:
+            kept.append(socket.socket(socket.AF_UNIX))
+            kept[-1].connect(path)
+        except OSError:
+            pass
+print("ready", flush=True)
+time.sleep(100)
+"""
+
+
+@check
+def strangers_keep_no_helper_out(folder):
+    with User(folder, "exit 1") as user, user.agent.peer() as peer:
+        blob = add(peer)
+        with user.python(STRANGERS, user.agent.path + ".children", user.agent.path) as strangers:
+            try:
+                assert strangers.stdout.readline() == "ready\n"
+                for _ in range(3):
+                    assert peer.ask(request(blob)[0], request(blob)[1:])[0] == SIGNATURE
+                    user.end_helper()
+            finally:
+                strangers.kill()
+        user.no_other_file()
+
+
+# Takes each descriptor of the processes of its words, and lists them.
+TAKES = """
+import ctypes, os, sys
+libc = ctypes.CDLL(None, use_errno=True)
+for pid in map(int, sys.argv[1:]):
+    try:
+        print("listed", pid, os.listdir(f"/proc/{pid}/fd"))
+    except PermissionError:
+        pass
+    process = os.pidfd_open(pid)
+    for number in range(16):
+        if libc.syscall(438, process, number, 0) >= 0:
+            print("taken", pid, number)
+print("tried")
+"""
+
+
+@check
+def no_process_of_the_user_takes_a_descriptor(folder):
+    with User(folder, "exec sleep 60") as user, user.agent.peer() as peer, user.agent.peer() as other:
+        blob, asked = add(peer), add(peer, b"u" * 32, CONFIRM)
+        assert peer.ask(request(blob)[0], request(blob)[1:])[0] == SIGNATURE
+        other.send(request(asked))
+        agent = user.agent.process.pid
+        until(lambda: len(children(agent)) == 2, what="helper and relay")
+        with user.python(TAKES, agent, *children(agent)) as takes:
+            assert takes.communicate(timeout=60) == ("tried\n", "")
+
+
+@check
+def what_stands_in_the_agent_s_folder_can_not_consent(folder):
+    """Each file that the front end leaves to its user says yes, and the program of SSH_ASKPASS no."""
+    from installed import Installed
+
+    rig.built("confirm_relay")
+    installed = Installed(folder)
+    asker = rig.script(folder / "ask", f"echo asked >> {folder}/asked; exit 1")
+    words = dict(SSH_ASKPASS=str(asker), SSH_ASKPASS_REQUIRE="force")
+    with installed.start("--stand-in", environment=words) as daemon:
+        with rig.Peer(rig.connected(daemon.path)) as peer:
+            blob = add(peer, constraints=CONFIRM)
+            for file in pathlib.Path(daemon.path).parent.iterdir():
+                if file.is_file():
+                    rig.script(file, "exit 0")
+            assert peer.ask(request(blob)[0], request(blob)[1:]) == bytes([FAILURE])
+            assert (folder / "asked").exists()
+
+
+# Programs that are swapped.
+
+
+def swapped(path, source):
+    """Puts another file in a program's place."""
+    shutil.copy(source, f"{path}.new")
+    os.rename(f"{path}.new", path)
+
+
+@check
+def a_helper_that_was_swapped_is_not_started(folder):
+    rig.built("standin_helper")
+    helper = folder / "helper"
+    shutil.copy(rig.BUILT / "standin_helper", helper)
+    with open(folder / "errors", "w") as errors, serve(folder, helper=helper, stderr=errors) as agent:
+        with agent.peer() as peer:
+            blob = add(peer)
+        assert answers(agent, blob) == SIGNATURE
+        (first,) = children(agent.process.pid)
+        swapped(helper, rig.BUILT / "standin_helper")
+        assert answers(agent, blob) == SIGNATURE, "the one that runs goes on"
+        os.kill(first, signal.SIGKILL)
+        until(lambda: not is_alive(first))
+        for _ in range(3):
+            assert answers(agent, blob) == FAILURE
+        assert not children(agent.process.pid)
+    told = (folder / "errors").read_text()
+    assert told.count("isn't the file that it was") == 1 and str(helper) in told, told
+
+
+@check
+def an_upgrade_by_root_goes_on(folder):
+    """The file and each folder above it are root's, and nobody else's to write: which those of /tmp aren't."""
+    rig.built("standin_helper")
+    if os.geteuid() != 0:
+        raise Skip("it takes root")
+    with tempfile.TemporaryDirectory(dir="/usr/local/lib", prefix="mk-") as place:
+        helper = pathlib.Path(place) / "helper"
+        shutil.copy(rig.BUILT / "standin_helper", helper)
+        with serve(folder, helper=helper, stderr=subprocess.DEVNULL) as agent:
+            with agent.peer() as peer:
+                blob = add(peer)
+            for wanted, mode in ((SIGNATURE, 0o755), (FAILURE, 0o775), (SIGNATURE, 0o755)):
+                swapped(helper, rig.BUILT / "standin_helper")
+                os.chmod(place, mode)
+                assert answers(agent, blob) == wanted, oct(mode)
+                for pid in children(agent.process.pid):
+                    os.kill(pid, signal.SIGKILL)
+                    until(lambda: not is_alive(pid))
 
 
 @check
 def a_ticket_in_the_words_is_still_taken_and_a_dash_alone_is_not(folder):
     rig.built("standin_helper")
-    child = rig.Child(rig.BUILT / "standin_helper", folder)
+    child = rig.Child(rig.BUILT / "standin_helper")
     assert child.end()[0] == 0
     for name in ("standin_helper", "confirm_relay", "mortarleek-helper"):
-        words = [rig.built(name), folder / "none", "1", "-", "/bin/true"]
-        run(words, 2, env={}, timeout=20)
+        run([rig.built(name), "-", "1", "-", "/bin/true"], 2, env={}, timeout=20, stdin=subprocess.DEVNULL)
 
 
 # Helpers that end.
@@ -174,14 +435,30 @@ def many_that_ask_at_once_are_refused_where_each_helper_ends(folder):
 
 
 @check
-def where_the_helpers_can_not_reach_the_agent_signing_is_refused(folder):
-    rig.built("standin_helper")
-    with serve(folder, helper=rig.BUILT / "standin_helper", stderr=subprocess.DEVNULL) as agent:
+def a_helper_that_closes_its_connection_before_its_hello_is_refused_and_ended(folder):
+    helper = rig.script(folder / "helper", f"echo $$ >> {folder}/started; exec sleep 60 < /dev/null")
+    with serve(folder, helper=helper) as agent:
         with agent.peer() as peer:
             blob = add(peer)
-        os.unlink(agent.path + ".children")
         for _ in range(3):
             assert answers(agent, blob) == FAILURE
+        started = [int(pid) for pid in (folder / "started").read_text().split()]
+        assert len(started) == 3
+        until(lambda: not any(map(is_alive, started)) and not zombies(agent.process.pid), 8, what="the helpers' end")
+
+
+@check
+def a_helper_that_ends_within_its_hello_is_refused(folder):
+    """Some bytes of a hello and the end are there at once, or other bytes than those of a hello."""
+    for said in (r"\0", r"\0\0\0\035\1\0\0\0\0", r"\0\0\0\035\2", r"GET / HTTP/1.1\r\nHost: localhost\r\n\r\n"):
+        for then in ("exit 0", "exec sleep 60"):
+            helper = rig.script(folder / "helper", f"printf '{said}' >&0; {then}")
+            if then != "exit 0" and said in (r"\0", r"\0\0\0\035\1\0\0\0\0"):
+                continue  # that one has a minute
+            with serve(folder, helper=helper) as agent, agent.peer() as peer:
+                blob = add(peer)
+                for _ in range(20):
+                    assert peer.ask(request(blob)[0], request(blob)[1:]) == bytes([FAILURE]), said
 
 
 @check
@@ -429,8 +706,7 @@ def an_end_behind_the_last_request_is_heard(folder):
 
 LONG = """
 import os, socket, struct, sys
-peer = socket.socket(socket.AF_UNIX)
-peer.connect(sys.argv[1])
+peer = socket.socket(fileno=0)
 string = lambda content: struct.pack(">I", len(content)) + content
 peer.sendall(string(struct.pack(">BQ", 1, int(sys.argv[2])) + string(bytes.fromhex(os.environ["MORTARLEEK_TICKET"]))))
 heard = b""
@@ -469,7 +745,7 @@ def a_bind_waits_for_the_lock_beside_the_path(folder):
             time.sleep(1)
             assert not path.exists(), "it was bound while another held the lock"
             fcntl.flock(lock, fcntl.LOCK_UN)
-            until(lambda: (folder / "s.children").exists(), what="the sockets")
+            until(lambda: rig.serves(path), what="the socket")
             fcntl.flock(lock, fcntl.LOCK_EX)  # nobody holds it while the agent serves
             process.terminate()
     assert (folder / "s.lock").exists()
@@ -497,13 +773,11 @@ def an_agent_that_ends_takes_no_other_s_socket_away(folder):
     with agent.peer() as peer:
         peer.ask(LIST)
         os.unlink(agent.path)
-        os.unlink(agent.path + ".children")
         other = serve(folder)
     assert agent.process.wait(20) == 0
     with other:
         with other.peer() as peer:
             assert peer.ask(LIST)[0] == IDENTITIES
-        assert os.path.exists(other.path + ".children")
 
 
 @check
@@ -515,7 +789,7 @@ def an_agent_keeps_neither_the_folder_nor_the_descriptors_of_its_starter(folder)
         more = dict(cwd=folder, pass_fds=[held.fileno()], stdin=subprocess.DEVNULL, stdout=subprocess.DEVNULL)
         process = subprocess.Popen(words, **more)
     path = folder / "s"
-    until(lambda: (folder / "s.children").exists(), what="the sockets")
+    until(lambda: rig.serves(path), what="the socket")
     with rig.Agent(process, path) as agent:
         with agent.peer() as peer:
             blob = add(peer)
@@ -540,4 +814,4 @@ def a_replay_takes_no_descriptor(folder):
 
 
 if __name__ == "__main__":
-    check.main(PROGRAM, "util-linux", "strace")
+    check.main(PROGRAM)

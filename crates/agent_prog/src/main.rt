@@ -1,13 +1,15 @@
-//! An SSH agent. `agent_prog serve` listens on Unix sockets until a signal ends it; `agent_prog replay` reads events
+//! An SSH agent. `agent_prog serve` listens on a Unix socket until a signal ends it; `agent_prog replay` reads events
 //! from standard input and writes what the agent does to standard output; `agent_prog drill` makes events from a seed,
 //! and sums up what came of them. `agent_main` of agent_top is the program; here are its words, its sockets and streams,
 //! and what it says on standard error.
 #![tactic(auto)]
 
+mod cores;
 mod descriptors;
 mod outside;
 mod trouble;
 
+use crate::cores::may_dump;
 use crate::descriptors::close_inherited;
 use crate::outside::world_of;
 use crate::trouble::Trouble;
@@ -42,7 +44,7 @@ fn words_of<R: Env + AllocGlobal>(rt: &R) -> Result<Vec<String>, Status> {
         .map_err(|_| Status::Memory)
 }
 
-// Serves over the real outside, and takes away the files of the sockets that it bound.
+// Serves over the real outside, and takes away the file of the socket that it bound.
 fn serve<R, W: Wait, I: Source, O: Sink>(
     rt: &R,
     wait: &W,
@@ -52,7 +54,7 @@ fn serve<R, W: Wait, I: Source, O: Sink>(
     output: &mut O,
 ) -> Result<Status, Status>
 where
-    R: Files<File = File> + Net + Processes + RandomSource + Clock + Env + AllocGlobal,
+    R: Files<File = File> + Net + Processes + RandomSource + Clock + Env + AllocGlobal + Eprint,
 {
     let alloc = rt.alloc();
     let mut world = world_of(rt, alloc, served).map_err(|error| status_of(
@@ -60,7 +62,7 @@ where
         Status::PollFault,
     ))?;
     let status = agent_main(wait, alloc, words, &mut world, input, output);
-    world.remove_files();
+    world.remove_file();
     Ok(status)
 }
 
@@ -88,6 +90,11 @@ fn run<W: Wait, I: Source, O: Sink>(
     match read_serve(alloc, &words) {
         Ok(served) => {
             close_inherited(rt, alloc);
+            if may_dump() {
+                let _ = eprintln!(rt;
+                    "mortarleek: a core file could hold private keys: set its limit to 0 (ulimit -c 0)"
+                );
+            }
             serve(rt, wait, &words, served, input, output)
         }
         Err(ServeFault::Memory) => Err(Status::Memory),

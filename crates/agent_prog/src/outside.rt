@@ -1,7 +1,6 @@
 // The sockets and programs of an agent that serves.
 ghost use Rattle.std.specs.Prelude.{◌≡◌, IfOk};
 
-use ready_loop::children_path;
 use serve_words::ServeWords;
 use std::alloc::{AllocGlobal, Global};
 use std::env;
@@ -71,10 +70,8 @@ pub fn world_of<'a, R: Files<File = File> + Net + Processes + Env + AllocGlobal>
     ensures { IfOk result (λ world. world.last_port ≡ 0) }
 {
     let folder = working_folder(rt, alloc)?;
-    let path = absolute(alloc, &folder, served.path.as_str())?;
-    let socket = children_path(alloc, path.as_str())?;
     let programs = programs_of(alloc, &folder, &served)?;
-    let mut world = UnixWorld::new(rt, alloc, socket, programs)?;
+    let mut world = UnixWorld::new(rt, alloc, programs)?;
     if let Some(folder) = folder {
         world.set_folder(folder);
     }

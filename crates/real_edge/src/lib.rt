@@ -2,6 +2,7 @@
 //! Stands on world_ports and plain_lists.
 #![tactic(auto)]
 
+mod dialog;
 mod errors;
 mod files;
 mod peer;
@@ -13,6 +14,6 @@ mod ticket;
 mod watched;
 
 pub use files::RealFiles;
-pub use peer::{Peer, connect, connect_watched};
+pub use peer::{Peer, connect, connect_child};
 pub use spawner::RealSpawner;
 pub use ticket::put_ticket;

@@ -3,8 +3,12 @@ ghost use Rattle.std.specs.Prelude.{◌≡◌};
 
 use std::io::Result as IoResult;
 use std::net::Net;
+use std::os::fd::AsFd;
 use std::os::unix::net::UnixStream;
 use world_ports::{Fault, Pulled, Reading, Sink, Source, Stream, Writing};
+
+// The word for a connection that the program was started with.
+const STANDARD_INPUT: &str = "-";
 
 /// A source and a sink as one object: what it says is read from the one, and the other takes what
 /// is said to it.
@@ -41,22 +45,31 @@ impl<I: Source, O: Sink> Sink for Peer<I, O> {
     }
 }
 
-/// Connects to the listener at a path. Reads and writes wait.
+/// A connection as a source and a sink. Reads and writes wait.
+fn peer_of(stream: UnixStream) -> IoResult<Peer<Reading<UnixStream>, Writing<UnixStream>>> {
+    let copy = stream.try_clone()?;
+    Ok(Peer::new(Reading::new(copy), Writing::new(stream)))
+}
+
+/// Connects to the listener at a path.
 pub fn connect<N: Net>(
     net: &N,
     path: &str,
 ) -> IoResult<Peer<Reading<UnixStream>, Writing<UnixStream>>> {
-    let (peer, _) = connect_watched(net, path)?;
-    Ok(peer)
+    peer_of(UnixStream::connect(net, path)?)
 }
 
-/// As `connect`, and the connection once more, to see its end while neither a read nor a write waits.
-pub fn connect_watched<N: Net>(
+/// The connection to the agent of a program that it starts: where SOCKET is `-` the standard input, and else that to the
+/// listener at this path. It comes once more, to see its end while neither a read nor a write waits.
+pub fn connect_child<N: Net, I: AsFd>(
     net: &N,
-    path: &str,
+    input: &I,
+    socket: &str,
 ) -> IoResult<(Peer<Reading<UnixStream>, Writing<UnixStream>>, UnixStream)> {
-    let stream = UnixStream::connect(net, path)?;
-    let copy = stream.try_clone()?;
+    let stream = match socket {
+        STANDARD_INPUT => UnixStream::from(input.as_fd().try_clone_to_owned()?),
+        path => UnixStream::connect(net, path)?,
+    };
     let watched = stream.try_clone()?;
-    Ok((Peer::new(Reading::new(copy), Writing::new(stream)), watched))
+    Ok((peer_of(stream)?, watched))
 }

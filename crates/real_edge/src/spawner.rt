@@ -1,11 +1,13 @@
 // Programs of the system.
 ghost use Rattle.std.specs.Prelude.{◌≡◌, None};
 
+use crate::dialog::give_dialog;
 use crate::errors::is_own_want;
 use crate::ticket::TICKET;
 use crate::watched::run_to_end;
 use plain_lists::Bytes;
-use std::alloc::Global;
+use std::alloc::{AllocGlobal, Global};
+use std::env::Env;
 use std::fs::Files;
 use std::io;
 use std::io::Result as IoResult;
@@ -17,8 +19,9 @@ use world_ports::{Ran, SpawnFault, Spawner};
 /// Runs programs of the system, of which nothing is told. Failed runs are counted.
 ///
 /// A program is searched as the system does, has an empty standard input, and shares our standard
-/// error and environment, a ticket there excepted. Where a connection is watched and its peer shuts
-/// its end, the program that runs is killed, and the run has failed: nobody waits for its answer.
+/// error and environment, a ticket there excepted. One that asks the user gets of the environment only
+/// what a dialog needs; where the peer of the connection shuts its end, it is killed, and the run has
+/// failed: nobody waits for its answer.
 #[derive(Drop)]
 pub struct RealSpawner<'a, R> {
     rt: &'a R,
@@ -37,8 +40,8 @@ impl<'a, R> RealSpawner<'a, R> {
         }
     }
 
-    /// Programs run for as long as the peer of this connection holds its end open.
-    pub fn watching(rt: &'a R, connection: UnixStream) -> Self
+    /// Programs ask the user, for as long as the peer of this connection holds its end open.
+    pub fn asking(rt: &'a R, connection: UnixStream) -> Self
         ensures { result.faults ≡ 0 }
     {
         RealSpawner {
@@ -49,7 +52,7 @@ impl<'a, R> RealSpawner<'a, R> {
     }
 }
 
-impl<R: Files + Processes> Spawner for RealSpawner<'_, R> {
+impl<R: Files + Processes + Env + AllocGlobal> Spawner for RealSpawner<'_, R> {
     ghost seen = { λ s. record { runs = None; faults = s.faults } };
 
     fn run(&mut self, alloc: Global, program: &str, word: &str) -> Result<Ran, SpawnFault> {
@@ -68,7 +71,7 @@ impl<R: Files + Processes> Spawner for RealSpawner<'_, R> {
     }
 }
 
-fn run_program<R: Files + Processes>(
+fn run_program<R: Files + Processes + Env + AllocGlobal>(
     rt: &R,
     alloc: Global,
     program: &str,
@@ -78,7 +81,12 @@ fn run_program<R: Files + Processes>(
     let (mut output, theirs) = io::pipe(rt)?;
     let mut command = Command::new(alloc, program)?;
     command.arg(word)?;
-    command.env_remove(TICKET)?;
+    match watched {
+        Some(_) => give_dialog(rt, alloc, &mut command, watched)?,
+        None => {
+            command.env_remove(TICKET)?;
+        }
+    }
     command.stdin(Stdio::null());
     command.stdout(Stdio::from(theirs));
     let mut child = command.spawn(rt)?;

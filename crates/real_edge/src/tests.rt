@@ -1,7 +1,7 @@
 //! Each adapter once over the real thing.
 use crate::files::read_all;
 use crate::room::Room;
-use crate::{Peer, RealFiles, RealSpawner, connect};
+use crate::{Peer, RealFiles, RealSpawner, connect, connect_child};
 use std::fs;
 use std::os::unix::net::{UnixListener, UnixStream};
 use std::test::Fail;
@@ -67,5 +67,18 @@ fn a_connection_is_read_and_written(rt: HostRuntime) -> Result<(), Fail> {
     assert_eq!(rt; &room[..5], b"hello".as_slice());
     assert_eq!(rt; other.write(b"bye"), Ok(3));
     assert_eq!(rt; peer.read(&mut room), Ok(Pulled::Bytes(3)));
+    Ok(())
+}
+
+#[test]
+fn a_connection_that_was_handed_over_is_taken(rt: HostRuntime) -> Result<(), Fail> {
+    let (ours, theirs) = UnixStream::pair(&rt)?;
+    let (mut peer, _) = connect_child(&rt, &theirs, "-")?;
+    drop(theirs);
+    let mut other = Peer::new(Reading::new(ours.try_clone()?), Writing::new(ours));
+    assert_eq!(rt; peer.write(b"hello"), Ok(5));
+    let mut room = [0; 9];
+    assert_eq!(rt; other.read(&mut room), Ok(Pulled::Bytes(5)));
+    assert!(rt; connect_child(&rt, &rt.stdin(), "no_such_file").is_err());
     Ok(())
 }

@@ -27,7 +27,7 @@ fn now<W: World>(rt: &impl Abort, world: &mut W) -> Moment {
 #[test]
 fn the_clocks_go(rt: HostRuntime) -> Result<(), Fail> {
     let alloc = rt.alloc();
-    let mut world = UnixWorld::new(&rt, alloc, String::new(alloc), no_programs(alloc))?;
+    let mut world = UnixWorld::new(&rt, alloc, no_programs(alloc))?;
     let before = now(&rt, &mut world);
     holds(&rt, is_uptime(&rt, before.mono), "with its sleep");
     holds(&rt, before.wall > 1_700_000_000, "this century");

@@ -13,7 +13,7 @@ use world_ports::{Accepted, Door, Got, Polled, Ready, Spot, World, WorldFault, W
 #[test]
 fn a_client_is_reported_and_heard_to_its_end(rt: HostRuntime) -> Result<(), Fail> {
     let alloc = rt.alloc();
-    let mut world = UnixWorld::new(&rt, alloc, String::new(alloc), no_programs(alloc))?;
+    let mut world = UnixWorld::new(&rt, alloc, no_programs(alloc))?;
     let listens = world.bind(Door::Clients, "heard.socket").is_ok();
     holds(&rt, listens, "a listener");
     let answer = world.accept(Door::Clients);
@@ -46,19 +46,19 @@ fn a_client_is_reported_and_heard_to_its_end(rt: HostRuntime) -> Result<(), Fail
     let answer = world.poll(None, &mut ready);
     polled(&rt, answer, Polled::Some, "its end came");
     reads(&rt, &mut world, 1, &mut room, Got::End, "its end");
-    world.remove_files();
+    world.remove_file();
     Ok(())
 }
 
 #[test]
 fn a_reply_arrives_and_a_closed_connection_is_refused(rt: HostRuntime) -> Result<(), Fail> {
     let alloc = rt.alloc();
-    let mut world = UnixWorld::new(&rt, alloc, String::new(alloc), no_programs(alloc))?;
-    let listens = world.bind(Door::Children, "reply.socket").is_ok();
+    let mut world = UnixWorld::new(&rt, alloc, no_programs(alloc))?;
+    let listens = world.bind(Door::Clients, "reply.socket").is_ok();
     holds(&rt, listens, "a listener");
-    let mut child = UnixStream::connect(&rt, "reply.socket").expect(&rt, "a child");
-    let answer = world.accept(Door::Children);
-    accepted(&rt, answer, Accepted::Port(1), "the child");
+    let mut client = UnixStream::connect(&rt, "reply.socket").expect(&rt, "a client");
+    let answer = world.accept(Door::Clients);
+    accepted(&rt, answer, Accepted::Port(1), "the client");
     let mut room = [0; 4];
     reads(
         &rt,
@@ -69,12 +69,12 @@ fn a_reply_arrives_and_a_closed_connection_is_refused(rt: HostRuntime) -> Result
         "nothing was sent",
     );
     writes(&rt, &mut world, 1, b"defg", Wrote::Took(4), "a reply");
-    receives(&rt, &mut child, b"defg");
+    receives(&rt, &mut client, b"defg");
     holds(&rt, world.close(1).is_ok(), "a close");
-    receives(&rt, &mut child, b"");
+    receives(&rt, &mut client, b"");
     let refused = matches!(world.read(1, &mut room), Err(WorldFault::Failed));
     holds(&rt, refused, "a read behind the close");
-    world.remove_files();
+    world.remove_file();
     Ok(())
 }
 
@@ -123,7 +123,7 @@ fn room_for_a_write_is_reported_once_there_is_some(rt: HostRuntime) -> Result<()
     let alloc = rt.alloc();
     let bytes = vec![in alloc; 5; 65536]?;
     let mut room = vec![in alloc; 0; 65536]?;
-    let mut world = UnixWorld::new(&rt, alloc, String::new(alloc), no_programs(alloc))?;
+    let mut world = UnixWorld::new(&rt, alloc, no_programs(alloc))?;
     let listens = world.bind(Door::Clients, "room.socket").is_ok();
     holds(&rt, listens, "a listener");
     let mut client = UnixStream::connect(&rt, "room.socket").expect(&rt, "a client");
@@ -153,6 +153,6 @@ fn room_for_a_write_is_reported_once_there_is_some(rt: HostRuntime) -> Result<()
         Wrote::Took(4),
         "a write with room",
     );
-    world.remove_files();
+    world.remove_file();
     Ok(())
 }

@@ -18,7 +18,7 @@ fn refuses<W: World>(rt: &impl Abort, world: &mut W, path: &str) {
 #[test]
 fn only_the_user_may_open_the_file_and_it_goes(rt: HostRuntime) -> Result<(), Fail> {
     let alloc = rt.alloc();
-    let mut world = UnixWorld::new(&rt, alloc, String::new(alloc), no_programs(alloc))?;
+    let mut world = UnixWorld::new(&rt, alloc, no_programs(alloc))?;
     let listens = world.bind(Door::Clients, "mode.socket").is_ok();
     holds(&rt, listens, "a listener");
     let metadata = fs::metadata(&rt, "mode.socket").expect(&rt, "its file");
@@ -27,7 +27,7 @@ fn only_the_user_may_open_the_file_and_it_goes(rt: HostRuntime) -> Result<(), Fa
         metadata.permissions().mode() & 0o777 == 0o600,
         "its mode",
     );
-    world.remove_files();
+    world.remove_file();
     holds(&rt, fs::metadata(&rt, "mode.socket").is_err(), "it goes");
     Ok(())
 }
@@ -36,10 +36,10 @@ fn only_the_user_may_open_the_file_and_it_goes(rt: HostRuntime) -> Result<(), Fa
 fn a_file_that_nobody_listens_at_is_replaced(rt: HostRuntime) -> Result<(), Fail> {
     let alloc = rt.alloc();
     drop(UnixListener::bind(&rt, "stale.socket")?);
-    let mut world = UnixWorld::new(&rt, alloc, String::new(alloc), no_programs(alloc))?;
+    let mut world = UnixWorld::new(&rt, alloc, no_programs(alloc))?;
     let listens = world.bind(Door::Clients, "stale.socket").is_ok();
     holds(&rt, listens, "a listener");
-    world.remove_files();
+    world.remove_file();
     Ok(())
 }
 
@@ -48,9 +48,9 @@ fn a_file_that_somebody_listens_at_is_never_replaced(rt: HostRuntime) -> Result<
     let alloc = rt.alloc();
     let live = UnixListener::bind(&rt, "live.socket")?;
     fs::write(&rt, "a_file.socket", "a user's own")?;
-    let mut world = UnixWorld::new(&rt, alloc, String::new(alloc), no_programs(alloc))?;
+    let mut world = UnixWorld::new(&rt, alloc, no_programs(alloc))?;
     refuses(&rt, &mut world, "live.socket");
-    world.remove_files();
+    world.remove_file();
     holds(
         &rt,
         fs::metadata(&rt, "live.socket").is_ok(),
@@ -58,7 +58,7 @@ fn a_file_that_somebody_listens_at_is_never_replaced(rt: HostRuntime) -> Result<
     );
     drop(live);
     refuses(&rt, &mut world, "a_file.socket");
-    world.remove_files();
+    world.remove_file();
     let kept = fs::read(&rt, "a_file.socket").expect(&rt, "the user's file");
     holds(
         &rt,

@@ -16,3 +16,5 @@ mod ended;
 mod files;
 #[cfg(test)]
 mod no_programs;
+#[cfg(test)]
+mod said;

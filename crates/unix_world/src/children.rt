@@ -1,93 +1,140 @@
-// The child processes that were started, those that ended and weren't spoken for yet among them.
-ghost use Rattle.std.specs.Prelude.{◌≡◌, ◌<◌, length, IfOk, OnErr, Ok};
-ghost use Rattle.world_ports.specs.Worlds.{KeepsRest, GotWithin};
-
+// The child processes that haven't named themselves, and those whose connection was closed.
 use crate::started::Started;
 use std::alloc::{AllocError, Global};
-use std::io::{Error, ErrorKind, Result as IoResult};
 use std::process::OpenProcess;
-use world_ports::Got;
 
+// As many may be accepted that haven't named themselves: the agent would close one more.
+const MOST_UNNAMED: usize = 32;
+
+// How many seconds behind its start a child process has to have named itself.
+const HELLO_LIMIT: u64 = 60;
+
+// How many seconds it has to end by itself once its connection was closed. The clock is read in whole seconds, so one
+// more keeps it from having less.
+const END_LIMIT: u64 = 2 + 1;
+
+// How many seconds behind a kill it is looked for again.
+const KILL_PAUSE: u64 = 1;
+
+// What was due has been done.
+const NEVER: u64 = u64::MAX;
+
+// Whose hello wasn't read yet: its connection's key, and from which second on it is ended.
+#[derive(Clone, Copy)]
+struct Unnamed {
+    key: usize,
+    due: u64,
+}
+
+/// The child processes of which something is due.
 #[derive(Drop)]
 pub struct Children<P: OpenProcess + Drop> {
-    list: Vec<Started<P>>,
+    // In the order of their starts, in which they are accepted.
+    unnamed: Vec<Unnamed>,
+    // How many of these were accepted: the first ones.
+    accepted: usize,
+    // How many have a connection.
+    connected: usize,
+    // Those whose connection was closed, until they are reaped.
+    ending: Vec<Started<P>>,
 }
 
 impl<P: OpenProcess + Drop> Children<P> {
     pub fn new(alloc: Global) -> Children<P> {
         Children {
-            list: Vec::new(alloc),
+            unnamed: Vec::new(alloc),
+            accepted: 0,
+            connected: 0,
+            ending: Vec::new(alloc),
         }
     }
 
+    /// Takes room for one more, and for the end of all that there are then.
     pub fn reserve(&mut self) -> Result<(), AllocError> {
-        self.list.reserve(1)
+        self.unnamed.reserve(1)?;
+        self.ending.reserve(self.connected.saturating_add(1))
     }
 
-    pub fn push(&mut self, child: Started<P>) -> Result<(), AllocError> {
-        self.list.push(child)?;
+    /// One was started at this second, whose connection has this key.
+    pub fn begin(&mut self, key: usize, second: u64) -> Result<(), AllocError> {
+        self.unnamed.push(Unnamed {
+            key,
+            due: second.saturating_add(HELLO_LIMIT),
+        })?;
+        self.connected = self.connected.saturating_add(1);
         Ok(())
     }
 
-    /// The standard input of a job's process hung up.
-    pub fn hang_up(&mut self, job: u64) {
-        for child in self.list.iter_mut() {
-            if child.job == job {
-                child.hang_up();
+    /// The connection that is to be accepted next, where one may be.
+    pub fn waiting(&self) -> Option<usize> {
+        if self.accepted >= MOST_UNNAMED {
+            return None;
+        }
+        self.unnamed.get(self.accepted).map(|child| child.key)
+    }
+
+    /// That one was accepted.
+    pub fn accept(&mut self) {
+        self.accepted = self.accepted.saturating_add(1);
+    }
+
+    /// The hello of the one with this connection was read, or its connection was closed.
+    pub fn name(&mut self, key: usize) {
+        if let Some(place) = self.unnamed.iter().position(|child| child.key == key) {
+            self.unnamed.remove(place);
+            if place < self.accepted {
+                self.accepted -= 1;
             }
         }
     }
 
-    /// Asks the system which have ended: `all`, or those alone that hung up. Whether there is one to speak for.
-    pub fn reap(&mut self, all: bool) -> bool {
-        for child in self.list.iter_mut() {
-            child.reap(all);
-        }
-        self.list.retain(|child| !child.is_over());
-        self.list.iter().any(|child| child.waits())
-    }
-
-    /// Takes a connection of one that waits to be spoken for. Whether there is one.
-    pub fn speak(&mut self, port: u64) -> bool {
-        for child in self.list.iter_mut() {
-            if child.waits() {
-                child.speak(port);
-                return true;
+    /// The connection of one that should have named itself by this second. Each is told once.
+    pub fn late(&mut self, second: u64) -> Option<usize> {
+        for child in self.unnamed.iter_mut() {
+            if child.due <= second {
+                child.due = NEVER;
+                return Some(child.key);
             }
         }
-        false
+        None
     }
 
-    /// Whether the world speaks at this connection.
-    pub fn speaks_at(&self, port: u64) -> bool {
-        self.list.iter().any(|child| child.speaks_at(port))
+    /// The connection of this child process was closed at this second.
+    pub fn leave(&mut self, child: Started<P>, second: u64) {
+        let mut child = child;
+        self.connected = self.connected.saturating_sub(1);
+        child.due = second.saturating_add(END_LIMIT);
+        // `reserve` took room for it. Without room it would be neither waited for nor killed.
+        let _ = self.ending.push(child);
+        self.reap(second);
     }
 
-    /// A connection of a child process was closed. Those that were turned away are tried again, unless this one was turned
-    /// away itself and so left no room. Whether there is one to speak for.
-    pub fn leave(&mut self, port: u64) -> bool {
-        for child in self.list.iter_mut() {
-            if child.speaks_at(port) && !child.leave() {
-                return false;
+    /// Asks the system which of those without a connection have ended, and kills those that should have.
+    pub fn reap(&mut self, second: u64) {
+        for child in self.ending.iter_mut() {
+            child.reap();
+            if child.due <= second {
+                child.kill();
+                child.due = second.saturating_add(KILL_PAUSE);
             }
         }
-        for child in self.list.iter_mut() {
-            child.try_again();
-        }
-        self.list.iter().any(|child| child.waits())
+        self.ending.retain(|child| !child.has_ended());
     }
 
-    /// Reads at a connection at which the world speaks. Whether the next poll has to tell of it comes back too.
-    pub fn read(&mut self, port: u64, round: u64, room: &mut [u8]) -> IoResult<(Got, bool)>
-        requires { 0 < length room.old }
-        ensures within { IfOk result (λ read. GotWithin (Ok read.0) (length room.old)) }
-        ensures rest { IfOk result (λ read. KeepsRest (Ok read.0) room.old room.new) }
-        ensures unchanged { OnErr result (room.new ≡ room.old) }
-    {
-        let found = self.list.iter().position(|child| child.speaks_at(port));
-        match self.list.get_mut(found.unwrap_or(usize::MAX)) {
-            Some(child) => Ok(child.read(round, room)),
-            None => Err(Error::from(ErrorKind::NotFound)),
+    /// Whether nothing is due.
+    pub fn is_quiet(&self) -> bool {
+        self.unnamed.is_empty() && self.ending.is_empty()
+    }
+
+    /// The second at which something is due first.
+    pub fn next_due(&self) -> Option<u64> {
+        let mut next = None;
+        for child in self.unnamed.iter() {
+            next = Some(child.due.min(next.unwrap_or(NEVER)));
         }
+        for child in self.ending.iter() {
+            next = Some(child.due.min(next.unwrap_or(NEVER)));
+        }
+        next
     }
 }

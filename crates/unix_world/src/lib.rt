@@ -5,7 +5,10 @@
 
 mod children;
 mod clock;
+mod connection;
 mod doors;
+mod hello;
+mod identity;
 mod lock;
 mod marks;
 mod port;

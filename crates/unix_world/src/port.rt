@@ -7,31 +7,25 @@ use mio::net::UnixStream;
 use mio::{Interest, Registry, Token};
 use std::io;
 use std::io::{ErrorKind, Read, Write};
-use world_ports::{Door, Got, Wrote};
+use std::net::Shutdown;
+use world_ports::{Got, Wrote};
 
-/// A connection, at which listener it came, what may wait there, and whether epoll is to report room for writing: only
-/// from the first write on that found none.
+/// A connection, what may wait there, and whether epoll is to report room for writing: only from the first write on that
+/// found none.
 #[derive(Drop)]
 pub struct Port {
     stream: UnixStream,
-    pub door: Door,
     pub marks: Marks,
     waits_for_room: bool,
 }
 
 impl Port {
     /// Registers the connection for reading.
-    pub fn new(
-        registry: &Registry,
-        token: Token,
-        stream: UnixStream,
-        door: Door,
-    ) -> io::Result<Port> {
+    pub fn new(registry: &Registry, token: Token, stream: UnixStream) -> io::Result<Port> {
         let mut stream = stream;
         registry.register(&mut stream, token, Interest::READABLE)?;
         Ok(Port {
             stream,
-            door,
             marks: Marks::new(),
             waits_for_room: false,
         })
@@ -89,5 +83,10 @@ impl Port {
             }
             Err(error) => Err(error),
         }
+    }
+    /// Ends both directions, so that the peer reads its end and nothing more is read here.
+    pub fn shut(&mut self) {
+        let _ = self.stream.shutdown(Shutdown::Both);
+        self.marks.shut();
     }
 }

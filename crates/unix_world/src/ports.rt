@@ -1,93 +1,68 @@
 // The open connections.
-ghost use Rattle.std.specs.Bool.{OnTrue};
-ghost use Rattle.std.specs.Prelude.{◌<◌, IfSome, length};
-
-use crate::port::Port;
+use crate::connection::Connection;
+use slab::Slab;
 use std::alloc::{AllocError, Global};
+use std::collections::HashMap;
+use std::process::OpenProcess;
 
-/// The open connections in the order of their numbers, which rise as they come. A number is looked for where the last
-/// one was found first, and then as far from there as it is from that one: most searches between two polls are for one
-/// port, and then for the next.
+/// The open connections, each under the key that is its token, and the keys of those that were accepted by their numbers.
+///
+/// A key is given again once its connection is gone. Nothing that was told of the former one comes to the next: what
+/// epoll tells is turned into numbers at once, and a number is never given again.
 #[derive(Drop)]
-pub struct Ports {
-    open: Vec<Numbered>,
-    near: usize,
+pub struct Ports<P: OpenProcess + Drop> {
+    open: Slab<Connection<P>>,
+    keys: HashMap<u64, usize>,
 }
 
-#[derive(Drop)]
-struct Numbered {
-    number: u64,
-    port: Port,
-}
-
-impl Ports {
-    pub fn new(alloc: Global) -> Ports {
+impl<P: OpenProcess + Drop> Ports<P> {
+    pub fn new(alloc: Global) -> Ports<P> {
         Ports {
-            open: Vec::new(alloc),
-            near: 0,
+            open: Slab::new(alloc),
+            keys: HashMap::new(alloc),
         }
     }
 
     /// Takes room for one more.
     pub fn reserve(&mut self) -> Result<(), AllocError> {
-        self.open.reserve(1)
+        self.open.reserve(1)?;
+        self.keys.reserve(1)
     }
 
-    /// Adds the connection of this number, which is above all others.
-    pub fn add(&mut self, number: u64, port: Port) -> Result<(), AllocError> {
-        self.open
-            .push(Numbered { number, port })
-            .map_err(AllocError::from)
+    /// The key of the connection that is added next.
+    pub fn next_key(&self) -> usize {
+        self.open.vacant_key()
+    }
+
+    pub fn add(&mut self, connection: Connection<P>) -> Result<(), AllocError> {
+        self.open.insert(connection).map_err(AllocError::from)?;
+        Ok(())
+    }
+
+    /// The connection with this key was accepted under this number.
+    pub fn number(&mut self, key: usize, number: u64) -> Result<(), AllocError> {
+        self.keys.insert(number, key).map_err(AllocError::from)?;
+        if let Some(connection) = self.open.get_mut(key) {
+            connection.number = Some(number);
+        }
+        Ok(())
+    }
+
+    /// The key of the connection with this number.
+    #[inline(always)]
+    pub fn key_of(&self, number: u64) -> Option<usize> {
+        self.keys.get(&number).copied()
     }
 
     #[inline(always)]
-    pub fn get_mut(&mut self, number: u64) -> Option<&mut Port> {
-        let place = self.place_of(number)?;
-        self.near = place;
-        self.open.get_mut(place).map(|found| &mut found.port)
+    pub fn get_mut(&mut self, key: usize) -> Option<&mut Connection<P>> {
+        self.open.get_mut(key)
     }
 
-    pub fn remove(&mut self, number: u64) -> Option<Port> {
-        let place = self.place_of(number)?;
-        let Numbered { number: _, port } = self.open.remove(place);
-        Some(port)
-    }
-
-    // Where the connection of this number stands: near, as far from there as its number is, or anywhere.
-    #[inline(always)]
-    fn place_of(&self, number: u64) -> Option<usize>
-        ensures { IfSome result (λ place. place < length self.now.open.items) }
-    {
-        if self.is_at(self.near, number) {
-            return Some(self.near);
-        }
-        let place = self.guess(number);
-        if self.is_at(place, number) {
-            return Some(place);
-        }
-        self.open
-            .binary_search_by_key(&number, |found| found.number)
-            .ok()
-    }
-
-    // Where it stands if every number between it and the near one is open.
-    fn guess(&self, number: u64) -> usize {
-        match self.open.get(self.near) {
-            Some(found) => self
-                .near
-                .wrapping_add(number.wrapping_sub(found.number) as usize),
-            None => 0,
-        }
-    }
-
-    // Whether the connection of this number stands at this place.
-    #[inline(always)]
-    fn is_at(&self, place: usize, number: u64) -> bool
-        ensures { OnTrue result (place < length self.now.open.items) }
-    {
-        match self.open.get(place) {
-            Some(found) => found.number == number,
-            None => false,
-        }
+    /// Takes out the connection with this number, and tells its key.
+    pub fn remove(&mut self, number: u64) -> Option<(usize, Connection<P>)> {
+        let key = self.keys.remove(&number)?;
+        let connection = self.open.try_remove(key)?;
+        Some((key, connection))
     }
 }

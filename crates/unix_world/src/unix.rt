@@ -9,10 +9,10 @@ mod waits;
 
 use crate::children::Children;
 use crate::clock::seconds;
+use crate::connection::Connection;
 use crate::doors::{BoundFile, Listener, listen_at, remove_bound};
 use crate::ports::Ports;
-use crate::programs::{Programs, kept_environment};
-use crate::unix::accepts::owe;
+use crate::programs::{KnownPrograms, Programs, kept_environment};
 use mio::{Events, Interest, Poll, Token};
 use std::alloc::{AllocError, AllocGlobal, Global};
 use std::env::Env;
@@ -23,29 +23,26 @@ use std::net::Net;
 use std::process::Processes;
 use std::random::RandomSource;
 use std::time::Clock;
-use world_ports::{Accepted, Door, Got, Job, Moment, Polled, Ready, World, WorldFault, Wrote};
+use world_ports::{
+    Accepted, Door, Got, Job, Moment, Polled, READ_ROOM, Ready, World, WorldFault, Wrote,
+};
 
 // epoll keeps what doesn't fit for the next wait.
 const EVENTS: usize = 64;
 
-// The longest read, in bytes.
-const INBOX: usize = 16384;
-
-const CLIENTS: Token = Token(0);
-
-const CHILDREN: Token = Token(usize::MAX);
-
-// The token of a child process is its job's number above this. No port has a number from here on, and no job one of as
-// many.
-const STARTED: u64 = 1 << 63;
+// The listener's token. Those of connections are keys of the slab, and below it.
+const CLIENTS: Token = Token(usize::MAX);
 
 /// Unix sockets over epoll, child processes, the system's clocks.
 ///
-/// A port's number is its token. A connection is registered for reading; for writing only once a write found no room.
-/// Between two polls each port is read once, and each listener gives a bounded number of connections; where that may
-/// leave something waiting, the next poll tells of it and doesn't wait. The clocks are read once between two polls, too.
-/// For a child process that has ended the world opens a connection, says its hello there and ends it, whether or not the
-/// process did; ended ones are reaped.
+/// A connection is registered for reading; for writing only once a write found no room. Between two polls each port is
+/// read once, and the listener gives a bounded number of connections; where that may leave something waiting, the next
+/// poll tells of it and doesn't wait. The clocks are read once between two polls, too.
+///
+/// A child process's standard input is its connection, the other end of which is there to be accepted from its start on;
+/// nothing else connects at the children's door. Where the connection ends before the hello, or brings anything else, or
+/// nothing for a minute, the world says the hello there and ends it. Who has no connection any more has two seconds to
+/// end, is killed then, and is reaped.
 #[derive(Drop)]
 pub struct UnixWorld<'a, R: Processes> {
     rt: &'a R,
@@ -53,14 +50,13 @@ pub struct UnixWorld<'a, R: Processes> {
     poll: Poll,
     events: Events,
     clients: Option<Listener>,
-    children: Option<Listener>,
     // Relative paths at which it listens are those of this folder, where there is one.
     folder: Option<String>,
-    files: Vec<BoundFile>,
-    socket: String,
+    file: Option<BoundFile>,
     programs: Programs,
+    known: KnownPrograms,
     kept: Vec<(String, String)>,
-    ports: Ports,
+    ports: Ports<R::Started>,
     open_clients: usize,
     inbox: Vec<u8>,
     // The polls so far, and 1 more.
@@ -68,6 +64,8 @@ pub struct UnixWorld<'a, R: Processes> {
     // The ports of which the next poll has to tell.
     owed: Vec<u64>,
     started: Children<R::Started>,
+    // The second at which it was last looked what is due of child processes.
+    second: u64,
     last_port: u64,
     moment: Moment,
     // The round in which the clocks were read.
@@ -76,34 +74,29 @@ pub struct UnixWorld<'a, R: Processes> {
 }
 
 impl<'a, R: Files + Net + Processes + Env + AllocGlobal> UnixWorld<'a, R> {
-    /// A world with no listener and no connection yet. The child processes are told `socket`, the path at which the agent listens
-    /// for them. Fails where the system or memory does.
-    pub fn new(
-        rt: &'a R,
-        alloc: Global,
-        socket: String,
-        programs: Programs,
-    ) -> io::Result<UnixWorld<'a, R>>
+    /// A world with no listener and no connection yet. Fails where the system or memory does.
+    pub fn new(rt: &'a R, alloc: Global, programs: Programs) -> io::Result<UnixWorld<'a, R>>
         ensures { IfOk result (λ world. world.last_port ≡ 0) }
     {
+        let known = programs.known(rt);
         Ok(UnixWorld {
             rt,
             alloc,
             poll: Poll::new(rt)?,
             events: Events::with_capacity(alloc, EVENTS)?,
             clients: None,
-            children: None,
             folder: None,
-            files: Vec::new(alloc),
-            socket,
+            file: None,
             programs,
+            known,
             kept: kept_environment(rt, alloc)?,
             ports: Ports::new(alloc),
             open_clients: 0,
-            inbox: vec![in alloc; 0; INBOX]?,
+            inbox: vec![in alloc; 0; READ_ROOM]?,
             round: 1,
             owed: Vec::new(alloc),
             started: Children::new(alloc),
+            second: 0,
             last_port: 0,
             moment: Moment { mono: 0, wall: 0 },
             dated_in: 0,
@@ -120,9 +113,9 @@ impl<'a, R: Files + Net + Processes + Env + AllocGlobal> UnixWorld<'a, R> {
 }
 
 impl<R: Files<File = File> + Processes + Clock> UnixWorld<'_, R> {
-    /// Removes the files that this world made, where they are still the same. One that is gone already is no matter.
-    pub fn remove_files(&self) {
-        for file in self.files.iter() {
+    /// Removes the file that this world made, where it is still the same. One that is gone already is no matter.
+    pub fn remove_file(&self) {
+        if let Some(file) = &self.file {
             remove_bound(self.rt, file);
         }
     }
@@ -143,13 +136,7 @@ fn path_in(alloc: Global, folder: &Option<String>, path: &str) -> Result<String,
     }
 }
 
-// The file that is locked while an agent looks at a path and binds it: one for both of its listeners.
-fn lock_of(alloc: Global, path: &str) -> Result<String, AllocError> {
-    let named = path.strip_suffix(".children").unwrap_or(path);
-    format!(in alloc; "{}.lock", named)
-}
-
-impl<R: Files<File = File> + Net + Processes + RandomSource + Clock> UnixWorld<'_, R> {
+impl<R: Files<File = File> + Net + Processes + RandomSource + Clock + Eprint> UnixWorld<'_, R> {
     // The fault of a refused call, which is counted where it is the outside's.
     fn fault_of(&mut self, error: &Error) -> WorldFault
         ensures later { self.old.faults ≤ self.new.faults }
@@ -178,32 +165,24 @@ impl<R: Files<File = File> + Net + Processes + RandomSource + Clock> UnixWorld<'
         }
     }
 
-    fn listen(&mut self, door: Door, path: &str) -> io::Result<()>
+    fn listen(&mut self, path: &str) -> io::Result<()>
         ensures faults { self.new.faults ≡ self.old.faults }
         ensures ports { self.new.last_port ≡ self.old.last_port }
         ensures moment { self.new.moment ≡ self.old.moment }
     {
-        self.files.reserve(1)?;
-        let place = path_in(self.alloc, &self.folder, path)?;
-        let lock = lock_of(self.alloc, place.as_str())?;
-        let (mut made, device, inode) = listen_at(self.rt, place.as_str(), lock.as_str())?;
-        self.files.push(BoundFile {
-            path: place,
+        let path = path_in(self.alloc, &self.folder, path)?;
+        let lock = format!(in self.alloc; "{}.lock", path.as_str())?;
+        let (mut made, device, inode) = listen_at(self.rt, path.as_str(), lock.as_str())?;
+        self.file = Some(BoundFile {
+            path,
             lock,
             device,
             inode,
-        })?;
-        let token = match door {
-            Door::Clients => CLIENTS,
-            Door::Children => CHILDREN,
-        };
+        });
         self.poll
             .registry()
-            .register(&mut made.listener, token, Interest::READABLE)?;
-        match door {
-            Door::Clients => self.clients = Some(made),
-            Door::Children => self.children = Some(made),
-        }
+            .register(&mut made.listener, CLIENTS, Interest::READABLE)?;
+        self.clients = Some(made);
         Ok(())
     }
 
@@ -217,25 +196,23 @@ impl<R: Files<File = File> + Net + Processes + RandomSource + Clock> UnixWorld<'
         ensures ports { self.new.last_port ≡ self.old.last_port }
         ensures moment { self.new.moment ≡ self.old.moment }
     {
-        match self.ports.get_mut(port) {
-            Some(found) => {
-                if found.marks.asks(self.round) {
-                    return found.read(self.round, &mut self.inbox, room);
-                }
-                if found.marks.owes(self.round) {
-                    self.owed.push(port)?;
-                }
-                Ok(Got::NotNow)
+        let Some(key) = self.ports.key_of(port) else {
+            return Err(Error::from(ErrorKind::NotFound));
+        };
+        let Some(found) = self.ports.get_mut(key) else {
+            return Err(Error::from(ErrorKind::NotFound));
+        };
+        if !found.port.marks.asks(self.round) {
+            if found.port.marks.owes(self.round) {
+                self.owed.push(port)?;
             }
-            None => {
-                self.owed.reserve(1)?;
-                let (got, is_owed) = self.started.read(port, self.round, room)?;
-                if is_owed {
-                    self.owed.push(port)?;
-                }
-                Ok(got)
-            }
+            return Ok(Got::NotNow);
         }
+        let (got, is_named) = found.read(self.round, &mut self.inbox, room)?;
+        if is_named {
+            self.started.name(key);
+        }
+        Ok(got)
     }
 
     #[inline(always)]
@@ -246,16 +223,18 @@ impl<R: Files<File = File> + Net + Processes + RandomSource + Clock> UnixWorld<'
         ensures ports { self.new.last_port ≡ self.old.last_port }
         ensures moment { self.new.moment ≡ self.old.moment }
     {
-        match self.ports.get_mut(port) {
-            Some(found) => found.write(self.poll.registry(), Token(port as usize), bytes),
-            // It would be offered private keys where the world speaks, and nobody is there to take them.
-            None if self.started.speaks_at(port) => Ok(Wrote::NotNow),
+        let Some(key) = self.ports.key_of(port) else {
+            return Err(Error::from(ErrorKind::NotFound));
+        };
+        match self.ports.get_mut(key) {
+            Some(found) => found.write(self.poll.registry(), Token(key), bytes),
             None => Err(Error::from(ErrorKind::NotFound)),
         }
     }
 }
 
-impl<R: Files<File = File> + Net + Processes + RandomSource + Clock> World for UnixWorld<'_, R> {
+impl<R: Files<File = File> + Net + Processes + RandomSource + Clock + Eprint> World
+    for UnixWorld<'_, R> {
     ghost use Rattle.std.specs.Prelude.{None};
 
     ghost journal = { λ _. None };
@@ -267,9 +246,13 @@ impl<R: Files<File = File> + Net + Processes + RandomSource + Clock> World for U
     ghost greatest = { λ world. world.moment.mono };
 
     fn bind(&mut self, door: Door, path: &str) -> Result<(), WorldFault> {
-        match self.listen(door, path) {
-            Ok(()) => Ok(()),
-            Err(error) => Err(self.fault_of(&error)),
+        match door {
+            // Child processes are started with their connections, and connect to no file.
+            Door::Children => Ok(()),
+            Door::Clients => match self.listen(path) {
+                Ok(()) => Ok(()),
+                Err(error) => Err(self.fault_of(&error)),
+            },
         }
     }
 
@@ -302,15 +285,18 @@ impl<R: Files<File = File> + Net + Processes + RandomSource + Clock> World for U
     }
 
     fn close(&mut self, port: u64) -> Result<(), AllocError> {
-        match self.ports.remove(port) {
-            Some(closed) if closed.door == Door::Clients => self.client_left(),
-            _ => {
-                if self.started.leave(port) {
-                    owe(&mut self.children);
-                }
+        if let Some((key, closed)) = self.ports.remove(port) {
+            let Connection {
+                number: _,
+                port,
+                child,
+            } = closed;
+            drop(port);
+            match child {
+                Some(child) => self.child_left(key, child),
+                None => self.client_left(),
             }
         }
-        self.reap();
         Ok(())
     }
 

@@ -27,6 +27,10 @@ pub record IsCounted {T : Type 0} (before now : ℕ) (result : Result T WorldFau
   pub fault : IfFailed result (Rose before now)
   pub kept : OnOk result (now ≡ before)
 
+-- the room of each read of a loop, in bytes
+abbrev pub read_room : ℕ
+read_room = 16384
+
 -- a number of bytes, at least one
 abbrev pub IsPiece : ℕ → ℕ → Type 0
 IsPiece n most = (0 < n) × (n ≤ most)

@@ -40,4 +40,4 @@ pub use std_streams::{Reading, Writing};
 pub use stream::{Fault, Pulled, Sink, Source, Stream};
 pub use vec_sink::VecSink;
 pub use whole::write_all;
-pub use world::World;
+pub use world::{READ_ROOM, World};

@@ -8,6 +8,9 @@ ghost use Rattle.world_ports.specs.Worlds.{IsCounted, GotWithin, KeepsRest, Numb
 use crate::{Accepted, Door, Got, Job, Moment, Polled, Ready, WorldFault, Wrote};
 use std::alloc::AllocError;
 
+/// The room of each read of a loop, in bytes (ours).
+pub const READ_ROOM: usize = 16_384;
+
 /// Listeners, connections, child processes and clocks, none of which a call waits for but `poll`.
 ///
 /// Each call tells the journal its own entry, where there is one. A call that wants memory may leave

@@ -3,9 +3,8 @@ ghost use Rattle.std.specs.Prelude.{◌≡◌, ◌<◌, ◌+◌, ◌^◌, ◌-�
 ghost use Rattle.world_ports.specs.Worlds.{NumbersPort};
 
 use crate::UnixWorld;
-use crate::doors::Listener;
+use crate::connection::Connection;
 use crate::port::Port;
-use crate::unix::STARTED;
 use mio::Token;
 use mio::net::UnixStream;
 use std::fs::{File, Files};
@@ -20,33 +19,7 @@ use world_ports::{Accepted, Door};
 // As many clients may be open: the agent would close one more.
 const MOST_CLIENTS: usize = 128;
 
-// The next connection at a listener.
-fn accept_at(door: &mut Option<Listener>) -> io::Result<Option<UnixStream>> {
-    match door {
-        Some(door) => door.next(),
-        None => Err(Error::from(ErrorKind::NotFound)),
-    }
-}
-
-// The next poll has to tell of a listener.
-pub(crate) fn owe(door: &mut Option<Listener>) {
-    if let Some(door) = door {
-        door.is_owed = true;
-    }
-}
-
-impl<R: Files<File = File> + Net + Processes + RandomSource + Clock> UnixWorld<'_, R> {
-    // The number of a connection that is to be taken.
-    fn next_number(&self) -> io::Result<u64>
-        requires { self.now.last_port < 2 ^ 64 - 1 }
-        ensures { IfOk result (λ number. number ≡ self.now.last_port + 1) }
-    {
-        if self.last_port + 1 >= STARTED {
-            return Err(Error::from(ErrorKind::Other));
-        }
-        Ok(self.last_port + 1)
-    }
-
+impl<R: Files<File = File> + Net + Processes + RandomSource + Clock + Eprint> UnixWorld<'_, R> {
     // The next connection of a client, while fewer are open than may be.
     fn next_client(&mut self) -> io::Result<Option<UnixStream>>
         ensures faults { self.new.faults ≡ self.old.faults }
@@ -59,29 +32,45 @@ impl<R: Files<File = File> + Net + Processes + RandomSource + Clock> UnixWorld<'
             }
             return Ok(None);
         }
-        accept_at(&mut self.clients)
+        match &mut self.clients {
+            Some(door) => door.next(),
+            None => Err(Error::from(ErrorKind::NotFound)),
+        }
     }
 
-    // Joins a connection to those that are open, under this number. Whether there is one.
-    fn join(&mut self, door: Door, number: u64) -> io::Result<bool>
+    // Joins a client's connection to those that are open, under this number. Whether there is one.
+    fn join_client(&mut self, number: u64) -> io::Result<bool>
         ensures faults { self.new.faults ≡ self.old.faults }
         ensures ports { self.new.last_port ≡ self.old.last_port }
         ensures moment { self.new.moment ≡ self.old.moment }
     {
         self.ports.reserve()?;
-        let found = match door {
-            Door::Clients => self.next_client()?,
-            Door::Children if self.started.speak(number) => return Ok(true),
-            Door::Children => accept_at(&mut self.children)?,
-        };
-        let Some(stream) = found else {
+        let Some(stream) = self.next_client()? else {
             return Ok(false);
         };
-        let port = Port::new(self.poll.registry(), Token(number as usize), stream, door)?;
-        self.ports.add(number, port)?;
-        if door == Door::Clients {
-            self.open_clients = self.open_clients.saturating_add(1);
-        }
+        let key = self.ports.next_key();
+        let port = Port::new(self.poll.registry(), Token(key), stream)?;
+        self.ports.add(Connection {
+            number: None,
+            port,
+            child: None,
+        })?;
+        self.ports.number(key, number)?;
+        self.open_clients = self.open_clients.saturating_add(1);
+        Ok(true)
+    }
+
+    // Gives this number to the connection of a child process that was started, where one waits for that.
+    fn join_child(&mut self, number: u64) -> io::Result<bool>
+        ensures faults { self.new.faults ≡ self.old.faults }
+        ensures ports { self.new.last_port ≡ self.old.last_port }
+        ensures moment { self.new.moment ≡ self.old.moment }
+    {
+        let Some(key) = self.started.waiting() else {
+            return Ok(false);
+        };
+        self.ports.number(key, number)?;
+        self.started.accept();
         Ok(true)
     }
 
@@ -92,8 +81,12 @@ impl<R: Files<File = File> + Net + Processes + RandomSource + Clock> UnixWorld<'
         ensures err { OnErr result (self.new.last_port ≡ self.old.last_port) }
         ensures moment { self.new.moment ≡ self.old.moment }
     {
-        let number = self.next_number()?;
-        if !self.join(door, number)? {
+        let number = self.last_port + 1;
+        let joined = match door {
+            Door::Clients => self.join_client(number)?,
+            Door::Children => self.join_child(number)?,
+        };
+        if !joined {
             return Ok(Accepted::NotNow);
         }
         self.last_port = number;

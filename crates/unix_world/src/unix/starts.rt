@@ -1,18 +1,21 @@
-// Child processes: those that ended, and a new one.
+// Child processes: a new one, one that left, and those of which something is due.
 ghost use Rattle.std.specs.Prelude.{◌≡◌};
 
 use crate::UnixWorld;
+use crate::clock::seconds;
+use crate::connection::Connection;
+use crate::hello::Hello;
+use crate::port::Port;
 use crate::started::Started;
-use crate::unix::STARTED;
-use crate::unix::accepts::owe;
+use mio::Token;
 use mio::net::UnixStream;
-use mio::{Interest, Token};
 use rand::TryRng;
 use rand::rngs::SysRng;
+use std::alloc::AllocError;
 use std::fs::{File, Files};
 use std::io;
 use std::io::{Error, ErrorKind};
-use std::net::{Net, Shutdown};
+use std::net::Net;
 use std::os::fd::OwnedFd;
 use std::os::unix::net;
 use std::process::Processes;
@@ -20,15 +23,15 @@ use std::random::RandomSource;
 use std::time::Clock;
 use world_ports::Job;
 
-impl<R: Files<File = File> + Net + Processes + RandomSource + Clock> UnixWorld<'_, R> {
-    // Asks the system which child processes have ended. Where there is one to speak for, the next poll tells of it.
-    pub(crate) fn reap(&mut self)
+impl<R: Files<File = File> + Net + Processes + RandomSource + Clock + Eprint> UnixWorld<'_, R> {
+    // Reads the clock that child processes are bounded by.
+    fn read_second(&mut self)
         ensures faults { self.new.faults ≡ self.old.faults }
         ensures ports { self.new.last_port ≡ self.old.last_port }
         ensures moment { self.new.moment ≡ self.old.moment }
     {
-        if self.started.reap(true) {
-            owe(&mut self.children);
+        if let Some(second) = seconds(self.rt) {
+            self.second = second;
         }
     }
 
@@ -37,33 +40,71 @@ impl<R: Files<File = File> + Net + Processes + RandomSource + Clock> UnixWorld<'
         ensures ports { self.new.last_port ≡ self.old.last_port }
         ensures moment { self.new.moment ≡ self.old.moment }
     {
-        self.reap();
-        if job.number >= STARTED - 1 {
-            return Err(Error::from(ErrorKind::Other));
+        let may_start = self
+            .programs
+            .may_start(self.rt, self.alloc, &mut self.known, job.kind)?;
+        if !may_start {
+            return Err(Error::from(ErrorKind::PermissionDenied));
         }
+        self.ports.reserve()?;
         self.started.reserve()?;
         let mut ticket = [0; 16];
         SysRng::new(self.rt).try_fill_bytes(&mut ticket)?;
-        // Of what the child reads there is nothing, and what ends is told by a hang-up.
         let (ours, theirs) = net::UnixStream::pair(self.rt)?;
-        ours.shutdown(Shutdown::Write)?;
         ours.set_nonblocking(true)?;
-        let mut input = UnixStream::from_std(ours);
-        let token = Token((STARTED + job.number) as usize);
-        self.poll
-            .registry()
-            .register(&mut input, token, Interest::READABLE)?;
+        let key = self.ports.next_key();
+        let port = Port::new(self.poll.registry(), Token(key), UnixStream::from_std(ours))?;
         let process = self.programs.start(
             self.rt,
             self.alloc,
             &self.kept,
-            self.socket.as_str(),
             job,
             &ticket,
             OwnedFd::from(theirs),
         )?;
-        let started = Started::new(process, input, job.number, &ticket);
-        self.started.push(started)?;
+        self.ports.add(Connection {
+            number: None,
+            port,
+            child: Some(Started::new(process, Hello::new(job.number, &ticket))),
+        })?;
+        self.read_second();
+        self.started.begin(key, self.second)?;
         Ok(ticket)
+    }
+
+    // The connection of a child process was closed, which had this key.
+    pub(crate) fn child_left(&mut self, key: usize, child: Started<R::Started>)
+        ensures faults { self.new.faults ≡ self.old.faults }
+        ensures ports { self.new.last_port ≡ self.old.last_port }
+        ensures moment { self.new.moment ≡ self.old.moment }
+    {
+        self.read_second();
+        self.started.name(key);
+        self.started.leave(child, self.second);
+    }
+
+    // Does what is due of child processes. Where it ends one that hasn't named itself, the next thing told is its port.
+    pub(crate) fn tend(&mut self) -> Result<(), AllocError>
+        ensures faults { self.new.faults ≡ self.old.faults }
+        ensures ports { self.new.last_port ≡ self.old.last_port }
+        ensures moment { self.new.moment ≡ self.old.moment }
+    {
+        if self.started.is_quiet() {
+            return Ok(());
+        }
+        self.owed.reserve(1)?;
+        self.read_second();
+        self.started.reap(self.second);
+        let Some(key) = self.started.late(self.second) else {
+            return Ok(());
+        };
+        let Some(late) = self.ports.get_mut(key) else {
+            return Ok(());
+        };
+        late.give_up();
+        if let Some(number) = late.number {
+            self.owed.push(number)?;
+        }
+        Ok(())
     }
 }

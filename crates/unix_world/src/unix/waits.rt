@@ -2,9 +2,7 @@
 ghost use Rattle.std.specs.Prelude.{◌≡◌};
 
 use crate::UnixWorld;
-use crate::doors::Listener;
-use crate::unix::accepts::owe;
-use crate::unix::{CHILDREN, CLIENTS, STARTED};
+use crate::unix::CLIENTS;
 use mio::Token;
 use std::alloc::AllocError;
 use std::fs::{File, Files};
@@ -33,69 +31,64 @@ fn ready_at(spot: Spot) -> Ready {
     }
 }
 
-// A round begins, and a listener is told of where that is due.
-fn renew(door: &mut Option<Listener>, name: Door, out: &mut Vec<Ready>) -> Result<(), AllocError> {
-    if let Some(door) = door {
-        if door.renew() {
-            out.push(ready_at(Spot::Door(name)))?;
-        }
+// The less of both, where the one is no bound if there is none.
+fn least(wait: Option<u64>, other: u64) -> u64 {
+    match wait {
+        Some(wait) => wait.min(other),
+        None => other,
     }
-    Ok(())
 }
 
-fn is_stuck(door: &Option<Listener>) -> bool {
-    door.as_ref().is_some_and(|door| door.is_stuck)
-}
-
-fn is_owed(door: &Option<Listener>) -> bool {
-    door.as_ref().is_some_and(|door| door.is_owed)
-}
-
-impl<R: Files<File = File> + Net + Processes + RandomSource + Clock> UnixWorld<'_, R> {
-    // How long a poll waits, where the agent asks for so many seconds: not at all where it has to tell of something, and a
-    // second at the most while a listener is stuck.
+impl<R: Files<File = File> + Net + Processes + RandomSource + Clock + Eprint> UnixWorld<'_, R> {
+    // How long a poll waits, where the agent asks for so many seconds: not at all where it has to tell of something, a
+    // second at the most while a listener is stuck, and no longer than until something is due of a child process.
     fn wait_of(&self, wait: Option<u64>) -> Option<u64> {
-        if !self.owed.is_empty() || is_owed(&self.clients) || is_owed(&self.children) {
+        if !self.owed.is_empty() || self.started.waiting().is_some() {
             return Some(0);
         }
-        if is_stuck(&self.clients) || is_stuck(&self.children) {
-            return Some(wait.unwrap_or(1).min(1));
+        let mut most = wait;
+        if let Some(door) = &self.clients {
+            if door.is_owed {
+                return Some(0);
+            }
+            if door.is_stuck {
+                most = Some(least(most, 1));
+            }
         }
-        wait
+        if let Some(due) = self.started.next_due() {
+            most = Some(least(most, due.saturating_sub(self.second)));
+        }
+        most
     }
 
-    // Tells of what epoll told of ports and of listeners, and keeps it; what it told of child processes is kept alone.
+    // Tells of what epoll told of ports and of the listener, and keeps it. What it told of a connection that wasn't
+    // accepted yet is kept alone.
     fn tell_told(&mut self, out: &mut Vec<Ready>) -> Result<(), AllocError>
         ensures faults { self.new.faults ≡ self.old.faults }
         ensures ports { self.new.last_port ≡ self.old.last_port }
         ensures moment { self.new.moment ≡ self.old.moment }
     {
         for event in self.events.iter() {
-            let has_ended = event.is_read_closed() || event.is_error();
             match event.token() {
                 CLIENTS => out.push(told_at(Spot::Door(Door::Clients), event))?,
-                CHILDREN => out.push(told_at(Spot::Door(Door::Children), event))?,
-                Token(number) if number as u64 >= STARTED => {
-                    if has_ended {
-                        self.started.hang_up(number as u64 - STARTED);
-                    }
-                }
-                Token(number) => {
-                    if let Some(port) = self.ports.get_mut(number as u64) {
-                        if has_ended {
-                            port.marks.shut();
+                Token(key) => {
+                    if let Some(found) = self.ports.get_mut(key) {
+                        if event.is_read_closed() || event.is_error() {
+                            found.port.marks.shut();
                         } else if event.is_readable() {
-                            port.marks.wake();
+                            found.port.marks.wake();
+                        }
+                        if let Some(number) = found.number {
+                            out.push(told_at(Spot::Port(number), event))?;
                         }
                     }
-                    out.push(told_at(Spot::Port(number as u64), event))?;
                 }
             }
         }
         Ok(())
     }
 
-    // Tells of what is owed; a round begins.
+    // Tells of what is owed, and of child processes that wait to be accepted; a round begins.
     fn tell_owed(&mut self, out: &mut Vec<Ready>) -> Result<(), AllocError>
         ensures faults { self.new.faults ≡ self.old.faults }
         ensures ports { self.new.last_port ≡ self.old.last_port }
@@ -106,8 +99,14 @@ impl<R: Files<File = File> + Net + Processes + RandomSource + Clock> UnixWorld<'
         }
         self.owed.clear();
         self.round = self.round.wrapping_add(1);
-        renew(&mut self.clients, Door::Clients, out)?;
-        renew(&mut self.children, Door::Children, out)?;
+        if let Some(door) = &mut self.clients {
+            if door.renew() {
+                out.push(ready_at(Spot::Door(Door::Clients)))?;
+            }
+        }
+        if self.started.waiting().is_some() {
+            out.push(ready_at(Spot::Door(Door::Children)))?;
+        }
         Ok(())
     }
 
@@ -121,9 +120,7 @@ impl<R: Files<File = File> + Net + Processes + RandomSource + Clock> UnixWorld<'
         self.poll
             .poll(&mut self.events, most.map(Duration::from_secs))?;
         self.tell_told(out)?;
-        if self.started.reap(false) {
-            owe(&mut self.children);
-        }
+        self.tend()?;
         self.tell_owed(out)?;
         Ok(())
     }
