@@ -7,7 +7,8 @@ use crate::serve::{fill, Answerer};
 use crate::standin::{decode, Hosts};
 use std::ffi::{OsStr, OsString};
 use std::fs::File;
-use std::io::Write;
+use std::io::{self, Write};
+use std::os::unix::io::AsFd;
 use std::os::unix::net::UnixStream;
 use zeroize::Zeroizing;
 
@@ -59,13 +60,23 @@ fn decimal(digits: &str) -> Option<u64> {
     (number.to_string() == digits).then(|| number)
 }
 
-/// Connects, says which job it is, and answers until the agent ends.
+/// The connection to the agent: the standard input where SOCKET is `-`, and else that to a socket
+/// at this path.
+fn agent_at(socket: &OsStr) -> io::Result<UnixStream> {
+    if socket == "-" {
+        Ok(io::stdin().as_fd().try_clone_to_owned()?.into())
+    } else {
+        UnixStream::connect(socket)
+    }
+}
+
+/// Says which job it is, and answers until the agent ends.
 pub fn run(words: &[OsString]) -> Result<(), Fault> {
     let words = Words::read(words).ok_or(Fault::Usage)?;
     let hosts = words
         .data
         .map_or_else(|| Ok(Hosts::default()), read_hosts)?;
-    let mut agent = UnixStream::connect(words.socket).map_err(|_| Fault::WriteFault)?;
+    let mut agent = agent_at(words.socket).map_err(|_| Fault::WriteFault)?;
     agent
         .write_all(&frame::hello(words.job, &words.ticket))
         .map_err(|_| Fault::WriteFault)?;

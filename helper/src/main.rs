@@ -1,5 +1,5 @@
-//! The signing helper of the Mortarleek agent. It connects to the agent's socket for children, and
-//! signs and verifies as the agent asks until the agent ends. Tested, not proved.
+//! The signing helper of the Mortarleek agent. Over the connection that it is started with, it signs
+//! and verifies as the agent asks until the agent ends. Tested, not proved.
 
 #![deny(unsafe_code)]
 #![deny(

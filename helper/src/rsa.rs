@@ -15,8 +15,14 @@ use openssl::rsa::{Padding, Rsa};
 pub const NAME: &[u8] = b"ssh-rsa";
 const CERTIFIED: &[u8] = b"ssh-rsa-cert-v01@openssh.com";
 
-/// The bits that a modulus may have.
-pub const SIZES: std::ops::RangeInclusive<i32> = 1024..=16384;
+/// The bits that a modulus may have. A signature by a longer one takes seconds, and everybody waits.
+pub const SIZES: std::ops::RangeInclusive<i32> = 1024..=8192;
+
+/// The most bits of a public exponent, by which each signature is verified: 2^16 + 1 has 17.
+const MAX_EXPONENT_BITS: i32 = 64;
+
+/// The most bits of a factor: half of the longest modulus, since powers are taken modulo each.
+const MAX_FACTOR_BITS: i32 = 4096;
 
 /// The digest that is signed, which the algorithm's name tells.
 #[derive(Clone, Copy)]
@@ -111,9 +117,10 @@ impl<'a> PublicKey<'a> {
     /// Reads `mpint e, mpint n`.
     pub fn read(fields: &mut Reader<'a>) -> Result<Self, Refused> {
         let (e, n) = (fields.string()?, fields.string()?);
-        let modulus = number::public(n)?;
+        let (modulus, exponent) = (number::public(n)?, number::public(e)?);
         Refused::unless(SIZES.contains(&modulus.num_bits()))?;
-        let key = Rsa::from_public_components(modulus, number::public(e)?)?;
+        Refused::unless(exponent.num_bits() <= MAX_EXPONENT_BITS)?;
+        let key = Rsa::from_public_components(modulus, exponent)?;
         Ok(PublicKey { e, n, key })
     }
 
@@ -161,13 +168,15 @@ impl<'a> PrivateKey<'a> {
         let mut next = || number::secret(fields.string()?);
         let (d, iqmp, p, q) = (next()?, next()?, next()?, next()?);
         let (n, e) = (public.key.n(), public.key.e());
+        let is_short = |factor: &BigNumRef| factor.num_bits() <= MAX_FACTOR_BITS;
+        Refused::unless(is_short(&p) && is_short(&q))?;
         let mut scratch = BigNumContext::new_secure()?;
 
         let mut product = BigNum::new_secure()?;
         product.checked_mul(&p, &q, &mut scratch)?;
         Refused::unless(product == *n && d < *n && iqmp < p)?;
-        let dp = exponent(&d, &p, &mut scratch)?;
-        let dq = exponent(&d, &q, &mut scratch)?;
+        let dp = exponent(e, &d, &p, &mut scratch)?;
+        let dq = exponent(e, &d, &q, &mut scratch)?;
         let (n, e) = (n.to_owned()?, e.to_owned()?);
         let key = Rsa::from_private_components(n, e, d, p, q, dp, dq, iqmp)?;
         let key = hygiene::without_blinding(key);
@@ -202,8 +211,10 @@ fn padded(number: &BigNumRef, length: usize) -> Result<Vec<u8>, Refused> {
     Ok(number.to_vec_padded(length)?)
 }
 
-/// The exponent modulo one factor: d mod (factor - 1).
+/// The exponent modulo one factor: d mod (factor - 1). It has to undo e there, which is seen before any
+/// power is taken: what doesn't fit is refused at the price of a product.
 fn exponent(
+    e: &BigNumRef,
     d: &BigNumRef,
     factor: &BigNumRef,
     scratch: &mut BigNumContext,
@@ -214,5 +225,8 @@ fn exponent(
     let mut exponent = BigNum::new_secure()?;
     exponent.checked_rem(d, &order, scratch)?;
     exponent.set_const_time();
+    let mut product = BigNum::new_secure()?;
+    product.mod_mul(e, &exponent, &order, scratch)?;
+    Refused::unless(product == BigNum::from_u32(1)?)?;
     Ok(exponent)
 }

@@ -43,7 +43,7 @@ impl Cause {
 
     fn text(self) -> &'static str {
         match self {
-            Cause::RsaSize => "an RSA key signs with 1024 to 16384 bits, and this one has others",
+            Cause::RsaSize => "an RSA key signs with 1024 to 8192 bits, and this one has others",
             Cause::Other => {
                 "a key can't sign: its type isn't known, or its private numbers aren't those of its \
                  public key"

@@ -36,7 +36,7 @@ def verify_body(number, host_key, signature, session):
 
 
 class Helper:
-    """A running helper, connected, whose HELLO was read."""
+    """A running helper, connected by a socket's path, whose HELLO was read."""
 
     def __init__(self, program=PROGRAM, job=1, ticket=bytes(16), word=None, data=None, **more):
         self.folder = tempfile.TemporaryDirectory()

@@ -152,7 +152,7 @@ class Keys(unittest.TestCase):
             said.seek(0)
             lines = said.read().decode().splitlines()
         self.assertEqual(len(lines), 1)
-        self.assertIn("1024 to 16384 bits", lines[0])
+        self.assertIn("1024 to 8192 bits", lines[0])
 
     def test_fields_that_are_left_off_doubled_or_swapped_are_refused(self):
         for key in self.keys + self.certified:

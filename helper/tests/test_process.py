@@ -4,12 +4,15 @@ import os
 import pathlib
 import pwd
 import shutil
+import socket
+import struct
 import subprocess
 import tempfile
 import unittest
 
 import openssh
-from peer import PROGRAM, Helper
+from frames import string
+from peer import HELLO, PROGRAM, Helper
 
 # A configuration that leaves libcrypto no algorithm that it could use.
 CONFIGURATION = """openssl_conf = all
@@ -41,6 +44,28 @@ class Process(unittest.TestCase):
             limits = pathlib.Path(f"/proc/{helper.process.pid}/limits").read_text().splitlines()
             core = [line.split() for line in limits if line.startswith("Max core file size")]
             self.assertEqual(core[0][4:6], ["0", "0"])
+
+    def test_few_descriptors_no_processes_and_no_more_rights_are_to_be_had(self):
+        with Helper() as helper:
+            limits = pathlib.Path(f"/proc/{helper.process.pid}/limits").read_text()
+            for name, most in (("Max processes", "0"), ("Max open files", "16")):
+                (line,) = (line for line in limits.splitlines() if line.startswith(name))
+                self.assertEqual(line[len(name) :].split()[:2], [most, most])
+            status = pathlib.Path(f"/proc/{helper.process.pid}/status").read_text()
+            self.assertIn("NoNewPrivs:\t1\n", status)
+
+    def test_the_connection_may_be_the_standard_input(self):
+        ours, theirs = socket.socketpair()
+        ticket = bytes(range(16))
+        with ours:
+            with theirs:
+                words = [PROGRAM, "-", "7", "-"]
+                environment = {"MORTARLEEK_TICKET": ticket.hex()}
+                process = subprocess.Popen(words, stdin=theirs, env=environment)
+            ours.settimeout(20)
+            hello = struct.pack(">BQ", HELLO, 7) + string(ticket)
+            self.assertEqual(ours.recv(100), string(hello))
+        self.assertEqual(process.wait(20), 0)
 
     def test_the_memory_is_closed_to_others_of_the_same_user(self):
         user = same_user()

@@ -131,9 +131,9 @@ def rsa_key(p, q, e=65537):
     return string(b"ssh-rsa") + b"".join(added), blob
 
 
-def primes_of_8192_bits():
-    """The primes of RFC 3526, section 7, and RFC 7919, appendix A.5, from their formulas."""
-    one = 1 << 8200
+def primes_of_4096_bits():
+    """The primes of RFC 3526, section 5, and RFC 7919, appendix A.3, from their formulas."""
+    one = 1 << 4104
 
     def arctan(whole):
         total = term = one // whole
@@ -149,8 +149,8 @@ def primes_of_8192_bits():
         term //= count
         e += term
     e >>= 138
-    most = 2**8192 - 2**8128 - 1
-    return most + 2**64 * (pi + 4743158), most + 2**64 * (e + 10965728)
+    most = 2**4096 - 2**4032 - 1
+    return most + 2**64 * (pi + 240904), most + 2**64 * (e + 5736041)
 
 
 def prime(bits):
@@ -159,20 +159,51 @@ def prime(bits):
 
 
 class Rsa(unittest.TestCase):
-    def test_a_key_has_1024_to_16384_bits(self):
+    def test_a_key_has_1024_to_8192_bits(self):
         with Helper() as helper:
             for p, q, signs in ((prime(511), prime(512), False), (prime(512), prime(512), True)):
                 private, blob = rsa_key(p, q)
                 signature = helper.sign(private, blob, b"message")
                 self.assertEqual(signature is not None, signs)
-            p, q = primes_of_8192_bits()
+            p, q = primes_of_4096_bits()
             private, blob = rsa_key(p, q)
             for flags in (2, 4):
                 signature = helper.sign(private, blob, b"message", flags)
                 self.assertTrue(helper.verify(blob, signature, b"message"))
-                self.assertEqual(len(strings(signature)[1]), 2048)
+                self.assertEqual(len(strings(signature)[1]), 1024)
             private, blob = rsa_key(2 * p + 1, q)
             self.assertIsNone(helper.sign(private, blob, b"message"))
+
+    def test_a_public_exponent_has_at_most_64_bits(self):
+        p, q = prime(512), prime(512)
+        order = math.lcm(p - 1, q - 1)
+        least, most = (next(e for e in range(2**bits - 1, 2, -2) if math.gcd(e, order) == 1) for bits in (65, 64))
+        with Helper() as helper:
+            for e, signs in ((most, True), (least, False), (3 if order % 3 else 5, order % 3 or order % 5)):
+                if math.gcd(e, order) > 1:
+                    continue
+                private, blob = rsa_key(p, q, e)
+                signature = helper.sign(private, blob, b"message", 2)
+                self.assertEqual(signature is not None, bool(signs))
+
+    def test_a_factor_has_at_most_4096_bits(self):
+        p, q = 2**4423 - 1, prime(512)  # a Mersenne prime
+        private, blob = rsa_key(p, q)
+        with Helper() as helper:
+            self.assertIsNone(helper.sign(private, blob, b"message", 2))
+
+    def test_an_exponent_that_does_not_undo_the_public_one_is_refused(self):
+        p, q, e = prime(512), prime(512), 65537
+        n, d = p * q, pow(e, -1, math.lcm(p - 1, q - 1))
+        blob = string(b"ssh-rsa") + mpint(e) + mpint(n)
+        # One that is right modulo one factor alone, by the remainders of d.
+        orders = math.lcm(p - 1, q - 1)
+        wrong = next(d + step * (p - 1) for step in range(1, q) if (d + step * (p - 1)) % (q - 1) != d % (q - 1))
+        with Helper() as helper:
+            for exponent, signs in ((d, True), (d + orders, d + orders < n), (wrong, False), (d + 2, False)):
+                private = string(b"ssh-rsa") + b"".join(map(mpint, (n, e, exponent, pow(q, -1, p), p, q)))
+                signature = helper.sign(private, blob, b"message", 2)
+                self.assertEqual(signature is not None, signs)
 
     def test_factors_of_no_use_are_refused(self):
         p, q = prime(512), prime(512)
