@@ -1,12 +1,13 @@
 # make            proves each crate, a line for each, and builds the programs into bin/, the helper too where it can
 # make demo       shows the agent at work with OpenSSH's tools, built without proofs where it isn't proved yet
 # make check      proves and tests everything: the gate, .ci/run
+# make nightly    what takes hours: .ci/nightly
 # make bench      measures, beside other programs of the same machine
 # make helper     builds the helper that signs, which isn't proved, or says which packages it wants
 # make install    copies what was built to $(DESTDIR)$(PREFIX), with manuals, completions and a systemd unit
 # make uninstall  removes what that copied
 # make deb        builds a Debian package of it, in bin/
-# make picture    draws the crates anew: docs/crates.svg (needs graphviz)
+# make picture    draws the crates anew: docs/layers.svg and docs/crates.svg (needs graphviz)
 
 RT ?= rt
 PREFIX ?= /usr/local
@@ -14,27 +15,33 @@ PROGRAMS := $(patsubst crates/%/src/main.rt,%,$(wildcard crates/*/src/main.rt))
 INSTALLED := agent_prog
 SOURCES := crates.txt $(shell find crates -name out -prune -o \( -name '*.rt' -o -name '*.antt' \) -print)
 
-.PHONY: all proofs helper demo check bench install uninstall deb picture clean
+.PHONY: all toolchain packages proofs version helper demo check nightly bench install uninstall deb picture clean
+# scripts/prove does side by side what can be done so.
+.NOTPARALLEL:
 
-all: proofs $(PROGRAMS:%=bin/%)
+# What is missing is told before the first proof. Without its packages the helper isn't built.
+all: toolchain packages proofs $(PROGRAMS:%=bin/%) version
 	@helper/build || true
 
-proofs:
+toolchain:
+	@RT='$(RT)' scripts/toolchain
+
+packages:
+	@[ -x bin/mortarleek-helper ] || tests/packages.sh make @helper || true
+
+proofs: toolchain
 	@RT='$(RT)' scripts/prove
 
-# A program is linked by a run; its words make it end at once. The check before it tells whether all is proved.
-define program
-crates/$(1)/out/$(1): $$(SOURCES)
-	@command -v '$$(RT)' > /dev/null || \
-	    { echo 'make: no $$(RT), the command of the toolchain: README.md says where it comes from' >&2; exit 1; }
-	cd crates/$(1) && rm -f out/$(1) && $$(RT) check > /dev/null && { $$(RT) run -- 0 < /dev/null > /dev/null 2>&1 || true; }
-	test -x $$@ && touch $$@
-
-bin/$(1): crates/$(1)/out/$(1)
+$(PROGRAMS:%=bin/%): bin/%: $(SOURCES)
+	@RT='$(RT)' scripts/toolchain
+	@RT='$(RT)' scripts/prove $*
 	@mkdir -p bin
-	cp $$< $$@
-endef
-$(foreach name,$(PROGRAMS),$(eval $(call program,$(name))))
+	cp crates/$*/out/$* $@
+
+# What `mortarleek --version` says of what is in bin/.
+version:
+	@mkdir -p bin
+	@RT='$(RT)' scripts/version > bin/version
 
 helper:
 	@helper/build
@@ -42,8 +49,13 @@ helper:
 demo:
 	@RT='$(RT)' scripts/demo
 
-check:
+check: toolchain
+	@tests/packages.sh check @check
 	@RT='$(RT)' .ci/run
+
+nightly: toolchain
+	@tests/packages.sh nightly @nightly
+	@RT='$(RT)' .ci/nightly
 
 bench: $(PROGRAMS:%=bin/%)
 	bench/run
@@ -55,48 +67,62 @@ MODE := $(if $(DESTDIR),711,$(shell [ "$$(id -u)" = 0 ] && echo 711 || echo 111)
 BIN := $(DESTDIR)$(PREFIX)/bin
 LIBEXEC := $(DESTDIR)$(PREFIX)/libexec/mortarleek
 SHARE := $(DESTDIR)$(PREFIX)/share
-UNITS := $(DESTDIR)$(PREFIX)/lib/systemd/user
+# A user's manager looks for units there. What is installed in the own home has a unit of its own.
+OWN := $(if $(DESTDIR),,$(filter $(HOME)/%,$(PREFIX)) $(filter-out 0,$(shell id -u)))
+UNITS := $(if $(strip $(OWN)),$(or $(XDG_DATA_HOME),$(HOME)/.local/share)/systemd/user,$(DESTDIR)$(PREFIX)/lib/systemd/user)
+UNIT := contrib/systemd/mortarleek-agent$(if $(strip $(OWN)),.own).service
 COMPLETIONS := $(SHARE)/bash-completion/completions $(SHARE)/zsh/site-functions $(SHARE)/fish/vendor_completions.d
 HELPERS := mortarleek-helper standin_helper confirm_relay add_tool filter_proxy audit_prog
-SCRIPTS := $(notdir $(wildcard scripts/mortarleek scripts/mortarleek-*))
+SCRIPTS := $(notdir $(wildcard front/mortarleek front/mortarleek-*))
 # What these start and source beside the programs.
-PARTS := agent_guard front_end.sh
+PARTS := agent_guard front_end.sh version
+# A page that serves for several names.
+PAGES := mortarleek-serve:agent_prog mortarleek-replay:agent_prog mortarleek-drill:agent_prog mortarleek-audit:audit_prog
+page = $(firstword $(subst :, ,$(1)))
 
 install: $(INSTALLED:%=bin/%)
 	install -d $(BIN) $(LIBEXEC) $(SHARE)/man/man1 $(SHARE)/man/man8 $(COMPLETIONS) $(UNITS)
 	$(if $(INSTALLED),install -m $(MODE) $(INSTALLED:%=bin/%) $(LIBEXEC))
-	install -m 755 $(SCRIPTS:%=scripts/%) $(BIN)
-	install -m 755 scripts/agent_guard $(LIBEXEC)
-	install -m 644 scripts/front_end.sh $(LIBEXEC)
+	install -m 755 $(SCRIPTS:%=front/%) $(BIN)
+	install -m 755 front/agent_guard $(LIBEXEC)
+	install -m 644 front/front_end.sh $(LIBEXEC)
+	[ -f bin/version ] || RT='$(RT)' scripts/version > bin/version
+	install -m 644 bin/version $(LIBEXEC)
 	for name in $(HELPERS); do \
 	    if [ -x bin/$$name ]; then install -m $(MODE) bin/$$name $(LIBEXEC) || exit 1; fi; \
 	done
 	install -m 644 man/*.1 $(SHARE)/man/man1
 	install -m 644 man/*.8 $(SHARE)/man/man8
+	$(foreach name,$(PAGES),ln -sf $(lastword $(subst :, ,$(name))).1 $(SHARE)/man/man1/$(call page,$(name)).1 && ):
 	for name in $(SCRIPTS); do \
 	    install -m 644 contrib/completions/mortarleek.bash $(SHARE)/bash-completion/completions/$$name && \
 	    install -m 644 contrib/completions/mortarleek.fish $(SHARE)/fish/vendor_completions.d/$$name.fish || exit 1; \
 	done
 	install -m 644 contrib/completions/_mortarleek $(SHARE)/zsh/site-functions
-	sed 's,/usr/local/bin,$(PREFIX)/bin,' contrib/systemd/mortarleek-agent.service > $(UNITS)/mortarleek-agent.service
+	sed 's,/usr/local/bin,$(PREFIX)/bin,' $(UNIT) > $(UNITS)/mortarleek-agent.service
 	chmod 644 $(UNITS)/mortarleek-agent.service
 
 uninstall:
 	rm -f $(SCRIPTS:%=$(BIN)/%) $(INSTALLED:%=$(LIBEXEC)/%) $(HELPERS:%=$(LIBEXEC)/%) $(PARTS:%=$(LIBEXEC)/%)
 	rm -f $(patsubst man/%,$(SHARE)/man/man1/%,$(wildcard man/*.1))
 	rm -f $(patsubst man/%,$(SHARE)/man/man8/%,$(wildcard man/*.8))
+	rm -f $(foreach name,$(PAGES),$(SHARE)/man/man1/$(call page,$(name)).1)
 	rm -f $(SCRIPTS:%=$(SHARE)/bash-completion/completions/%)
 	rm -f $(SCRIPTS:%=$(SHARE)/fish/vendor_completions.d/%.fish) $(SHARE)/zsh/site-functions/_mortarleek
 	rm -f $(UNITS)/mortarleek-agent.service
 	[ ! -d $(LIBEXEC) ] || rmdir $(LIBEXEC)
 
-deb: $(INSTALLED:%=bin/%)
+# Says of which version, commit and toolchain the package is.
+deb: $(INSTALLED:%=bin/%) version
 	dpkg-checkbuilddeps
 	debian/rules binary
 	debian/rules clean
+	@cat bin/version
 
 picture:
+	scripts/crates-dot --layers > docs/layers.dot
 	scripts/crates-dot > docs/crates.dot
+	dot -Tsvg docs/layers.dot > docs/layers.svg
 	dot -Tsvg docs/crates.dot > docs/crates.svg
 
 clean:

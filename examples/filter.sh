@@ -5,7 +5,7 @@ for number in $(seq 20); do
     ssh-add -q "$folder/$number"
 done
 echo "the agent: $(ssh-add -L | wc -l) keys"
-scripts/mortarleek filter -k "$folder/7.pub" -k "$folder/19.pub" sh -c '
+front/mortarleek filter -k "$folder/7.pub" -k "$folder/19.pub" sh -c '
     echo "behind the filter:"
     ssh-add -L | cut -d" " -f3-
     ssh-add -T "$0/7.pub" && echo "key 7 signs"

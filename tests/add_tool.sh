@@ -6,7 +6,7 @@
 set -u
 cd "$(dirname "$0")/.." || exit 2
 if ! command -v ssh-agent > /dev/null || ! command -v ssh-keygen > /dev/null; then
-    tests/packages.sh add_tool openssh-client || exit 1
+    tests/packages.sh add_tool @add_tool || exit 1
 fi
 make --no-print-directory bin/add_tool > /dev/null || exit 1
 top=$PWD tool=$PWD/bin/add_tool

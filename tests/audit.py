@@ -167,4 +167,4 @@ def other_words_and_files_are_told_apart(folder):
 
 
 if __name__ == "__main__":
-    check.main(AUDIT, "openssh-client")
+    check.main(AUDIT)

@@ -196,6 +196,41 @@ def a_use_is_confirmed_or_denied(folder):
 
 
 @check
+def keys_that_ssh_adds_itself(folder):
+    """Each form of AddKeysToAgent: a first login adds the key of a file, and a second one has the agent's alone."""
+    key, relay = keygen(folder / "key"), rig.built("confirm_relay")
+    asker = rig.script(folder / "ask", f'echo asked >> {folder}/asked; exit "$(cat {folder}/status)"')
+    with Hosts(folder, "one") as hosts:
+        hosts.allow(key)
+
+        def case(agent):
+            answers = []
+            for value in ("no", "yes", "confirm", "8s"):
+                (folder / "asked").write_text("")
+                (folder / "status").write_text("0")
+                answers.append(hosts.ssh(agent, "-o", f"AddKeysToAgent={value}", "-i", key, "one", "echo in"))
+                answers.append(agent.run("ssh-add", "-l", status=None))
+                answers.append(hosts.ssh(agent, "one", "echo in"))
+                (folder / "status").write_text("1")
+                answers.append((hosts.ssh(agent, "one", "echo in")[0], (folder / "asked").read_text()))
+                if value == "8s":
+                    time.sleep(9.2)
+                    answers.append(agent.run("ssh-add", "-l", status=1))
+                agent.run("ssh-add", "-q", "-D")
+            return answers
+
+        environment = dict(os.environ, SSH_ASKPASS=str(asker), SSH_ASKPASS_REQUIRE="force", DISPLAY=":none")
+        with openssh_agent(folder, env=environment) as theirs:
+            wanted = case(theirs)
+        with our_agent(PROGRAM, folder, "--relay", relay, "--askpass", asker) as ours:
+            seen = case(ours)
+        assert seen == wanted, f"ours {seen}, ssh-agent {wanted}"
+        assert [status for status, _ in wanted[0::4][:4]] == [0] * 4
+        assert [answer[0] for answer in (wanted[2], wanted[6], wanted[10], wanted[14])] == [255, 0, 0, 0]
+        assert [wanted[3], wanted[7], wanted[11], wanted[15]] == [(255, ""), (0, ""), (255, "asked\nasked\n"), (0, "")]
+
+
+@check
 def a_key_that_may_be_used_so_often(folder):
     """Our agent's alone: each login uses the key once, and nothing else of a login does."""
     key, body = keygen(folder / "key"), folder / "body"
@@ -881,20 +916,4 @@ def other_programs_of_the_user_can_t_trace_it(folder):
 
 if __name__ == "__main__":
     rig.built("mortarleek-helper")
-    check.main(
-        PROGRAM,
-        "openssh-client",
-        "openssh-server",
-        "git",
-        "rsync",
-        "python3-paramiko",
-        "python3-asyncssh",
-        "putty-tools",
-        "dropbear-bin",
-        "gcc",
-        "libssh2-1-dev",
-        "golang-go",
-        "golang-golang-x-crypto-dev",
-        "gdb",
-        "util-linux",
-    )
+    check.main(PROGRAM)

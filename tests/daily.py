@@ -11,27 +11,8 @@ sys.dont_write_bytecode = True
 from installed import PROGRAM, check
 
 # Each module adds its checks, in this order.
-for part in ("words", "edges", "start", "places", "life", "add", "install"):
+for part in ("words", "edges", "start", "places", "life", "use", "add", "recipes", "units", "install"):
     importlib.import_module(f"front_{part}")
 
 if __name__ == "__main__":
-    check.main(
-        PROGRAM,
-        "openssh-client",
-        "openssh-server",
-        "shellcheck",
-        "mandoc",
-        "bash",
-        "zsh",
-        "fish",
-        "tcsh",
-        "dash",
-        "systemd",
-        "util-linux",
-        "procps",
-        "gcc",
-        "git",
-        "debhelper",
-        "fakeroot",
-        "lintian",
-    )
+    check.main(PROGRAM)

@@ -395,6 +395,25 @@ def the_front_end_runs_a_command_and_cleans_up(folder):
 
 
 @check
+def the_guard_removes_nothing_that_the_front_end_did_not_make(folder):
+    front = Front(folder)
+    for name in ("mine", "mortarleek-filter-abcdefgh"):
+        place = folder / name
+        place.mkdir(mode=0o700)
+        (place / "kept").write_text("kept")
+        for file in ("list", "said"):
+            for mode in (0o755, 0o700):
+                place.chmod(mode)
+                words = [front.script, "--guard", place, folder / "nobody", "1"]
+                said = run(words, None, env=dict(front.environment, SSH_AUTH_SOCK=""), timeout=30)
+                assert (place / "kept").read_text() == "kept", said
+                assert said.startswith("usage") or name != "mine", said
+            (place / file).write_text("")
+    for words in (["--guard"], ["--guard", folder], ["--guard", folder / "none", "x", "1"]):
+        assert run([front.script, *words], 1, env=front.environment).startswith("usage: "), words
+
+
+@check
 def the_front_end_hands_on_signals(folder):
     key = keygen(folder / "key")
     front = Front(folder)
@@ -422,7 +441,7 @@ if __name__ == "__main__":
     try:
         rig.there(PROGRAM)
         rig.built("mortarleek-helper")
-        rig.install("filter", "openssh-client", "openssh-server", "util-linux")
+        rig.install("filter")
     except rig.Skip as reason:
         print(f"filter: not run: {reason}")
         sys.exit(1)

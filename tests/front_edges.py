@@ -86,13 +86,17 @@ def an_open_key_passes_through_no_other_program(folder):
     key = keygen(folder / "key")
     tools, log = folder / "tools", folder / "log"
     tools.mkdir()
-    # Each program of PATH that a script may start leaves its name, and what it was given on standard input.
+    log.write_text("")
+    # Each program of PATH that a script may start leaves its words, and what it was given on standard input.
     for tool in ("sed", "grep", "tr", "cat", "head", "tail", "awk", "cut", "dd"):
-        rig.script(tools / tool, f'echo {tool} >> {log}; exec {shutil.which(tool)} "$@"')
+        rig.script(tools / tool, f'echo {tool} "$@" >> {log}; {shutil.which("tee")} -a {log} | {shutil.which(tool)} "$@"')
     with installed.start() as daemon:
         said = daemon.run(installed.add, key, environment={"PATH": f"{tools}:{os.environ['PATH']}"})
         assert "Identity added" in said
-    assert not log.exists(), log.read_text()
+    seen = log.read_text()
+    for line in key.read_text().splitlines()[1:-1]:
+        assert line not in seen, seen
+    assert str(key) not in seen, seen
 
 
 @check
@@ -315,9 +319,9 @@ def errors_of_a_first_minute_name_cause_and_remedy(folder):
     # the build: no toolchain, no packages of the helper
     source = folder / "source"
     source.mkdir()
-    parts = ("Makefile", "scripts", "helper", "crates.txt", "crates/agent_prog")
+    parts = ("Makefile", "front", "scripts", "helper", "crates.txt", "crates/agent_prog")
     files = run(["git", "ls-files", "-z", *parts], cwd=rig.TOP).rstrip("\0").split("\0")
     run(["cp", "--parents", *files, source], cwd=rig.TOP)
     for goal in ("proofs", "install"):
         said = run(["make", goal, f"PREFIX={folder}/local"], 2, cwd=source, env=dict(bare, RT="no-such-rt"))
-        assert "no no-such-rt, the command of the toolchain" in said, said
+        assert "no no-such-rt: it is the command of the Rattle kit" in said, said

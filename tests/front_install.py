@@ -1,11 +1,15 @@
 """Manuals, completions, the unit, and what is installed: by root, by a new user as README says, and as a package.
 tests/daily.py runs these too."""
 
+import functools
+import json
 import os
+import pathlib
 import re
 import shutil
 import signal
 import subprocess
+import tempfile
 
 import rig
 from hosts import Hosts
@@ -26,6 +30,7 @@ def manuals_are_clean_and_name_every_option(folder):
         "standin_helper.8",
         "confirm_relay.8",
         "mortarleek-filter.1",
+        "mortarleek-status.1",
         "filter_proxy.8",
     }
     for page in pages:
@@ -69,26 +74,6 @@ COMP_WORDS=(mortarleek-filter -); COMP_CWORD=1; _mortarleek_filter mortarleek-fi
 
 
 @check
-def the_unit_is_well_formed_and_hardened(folder):
-    unit = folder / "mortarleek-agent.service"
-    unit.write_text(
-        (rig.TOP / "contrib/systemd/mortarleek-agent.service")
-        .read_text()
-        .replace("/usr/local/bin/mortarleek-agent", "/bin/true")
-    )
-    manager = dict(os.environ, XDG_RUNTIME_DIR=str(folder))
-    said = run(["systemd-analyze", "verify", "--user", "--man=no", unit], None, env=manager)
-    ours = [line for line in said.splitlines() if "mortarleek" in line]
-    assert ours == [], said
-    said = run(["systemd-analyze", "security", "--user", "--offline=true", unit], None, env=manager)
-    if "Overall exposure" not in said:
-        raise Skip(f"systemd-analyze says nothing: {said[:200]}")
-    exposure = float(re.search(r"level for \S+: ([\d.]+)", said)[1])
-    print(f"daily: the unit's exposure is {exposure}")
-    assert exposure <= 2.0, said
-
-
-@check
 def what_is_installed_works_and_is_taken_away_again(folder):
     target = folder / "target"
     make = ["make", "--no-print-directory", "-C", rig.TOP, f"DESTDIR={target}", "PREFIX=/usr"]
@@ -105,6 +90,11 @@ def what_is_installed_works_and_is_taken_away_again(folder):
         "share/man/man1/mortarleek-agent.1",
         "share/man/man1/mortarleek-add.1",
         "share/man/man1/mortarleek-filter.1",
+        "share/man/man1/mortarleek-status.1",
+        "share/man/man1/mortarleek-serve.1",
+        "share/man/man1/mortarleek-replay.1",
+        "share/man/man1/mortarleek-drill.1",
+        "share/man/man1/mortarleek-audit.1",
         "share/man/man1/agent_prog.1",
         "share/man/man1/audit_prog.1",
         "share/man/man8/mortarleek-helper.8",
@@ -120,6 +110,11 @@ def what_is_installed_works_and_is_taken_away_again(folder):
         if name in found:
             assert found[name].stat().st_mode & 0o7777 == 0o711, name
     assert found["bin/mortarleek-agent"].stat().st_mode & 0o7777 == 0o755
+    # What is typed has a manual.
+    usage = run([target / "usr/bin/mortarleek"], 1)
+    for word in re.findall(r"mortarleek ([a-z]+)", usage):
+        said = run(["mandoc", "-T", "ascii", target / f"usr/share/man/man1/mortarleek-{word}.1"])
+        assert f"mortarleek-{word}" in re.sub(".\b", "", said), word
     assert "ExecStart=/usr/bin/mortarleek-agent" in found["lib/systemd/user/mortarleek-agent.service"].read_text()
     if "libexec/mortarleek/mortarleek-helper" in found:
         said = run(
@@ -135,7 +130,10 @@ def what_is_installed_works_and_is_taken_away_again(folder):
         assert run([target / "usr/bin/mortarleek", *words], 1).startswith("usage: mortarleek agent")
     run([*make, "uninstall"])
     assert not (target / "usr/libexec/mortarleek").exists()
-    assert [file for file in target.rglob("*") if file.is_file()] == []
+    assert [file for file in target.rglob("*") if file.is_file() or file.is_symlink()] == []
+
+
+PACKAGES = tempfile.TemporaryDirectory(prefix="mk-packages-")
 
 
 def copy_of_the_repository(folder):
@@ -166,7 +164,7 @@ def what_a_user_installed_is_closed_to_that_user_s_programs(folder):
         assert file.stat().st_mode & 0o7777 == 0o111, file
     words = [program, "serve", "-a", home / "s", "--helper", "/bin/false"]
     with subprocess.Popen([*other, *words], stdin=subprocess.DEVNULL, env=environment) as agent:
-        until(lambda: (home / "s.children").exists(), what="the agent's socket")
+        until(lambda: rig.serves(home / "s"), what="the agent's socket")
         assert os.stat(f"/proc/{agent.pid}/mem").st_uid == 0
         for file in ("mem", "environ", "maps"):
             assert "Permission denied" in run([*other, "cat", f"/proc/{agent.pid}/{file}"], 1)
@@ -212,21 +210,92 @@ def a_new_user_installs_it_and_logs_in(folder):
             os.kill(int(pid), signal.SIGTERM)
             assert added.startswith("Identity added: ") and logged == "in" and pid == same, (added, logged, pid, same)
             assert key.name in shown, shown
-            until(lambda: not is_alive(int(pid)) and not list(folder.glob("mortarleek-*")), what="the agent's end")
+            until(lambda: not is_alive(int(pid)) and not list((home / ".ssh").glob(".mortarleek-*")), what="the agent's end")
+
+
+@functools.cache
+def packed(place="source"):
+    """A package of what is built, made in a copy of the repository; a program of no use stands for what isn't built.
+    Made once for all checks, in a folder that goes with this process."""
+    folder = pathlib.Path(PACKAGES.name) / place
+    folder.mkdir()
+    copy_of_the_repository(folder)
+    (folder / "none.c").write_text("int main(void) { return 2; }\n")
+    run(["gcc", "-O2", "-o", folder / "none", folder / "none.c"])
+    for name in ("agent_prog", "mortarleek-helper", "confirm_relay", "standin_helper", "add_tool", "filter_proxy"):
+        shutil.copy(rig.BUILT / name if (rig.BUILT / name).exists() else folder / "none", folder / "bin" / name)
+    quick = {"DPKG_DEB_COMPRESSOR_TYPE": "gzip", "DPKG_DEB_COMPRESSOR_LEVEL": "1"}
+    environment = dict(os.environ, RT=str(rig.script(folder / "rt", "echo a-kit of this test")), **quick)
+    said = run(["make", "--no-print-directory", "-o", "bin/agent_prog", "deb"], cwd=folder, env=environment, timeout=900)
+    (package,) = (folder / "bin").glob("*.deb")
+    return package, said
 
 
 @check
-def the_package_has_no_faults(folder):
-    copy_of_the_repository(folder)
-    # A program of no use stands for each that isn't built.
-    (folder / "none.c").write_text("int main(void) { return 2; }\n")
-    run(["gcc", "-O2", "-o", folder / "none", folder / "none.c"])
-    for name in ("agent_prog", "mortarleek-helper", "confirm_relay", "standin_helper", "add_tool"):
-        shutil.copy(rig.BUILT / name if (rig.BUILT / name).exists() else folder / "none", folder / "bin" / name)
-    run(["make", "--no-print-directory", "-o", "bin/agent_prog", "deb"], cwd=folder, timeout=900)
-    (package,) = (folder / "bin").glob("*.deb")
+def the_package_has_no_faults_and_says_what_it_is_of(folder):
+    package, said = packed()
+    version = (package.parent / "version").read_text()
+    assert said.endswith(version) and version.splitlines()[2] == "a-kit of this test", said[-300:]
+    number = version.split()[1]
+    assert package.name == f"mortarleek_{number}_amd64.deb", package
     said = run(["lintian", "--allow-root", "--fail-on", "error,warning", package], timeout=900)
     assert "E:" not in said and "W:" not in said, said
     listed = run(["dpkg", "-c", package])
     for name in ("agent_prog", "mortarleek-helper"):
         assert re.search(rf"(?m)^-rwx--x--x root/root .*/{name}$", listed), listed
+    for name in ("SECURITY.md", "sbom.cdx.json", "changelog", "copyright"):
+        assert re.search(rf"/usr/share/doc/mortarleek/{name}(\.gz)?$", listed, re.MULTILINE), (name, listed)
+    told = run(["dpkg", "-I", package])
+    assert "Architecture: amd64" in told and f"Built as {number} of commit " in told and "a-kit of this test" in told, told
+    linked = run([rig.TOP / "scripts/sbom", "--built-using"]).strip()
+    assert f"Built-Using: {linked}\n" in told and "rust-openssl (= " in linked, told
+    assert "Suggests: ssh-askpass-gnome\n" in told, told
+
+
+@check
+def versions_licences_and_the_bill_agree(folder):
+    number = run([rig.TOP / "scripts/version"]).split()[1]
+    assert run(["dpkg-parsechangelog", "-l", rig.TOP / "debian/changelog", "-S", "Version"]).strip() == number
+    named = (rig.TOP / "debian/copyright").read_text()
+    licences = run([rig.TOP / "scripts/sbom", "--licences"]).splitlines()
+    assert len(licences) > 5
+    for line in licences:
+        name, expression = line.split()[0], line.partition(": ")[2].replace("MIT", "Expat").replace(" OR ", " or ")
+        said = re.search(rf"(?ms)^ {name}, Copyright .*?: ([^:]*?)\n \.", named)
+        assert said and " ".join(said[1].split()) == expression, (line, said and said[1])
+    bill = json.loads(run([rig.TOP / "scripts/sbom"]))
+    parts = {part["name"]: part for part in bill["components"]}
+    for line in licences:
+        name, version = line.split(":")[0].split()
+        assert parts[name]["version"] == version, line
+    assert bill["metadata"]["component"]["version"] == number and {"libcrypto", "rust-std", "rattle/mio"} <= set(parts), parts
+    assert run([rig.TOP / "scripts/sbom"]) == run([rig.TOP / "scripts/sbom"])
+
+
+@check
+def two_packages_of_two_clones_are_the_same_bytes(folder):
+    """Of the same programs: docs/DAILY.md says what came of two builds of these."""
+    assert packed()[0].read_bytes() == packed("elsewhere")[0].read_bytes()
+
+
+@check
+def the_package_s_own_test_passes_where_it_is_installed(folder):
+    """debian/tests, in a copy of this system: installed, at work, and removed without a trace."""
+    if os.geteuid() != 0:
+        raise Skip("it takes root to install a package")
+    for name in ("agent_prog", "mortarleek-helper", "add_tool"):
+        rig.built(name)
+    package, _ = packed()
+    shutil.copytree(rig.TOP / "debian/tests", folder / "tests")
+    script = f"""mount -t tmpfs none {folder}/top && cd {folder}/top && mkdir upper work all
+mount -t overlay -o lowerdir=/,upperdir=upper,workdir=work none all || exit 77
+for place in proc dev sys tmp; do mount --rbind /$place all/$place; done
+chroot all dpkg --purge mortarleek > /dev/null 2>&1
+chroot all dpkg --force-depends -i {package} && chroot all {folder}/tests/installed && chroot all dpkg --purge mortarleek || exit 1
+cd upper && echo left: && find . -path '*mortarleek*' ! -type c ! -path './var/*' ! -path './run/*'"""
+    (folder / "top").mkdir()
+    done = subprocess.run(["unshare", "-m", "sh", "-c", script], capture_output=True, text=True, timeout=300)
+    if done.returncode == 77:
+        raise Skip("no overlay of the system can be mounted here")
+    assert done.returncode == 0 and "installed: works" in done.stdout, done.stdout[-1500:] + done.stderr[-1500:]
+    assert done.stdout.endswith("left:\n"), done.stdout[-500:]

@@ -1,8 +1,11 @@
 """An agent as a daemon: a second start, signals, crashes, many starts at once, confirmations. tests/daily.py runs these
 too."""
 
+import contextlib
 import os
+import pathlib
 import re
+import shutil
 import signal
 import stat
 import subprocess
@@ -159,6 +162,8 @@ def of_twenty_starts_at_one_path_one_has_it(folder):
         said = [start.communicate(timeout=120) for start in starts]
         won = [lines for (lines, _), start in zip(said, starts) if start.returncode == 0]
         assert len(won) == 1, said
+        lost = [(lines, errors) for (lines, errors), start in zip(said, starts) if start.returncode != 0]
+        assert all(lines == "" and errors.count("\n") == 1 for lines, errors in lost), lost
         assert "no identities" in run(["ssh-add", "-l"], 1, env=dict(installed.environment, SSH_AUTH_SOCK=str(path)))
         os.kill(int(re.search(r"pid (\d+);", won[0])[1]), signal.SIGTERM)
         until(lambda: not path.exists(), what="the removal of the socket")
@@ -189,7 +194,7 @@ def a_dialog_asks_on_a_display(folder):
     """With the variable PICTURE a picture of the dialog is written there."""
     rig.built("confirm_relay")
     installed = Installed(folder)
-    rig.install("daily", "xvfb", "xdotool", "ssh-askpass", "imagemagick")
+    rig.install("dialog")
     key = keygen(folder / "key", comment="a key of mine")
     reader, writer = os.pipe()
     words = ["Xvfb", "-displayfd", str(writer), "-screen", "0", "640x360x24", "-nolisten", "tcp"]
@@ -217,3 +222,66 @@ def a_dialog_asks_on_a_display(folder):
         os.close(reader)
         display.terminate()
         display.wait()
+
+
+@check
+def a_record_is_a_new_file_that_is_opened_once(folder):
+    installed, path = Installed(folder), folder / "record"
+    for make in (
+        lambda: os.mkfifo(path),
+        lambda: path.symlink_to(folder / "elsewhere"),
+        lambda: path.write_text("kept\n"),
+    ):
+        make()
+        said = run([installed.agent, "--record", path], 1, env=installed.environment, timeout=20)
+        assert said.startswith(f"mortarleek-agent: {path}: can't be made") and said.count("\n") == 1, said
+        path.unlink()
+    assert not (folder / "elsewhere").exists() and installed.folders() == []
+    # What takes the file's place once it is made gets nothing.
+    for words in (["--record", path], ["--record", path, "-a", folder / "s"]):
+        tools = folder / "tools"
+        tools.mkdir(exist_ok=True)
+        rig.script(tools / "mktemp", f'mv {path} {path}.moved && ln -s {folder}/other {path}; exec {shutil.which("mktemp")} "$@"')
+        with installed.start(*words, environment={"PATH": f"{tools}:{os.environ['PATH']}"}) as daemon:
+            daemon.run("ssh-add", "-l", status=1)
+            until(lambda: "hear 1 000000010b" in pathlib.Path(f"{path}.moved").read_text(), what="the record")
+            assert not (folder / "other").exists()
+            # The agent alone has it open.
+            for pid in [daemon.pid, *(pid for pid in children(daemon.pid) if pid != daemon.agents()[1])]:
+                for number in pathlib.Path(f"/proc/{pid}/fd").iterdir():
+                    with contextlib.suppress(OSError):
+                        assert "record" not in os.readlink(number), pid
+        path.unlink()
+        os.unlink(f"{path}.moved")
+    # A folder gets a file for each start.
+    (folder / "records").mkdir()
+    for number in (1, 2):
+        with installed.start("--record", folder / "records"):
+            assert len(list((folder / "records").glob("record-20*-*-*"))) == number
+    listed = run([installed.agent, "--record", path, "ls", "/proc/self/fd"], env=installed.environment)
+    assert listed.split() == ["0", "1", "2", "3"], listed
+    assert path.read_text().startswith("schedule 2\n") and path.stat().st_mode & 0o777 == 0o600
+
+
+@check
+def what_agent_and_children_say_is_bounded(folder):
+    installed = Installed(folder)
+    key = keygen(folder / "key")
+    helper = installed.prefix / "libexec/mortarleek/mortarleek-helper"
+    real = helper.rename(folder / "real")
+    rig.script(helper, f"[ $# = 0 ] || dd if=/dev/zero bs=65536 count=320 2> /dev/null | tr '\\0' x >&2\nexec {real} \"$@\"")
+    with installed.start() as daemon:
+        private = pathlib.Path(daemon.path).parent
+        daemon.run("ssh-add", "-q", key)
+        daemon.run("ssh-add", "-T", f"{key}.pub")
+        assert sum(file.stat().st_size for file in private.iterdir()) < 70000
+        assert (private / "said").stat().st_size <= 65536
+        pids = [*daemon.agents(), *children(daemon.pid)]
+    until(lambda: not any(map(is_alive, pids)), what="the end of all")
+    # Of a start that fails it is told.
+    program = installed.prefix / "libexec/mortarleek/agent_prog"
+    program.unlink()
+    rig.script(program, "head -c 200000 /dev/zero | tr '\\0' x >&2; echo; exit 3")
+    said = run([installed.agent], 1, env=installed.environment)
+    assert said.endswith("mortarleek-agent: the agent didn't start\n") and 60000 < len(said) < 66000, len(said)
+    assert installed.folders() == []

@@ -6,6 +6,7 @@ import pathlib
 import re
 import shutil
 import signal
+import stat
 import subprocess
 
 import rig
@@ -14,15 +15,14 @@ from rig import Skip, children, is_alive, run, until
 
 
 @check
-def folder_and_sockets_are_the_user_s_alone(folder):
+def folder_and_socket_are_the_user_s_alone(folder):
     installed = Installed(folder)
     previous = os.umask(0)
     try:
         with installed.start() as daemon:
             (private,) = installed.folders()
             assert private.stat().st_mode & 0o7777 == 0o700
-            for path in (daemon.path, daemon.path + ".children"):
-                assert os.stat(path).st_mode & 0o777 == 0o600, path
+            assert os.stat(daemon.path).st_mode & 0o777 == 0o600
             for file in private.iterdir():
                 assert file.stat().st_mode & 0o77 == 0, file
     finally:
@@ -45,8 +45,7 @@ def another_user_can_t_reach_it(folder):
     with installed.start() as daemon:
         other = rig.AS_NOBODY
         assert "Permission denied" in run([*other, "ls", str(pathlib.Path(daemon.path).parent)], 2)
-        for path in (daemon.path, daemon.path + ".children"):
-            run([*other, "ssh-add", "-l"], 2, env=dict(installed.environment, SSH_AUTH_SOCK=path))
+        run([*other, "ssh-add", "-l"], 2, env=dict(installed.environment, SSH_AUTH_SOCK=daemon.path))
         run([*other, "kill", str(daemon.pid)], 1)
         # and the other way round: two users' agents in one place, each with a folder of its own
         said = run([*other, installed.agent], env=dict(installed.environment, HOME="/"))
@@ -157,3 +156,56 @@ def a_full_or_missing_folder_is_refused_with_a_line(folder):
             assert list(full.iterdir()) == [], (inodes, list(full.iterdir()))
         finally:
             subprocess.run(["umount", full])
+
+
+@check
+def a_folder_in_which_others_can_swap_things_is_refused(folder):
+    installed = Installed(folder)
+    outer, inner = folder / "outer", folder / "outer/inner"
+    inner.mkdir(parents=True)
+    outer.chmod(0o755)
+
+    def start(*words, status=1, **environment):
+        return run([installed.agent, *words], status, env=dict(installed.environment, **environment))
+
+    for place, mode in ((inner, 0o777), (inner, 0o775), (outer, 0o777), (outer, 0o770)):
+        place.chmod(mode)
+        for said in (start("-a", inner / "s"), start("--reuse", "-a", inner / "s"), start(TMPDIR=str(inner))):
+            by = "TMPDIR" if said.endswith("TMPDIR\n") else "-a"
+            assert said == f"mortarleek-agent: {place}: others may change what stands there: name a folder of yours by {by}\n"
+        place.chmod(0o755)
+        assert list(inner.iterdir()) == []
+    # Where it is sticky nobody takes away what is another's, and a link leads to what it leads to.
+    for mode in (0o1777, 0o1775, 0o700):
+        inner.chmod(mode)
+        with installed.start("-a", inner / "s"):
+            pass
+        until(lambda: not (inner / "s").exists())
+    outer.chmod(0o777)
+    (folder / "link").symlink_to(inner)
+    assert f"{outer}: others may" in start("-a", folder / "link/s")
+    if os.geteuid() == 0:
+        outer.chmod(0o755)
+        os.chown(inner, rig.NOBODY, rig.NOBODY)
+        assert f"{inner}: others may" in start("-a", inner / "s")
+
+
+@check
+def of_another_user_s_folder_no_socket_is_looked_at(folder):
+    """Folders with sockets in the place of killed agents': only one of this user's, with one socket, is asked."""
+    installed = Installed(folder)
+    asked = folder / "asked"
+    tools = folder / "tools"
+    tools.mkdir()
+    rig.script(tools / "timeout", f'case $2 in */add_tool) echo "$SSH_AUTH_SOCK" >> {asked} ;; esac; exec {shutil.which("timeout")} "$@"')
+    environment = {"PATH": f"{tools}:{os.environ['PATH']}"}
+    for name, mode, numbers in (("aaaaaaaa", 0o755, range(300)), ("bbbbbbbb", 0o700, range(300)), ("cccccccc", 0o700, [4194303])):
+        place = installed.temporary / f"mortarleek-{name}"
+        place.mkdir()
+        for number in numbers:
+            os.mknod(place / f"agent.{number}", 0o600 | stat.S_IFSOCK)
+        place.chmod(mode)
+    with installed.start(environment=environment):
+        assert asked.read_text().splitlines() == [f"{installed.temporary}/mortarleek-cccccccc/agent.4194303"]
+        left = {place.name for place in installed.folders()}
+        assert {"mortarleek-aaaaaaaa", "mortarleek-bbbbbbbb"} < left and len(left) == 3, left

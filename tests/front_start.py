@@ -16,7 +16,7 @@ from rig import children, is_alive, openssh_agent, run, until
 
 @check
 def the_scripts_are_plain_sh(folder):
-    scripts = [*sorted((rig.TOP / "scripts").glob("mortarleek*")), *(rig.TOP / "scripts" / part for part in rig.SHELL_PARTS)]
+    scripts = [*sorted((rig.TOP / "front").glob("mortarleek*")), *(rig.TOP / "front" / part for part in rig.SHELL_PARTS)]
     run(["shellcheck", "-x", "-s", "sh", *scripts], cwd=rig.TOP)
     for script in scripts:
         run(["dash", "-n", script])
@@ -52,7 +52,8 @@ def words_that_ssh_agent_refuses_are_refused(folder):
         ["-k"],
     ):
         both(installed, words, 1)
-    for pid in ("", "1", "0", "x", "12x", "-5"):
+    # Of no number a process group of the caller's own comes, nor of one that a shell can't hold.
+    for pid in ("", "1", "0", "x", "12x", "-5", "00", "01", "0000", "2147483648", "18446744073709551616", "0" * 400):
         both(installed, ["-k"], 1, {"SSH_AGENT_PID": pid})
     assert installed.folders() == []
 
@@ -166,8 +167,9 @@ def nobody_who_reads_the_output_waits_for_the_agent_s_end(folder):
     pid = int(re.search(r"pid (\d+);", said)[1])
     for name in ("0", "1", "2"):
         assert os.readlink(f"/proc/{pid}/fd/{name}") == "/dev/null"
+    (private,) = installed.folders()
     for agent in children(pid):
-        assert os.readlink(f"/proc/{agent}/fd/1") == "/dev/null"
+        assert os.readlink(f"/proc/{agent}/fd/1") in ("/dev/null", f"{private}/said"), agent
     assert os.readlink(f"/proc/{pid}/cwd") == "/"
     assert time.monotonic() - start < 10
     os.kill(pid, signal.SIGTERM)
@@ -202,7 +204,7 @@ def the_agent_gets_a_clean_environment_and_no_core(folder):
 @check
 def words_reach_the_agent(folder):
     installed = Installed(folder)
-    asker = rig.script(folder / "ask me", 'printf "%s|%s\\n" "$1" "$SSH_ASKPASS_PROMPT" > "${0%/*}/asked"')
+    asker = rig.script(folder / "ask me", "exit 1")
     with installed.start("-t", "90m", environment={"SSH_ASKPASS": str(asker), "SSH_ASKPASS_REQUIRE": "force"}) as daemon:
         agent = agent_of(daemon.pid)
         words = pathlib.Path(f"/proc/{agent}/cmdline").read_text().rstrip("\0").split("\0")
@@ -210,9 +212,7 @@ def words_reach_the_agent(folder):
         assert words[:4] == ["serve", "-a", daemon.path, "--helper"] and words[-2:] == ["-t", "90m"], words
         assert words[4].endswith("libexec/mortarleek/mortarleek-helper")
         if "--relay" in words:
-            relayed = words[words.index("--askpass") + 1]
-            run([relayed, "a question"], env={"PATH": os.environ["PATH"]})
-            assert (folder / "asked").read_text() == "a question|confirm\n"
+            assert words[words.index("--askpass") + 1] == str(asker), words
         elif (rig.BUILT / "confirm_relay").exists():
             raise AssertionError(words)
 

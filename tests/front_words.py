@@ -173,7 +173,7 @@ def manuals_completions_and_daily_name_the_same_words(folder):
         assert manual == described == daily == by_fish == by_zsh == by_bash, (
             name, *(sorted(words) for words in (manual, described, daily, by_fish, by_zsh, by_bash))
         )
-        usage = run([rig.TOP / f"scripts/mortarleek-{name}", "-Z"], 1)
+        usage = run([rig.TOP / f"front/mortarleek-{name}", "-Z"], 1)
         assert set("".join(re.findall(r"[\[ |]-([A-Za-z]+)", usage.partition("usage")[2]))) == manual, usage
         assert not refused & manual, refused
         # The installed tool knows no word that the table leaves out.

@@ -42,12 +42,8 @@ ADDS = [bytes([rig.ADD]) + b"".join(HELD[0][:2]), bytes([rig.ADD_LIMITED]) + b""
 BIND = bytes([rig.EXTENSION]) + b"".join(map(string, (b"session-bind@openssh.com", HELD[0][2], b"session", b"sg")))
 ASKS = [string(bytes([rig.SIGN]) + string(held[2]) + string(b"message") + bytes(4)) for held in HELD]
 ASKS += [string(BIND + b"\1"), string(bytes([rig.LIST]))]
-# The process that the agent starts tells who it is, and waits until the batch is over, or ends at once.
-TELLS = """
-[ ! -e {folder}/ends ] || exit 1
-printf '%s %s\\n' "$2" "$MORTARLEEK_TICKET" > {folder}/told
-exec cat {folder}/over > {folder}/none
-"""
+# The process that the agent starts hands its connection over, or ends at once.
+ENDS = '[ ! -e {folder}/ends ] || exit 1; exec {program} "$@"'
 
 
 def changed(draw, text, others):
@@ -78,11 +74,10 @@ class Peer:
 
     LEAVES = 0.003
 
-    def __init__(self, draw, path, text):
+    def __init__(self, draw, connection, text):
         self.draw, self.left, self.heard = draw, bytearray(text), bytearray()
-        self.socket = socket.socket(socket.AF_UNIX)
+        self.socket = connection
         self.socket.setblocking(False)
-        self.socket.connect(path)  # refused where too many wait
         self.is_deaf = draw.random() < 0.1
         self.sizes = draw.choice([[1], [1, 3, 4, 5], [1, 16, 100, 1000], [1 << 14], [1 << 20]])
         self.is_over = False
@@ -121,9 +116,10 @@ class Child(Peer):
     LEAVES = 0.01
     MANNERS = ["well"] * 4 + ["twice", "reverse", "wrong kind", "wrong number", "changed", "never", "late", "ends"]
 
-    def __init__(self, draw, path, job, ticket, others, counts):
-        hello = string(struct.pack(">BQ", 1, job) + string(ticket))
-        super().__init__(draw, path, hello if draw.random() < 0.9 else changed(draw, hello, others))
+    def __init__(self, draw, started, others, counts):
+        hello = string(struct.pack(">BQ", 1, started.job) + string(started.ticket))
+        connection = started.peer.socket
+        super().__init__(draw, connection, hello if draw.random() < 0.9 else changed(draw, hello, others))
         self.others, self.counts, self.manner, self.kept = others, counts, draw.choice(self.MANNERS), []
         self.sizes = draw.choice([[1], [1, 3, 4, 5], [1 << 14]])
 
@@ -167,7 +163,7 @@ class Batch:
 
     def __init__(self, program, seed, folder, counts):
         self.draw, self.folder, self.counts = random.Random(seed), folder, counts
-        self.program, self.peers, self.tickets, self.told = program, [], collections.deque(), b""
+        self.program, self.peers, self.taken = program, [], 0
         self.real, self.made = recordings()
 
     def text(self):
@@ -179,39 +175,34 @@ class Batch:
         return chosen if draw.random() < 0.3 else changed(draw, chosen, self.real)
 
     def join(self, agent):
-        """One peer more: a child that was started, another child, or a client."""
-        draw, children = self.draw, agent.path + ".children"
-        with contextlib.suppress(BlockingIOError, ConnectionRefusedError):
-            if self.tickets and draw.random() < 0.8:
-                job, ticket = self.tickets.popleft()
-                self.peers.append(Child(draw, children, job, ticket, self.made, self.counts))
+        """One peer more: a child that was started, one that lies, or a client."""
+        draw = self.draw
+        if self.taken < len(self.started) and draw.random() < 0.8:
+            started = self.started[self.taken]
+            self.taken += 1
+            if draw.random() < 0.85:
+                self.peers.append(Child(draw, started, self.made, self.counts))
                 self.counts["children with a ticket"] += 1
-            elif draw.random() < 0.15:
+            else:
                 hello = string(struct.pack(">BQ", 1, draw.randrange(9)) + string(bytes(16)))
                 lied = draw.choice([b"", self.text(), hello])
-                self.peers.append(Peer(draw, children, lied))
+                self.peers.append(Peer(draw, started.peer.socket, lied))
                 self.counts["children without"] += 1
-            else:
-                self.peers.append(Peer(draw, agent.path, self.text()))
+        else:
+            connection = socket.socket(socket.AF_UNIX)
+            connection.setblocking(False)
+            with contextlib.suppress(BlockingIOError, ConnectionRefusedError):
+                connection.connect(agent.path)  # refused where too many wait
+                self.peers.append(Peer(draw, connection, self.text()))
                 self.counts["clients"] += 1
 
-    def hear_tickets(self, fifo):
-        with contextlib.suppress(BlockingIOError):
-            self.told += os.read(fifo, 1 << 16)
-        *lines, self.told = self.told.split(b"\n")
-        for line in lines:
-            job, ticket = line.decode().split()
-            self.tickets.append((int(job), bytes.fromhex(ticket)))
-        if self.draw.random() < 0.003:
-            ends = self.folder / "ends"
-            ends.unlink() if ends.exists() else ends.touch()
-
     def run(self, agent):
-        fifo = os.open(self.folder / "told", os.O_RDWR | os.O_NONBLOCK)
-        over = os.open(self.folder / "over", os.O_RDWR | os.O_NONBLOCK)
         try:
             for _ in range(STEPS):
-                self.hear_tickets(fifo)
+                self.started = self.helper.all()
+                if self.draw.random() < 0.003:
+                    ends = self.folder / "ends"
+                    ends.unlink() if ends.exists() else ends.touch()
                 if len(self.peers) < PEERS and self.draw.random() < 0.3:
                     self.join(agent)
                 for peer in self.draw.sample(self.peers, min(4, len(self.peers))):
@@ -222,14 +213,11 @@ class Batch:
         finally:
             for peer in self.peers:
                 peer.socket.close()
-            os.close(over)
-            os.close(fifo)
 
     def play(self, is_checked):
         """What was wrong, or None."""
-        for name in ("told", "over"):
-            os.mkfifo(self.folder / name)
-        helper = rig.script(self.folder / "helper", TELLS.format(folder=self.folder))
+        self.helper = rig.HandedOver(self.folder, "hands")
+        helper = rig.script(self.folder / "helper", ENDS.format(folder=self.folder, program=self.helper.program))
         words = ["--relay", helper, "--askpass", "/bin/true"]
         with open(self.folder / "errors", "w+") as errors:
             with rig.our_agent(self.program, self.folder, *words, helper=helper, stderr=errors) as agent:
@@ -250,6 +238,8 @@ class Batch:
                 if most > MOST_MEMORY and not is_checked:
                     return f"the agent took {most} bytes"
                 agent.process.send_signal(signal.SIGKILL)
+                agent.process.wait()
+                self.helper.close()
         return None
 
 

@@ -7,8 +7,7 @@ export PATH=/usr/bin:$PATH
 export CARGO_BUILD_JOBS=${CARGO_BUILD_JOBS:-2}
 passed=0 failed=0 skipped=0
 
-../tests/packages.sh helper rustc cargo rustfmt rust-clippy librust-openssl-dev librust-zeroize-dev librust-libc-dev \
-    openssh-client openssl python3 || exit 1
+../tests/packages.sh helper @helper_tests || exit 1
 
 # WHAT and a command: one check, which shows what the command said where it failed.
 check() {

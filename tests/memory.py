@@ -11,7 +11,7 @@ frees is searched for the key's private field. limits: the same client and a lon
 space, beginning where the agent comes to listen. Both sockets are gone at the end. played: tests of a world in memory
 with one client, of an agent and of a table alone, as the check of their crates builds them, with each allocation refused:
 they answer, and end no process. The last line has the numbers of runs, and --write, of all parts, writes it into
-docs/PROOFS.md; ends with 1 where something failed.
+generated/MEMORY.md; ends with 1 where something failed.
 
 A library that cc makes here stands before malloc, so the agent must not be linked with AddressSanitizer."""
 
@@ -196,11 +196,10 @@ def serve(program, folder, bodies, environment, limit=None):
     words = [str(program), "serve", "-a", str(path), "--until-idle", "--helper", str(HELPER)]
     quiet = dict(stdin=subprocess.DEVNULL, stdout=subprocess.DEVNULL, stderr=subprocess.DEVNULL)
     with subprocess.Popen(words, env=environment, preexec_fn=limit, **quiet) as process:
-        children = pathlib.Path(f"{path}.children")
-        rig.until(lambda: children.exists() or process.poll() is not None, 60, what="the sockets")
+        rig.until(lambda: rig.serves(path) or process.poll() is not None, 60, what="the socket")
         got = visit(path, bodies)
         status = process.wait(60)
-    return got, status, path.exists() or children.exists(), process.pid
+    return got, status, path.exists(), process.pid
 
 
 def judge(what, got, whole, status, is_left):
@@ -237,18 +236,16 @@ def limited(size):
 
 
 def listens(program, folder, size):
-    """Whether the agent comes to listen, the library before malloc with it: it has a stack, and memory for its sockets."""
+    """Whether the agent comes to listen, the library before malloc with it: it has a stack, and memory for its socket."""
     path = folder / "l"
     words = [str(program), "serve", "-a", str(path), "--helper", str(HELPER)]
     more = dict(env=refusing(folder, 0, MARK.decode()), preexec_fn=limited(size))
     quiet = dict(stdin=subprocess.DEVNULL, stdout=subprocess.DEVNULL, stderr=subprocess.DEVNULL)
     with subprocess.Popen(words, **more, **quiet) as process:
-        children = pathlib.Path(f"{path}.children")
-        rig.until(lambda: children.exists() or process.poll() is not None, 60, what="the sockets")
-        is_there = children.exists() and "refuse.so" in pathlib.Path(f"/proc/{process.pid}/maps").read_text()
+        rig.until(lambda: rig.serves(path) or process.poll() is not None, 60, what="the socket")
+        is_there = process.poll() is None and "refuse.so" in pathlib.Path(f"/proc/{process.pid}/maps").read_text()
         process.kill()
-    for left in (path, children):
-        left.unlink(missing_ok=True)
+    path.unlink(missing_ok=True)
     return is_there
 
 
@@ -314,13 +311,13 @@ def try_played(crate, test, folder, tally):
         tally[f"played: {crate}"] += 1
 
 
-def write(line):
-    """Puts the numbers of runs between their marks in docs/PROOFS.md."""
-    place = rig.TOP / "docs/PROOFS.md"
-    before, begin, rest = place.read_text().partition("<!-- runs, by .ci/memory --write -->")
-    assert begin, "docs/PROOFS.md has no mark for the runs"
+def write(ends):
+    """Puts how often each end came between their marks in generated/MEMORY.md."""
+    place = rig.TOP / "generated/MEMORY.md"
+    before, begin, rest = place.read_text().partition("<!-- runs, by tests/memory.py --write -->\n")
+    assert begin, "generated/MEMORY.md has no mark for the runs"
     _, end, after = rest.partition("<!-- end of runs -->")
-    place.write_text(f"{before}{begin} {line} {end}{after}")
+    place.write_text(before + begin + "".join(f"- {line}\n" for line in ends) + end + after)
 
 
 def main(words):
@@ -348,10 +345,10 @@ def main(words):
     except AssertionError as fault:
         print(f"memory: failed: {fault}")
         return 1
-    line = ", ".join(f"{name} {count}" for name, count in tally.items())
+    ends = [f"{name} {count}" for name, count in tally.items()]
     if "--write" in words and not parts:
-        write(line)
-    print(f"memory: {line}")
+        write(ends)
+    print(f"memory: {', '.join(ends)}")
     return 0
 
 

@@ -184,7 +184,8 @@ def the_front_end_makes_a_new_file(folder):
         shutil.copy(rig.built(name), place)
     words = [place / "mortarleek-agent", "--stand-in", "--record", "new", "-T"]
     environment = dict(os.environ, TMPDIR=str(folder))
-    listed = run([*words, "ssh-add", "-l"], 1, env=environment, cwd=folder)
+    # Of the last client an agent that is ended may leave the reply out, so there are two.
+    listed = run([*words, "sh", "-c", "ssh-add -l; ssh-add -l"], 1, env=environment, cwd=folder)
     assert "no identities" in listed, listed
     record = folder / "new"
     assert record.stat().st_mode & 0o777 == 0o600
@@ -214,4 +215,4 @@ def a_refusal_is_recorded_too(folder):
 
 
 if __name__ == "__main__":
-    check.main(PROGRAM, "openssh-client")
+    check.main(PROGRAM)

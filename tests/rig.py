@@ -2,8 +2,10 @@
 
 import concurrent.futures
 import contextlib
+import fcntl
 import os
 import pathlib
+import resource
 import shutil
 import signal
 import socket
@@ -22,13 +24,17 @@ FAILURE, SUCCESS, IDENTITIES, SIGNATURE = 5, 6, 12, 14
 LIST, SIGN, ADD, REMOVE, REMOVE_ALL, LOCK, UNLOCK, ADD_LIMITED, EXTENSION = 11, 13, 17, 18, 19, 22, 23, 25, 27
 
 
+# The agent says a line where a core file may be written.
+resource.setrlimit(resource.RLIMIT_CORE, (0, 0))
+
+
 class Skip(Exception):
     """The check can't be made here, for the reason that it carries."""
 
 
-def install(name, *packages):
-    """Debian's packages, those that are missing; a `Skip` says why where they can't be had."""
-    done = subprocess.run([TOP / "tests/packages.sh", name, *packages], stderr=subprocess.PIPE, text=True)
+def install(name):
+    """Debian's packages of a line of packages.txt, those that are missing; a `Skip` says why where they can't be had."""
+    done = subprocess.run([TOP / "tests/packages.sh", name, f"@{name}"], stderr=subprocess.PIPE, text=True)
     if done.returncode:
         raise Skip(done.stderr.strip().splitlines()[-1])
 
@@ -225,6 +231,27 @@ def listens(path, stale):
         return peer.connect_ex(path) == 0
 
 
+def file_at(path):
+    """Which file stands at a path, if any does."""
+    with contextlib.suppress(FileNotFoundError):
+        found = os.stat(path)
+        return found.st_ino, found.st_ctime_ns
+    return None
+
+
+def serves(path, before=None):
+    """Whether an agent of ours listens at a path: another socket than before is there, and it has given the lock of the
+    path back. Nothing connects: an agent may be one that ends behind its last client."""
+    if file_at(path) in (None, before):
+        return False
+    with open(f"{path}.lock") as lock:
+        try:
+            fcntl.flock(lock, fcntl.LOCK_SH | fcntl.LOCK_NB)
+        except BlockingIOError:
+            return False
+    return True
+
+
 def our_agent(program, folder, *words, helper=None, name="ours", limits=(), **more):
     """Ours, started as its words say, with the helper that signs where it is built."""
     path = f"{folder}/{name}.sock"
@@ -232,9 +259,9 @@ def our_agent(program, folder, *words, helper=None, name="ours", limits=(), **mo
     command = [*limits, str(program), "serve", "-a", path, "--helper", str(helper), *map(str, words)]
     more.setdefault("stdin", subprocess.DEVNULL)
     more.setdefault("stdout", subprocess.DEVNULL)
-    stale = os.path.exists(path + ".children")
+    before = file_at(path)
     process = subprocess.Popen(command, **more)
-    until(lambda: listens(path + ".children", stale) or process.poll() is not None, what="the agent's socket")
+    until(lambda: serves(path, before) or process.poll() is not None, what="the agent's socket")
     assert process.poll() is None, f"the agent ended with status {process.returncode}"
     return Agent(process, path)
 
@@ -251,10 +278,10 @@ SHELL_PARTS = ("agent_guard", "front_end.sh")
 
 def lay_scripts(folder, libexec=None):
     """Copies the front ends into a folder, and their parts beside them or into a folder of their own."""
-    for script in sorted((TOP / "scripts").glob("mortarleek*")):
+    for script in sorted((TOP / "front").glob("mortarleek*")):
         shutil.copy(script, folder)
     for script in SHELL_PARTS:
-        shutil.copy(TOP / "scripts" / script, libexec or folder)
+        shutil.copy(TOP / "front" / script, libexec or folder)
 
 
 def one_more_waits(agent, peers, meanwhile=lambda: None):
@@ -273,22 +300,15 @@ def one_more_waits(agent, peers, meanwhile=lambda: None):
 
 
 class Child:
-    """A program that an agent starts, of which this process is the agent: started with a socket, a job and a ticket."""
+    """A program that an agent starts, of which this process is the agent: started with a connection, a job and a ticket."""
 
-    def __init__(self, program, folder, *words, job=7, ticket=bytes(range(16)), said=True):
+    def __init__(self, program, *words, job=7, ticket=bytes(range(16)), said=True):
         self.job, self.ticket = job, ticket
-        path = f"{folder}/children"
-        with contextlib.suppress(FileNotFoundError):
-            os.unlink(path)
-        with socket.socket(socket.AF_UNIX) as listener:
-            listener.bind(path)
-            listener.listen()
-            listener.settimeout(10)
-            command = [str(program), path, str(job), ticket.hex(), *map(str, words)]
-            self.process = subprocess.Popen(
-                command, stdin=subprocess.DEVNULL, stdout=subprocess.PIPE, stderr=subprocess.PIPE
-            )
-            self.peer = Peer(listener.accept()[0])
+        ours, theirs = socket.socketpair()
+        with theirs:
+            command = [str(program), "-", str(job), ticket.hex(), *map(str, words)]
+            self.process = subprocess.Popen(command, stdin=theirs, stdout=subprocess.PIPE, stderr=subprocess.PIPE)
+        self.peer = Peer(ours)
         if said:
             assert self.peer.reply() == struct.pack(">BQ", 1, job) + string(ticket)
 
@@ -298,6 +318,61 @@ class Child:
         output, errors = self.process.communicate(timeout=20)
         assert output == b"", output
         return self.process.returncode, errors.decode()
+
+
+class HandedOver:
+    """A program for an agent to start, by which this process gets the connection, and speaks in the program's place."""
+
+    def __init__(self, folder, name="helper"):
+        self.program = script(
+            f"{folder}/{name}", f'exec {sys.executable} {TOP}/tests/hands_over.py {folder}/{name}.taker "$@"'
+        )
+        self.listener = socket.socket(socket.AF_UNIX)
+        self.listener.bind(f"{folder}/{name}.taker")
+        self.listener.listen(64)
+        self.started = []
+
+    def wait(self, count, seconds=20):
+        """Waits until so many were started, and answers the last of them."""
+        self.listener.settimeout(seconds)
+        while len(self.started) < count:
+            self.started.append(Started(self.listener.accept()[0]))
+        return self.started[count - 1]
+
+    def all(self):
+        """Those that were started so far."""
+        self.listener.settimeout(0)
+        with contextlib.suppress(BlockingIOError):
+            self.wait(1 << 30, 0)
+        return self.started
+
+    def close(self):
+        for started in self.all():
+            started.close()
+        self.listener.close()
+
+
+class Started:
+    """A program that an agent started, with its words and its ticket, in whose place this process speaks."""
+
+    def __init__(self, process):
+        self.process = process
+        process.settimeout(20)
+        told, (connection,), _, _ = socket.recv_fds(process, 4096, 1)
+        pid, ticket, self.socket, job, dash, *self.words = told.decode().split("\0")
+        assert dash == "-", told
+        self.pid, self.job, self.ticket = int(pid), int(job), bytes.fromhex(ticket)
+        self.peer = Peer(socket.socket(fileno=connection), seconds=100)
+
+    def hello(self, ticket=None):
+        """Names itself, and answers what it goes on with."""
+        told = self.ticket if ticket is None else ticket
+        self.peer.socket.sendall(string(struct.pack(">BQ", 1, self.job) + string(told)))
+        return self.peer
+
+    def close(self):
+        self.peer.close()
+        self.process.close()
 
 
 def script(path, text):
@@ -332,11 +407,11 @@ class Checks:
         self.named.add(case)
         return self(case)
 
-    def main(self, program, *packages):
+    def main(self, program):
         """Runs the checks that the process's words name, once a program is there, and Debian's packages."""
         try:
             there(program)
-            install(self.name, *packages)
+            install(self.name)
         except Skip as reason:
             print(f"{self.name}: not run: {reason}")
             sys.exit(1)

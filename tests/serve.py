@@ -27,6 +27,7 @@ import rig
 from frames import Ended, string
 from rig import (
     ADD,
+    ADD_LIMITED,
     EXTENSION,
     FAILURE,
     IDENTITIES,
@@ -34,9 +35,7 @@ from rig import (
     SIGN,
     SIGNATURE,
     SUCCESS,
-    Peer,
     children,
-    connected,
     is_alive,
     openssh_agent,
     our_agent,
@@ -265,12 +264,12 @@ def keys_of_each_kind_sign(folder):
 
 
 @check
-def both_sockets_are_of_mode_0600_before_anybody_can_connect(folder):
+def the_socket_is_of_mode_0600_before_anybody_can_connect(folder):
     previous = os.umask(0)
     try:
         with serve(folder) as agent:
-            for path in (agent.path, agent.path + ".children"):
-                assert os.stat(path).st_mode & 0o7777 == 0o600, path
+            assert os.stat(agent.path).st_mode & 0o7777 == 0o600
+            assert sorted(os.listdir(folder)) == ["ours.sock", "ours.sock.lock"], "another file is made"
     finally:
         os.umask(previous)
 
@@ -284,12 +283,10 @@ def a_stale_socket_is_replaced_and_a_live_one_never(folder):
     with serve(folder) as live:
         with live.peer() as peer:
             blob = added(peer)
-        for path in (live.path, live.path + ".children"):
-            before = os.stat(path).st_ino
-            words = [PROGRAM, "serve", "-a", path.removesuffix(".children"), "--helper", "/bin/false"]
-            said = run(words, 3, timeout=10)
-            assert said.count("\n") == 1, said
-            assert os.stat(path).st_ino == before
+        before = os.stat(live.path).st_ino
+        said = run([PROGRAM, "serve", "-a", live.path, "--helper", "/bin/false"], 3, timeout=10)
+        assert said.count("\n") == 1, said
+        assert os.stat(live.path).st_ino == before
         with live.peer() as peer:
             assert [key for key, _ in peer.blobs()] == [blob]
 
@@ -297,17 +294,16 @@ def a_stale_socket_is_replaced_and_a_live_one_never(folder):
 @check
 def what_isn_t_a_socket_is_left_alone(folder):
     path, lock = folder / "ours.sock", folder / "ours.sock.lock"
-    for place in (path, folder / "ours.sock.children"):
-        for make in (
-            lambda: place.write_text("kept\n"),
-            lambda: place.mkdir(),
-            lambda: place.symlink_to(folder / "x"),
-        ):
-            make()
-            run([PROGRAM, "serve", "-a", path, "--helper", "/bin/false"], 3, timeout=10)
-            assert place.is_symlink() or place.is_dir() or place.read_text() == "kept\n"
-            assert sorted(folder.iterdir()) == sorted([place, lock]), list(folder.iterdir())
-            place.rmdir() if place.is_dir() and not place.is_symlink() else place.unlink()
+    for make in (
+        lambda: path.write_text("kept\n"),
+        lambda: path.mkdir(),
+        lambda: path.symlink_to(folder / "x"),
+    ):
+        make()
+        run([PROGRAM, "serve", "-a", path, "--helper", "/bin/false"], 3, timeout=10)
+        assert path.is_symlink() or path.is_dir() or path.read_text() == "kept\n"
+        assert sorted(folder.iterdir()) == sorted([path, lock]), list(folder.iterdir())
+        path.rmdir() if path.is_dir() and not path.is_symlink() else path.unlink()
 
 
 @check
@@ -331,7 +327,7 @@ def statuses_and_their_lines(folder):
 
 
 @check
-def until_idle_it_ends_with_0_and_takes_both_sockets_away(folder):
+def until_idle_it_ends_with_0_and_takes_the_socket_away(folder):
     agent = serve(folder, "--until-idle")
     time.sleep(0.3)
     assert agent.process.poll() is None
@@ -343,11 +339,11 @@ def until_idle_it_ends_with_0_and_takes_both_sockets_away(folder):
     assert agent.process.poll() is None
     second.close()
     assert agent.process.wait(10) == 0
-    assert not os.path.exists(agent.path) and not os.path.exists(agent.path + ".children")
+    assert not os.path.exists(agent.path)
 
 
 @check
-def after_SIGTERM_the_front_end_takes_both_sockets_away(folder):
+def after_SIGTERM_the_front_end_takes_the_socket_away(folder):
     bin = folder / "bin"
     bin.mkdir()
     rig.lay_scripts(bin)
@@ -635,7 +631,12 @@ def a_helper_that_isn_t_there_is_a_refusal(folder):
             assert "key" in agent.run("ssh-add", "-l")
 
 
-KEPT = "PATH HOME LANG TERM DISPLAY XAUTHORITY WAYLAND_DISPLAY XDG_RUNTIME_DIR DBUS_SESSION_BUS_ADDRESS".split()
+# What the agent hands on of its environment, and of that the relay to the program that asks.
+DIALOG = """HOME LANG TERM DISPLAY XAUTHORITY WAYLAND_DISPLAY XDG_RUNTIME_DIR DBUS_SESSION_BUS_ADDRESS LANGUAGE LC_ALL
+LC_CTYPE LC_MESSAGES XDG_CURRENT_DESKTOP XDG_SESSION_TYPE DESKTOP_SESSION KDE_FULL_SESSION KDE_SESSION_VERSION GDK_SCALE
+GDK_DPI_SCALE QT_SCALE_FACTOR XCURSOR_SIZE XCURSOR_THEME""".split()
+KEPT = ["PATH", *DIALOG, "MORTARLEEK_MANAGER"]
+CODE = dict(LD_LIBRARY_PATH="/l", LD_PRELOAD="", GTK_MODULES="m", QT_PLUGIN_PATH="/q", PYTHONPATH="/p")
 
 
 @check
@@ -646,7 +647,7 @@ def a_helper_gets_its_words_the_kept_variables_and_three_descriptors(folder):
     )
     os.mkfifo(folder / "end")
     kept = {name: f"the {name}" for name in KEPT} | {"PATH": os.environ["PATH"]}
-    more = dict(SECRET="s", SSH_AUTH_SOCK="/other", LD_LIBRARY_PATH="/l", LC_ALL="C", HOMES="h")
+    more = dict(SECRET="s", SSH_AUTH_SOCK="/other", LD_LIBRARY_PATH="/l", LC_NUMERIC="C", HOMES="h")
     opened = os.open(folder, os.O_RDONLY)
     try:
         with serve(
@@ -657,8 +658,7 @@ def a_helper_gets_its_words_the_kept_variables_and_three_descriptors(folder):
             until((folder / "told").exists, what="the helper")
             pid, socket_path, job, ticket, data = (folder / "told").read_text().splitlines()
             assert children(agent.process.pid) == [int(pid)]
-            assert socket_path == agent.path + ".children" and job == "1" and data == "/some/data"
-            assert ticket == "-"
+            assert (socket_path, job, ticket, data) == ("-", "1", "-", "/some/data")
             entries = pathlib.Path(f"/proc/{pid}/environ").read_bytes().decode().rstrip("\0").split("\0")
             shown = dict(entry.split("=", 1) for entry in entries)
             assert re.fullmatch("[0-9a-f]{32}", shown.pop("MORTARLEEK_TICKET")) and shown == kept, entries
@@ -675,22 +675,20 @@ def a_helper_gets_its_words_the_kept_variables_and_three_descriptors(folder):
 
 @check
 def a_false_ticket_is_turned_away(folder):
-    helper = rig.script(folder / "helper", f'printf "%s\\n" "$MORTARLEEK_TICKET" > {folder}/ticket; sleep 5')
-    with serve(folder, helper=helper) as agent, agent.peer() as peer:
+    helper = rig.HandedOver(folder)
+    with contextlib.closing(helper), serve(folder, helper=helper.program) as agent, agent.peer() as peer:
         blob = added(peer, key=stand_in_key)
-        peer.send(bytes([SIGN]) + string(blob) + string(b"message") + bytes(4))
-        ticket = bytes.fromhex(until(lambda: (folder / "ticket").exists() and (folder / "ticket").read_text()))
-        hello = lambda told: string(struct.pack(">BQ", 1, 1) + string(told))
-        with Peer(connected(agent.path + ".children")) as liar:
-            liar.socket.sendall(hello(bytes(16)))
-            assert liar.has_ended()
-        with Peer(connected(agent.path + ".children")) as child:
-            child.socket.sendall(hello(ticket))
-            body = child.reply()
-            assert body[0] == 1 and blob in body
-            (ask,) = struct.unpack(">Q", body[1:9])
-            child.socket.sendall(string(struct.pack(">BQ", 101, ask) + string(b"signed")))
-            assert peer.reply() == bytes([SIGNATURE]) + string(b"signed")
+        request = bytes([SIGN]) + string(blob) + string(b"message") + bytes(4)
+        peer.send(request)
+        liar = helper.wait(1)
+        assert liar.hello(bytes(16)).has_ended() and peer.reply() == bytes([FAILURE])
+        peer.send(request)
+        child = helper.wait(2).hello()
+        body = child.reply()
+        assert body[0] == 1 and blob in body
+        (ask,) = struct.unpack(">Q", body[1:9])
+        child.socket.sendall(string(struct.pack(">BQ", 101, ask) + string(b"signed")))
+        assert peer.reply() == bytes([SIGNATURE]) + string(b"signed")
 
 
 @check
@@ -711,12 +709,11 @@ ASK_LIMIT, CONFIRM_LIMIT = 60, 300
 
 
 class Hanging:
-    """An agent with a helper that does nothing but tell its ticket, so that this process can take its place."""
+    """An agent with a helper that does nothing but hand its connection over, so that this process can take its place."""
 
     def __init__(self, folder, name):
-        self.told, self.children = folder / f"{name}.told", []
-        text = f'echo $$ "$2" "$MORTARLEEK_TICKET" >> {self.told}\nexec sleep 200'
-        self.agent = serve(folder, name=name, helper=rig.script(folder / f"{name}.helper", text))
+        self.helper = rig.HandedOver(folder, f"{name}.helper")
+        self.agent = serve(folder, name=name, helper=self.helper.program)
         self.client = self.agent.peer(seconds=100)
         self.blob = added(self.client, key=stand_in_key)
 
@@ -724,17 +721,9 @@ class Hanging:
         return self
 
     def __exit__(self, *_):
-        for peer in (self.client, *self.children):
-            peer.close()
+        self.client.close()
         self.agent.end()
-        for process, *_ in self.helpers():
-            with contextlib.suppress(ProcessLookupError):
-                os.kill(process, signal.SIGKILL)
-
-    def helpers(self):
-        """Of each helper that was started: its process, job and ticket."""
-        lines = self.told.read_text().splitlines() if self.told.exists() else []
-        return [(int(process), int(job), bytes.fromhex(ticket)) for process, job, ticket in map(str.split, lines)]
+        self.helper.close()
 
     def ask(self):
         self.client.send(bytes([SIGN]) + string(self.blob) + string(b"message") + bytes(4))
@@ -744,14 +733,10 @@ class Hanging:
         return time.monotonic() - self.began
 
     def hello(self, job):
-        """Connects in the place of a helper, once that was started."""
-        until(lambda: len(self.helpers()) >= job, what="the helper")
-        _, number, ticket = self.helpers()[job - 1]
-        assert number == job, self.helpers()
-        child = Peer(connected(self.agent.path + ".children"), seconds=100)
-        self.children.append(child)
-        child.socket.sendall(string(struct.pack(">BQ", 1, job) + string(ticket)))
-        return child
+        """Speaks in the place of a helper, once that was started."""
+        started = self.helper.wait(job)
+        assert started.job == job
+        return started.hello()
 
     def request(self, child, ask):
         """The helper is asked for a signature."""
@@ -782,7 +767,7 @@ class Hanging:
         assert [blob for blob, _ in self.client.blobs()] == [self.blob]
         self.answer(self.asks(2), 2)
         assert self.client.reply() == bytes([SIGNATURE]) + string(b"signed")
-        assert len(self.helpers()) == 2
+        assert len(self.helper.all()) == 2
 
 
 @check.beside
@@ -790,7 +775,10 @@ def a_helper_that_never_says_hello_is_given_up(folder):
     with Hanging(folder, "silent") as run:
         run.ask()
         run.refused()
-        assert run.hello(1).has_ended(), "a hello behind the limit is taken"
+        # The agent ends the process, too, and what it may still have said goes nowhere.
+        child = run.helper.wait(1)
+        until(lambda: not is_alive(child.pid), 5, what="the end of the helper")
+        assert child.peer.has_ended()
         run.goes_on()
 
 
@@ -867,6 +855,37 @@ def a_confirmation_is_asked_and_holds_up_nobody(folder):
         (folder / "go").write_text("exit 0\n")
 
 
+def shown_to_askpass(folder, environment):
+    """The variables that the program that asks is started with."""
+    asker = rig.script(folder / "ask", f"/usr/bin/env -0 > {folder}/shown; exit 1")
+    words = ["--relay", rig.built("confirm_relay"), "--askpass", asker]
+    with serve(folder, *words, env=environment, helper="/bin/false", stderr=subprocess.DEVNULL) as agent:
+        with agent.peer() as peer:
+            fields, comment, blob = stand_in_key(b"t" * 32)
+            assert peer.ask(ADD_LIMITED, fields, comment, b"\2") == bytes([SUCCESS])
+            assert peer.ask(SIGN, string(blob), string(b"message"), bytes(4)) == bytes([FAILURE])
+    shown = dict(entry.split("=", 1) for entry in (folder / "shown").read_text().rstrip("\0").split("\0"))
+    # what the shell of the script sets itself
+    return {name: value for name, value in shown.items() if name not in ("PWD", "OLDPWD", "SHLVL", "_")}
+
+
+@check
+def the_program_that_asks_gets_what_a_dialog_needs_and_nothing_that_names_code(folder):
+    given = {name: f"the {name}" for name in DIALOG} | CODE | dict(PATH=os.environ["PATH"], SECRET="s")
+    wanted = {name: f"the {name}" for name in DIALOG} | dict(SSH_ASKPASS_PROMPT="confirm")
+    assert shown_to_askpass(folder, given) == wanted
+
+
+@check
+def where_no_display_was_there_the_manager_tells_it(folder):
+    told = "DISPLAY=:9\nGTK_MODULES=m\nLANG=$'a\\nb'\nXAUTHORITY=/x y\nWAYLAND_DISPLAY\n"
+    (folder / "variables").write_text(told)
+    manager = rig.script(folder / "manager", f'[ "$*" = "--user show-environment" ] && cat {folder}/variables')
+    given = dict(PATH=os.environ["PATH"], MORTARLEEK_MANAGER=str(manager), LANG="C")
+    wanted = dict(DISPLAY=":9", XAUTHORITY="/x y", LANG="C", SSH_ASKPASS_PROMPT="confirm")
+    assert shown_to_askpass(folder, given) == wanted
+
+
 @check.by_hand
 def a_dialog_that_stands_for_301_seconds_goes_away_with_its_port(folder):
     rig.built("confirm_relay")
@@ -891,4 +910,4 @@ def a_dialog_that_stands_for_301_seconds_goes_away_with_its_port(folder):
 
 
 if __name__ == "__main__":
-    check.main(PROGRAM, "openssh-client", "util-linux")
+    check.main(PROGRAM)

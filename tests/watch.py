@@ -8,7 +8,7 @@ import subprocess
 import tempfile
 import time
 
-from rig import BUILT, LIST, TOP, Skip, children, until
+from rig import BUILT, LIST, TOP, Skip, children, serves, until
 
 
 def memory(pid, field="VmRSS"):
@@ -59,7 +59,7 @@ def checked_agent():
         quiet = dict(stdin=subprocess.DEVNULL, stdout=subprocess.DEVNULL, stderr=subprocess.DEVNULL)
         process = subprocess.Popen(words, cwd=TOP / "crates/agent_prog", **quiet)
         try:
-            bound = lambda: os.path.exists(f"{folder}/a.children") or process.poll() is not None
+            bound = lambda: serves(f"{folder}/a") or process.poll() is not None
             until(bound, 3000, what="the agent that `rt try` links")
             for pid in family(process.pid):
                 with contextlib.suppress(OSError, ValueError):

@@ -9,7 +9,7 @@ _mortarleek_agent() {
     -E:*) _mortarleek_offer -W 'sha256' -- "$2" ;;
     -O:*) _mortarleek_offer -W 'allow-remote-pkcs11 no-restrict-websafe' -- "$2" ;;
     -t:*) _mortarleek_offer -W '30m 1h 8h 1d' -- "$2" ;;
-    *:-*) _mortarleek_offer -W '--stand-in --record -a -c -D -d -E -k -O -P -s -T -t -U -u' -- "$2" ;;
+    *:-*) _mortarleek_offer -W '--reuse --stand-in --record -a -c -D -d -E -k -O -P -s -T -t -U -u' -- "$2" ;;
     *) _mortarleek_offer -c -- "$2" ;;
     esac
 }
@@ -20,7 +20,7 @@ _mortarleek_add() {
     -t:*) _mortarleek_offer -W '30m 1h 8h 1d' -- "$2" ;;
     -u:*) _mortarleek_offer -W '1 3' -- "$2" ;;
     -h:*) _mortarleek_offer -A hostname -- "$2" ;;
-    *:-*) _mortarleek_offer -W '-c -D -d -E -H -h -k -L -l -N -q -T -t -u -v -X -x' -- "$2" ;;
+    *:-*) _mortarleek_offer -W '-C -c -D -d -E -H -h -k -L -l -N -q -T -t -u -v -X -x' -- "$2" ;;
     *) _mortarleek_offer -f -- "$2" ;;
     esac
 }
@@ -36,13 +36,14 @@ _mortarleek_filter() {
 
 _mortarleek() {
     if [ "$COMP_CWORD" = 1 ]; then
-        _mortarleek_offer -W 'add agent audit drill filter replay serve' -- "$2"
+        _mortarleek_offer -W 'add agent audit drill filter replay serve status --version' -- "$2"
         return
     fi
     case ${COMP_WORDS[1]} in
     agent) _mortarleek_agent "$@" ;;
     add) _mortarleek_add "$@" ;;
     filter) _mortarleek_filter "$@" ;;
+    status | --version) COMPREPLY=() ;;
     drill) _mortarleek_offer -W '1000 100000' -- "$2" ;;
     *) _mortarleek_offer -f -- "$2" ;;
     esac

@@ -7,9 +7,13 @@ complete -c mortarleek -f -n __fish_use_subcommand -a drill -d 'Try the agent, a
 complete -c mortarleek -f -n __fish_use_subcommand -a filter -d 'Run a command that uses some keys'
 complete -c mortarleek -f -n __fish_use_subcommand -a replay -d 'Run the agent over a schedule'
 complete -c mortarleek -f -n __fish_use_subcommand -a serve -d 'Run the agent itself at a socket'
+complete -c mortarleek -f -n __fish_use_subcommand -a status -d 'Tell which agent answers'
+complete -c mortarleek -n __fish_use_subcommand -l version -d 'Print version, commit and toolchain'
+complete -c mortarleek-status -f
 
 # `mortarleek agent`, `mortarleek add` and `mortarleek filter` take the same words as the programs of these names.
 function __mortarleek_agent
+    complete $argv -l reuse -d 'Print the lines of the agent that answers at the path'
     complete $argv -l stand-in -d 'Start the helper for tests'
     complete $argv -l record -r -F -d 'Write what happens to a new file'
     complete $argv -s a -r -F -d 'Listen at this path'
@@ -28,6 +32,7 @@ function __mortarleek_agent
 end
 
 function __mortarleek_add
+    complete $argv -s C -d 'Certificates alone, by ssh-add'
     complete $argv -s c -d 'Ask the user before each use'
     complete $argv -s D -d 'Remove all keys'
     complete $argv -s d -d 'Remove keys'

@@ -1,8 +1,8 @@
 # shellcheck shell=sh
 # shellcheck disable=SC2154 # who sources it sets these variables
-# What mortarleek, mortarleek-agent with its guard, mortarleek-add and mortarleek-filter share, which
-# source it. `me` is the name that errors begin with, and `here` the folder beside which programs are
-# looked for.
+# What mortarleek, mortarleek-agent with its guard, mortarleek-add, mortarleek-filter and
+# mortarleek-status share, which source it. `me` is the name that errors begin with, and `here` the
+# folder beside which programs are looked for.
 
 say() { printf '%s: %s\n' "$me" "$*" >&2; }
 die() { say "$@"; exit 1; }
@@ -21,6 +21,17 @@ program() {
     return 1
 }
 
+# What `make` wrote beside the programs: the version, the commit and the toolchain, a line each.
+version() {
+    for place in "$here/../libexec/mortarleek" "$here" "$here/../bin"; do
+        if [ -f "$place/version" ]; then
+            cat "$place/version"
+            return
+        fi
+    done
+    printf 'mortarleek, of a version that nobody wrote down: make\n'
+}
+
 # FILE: prints its mode and its owner, as `ls -n` shows them, and sets variables of these names.
 mode_and_owner() {
     read -r mode _ owner _ << END
@@ -37,6 +48,20 @@ is_private() {
     esac
 }
 
+# FOLDER: the first of it and the folders above it in which other users than root can put one thing
+# into another's place; status 1 where there is none.
+open_to_others() {
+    place=$(cd -P -- "$1" 2> /dev/null && pwd) || return 1
+    mode_and_owner "$place/." > /dev/null
+    case $owner in "$(id -u)" | 0) ;; *) printf '%s\n' "$place"; return ;; esac
+    while :; do
+        case $mode in ?????w???[!tT]* | ????????w[!tT]*) printf '%s\n' "${place:-/}"; return ;; esac
+        [ -n "${place#/}" ] || return 1
+        place=${place%/*}
+        mode_and_owner "$place/." > /dev/null
+    done
+}
+
 # FILE: the number that tells it from every other of its file system.
 inode() {
     read -r number _ << END
@@ -49,6 +74,13 @@ END
 # terminal.
 has_control() {
     case $1 in *[[:cntrl:]]*) return 0 ;; *) return 1 ;; esac
+}
+
+# FILE: what stands between its armour lines, read by this shell: no other program gets an open key.
+body() {
+    while IFS= read -r line || [ -n "$line" ]; do
+        case $line in -----*) ;; *) printf '%s\n' "$line" ;; esac
+    done < "$1"
 }
 
 # LIFE in seconds, as OpenSSH's tools read it, or nothing: numbers, each with a unit or none, of at
@@ -123,16 +155,30 @@ is_stale() {
     [ $? = 2 ]
 }
 
-# The agent is one of mortarleek-agent's that has no program that asks: its private folder, which
-# the socket stands in or has a name beside, holds the one that it runs.
-cannot_ask() {
-    socket=${SSH_AUTH_SOCK-}
+# FOLDER is the private folder of an agent whose guard runs: that keeps the file `running` locked.
+is_running() {
+    is_private "$1" && [ -f "$1/running" ] && [ ! -h "$1/running" ] || return 1
+    if command -v flock > /dev/null; then
+        ! flock -n -s "$1/running" true 2> /dev/null && [ -f "$1/running" ]
+    else
+        kill -0 "$(running number "$1")" 2> /dev/null
+    fi
+}
+
+# NAME FOLDER: what the file `running` says of number, version or record.
+running() { sed -n "s/^$1 //p" "$2/running"; }
+
+# SOCKET is of an agent of mortarleek-agent's that runs: it stands in that one's private folder, or
+# is its socket by another name beside it. Sets `folder` to that folder.
+is_ours() {
+    socket=$(readlink -f -- "$1" 2> /dev/null) || socket=$1
     for held in "$socket" "${socket%/*}"/.mortarleek-????????/agent.*; do
+        folder=${held%/*}
         case $held in */mortarleek-????????/agent.* | */.mortarleek-????????/agent.*) ;; *) continue ;; esac
-        if [ -S "$held" ] && [ "$(inode "$held")" = "$(inode "$socket")" ]; then
-            [ ! -e "${held%/*}/askpass" ]
-            return
-        fi
+        if [ -S "$held" ] && [ "$(inode "$held")" = "$(inode "$socket")" ] && is_running "$folder"; then return; fi
     done
     return 1
 }
+
+# The agent is one of mortarleek-agent's that has no program that asks.
+cannot_ask() { is_ours "${SSH_AUTH_SOCK-}" && [ -e "$folder/asks_nobody" ]; }

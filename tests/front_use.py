@@ -1,0 +1,215 @@
+"""The agent in use: whether it is ours and what it holds, by `mortarleek status`; what mortarleek-add says where it isn't;
+and one agent for all logins, by `mortarleek agent --reuse`. tests/daily.py runs these too."""
+
+import contextlib
+import os
+import pathlib
+import re
+import shutil
+import signal
+import subprocess
+
+import rig
+from installed import Installed, check, keygen
+from rig import is_alive, openssh_agent, our_agent, run, until
+
+
+def status(installed, path, wanted):
+    """What `mortarleek status` tells of a socket: the words behind each name, and the lines of keys."""
+    environment = dict(installed.environment)
+    if path is not None:
+        environment["SSH_AUTH_SOCK"] = str(path)
+    said = run([installed.prefix / "bin/mortarleek", "status"], wanted, env=environment)
+    told = dict(re.findall(r"(?m)^(socket|agent|locked|record|keys):(?: (.*))?$", said))
+    return told, said.partition("keys:\n")[2].splitlines()
+
+
+@check
+def status_tells_whose_agent_answers_and_what_it_holds(folder):
+    installed = Installed(folder)
+    (installed.prefix / "libexec/mortarleek/version").write_text("mortarleek 9.8.7\ncommit abc\na kit\n")
+    key, record = keygen(folder / "key"), folder / "record"
+    for words in ((), ("-a", folder / "s"), ("--record", record)):
+        with installed.start(*words) as daemon:
+            told, keys = status(installed, daemon.path, 0)
+            assert told["socket"] == daemon.path and told["locked"] == "no", told
+            assert told["agent"] == f"mortarleek 9.8.7, number {daemon.pid}", told
+            assert told["record"] == (str(record) if "--record" in words else "none"), told
+            assert keys == ["The agent has no identities."]
+            assert "no identities" in daemon.run("ssh-add", "-l", status=1)
+            daemon.run("ssh-add", "-q", key)
+            told, keys = status(installed, daemon.path, 0)
+            assert keys == daemon.run("ssh-add", "-l").splitlines() and told["locked"] == "no", (told, keys)
+            daemon.run(installed.add, "-x", input="a\n", start_new_session=True)
+            told, keys = status(installed, daemon.path, 0)
+            assert told["locked"] == "yes" and told["keys"] == "none is shown" and keys == [], (told, keys)
+            # By another name it is the same agent.
+            (folder / "link").symlink_to(daemon.path)
+            assert status(installed, folder / "link", 0)[0]["agent"] == f"mortarleek 9.8.7, number {daemon.pid}"
+            (folder / "link").unlink()
+
+
+@check
+def status_calls_every_other_agent_unknown_and_none_none(folder):
+    installed = Installed(folder)
+    with openssh_agent(folder) as other, our_agent(rig.agent_program(), folder) as bare:
+        for path in (other.path, bare.path):
+            told, keys = status(installed, path, 1)
+            assert told["agent"].startswith("unknown") and told["locked"] == told["record"] == "unknown", told
+            assert keys == ["The agent has no identities."]
+        key = keygen(folder / "key")
+        other.run("ssh-add", "-q", key)
+        assert status(installed, other.path, 1)[0]["locked"] == "no"
+        # A folder that looks like one of ours, of which nobody keeps the file locked, makes no agent ours.
+        forged = folder / "mortarleek-abcdefgh"
+        forged.mkdir(mode=0o700)
+        os.link(other.path, forged / "agent.7")
+        (forged / "running").write_text(f"number {os.getpid()}\nversion 1\n")
+        assert status(installed, forged / "agent.7", 1)[0]["agent"].startswith("unknown")
+    for path in (None, folder / "none", other.path):
+        assert status(installed, path, 2)[0].get("agent", "none answers") == "none answers"
+    with installed.start("-U") as daemon:
+        # Another name in a folder of its own is not beside the agent's.
+        (folder / "aside").mkdir()
+        os.link(daemon.path, folder / "aside/s")
+        assert status(installed, folder / "aside/s", 1)[0]["agent"].startswith("unknown")
+        pids = daemon.agents()
+        os.kill(daemon.pid, signal.SIGKILL)
+        until(lambda: not any(map(is_alive, pids)), what="the end of an agent without a guard")
+    assert status(installed, daemon.path, 2)[0]["agent"] == "none answers"
+    for words in (["-x"], ["x"]):
+        assert run([installed.prefix / "bin/mortarleek", "status", *words], 1) == "usage: mortarleek-status\n"
+
+
+@check
+def status_of_an_agent_that_hangs_comes(folder):
+    installed = Installed(folder)
+    with installed.start() as daemon:
+        agent = daemon.agents()[1]
+        os.kill(agent, signal.SIGSTOP)
+        try:
+            assert status(installed, daemon.path, 2)[0]["agent"] == "none answers"
+        finally:
+            os.kill(agent, signal.SIGCONT)
+
+
+@check
+def the_file_by_which_an_agent_is_known_is_locked_while_it_runs(folder):
+    installed = Installed(folder)
+    with installed.start() as daemon:
+        running = pathlib.Path(daemon.path).parent / "running"
+        assert running.stat().st_mode & 0o777 == 0o600
+        assert running.read_text().startswith(f"number {daemon.pid}\nversion ")
+        run(["flock", "-n", running, "true"], 1)
+        # It is the guard alone that keeps it.
+        for pid in daemon.agents()[1:]:
+            for number in pathlib.Path(f"/proc/{pid}/fd").iterdir():
+                with contextlib.suppress(OSError):
+                    assert os.readlink(number) != str(running), pid
+
+
+@check
+def add_says_where_the_agent_that_answers_is_not_ours(folder):
+    installed, key = Installed(folder), keygen(folder / "key")
+    line = "isn't one that mortarleek agent started here: mortarleek status\n"
+    with installed.start() as daemon, openssh_agent(folder) as other:
+        for words, asked in (([key], ""), (["-d", key], ""), (["-D"], ""), (["-x"], "a\n"), (["-X"], "a\n")):
+            more = dict(input=asked, start_new_session=True)
+            said = run([installed.add, *words], env=dict(installed.environment, SSH_AUTH_SOCK=other.path), **more)
+            assert said.startswith(f"mortarleek-add: the agent at {other.path} {line}"), (words, said)
+            assert line not in daemon.run(installed.add, *words, **more), words
+        said = run([installed.add, "-q", key], env=dict(installed.environment, SSH_AUTH_SOCK=other.path))
+        assert said == "", said
+        assert "isn't" not in run([installed.add, "-l"], env=dict(installed.environment, SSH_AUTH_SOCK=other.path))
+
+
+# One agent for all logins.
+
+
+def told_by(lines):
+    """The socket and the number that lines for a shell tell."""
+    return tuple(re.search(rf"{name}[= ]([^;]+);", lines)[1] for name in ("SSH_AUTH_SOCK", "SSH_AGENT_PID"))
+
+
+@check
+def reuse_prints_the_lines_of_the_agent_that_is_there(folder):
+    installed, path = Installed(folder), folder / "s"
+    words = ("--reuse", "-a", path)
+    with installed.start(*words) as daemon:
+        assert run([installed.agent, *words], env=installed.environment) == (
+            f"SSH_AUTH_SOCK={path}; export SSH_AUTH_SOCK;\nSSH_AGENT_PID={daemon.pid}; export SSH_AGENT_PID;\n"
+            f"echo Agent pid {daemon.pid};\n"
+        )
+        for more in (["-c"], ["-t", "1h", "-s"]):
+            lines = run([installed.agent, "--reuse", *more, "-a", path], env=installed.environment)
+            assert told_by(lines) == (str(path), str(daemon.pid)), lines
+        # Without the word the path is in use.
+        assert run([installed.agent, "-a", path], 1, env=installed.environment) == f"mortarleek-agent: {path}: in use\n"
+        pids = daemon.agents()
+        os.kill(daemon.pid, signal.SIGKILL)
+        until(lambda: not any(map(is_alive, pids)), what="the end of an agent without a guard")
+    # A socket that was left behind is none to use again.
+    with installed.start(*words) as daemon:
+        assert "no identities" in daemon.run("ssh-add", "-l", status=1)
+    with openssh_agent(folder, name="other") as other:
+        said = run([installed.agent, "--reuse", "-a", other.path], 1, env=installed.environment)
+        assert said == f"mortarleek-agent: {other.path}: in use\n", said
+    for words in (["--reuse"], ["--reuse", "-a", path, "true"], ["--reuse", "-D", "-a", path], ["--reuse", "-k"]):
+        assert run([installed.agent, *words], 1, env=installed.environment).startswith("usage: "), words
+    said = run([installed.agent, "--reuse", "-a", folder / "none/s"], 1, env=installed.environment)
+    assert said == f"mortarleek-agent: {folder}/none: no such folder, or not a readable one\n", said
+
+
+@check
+def of_twenty_starts_at_one_path_all_have_the_same_agent_or_an_error(folder):
+    installed, path = Installed(folder), folder / "s"
+    for words in (["--reuse"], []):
+        starts = [
+            subprocess.Popen(
+                [installed.agent, *words, "-a", path],
+                stdout=subprocess.PIPE,
+                stderr=subprocess.PIPE,
+                text=True,
+                env=installed.environment,
+            )
+            for _ in range(20)
+        ]
+        said = [(*start.communicate(timeout=120), start.returncode) for start in starts]
+        told = {told_by(lines) for lines, errors, ended in said if ended == 0 and errors == ""}
+        assert len(told) == 1, said
+        if words:
+            assert all(ended == 0 for _, _, ended in said), said
+        else:
+            assert all(lines == "" and errors.count("\n") == 1 for lines, errors, ended in said if ended), said
+        ((_, pid),) = told
+        os.kill(int(pid), signal.SIGTERM)
+        until(lambda: not path.exists(), what="the removal of the socket")
+
+
+@check
+def several_logins_share_one_agent_by_the_profile_s_line(folder):
+    """DAILY's lines for bash, zsh and fish, each in two logins."""
+    installed, runtime = Installed(folder), folder / "runtime"
+    runtime.mkdir(mode=0o700)
+    page = (rig.TOP / "docs/DAILY.md").read_text()
+    environment = dict(installed.environment, XDG_RUNTIME_DIR=str(runtime), HOME=str(folder))
+    environment["PATH"] = f"{installed.prefix}/bin:{environment['PATH']}"
+    (bash_line,) = set(re.findall(r"(?m)^\[ -n .*--reuse.*$", page))
+    (fish_line,) = set(re.findall(r"(?m)^.*--reuse -c .*$", page))
+    # A desktop's agent, which is set already, isn't the one that is used; one that is forwarded is.
+    environment["SSH_AUTH_SOCK"] = "/a/desktop's"
+    seen = set()
+    for shell, line in (("bash", bash_line), ("zsh", bash_line), ("fish", fish_line), ("dash", bash_line)):
+        if shutil.which(shell) is None:
+            continue
+        for _ in range(2):
+            said = run([shell, "-c", f"{line}\necho $SSH_AUTH_SOCK $SSH_AGENT_PID"], env=environment)
+            seen.add(said)
+        forwarded = dict(environment, SSH_CONNECTION="a 1 b 2")
+        said = run([shell, "-c", f"{line}\necho $SSH_AUTH_SOCK"], env=forwarded)
+        assert said == "/a/desktop's\n", (shell, said)
+    (said,) = seen
+    path, pid = said.split()
+    assert path == f"{runtime}/mortarleek.sock", said
+    os.kill(int(pid), signal.SIGTERM)
+    until(lambda: not os.path.exists(path), what="the removal of the socket")
