@@ -3,28 +3,29 @@
 use crate::helper_tests::{HELLO, SIGN_REQUEST, SIGNED_1, TICKET};
 use crate::play::{NO_SETTINGS, NOW, finds, holds};
 use crate::tests::{ADD, LIST};
-use agent_core::{Agent, CoreMemory, Event};
+use agent_core::{Agent, Event};
+use std::alloc::AllocError;
 use std::process::Abort;
 use std::test::*;
 use world_ports::Door;
 
 // One event that fits, where memory may be refused.
-fn step(rt: &impl Abort, agent: &mut Agent, event: &Event<'_>) -> Result<(), CoreMemory> {
+fn step(rt: &impl Abort, agent: &mut Agent, event: &Event<'_>) -> Result<(), AllocError> {
     assert!(rt; agent.fits(event), "the event fits");
     agent.step(NOW, event)
 }
 
-fn hear(rt: &impl Abort, agent: &mut Agent, port: u64, piece: &[u8]) -> Result<(), CoreMemory> {
+fn hear(rt: &impl Abort, agent: &mut Agent, port: u64, piece: &[u8]) -> Result<(), AllocError> {
     step(rt, agent, &Event::Heard { port, piece })
 }
 
-fn take_all(rt: &impl Abort, agent: &mut Agent, port: u64) -> Result<(), CoreMemory> {
+fn take_all(rt: &impl Abort, agent: &mut Agent, port: u64) -> Result<(), AllocError> {
     let count = agent.owed(port).len();
     step(rt, agent, &Event::Took { port, count })
 }
 
 // A key is added, listed and used.
-fn play(rt: &impl Abort, agent: &mut Agent) -> Result<(), CoreMemory> {
+fn play(rt: &impl Abort, agent: &mut Agent) -> Result<(), AllocError> {
     step(rt, agent, &Event::Joined(Door::Clients))?;
     hear(rt, agent, 1, ADD)?;
     take_all(rt, agent, 1)?;

@@ -3,9 +3,9 @@ ghost use Rattle.std.specs.Prelude.{◌≡◌};
 ghost use Rattle.agent_model.specs.State.{first_state, no_settings};
 
 use crate::scripts::NO_SETTINGS;
-use agent_core::{Agent, CoreMemory, Event};
+use agent_core::{Agent, Event};
 use ready_loop::Core;
-use std::alloc::Global;
+use std::alloc::{AllocError, Global};
 use std::cell::Cell;
 use world_ports::{Job, Moment};
 
@@ -41,7 +41,7 @@ impl Core for Counted {
 
     ghost closes = { λ counted. counted.agent.closes };
 
-    fn step(&mut self, moment: Moment, event: &Event<'_>) -> Result<(), CoreMemory> {
+    fn step(&mut self, moment: Moment, event: &Event<'_>) -> Result<(), AllocError> {
         self.agent.step(moment, event)
     }
 

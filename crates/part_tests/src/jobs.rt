@@ -5,7 +5,7 @@ ghost use Rattle.std.specs.Prelude.{◌≡◌, []};
 use agent_msg::{Request, read_request};
 use helper_link::LinkState;
 use identity_table::Table;
-use std::alloc::Global;
+use std::alloc::{AllocError, Global};
 use std::process::Abort;
 use under_way::*;
 use world_ports::{Job, JobKind};
@@ -57,7 +57,7 @@ fn ask(under_way: &mut UnderWay, table: &Table) -> Option<u64> {
     }
     match under_way.put_sign(7, key, &[1, 2], 0) {
         Ok(ask) => ask,
-        Err(JobMemory) => None,
+        Err(AllocError) => None,
     }
 }
 
@@ -88,7 +88,7 @@ fn ask_first(rt: &impl Abort, under_way: &mut UnderWay, table: &Table) {
 fn verify(under_way: &mut UnderWay) -> Option<u64> {
     match under_way.put_verify(7, BLOB, &[1, 2, 3], &[4, 5], true, true) {
         Ok(ask) => ask,
-        Err(JobMemory) => None,
+        Err(AllocError) => None,
     }
 }
 
@@ -123,7 +123,7 @@ fn ask_for(under_way: &mut UnderWay, table: &Table) -> Option<u64> {
     }
     match under_way.ask_user(7, key, &[1, 2], 0) {
         Ok(job) => job,
-        Err(JobMemory) => None,
+        Err(AllocError) => None,
     }
 }
 

@@ -15,13 +15,10 @@ use std::io::{Error, ErrorKind};
 use std::net::Net;
 use std::time::Clock;
 use unix_world::{BoundFile, Listener, Port, is_memory, listen_at, remove_bound};
-use world_ports::{Accepted, Door, Got, Polled, WorldFault, Wrote};
+use world_ports::{Accepted, Got, Polled, READ_ROOM, WorldFault, Wrote};
 
 // epoll keeps what doesn't fit for the next wait.
 const EVENTS: usize = 64;
-
-// The longest read, in bytes.
-const INBOX: usize = 16384;
 
 // As many pairs may be open: the filter would close one more.
 const MOST_PAIRS: usize = 128;
@@ -65,7 +62,7 @@ impl<'a, R: Net> UnixPairs<'a, R> {
             file: None,
             upstream: String::new(alloc),
             pairs: HashMap::new(alloc),
-            inbox: vec![in alloc; 0; INBOX]?,
+            inbox: vec![in alloc; 0; READ_ROOM]?,
             round: 1,
             owed: Vec::new(alloc),
             last_pair: 0,
@@ -190,18 +187,8 @@ impl<R: Files<File = File> + Net + Clock> UnixPairs<'_, R> {
         };
         let upstream = self.connect()?;
         let registry = self.poll.registry();
-        let client = Port::new(
-            registry,
-            token_of(number, Side::Client),
-            client,
-            Door::Clients,
-        )?;
-        let upstream = Port::new(
-            registry,
-            token_of(number, Side::Upstream),
-            upstream,
-            Door::Clients,
-        )?;
+        let client = Port::new(registry, token_of(number, Side::Client), client)?;
+        let upstream = Port::new(registry, token_of(number, Side::Upstream), upstream)?;
         let connected = Connected::new(client, upstream);
         self.pairs
             .insert(number, connected)
