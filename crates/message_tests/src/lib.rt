@@ -1,9 +1,11 @@
-//! Tests of messages: requests and replies, constraints, bodies without their secrets, and a record of what happened.
-//! Stands on agent_msg, constraint_rec, redact_core and record_world.
+//! Tests of messages: requests and replies, constraints, what is signed for a file, bodies without their secrets, and a
+//! record of what happened. Stands on agent_msg, constraint_rec, sshsig_blob, redact_core and record_world.
 #![tactic(auto)]
 
 #[cfg(test)]
 mod constraints;
+#[cfg(test)]
+mod file_signatures;
 #[cfg(test)]
 mod records;
 #[cfg(test)]

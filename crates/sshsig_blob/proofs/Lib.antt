@@ -1,0 +1,4 @@
+pub mod FoundLemmas
+pub mod ReadLemmas
+pub mod UniqueLemmas
+pub mod Theorems

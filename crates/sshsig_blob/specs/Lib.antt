@@ -1,0 +1,2 @@
+pub mod FileSignatures
+pub mod Reading
