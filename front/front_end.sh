@@ -70,6 +70,21 @@ END
     printf '%s\n' "$number"
 }
 
+# FILE ...: a line for each that is there. It is another one where another file stands there, or its
+# bytes, its mode or its owner have changed.
+identities() { stat -L -c '%d %i %z|%n' -- "$@" 2> /dev/null; }
+
+# FILE and all folders above it are root's, and nobody else may write there.
+is_roots() {
+    place=$(readlink -f -- "$1" 2> /dev/null) || return 1
+    while :; do
+        mode_and_owner "${place:-/}" > /dev/null
+        case $mode:$owner in ?????w*:* | ????????w*:*) return 1 ;; *:0) ;; *) return 1 ;; esac
+        [ -n "${place#/}" ] || return 0
+        place=${place%/*}
+    done
+}
+
 # A word with a control character can't be told to a shell in one line, and is nothing to show on a
 # terminal.
 has_control() {

@@ -8,6 +8,7 @@ import re
 import shutil
 import signal
 import subprocess
+import tempfile
 
 import rig
 from installed import Installed, check, keygen
@@ -79,6 +80,56 @@ def status_calls_every_other_agent_unknown_and_none_none(folder):
     assert status(installed, daemon.path, 2)[0]["agent"] == "none answers"
     for words in (["-x"], ["x"]):
         assert run([installed.prefix / "bin/mortarleek", "status", *words], 1) == "usage: mortarleek-status\n"
+
+
+def swap(path):
+    """Puts a copy in a program's place."""
+    shutil.copy(path, f"{path}.new")
+    os.rename(f"{path}.new", path)
+
+
+def not_started(daemon):
+    """The programs of which `mortarleek status` tells that they are started no more."""
+    said = daemon.run(daemon.installed.prefix / "bin/mortarleek", "status")
+    return re.findall(r"(?m)^not started: (\S+), which isn't the file that it was when the agent started$", said)
+
+
+@check
+def status_tells_of_a_program_that_was_swapped_and_is_started_no_more(folder):
+    installed, key = Installed(folder), keygen(folder / "key")
+    libexec, asker = installed.prefix / "libexec/mortarleek", rig.script(folder / "ask", "exit 1")
+    programs = [str(path) for path in (libexec / "mortarleek-helper", libexec / "confirm_relay", asker)]
+    with installed.start(environment={"DISPLAY": ":0", "SSH_ASKPASS": str(asker)}) as daemon:
+        daemon.run("ssh-add", "-q", key)
+        assert not_started(daemon) == []
+        for count, path in enumerate(programs, 1):
+            swap(path)
+            assert not_started(daemon) == programs[:count]
+        # The agent says the same of the helper once it needs it.
+        daemon.run("ssh-keygen", "-Y", "sign", "-f", f"{key}.pub", "-n", "file", status=255, input="text")
+        said = (pathlib.Path(daemon.path).parent / "said").read_text()
+        assert f"{programs[0]} isn't the file that it was when the agent started" in said, said
+    with installed.start() as daemon:
+        assert not_started(daemon) == []
+        os.chmod(programs[0], 0o700)
+        assert not_started(daemon) == programs[:1]
+
+
+@check
+def status_tells_of_no_upgrade_by_root(folder):
+    if os.geteuid() != 0:
+        raise rig.Skip("it takes root")
+    with tempfile.TemporaryDirectory(dir="/usr/local/lib", prefix="mk-") as place:
+        installed, key = Installed(pathlib.Path(place)), keygen(folder / "key")
+        helper = installed.prefix / "libexec/mortarleek/mortarleek-helper"
+        for mode, told, status in ((0o755, [], 0), (0o775, [str(helper)], 255)):
+            with installed.start() as daemon:
+                daemon.run("ssh-add", "-q", key)
+                os.chmod(place, mode)
+                swap(helper)
+                assert not_started(daemon) == told, oct(mode)
+                # So does the agent.
+                daemon.run("ssh-keygen", "-Y", "sign", "-f", f"{key}.pub", "-n", "file", status=status, input="text")
 
 
 @check
