@@ -84,8 +84,9 @@ impl Port {
             Err(error) => Err(error),
         }
     }
-    /// Ends both directions, so that the peer reads its end and nothing more is read here.
-    pub fn shut(&mut self) {
+
+    // Ends both directions, so that the peer reads its end and nothing more is read here.
+    pub(crate) fn shut(&mut self) {
         let _ = self.stream.shutdown(Shutdown::Both);
         self.marks.shut();
     }

@@ -1,9 +1,14 @@
 // The open connections.
+ghost use Rattle.std.specs.Prelude.{◌<◌};
+
 use crate::connection::Connection;
 use slab::Slab;
 use std::alloc::{AllocError, Global};
 use std::collections::HashMap;
 use std::process::OpenProcess;
+
+// How many numbers have a place of their own: as many clients may be open, and connections are numbered one by one.
+const NEAR: usize = 128;
 
 /// The open connections, each under the key that is its token, and the keys of those that were accepted by their numbers.
 ///
@@ -13,6 +18,17 @@ use std::process::OpenProcess;
 pub struct Ports<P: OpenProcess + Drop> {
     open: Slab<Connection<P>>,
     keys: HashMap<u64, usize>,
+    // At a number's place the key of the last connection with that place: a guess that spares the map's look-up, which is
+    // right where the connection under that key has the number.
+    near: [usize; NEAR],
+}
+
+// The place of a number among those that are near.
+#[inline(always)]
+fn place_of(number: u64) -> usize
+    ensures { result < NEAR }
+{
+    (number % NEAR as u64) as usize
 }
 
 impl<P: OpenProcess + Drop> Ports<P> {
@@ -20,6 +36,7 @@ impl<P: OpenProcess + Drop> Ports<P> {
         Ports {
             open: Slab::new(alloc),
             keys: HashMap::new(alloc),
+            near: [0; NEAR],
         }
     }
 
@@ -42,6 +59,7 @@ impl<P: OpenProcess + Drop> Ports<P> {
     /// The connection with this key was accepted under this number.
     pub fn number(&mut self, key: usize, number: u64) -> Result<(), AllocError> {
         self.keys.insert(number, key).map_err(AllocError::from)?;
+        self.near[place_of(number)] = key;
         if let Some(connection) = self.open.get_mut(key) {
             connection.number = Some(number);
         }
@@ -51,7 +69,11 @@ impl<P: OpenProcess + Drop> Ports<P> {
     /// The key of the connection with this number.
     #[inline(always)]
     pub fn key_of(&self, number: u64) -> Option<usize> {
-        self.keys.get(&number).copied()
+        let near = self.near[place_of(number)];
+        match self.open.get(near) {
+            Some(connection) if connection.number == Some(number) => Some(near),
+            _ => self.keys.get(&number).copied(),
+        }
     }
 
     #[inline(always)]

@@ -115,8 +115,8 @@ fn known_of<R: Files>(rt: &R, program: &Option<String>) -> Option<Known> {
 }
 
 impl Programs {
-    /// Which files they are now.
-    pub fn known<R: Files>(&self, rt: &R) -> KnownPrograms {
+    // Which files they are now.
+    pub(crate) fn known<R: Files>(&self, rt: &R) -> KnownPrograms {
         KnownPrograms {
             helper: Known::new(rt, self.helper.as_str()),
             relay: known_of(rt, &self.relay),
@@ -124,9 +124,9 @@ impl Programs {
         }
     }
 
-    /// Whether what is to be started for a job are the files that were there when the agent was started. They may be
-    /// others where nobody but root can have put them there.
-    pub fn may_start<R: Files + Eprint>(
+    // Whether what is to be started for a job are the files that were there when the agent was started. They may be
+    // others where nobody but root can have put them there.
+    pub(crate) fn may_start<R: Files + Eprint>(
         &self,
         rt: &R,
         alloc: Global,
@@ -143,9 +143,9 @@ impl Programs {
         }
     }
 
-    /// Starts the child process of a job with this connection as its standard input, and doesn't wait for it. It gets
-    /// nothing of the agent's but the kept variables and standard error, and its ticket in the environment.
-    pub fn start<R: Processes>(
+    // Starts the child process of a job with this connection as its standard input, and doesn't wait for it. It gets
+    // nothing of the agent's but the kept variables and standard error, and its ticket in the environment.
+    pub(crate) fn start<R: Processes>(
         &self,
         rt: &R,
         alloc: Global,
