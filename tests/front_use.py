@@ -105,10 +105,7 @@ def status_tells_of_a_program_that_was_swapped_and_is_started_no_more(folder):
         for count, path in enumerate(programs, 1):
             swap(path)
             assert not_started(daemon) == programs[:count]
-        # The agent says the same of the helper once it needs it.
         daemon.run("ssh-keygen", "-Y", "sign", "-f", f"{key}.pub", "-n", "file", status=255, input="text")
-        said = (pathlib.Path(daemon.path).parent / "said").read_text()
-        assert f"{programs[0]} isn't the file that it was when the agent started" in said, said
     with installed.start() as daemon:
         assert not_started(daemon) == []
         os.chmod(programs[0], 0o700)
