@@ -5,6 +5,7 @@ own, with its own keys, at free ports. Words choose checks: the parts ssh, desti
 or a part of a check's name. With the environment variable AGENT another program is taken for agent_prog."""
 
 import atexit
+import concurrent.futures
 import contextlib
 import functools
 import os
@@ -123,6 +124,24 @@ def sixteen_logins_at_once(folder):
             return [(process.communicate(timeout=60)[0], process.returncode) for process in started]
 
         assert alike(folder, case) == [(b"in\n", 0)] * 16
+
+
+@check
+def two_hundred_logins_leave_one_helper_and_no_descriptor(folder):
+    """Our agent's alone: eight at a time, and the helper is killed behind each 25."""
+    with a_host_to_log_in(folder) as (key, hosts), our_agent(PROGRAM, folder) as agent:
+        agent.run("ssh-add", "-q", key)
+        assert hosts.ssh(agent, "one", "echo in") == (0, "in\n")
+        descriptors = len(os.listdir(f"/proc/{agent.process.pid}/fd"))
+        with concurrent.futures.ThreadPoolExecutor(8) as pool:
+            for _ in range(8):
+                said = list(pool.map(lambda _: hosts.ssh(agent, "one", "echo in"), range(25)))
+                assert said == [(0, "in\n")] * 25, said
+                (helper,) = rig.children(agent.process.pid)
+                assert len(os.listdir(f"/proc/{agent.process.pid}/fd")) == descriptors
+                os.kill(helper, signal.SIGKILL)
+                until(lambda: not rig.is_alive(helper))
+        until(lambda: not rig.zombies(agent.process.pid), 20, "the reaping of helpers")
 
 
 @check

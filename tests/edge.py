@@ -42,6 +42,10 @@ from rig import (
     zombies,
 )
 
+sys.path.insert(0, str(rig.TOP))
+
+from model import ed25519
+
 check = rig.Checks("edge")
 PROGRAM = rig.agent_program()
 CLIENTS = 128
@@ -479,17 +483,30 @@ def after_helpers_that_ended_one_that_answers_is_started(folder):
             until(lambda: not is_alive(found))
 
 
+def ed25519_key(seed):
+    """The fields of a key that can sign, and its blob."""
+    kind, public = string(b"ssh-ed25519"), ed25519.public_key(seed)
+    return kind + string(public) + string(seed + public), string(b"one"), kind + string(public)
+
+
 @check
 def a_helper_killed_at_each_of_its_system_calls_leaves_nobody_waiting(folder):
-    rig.built("standin_helper")
     if not shutil.which("strace"):
         raise Skip("strace isn't there")
+    for name, key in (("standin_helper", stand_in_key), ("mortarleek-helper", ed25519_key)):
+        killed_at_each_call(folder, rig.built(name), key)
+
+
+def killed_at_each_call(folder, program, key):
+    """Has a helper start and sign, and be killed at its first system call, at its second one and so on: whoever asked is
+    answered, and so is who asks next."""
+    place = folder / program.name
+    place.mkdir()
     helper = rig.script(
-        folder / "helper",
-        f'exec strace -f -qq -o {folder}/trace -e "inject=all:signal=SIGKILL:when=$(cat {folder}/at)" '
-        f'{rig.BUILT}/standin_helper "$@"',
+        place / "helper",
+        f'exec strace -f -qq -o {place}/trace -e "inject=$(cat {place}/at)" {program} "$@"',
     )
-    (folder / "at").write_text("60000")
+    (place / "at").write_text("all:signal=SIGKILL:when=60000")
 
     def end_all(agent):
         for pid in children(agent.process.pid):
@@ -498,18 +515,23 @@ def a_helper_killed_at_each_of_its_system_calls_leaves_nobody_waiting(folder):
                     os.kill(found, signal.SIGKILL)
             until(lambda: not is_alive(pid))
 
-    with serve(folder, helper=helper, stderr=subprocess.DEVNULL) as agent:
+    with serve(place, helper=helper, stderr=subprocess.DEVNULL) as agent:
         with agent.peer() as peer:
-            blob = add(peer)
+            fields, comment, blob = key(b"k" * 32)
+            assert peer.ask(ADD, fields, comment) == bytes([SUCCESS])
         if answers(agent, blob) != SIGNATURE:
             raise Skip("strace can't trace here")
-        calls = len((folder / "trace").read_text().splitlines())
-        for at in range(1, calls + 1, max(1, calls // 40)):
+        # strace counts the calls of each name, and meddles with none before the program runs.
+        calls = re.findall(r"(?m)^\d+ +(\w+)\(", (place / "trace").read_text())
+        assert len(calls) > 10, calls
+        for at, name in list(enumerate(calls))[1:]:
             end_all(agent)
-            (folder / "at").write_text(str(at))
-            assert answers(agent, blob) in (FAILURE, SIGNATURE), at
+            (place / "at").write_text(f"{name}:signal=SIGKILL:when={calls[: at + 1].count(name)}")
+            answered = answers(agent, blob)
+            # Only the last ones come behind its answer.
+            assert answered == FAILURE or answered == SIGNATURE and at > len(calls) - 6, (at, name, answered, calls)
         end_all(agent)
-        (folder / "at").write_text("60000")
+        (place / "at").write_text("all:signal=SIGKILL:when=60000")
         assert answers(agent, blob) == SIGNATURE
 
 
