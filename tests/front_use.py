@@ -113,20 +113,28 @@ def status_tells_of_a_program_that_was_swapped_and_is_started_no_more(folder):
 
 
 @check
-def status_tells_of_no_upgrade_by_root(folder):
+def status_tells_of_no_upgrade_by_root_but_in_a_user_namespace(folder):
     if os.geteuid() != 0:
         raise rig.Skip("it takes root")
     with tempfile.TemporaryDirectory(dir="/usr/local/lib", prefix="mk-") as place:
         installed, key = Installed(pathlib.Path(place)), keygen(folder / "key")
         helper = installed.prefix / "libexec/mortarleek/mortarleek-helper"
-        for mode, told, status in ((0o755, [], 0), (0o775, [str(helper)], 255)):
+        agent, inside = installed.agent, rig.script(folder / "inside", f'exec unshare -U {installed.agent} "$@"')
+        for start, mode, told, status in (
+            (agent, 0o755, [], 0),
+            (agent, 0o775, [str(helper)], 255),
+            (inside, 0o755, [str(helper)], 255),
+        ):
+            installed.agent = start
             with installed.start() as daemon:
                 daemon.run("ssh-add", "-q", key)
+                assert not_started(daemon) == []
                 os.chmod(place, mode)
                 swap(helper)
-                assert not_started(daemon) == told, oct(mode)
+                assert not_started(daemon) == told, (start, oct(mode))
                 # So does the agent.
                 daemon.run("ssh-keygen", "-Y", "sign", "-f", f"{key}.pub", "-n", "file", status=status, input="text")
+                os.chmod(place, 0o755)
 
 
 @check
