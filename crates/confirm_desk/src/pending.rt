@@ -7,7 +7,6 @@ ghost use Rattle.confirm_desk.specs.Answers.{consent_told};
 use crate::consent::{Answer, consent_of};
 use crate::held::Held;
 use child_msg::{ToChild, write_to_child};
-use plain_lists::Bytes;
 use secret_buf::ScrubBuf;
 use std::alloc::{AllocError, Global};
 use std::marker::Model;
@@ -19,7 +18,6 @@ use std::marker::Model;
 pub struct Pending {
     job: u64,
     held: Held,
-    prompt: Bytes,
     raised_at: u64,
     port: Option<u64>,
     heard: ScrubBuf,
@@ -37,7 +35,6 @@ impl Model for Pending {
       addition = p.held.addition;
       message = p.held.message;
       flags = p.held.flags;
-      prompt = p.prompt;
       raised_at = p.raised_at;
       port = p.port;
       heard = p.heard.live;
@@ -62,7 +59,6 @@ impl Pending {
         Ok(Pending {
             job,
             held,
-            prompt: Bytes::from_vec(Vec::from_slice(alloc, prompt)?),
             raised_at: now,
             port: None,
             heard: ScrubBuf::new(alloc),
@@ -144,7 +140,6 @@ impl Pending {
         let Pending {
             job: _,
             held,
-            prompt: _,
             raised_at: _,
             port: _,
             heard: _,
