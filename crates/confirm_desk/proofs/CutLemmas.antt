@@ -1,12 +1,10 @@
 -- It does not matter how the child process's bytes are cut.
-use Rattle.std.proofs.Common.{◌≡◌, ℕ, ◌+◌, ◌≤◌, List, [], ◌∷◌, ◌++◌, length, take, drop, Option, Some, None, refl, sym, ap, ◌∙◌, append_assoc, arith}
+use Rattle.std.proofs.Common.{◌≡◌, ℕ, List, [], ◌∷◌, ◌++◌, Option, Some, None, refl, sym, ap, ◌∙◌, append_assoc}
 use Rattle.std.proofs.lemmas.Bool.{eq-eqb}
-use Rattle.std.proofs.lemmas.List.{drop-append-le, length-drop, take-append-le}
 use Rattle.lists.specs.Keyed.{has_key}
 use Rattle.lists.proofs.FirstLemmas.{change-pointwise, change-twice, find-change_found}
 use Rattle.wire_text.specs.Bounds.{longest_body}
-use Rattle.wire_text.specs.Frames.{Front, Whole, Bad, More, front, front_body}
-use Rattle.wire_text.specs.Wire.{announced_len}
+use Rattle.wire_text.specs.Frames.{Front, Whole, Bad, More, front}
 use Rattle.wire_text.proofs.FrontLemmas.{front-append_bad, front-append_whole}
 use Rattle.wire_text.proofs.SplitLemmas.{front_body-append}
 use Rattle.child_msg.specs.Reading.{from_child_of}

@@ -1,21 +1,19 @@
 -- What a piece of a child process brings.
-use Rattle.std.proofs.Common.{◌≡◌, ◌==◌, ℕ, Bool, true, false, cond, List, [], ◌∷◌, ◌++◌, get_or, Option, Some, None, Result, Ok, Err, OnOk, OnErr, refl, sym, ap, ◌∙◌, subst}
+use Rattle.std.proofs.Common.{◌≡◌, ◌==◌, ◌<◌, ℕ, arith, zero, suc, length, set, Bool, true, false, cond, List, [], ◌∷◌, ◌++◌, get_or, Option, Some, None, Result, Ok, Err, OnOk, OnErr, refl, sym, ap, ◌∙◌, subst}
 use Rattle.std.proofs.lemmas.Bool.{eqb-true, eq-eqb}
-use Rattle.std.proofs.lemmas.Option.{same_Some}
 use Rattle.lists.specs.Firsts.{IsFirst, IsOnly}
 use Rattle.lists.specs.Keyed.{has_key}
-use Rattle.lists.proofs.FirstLemmas.{found_there, found_too, remove-change}
-use Rattle.lists.proofs.KeyedLemmas.{find_by-change, keeps_key}
+use Rattle.lists.proofs.FirstLemmas.{changed_to, found_there, found_too, later, remove-change, removed_there}
+use Rattle.lists.proofs.KeyedLemmas.{keeps_key}
 use Rattle.wire_text.specs.Bounds.{longest_body}
 use Rattle.wire_text.specs.Frames.{Front, Whole, Bad, More, front, front_body}
 use Rattle.child_msg.specs.Messages.{FromChildMessage, Hello, Signed, Refused, True, False, Granted, Denied}
 use Rattle.child_msg.specs.Reading.{from_child_of}
 use Rattle.child_msg.specs.declared.fault.ChildFault.{ChildFault}
-use Rattle.std.specs.Option.{option_map}
-use Rattle.confirm_desk.specs.Calls.{Telling, given_back, telling, telling_by, telling_if, telling_over, took_at, took_by}
+use Rattle.std.specs.List.{find, remove}
+use Rattle.confirm_desk.specs.Calls.{given_back, telling, telling_by, telling_if, took_at, took_by}
 use Rattle.confirm_desk.specs.Confirmations.{Confirmation, Consent, NotYet, Yes, No, came_to, change_job, consent, consent_at, consent_in, find_job, find_linked, heard_more, is_at, job_of, lose, told, took_some}
 use Rattle.confirm_desk.specs.Sound.{AreApart, IsFree, IsSound}
-use Rattle.confirm_desk.specs.declared.held.Held.{Held as CodeHeld}
 use Rattle.confirm_desk.specs.declared.held.Verdict.{Verdict}
 use Rattle.confirm_desk.proofs.SoundLemmas.{IsPartOf, IsSound-change, IsSound-lose, Keeps, part_of}
 
@@ -130,42 +128,74 @@ IsSound-took port count all sound = took_sound_by (find_linked port all) count a
 
 -- ---- in storage
 
--- what stands at the first place of a port is found at the port
-pub at_port : (port place : ℕ) (all : List Confirmation) (one : Confirmation) →
-    IsFirst (came_to port) all place → one ≡ get_or all place one →
-    find_linked port all ≡ Some one
-at_port port place all one at is =
-    found_there (came_to port) all place one at ∙ ap (λ (c : Confirmation). Some c) (sym is)
+-- where one stands behind another that alone passes, the one before it doesn't
+passes_not : {A : Type 0} (other : A → Bool) (x : A) (all : List A) (place : ℕ) (one : A) → (other x ≡ true → find other all ≡ None) →
+    IsFirst other all place → (here : Bool) → other x ≡ here → other x ≡ false
+passes_not other x all place one only rest true passes =
+    let never : Some (get_or all place one) ≡ None = sym (found_there other all place one rest) ∙ only passes in
+    absurd cc
+passes_not other x all place one only rest false fails = fails
 
--- and by its job
-pub of_job : (port job : ℕ) (all : List Confirmation) (one : Confirmation) → AreApart all →
-    find_linked port all ≡ Some one → job ≡ one.job →
-    find_job job all ≡ Some one
-of_job port job all one apart found same =
-    ap (λ (n : ℕ). find_job n all) same ∙ job_found port all one apart found
+-- and so it stands first
+behind : {A : Type 0} (other : A → Bool) (x : A) (all : List A) (place : ℕ) → (other x ≡ true → find other all ≡ None) →
+    IsFirst other all place → IsFirst other (x ∷ all) (suc place)
+behind {A = A} other x all place only rest = record {
+  within = omega (arith, rest.within);
+  there = rest.there;
+  before = before;
+}
+  where
+    before : (k : ℕ) (o : A) → k < suc place → other (get_or (x ∷ all) k o) ≡ false
+    before zero o earlier = passes_not other x all place o only rest (other x) refl
+    before (suc k) o earlier = rest.before k o (omega (arith, earlier))
 
--- also once more was heard of it
-pub still_of_job : (port job : ℕ) (piece : List ℕ) (all heard : List Confirmation) (one : Confirmation) → AreApart all → find_linked port all ≡ Some one → job ≡ one.job →
-    heard ≡ told job piece all → find_job job heard ≡ Some (heard_more piece one)
-still_of_job port job piece all heard one apart found same more =
-    ap (find_job job) more
-    ∙ find_by-change job_of job (heard_more piece) all (λ _. refl)
-    ∙ ap (option_map (heard_more piece)) (of_job port job all one apart found same)
+-- where one stands first by a test, it stands first by another that it alone passes
+first_too : {A : Type 0} (test other : A → Bool) (all : List A) (place : ℕ) (one : A) → IsOnly other all → IsFirst test all place →
+    other (get_or all place one) ≡ true → IsFirst other all place
+first_too test other [] place one only at is = absurd (omega (arith, at.within))
+first_too test other (x ∷ all) zero one only at is = record {
+  within = at.within;
+  there = λ o. is;
+  before = λ k o earlier. absurd (omega (arith, earlier));
+}
+first_too test other (x ∷ all) (suc place) one only at is =
+    behind other x all place only.0 (first_too test other all place one only.1 (later test x all place at) is)
 
--- what is left once it is over
-pub left_over : (port job : ℕ) (piece : List ℕ) (all heard now : List Confirmation) (one : Confirmation) (verdict : Verdict) → job ≡ one.job →
-    heard ≡ told job piece all → now ≡ lose job heard →
-    telling port piece all ≡ telling_over verdict one all → now ≡ (telling port piece all).desk
-left_over port job piece all heard now one verdict same more over is =
-    over ∙ ap (lose job) more ∙ lose_changed job (heard_more piece) all (λ _. refl) ∙ ap (λ (n : ℕ). lose n all) same
-    ∙ sym (ap (λ (told : Telling). told.desk) is)
+-- what was put at a place is gone with the place
+removed_there_too : {A : Type 0} (all : List A) (place : ℕ) (new : A) → remove (set all place new) place ≡ remove all place
+removed_there_too [] place new = refl
+removed_there_too (one ∷ all) zero new = refl
+removed_there_too (one ∷ all) (suc place) new = ap (λ rest. one ∷ rest) (removed_there_too all place new)
 
--- what it held
-pub held_by : (port job : ℕ) (piece : List ℕ) (all heard : List Confirmation) (one : Confirmation) (held : CodeHeld) → AreApart all → find_linked port all ≡ Some one →
-    job ≡ one.job → heard ≡ told job piece all →
-    Some held ≡ option_map given_back (find_job job heard) → held ≡ given_back one
-held_by port job piece all heard one held apart found same more is =
-    same_Some held (given_back one) (is ∙ ap (option_map given_back) (still_of_job port job piece all heard one apart found same more))
+put_there : {A : Type 0} (all : List A) (place : ℕ) (new other : A) → place < length all → get_or (set all place new) place other ≡ new
+put_there [] place new other within = absurd (omega (arith, within))
+put_there (one ∷ all) zero new other within = refl
+put_there (one ∷ all) (suc place) new other within = put_there all place new other (omega (arith, within))
+
+-- of what stands first at a port
+module _ (port place : ℕ) (all : List Confirmation) (one : Confirmation) (apart : AreApart all) (at : IsFirst (came_to port) all place) (here : one ≡ get_or all place one) where
+  pub at_port : find_linked port all ≡ Some one
+  at_port = found_there (came_to port) all place one at ∙ ap (λ (c : Confirmation). Some c) (sym here)
+
+  -- it stands first of its job, too
+  pub of_job : IsFirst (has_key job_of one.job) all place
+  of_job =
+      first_too (came_to port) (has_key job_of one.job) all place one (only_job one.job all apart) at
+      (eq-eqb (get_or all place one).job one.job (ap job_of (sym here)))
+
+  module _ (piece : List ℕ) (new : Confirmation) (more : new ≡ heard_more piece one) where
+    pub told_there : set all place new ≡ told one.job piece all
+    told_there = changed_to (has_key job_of one.job) (heard_more piece) all place one new of_job here more
+
+    pub lost_there : remove (set all place new) place ≡ lose one.job all
+    lost_there = removed_there_too all place new ∙ sym (removed_there (has_key job_of one.job) all place of_job)
+
+    -- what is taken out holds what it held
+    pub gives_back : (out : Confirmation) → out ≡ get_or (set all place new) place out → given_back out ≡ given_back one
+    gives_back out is = ap given_back (is ∙ put_there all place new out at.within ∙ more)
+
+    pub says : (answer : Consent) → answer ≡ consent new.job new.heard → telling port piece all ≡ telling_by answer one piece all
+    says answer is = tells port piece all one answer at_port (ap (λ (c : Confirmation). consent c.job c.heard) (sym more) ∙ sym is)
 
 -- the desk is sound afterwards, whether memory ran out or not
 pub told_sound : {E : Type 0} (result : Result Verdict E) (port : ℕ) (piece : List ℕ) (all now : List Confirmation) →

@@ -1,13 +1,12 @@
 //! Confirmations by their jobs and clients.
 
-ghost use Rattle.std.specs.Prelude.{◌≡◌, ◌≤◌, ◌++◌, IsSome, IfOk, MatchOption, None, OnErr, OnOk, Some, length};
+ghost use Rattle.std.specs.Prelude.{◌≡◌, ◌≤◌, IsSome, IfOk, MatchOption, None, OnErr, OnOk, length};
 ghost use Rattle.std.specs.List.{position};
 ghost use Rattle.std.specs.Option.{option_map};
 ghost use Rattle.lists.specs.Firsts.{IsFirst};
 ghost use Rattle.lists.specs.Keyed.{has_key};
-ghost use Rattle.confirm_desk.specs.Answers.{consent_told};
 ghost use Rattle.confirm_desk.specs.Calls.{given_back, lesser, next_owed, owed_port, telling, took_at};
-ghost use Rattle.confirm_desk.specs.Confirmations.{Confirmation, asker_of, came_to, consent, find_asker, find_job, find_linked, job_of, linked, lose, owed_to, told, took};
+ghost use Rattle.confirm_desk.specs.Confirmations.{asker_of, came_to, find_asker, find_job, find_linked, job_of, linked, lose, owed_to};
 ghost use Rattle.confirm_desk.specs.Sound.{AreApart};
 
 use crate::consent::Answer;
@@ -72,37 +71,6 @@ pub fn link(pending: &mut Vec<Pending>, job: u64, port: u64)
     one.link(port);
 }
 
-/// The first bytes that the child process of this job was owed are sent.
-#[tactic(auto, using(lists::proofs::FirstLemmas::found_there))]
-pub fn take(pending: &mut Vec<Pending>, job: u64, count: usize)
-    requires there { IsSome (find_job job pending.old.items) }
-    requires owed { count ≤ length (owed_to (find_job job pending.old.items)) }
-    ensures { pending.new.items ≡ took job count pending.old.items }
-{
-    let Some(place) = place_of(pending, job) else {
-        unreachable!()
-    };
-    let one = &mut pending[place];
-    one.take(count);
-}
-
-/// The child process of this job sent more. What the user says by now.
-#[tactic(auto, using(lists::proofs::FirstLemmas::found_there))]
-pub fn hear(pending: &mut Vec<Pending>, job: u64, piece: &[u8]) -> Result<Answer, AllocError>
-    requires { IsSome (find_job job pending.old.items) }
-    ensures told { OnOk result (pending.new.items ≡ told job piece.now pending.old.items) }
-    ensures answer { IfOk result (λ answer. (one : Confirmation) → find_job job pending.old.items ≡ Some one
-        → consent_told answer ≡ consent job (one.heard ++ piece.now)) }
-    ensures unchanged { OnErr result (pending.new.items ≡ pending.old.items) }
-{
-    let Some(place) = place_of(pending, job) else {
-        unreachable!()
-    };
-    let one = &mut pending[place];
-    one.hear(piece)?;
-    Ok(one.consent())
-}
-
 /// Ends the confirmation of this job, and gives what it held.
 #[tactic(auto, using(lists::proofs::FirstLemmas::removed_there, lists::proofs::FirstLemmas::found_there, lists::proofs::FirstLemmas::removed_nowhere))]
 pub fn end(pending: &mut Vec<Pending>, job: u64) -> Option<Held>
@@ -123,8 +91,8 @@ pub fn take_at(pending: &mut Vec<Pending>, port: u64, count: usize)
     let Some(place) = place_linked(pending, port) else {
         unreachable!()
     };
-    let job = pending[place].job();
-    take(pending, job, count);
+    let one = &mut pending[place];
+    one.take(count);
 }
 
 /// The child process at this port sent more. What the user decided by now ends the confirmation.
@@ -139,24 +107,13 @@ pub fn tell(pending: &mut Vec<Pending>, port: u64, piece: &[u8]) -> Result<Verdi
     let Some(place) = place_linked(pending, port) else {
         unreachable!()
     };
-    let job = pending[place].job();
-    match hear(pending, job, piece)? {
+    let one = &mut pending[place];
+    one.hear(piece)?;
+    match one.consent() {
         Answer::NotYet => Ok(Verdict::NotYet),
-        Answer::Yes => Ok(Verdict::Granted(end_there(pending, job))),
-        Answer::No => Ok(Verdict::Denied(end_there(pending, job))),
+        Answer::Yes => Ok(Verdict::Granted(pending.remove(place).into_held())),
+        Answer::No => Ok(Verdict::Denied(pending.remove(place).into_held())),
     }
-}
-
-// Ends the confirmation of this job, which is there.
-fn end_there(pending: &mut Vec<Pending>, job: u64) -> Held
-    requires { IsSome (find_job job pending.old.items) }
-    ensures left { pending.new.items ≡ lose job pending.old.items }
-    ensures held { Some result ≡ option_map given_back (find_job job pending.old.items) }
-{
-    let Some(held) = end(pending, job) else {
-        unreachable!()
-    };
-    held
 }
 
 /// The least port above `after` where bytes are owed.

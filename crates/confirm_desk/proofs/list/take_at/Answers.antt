@@ -1,31 +1,24 @@
-use Rattle.std.proofs.Common.{◌≡◌, ◌∙◌, ℕ, Option, Some, refl, sym, ap}
+use Rattle.std.proofs.Common.{◌∙◌, Option, sym, ap}
 use Rattle.lists.specs.Firsts.{IsFirst}
+use Rattle.lists.specs.Keyed.{has_key}
+use Rattle.lists.proofs.FirstLemmas.{changed_to}
 use Rattle.confirm_desk.specs.Calls.{took_by}
-use Rattle.confirm_desk.specs.Confirmations.{Confirmation, find_linked, took, came_to}
+use Rattle.confirm_desk.specs.Confirmations.{Confirmation, came_to, job_of, took_some}
 use Rattle.confirm_desk.proofs.TellLemmas.{at_port, of_job}
 use Rattle.confirm_desk.proofs.list.take_at.Goals as goal
 
-pub take-requires-clause-there : goal.take-requires-clause-there
-take-requires-clause-there c =
+pub take-requires : goal.take-requires
+take-requires c =
     let all = c.args.pending.now.items in
-    let one = c.index.result.now in
+    let one = c.index_mut-one.result.now in
     let at : IsFirst (came_to c.args.port) all c.in-Some.place = rw c.deref.ensures.value at c.in-Some.ensures in
-    let found : find_linked c.args.port all ≡ Some one = at_port c.args.port c.in-Some.place all one at c.index.ensures in
-    rw (of_job c.args.port c.job-job.result all one c.requires.apart found c.job-job.ensures) refl
-
-pub take-requires-clause-owed : goal.take-requires-clause-owed
-take-requires-clause-owed c =
-    let all = c.args.pending.now.items in
-    let one = c.index.result.now in
-    let at : IsFirst (came_to c.args.port) all c.in-Some.place = rw c.deref.ensures.value at c.in-Some.ensures in
-    let found : find_linked c.args.port all ≡ Some one = at_port c.args.port c.in-Some.place all one at c.index.ensures in
-    rw (of_job c.args.port c.job-job.result all one c.requires.apart found c.job-job.ensures) (rw found at c.requires.owed)
+    rw (at_port c.args.port c.in-Some.place all one c.requires.apart at c.index_mut-one.ensures.value) at c.requires.owed
 
 pub returns : goal.returns
 returns c =
     let all = c.args.pending.now.items in
-    let one = c.index.result.now in
+    let one = c.index_mut-one.result.now in
     let at : IsFirst (came_to c.args.port) all c.in-Some.place = rw c.deref.ensures.value at c.in-Some.ensures in
-    let found : find_linked c.args.port all ≡ Some one = at_port c.args.port c.in-Some.place all one at c.index.ensures in
-    c.take.ensures ∙ ap (λ (job : ℕ). took job c.args.count all) c.job-job.ensures
-    ∙ sym (ap (λ (there : Option Confirmation). took_by there c.args.count all) found)
+    changed_to (has_key job_of one.job) (took_some c.args.count) all c.in-Some.place one c.take.new.self
+    (of_job c.args.port c.in-Some.place all one c.requires.apart at c.index_mut-one.ensures.value) c.index_mut-one.ensures.value c.take.ensures
+    ∙ sym (ap (λ (there : Option Confirmation). took_by there c.args.count all) (at_port c.args.port c.in-Some.place all one c.requires.apart at c.index_mut-one.ensures.value))
