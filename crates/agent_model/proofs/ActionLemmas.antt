@@ -30,19 +30,22 @@ among-each P action (one ∷ later) other each (inr there) =
     among-each P action later other each.1 there
 
 -- what is among some is among these and more
-pub among-front : (action : Action) (some more : List Action) → IsAmong action some → IsAmong action (some ++ more)
+pub among-front : (action : Action) (some more : List Action) → IsAmong action some
+    → IsAmong action (some ++ more)
 among-front action [] more among = absurd among
 among-front action (one ∷ some) more (inl same) = inl same
 among-front action (one ∷ some) more (inr later) = inr (among-front action some more later)
 
-pub among-back : (action : Action) (some more : List Action) → IsAmong action more → IsAmong action (some ++ more)
+pub among-back : (action : Action) (some more : List Action) → IsAmong action more
+    → IsAmong action (some ++ more)
 among-back action [] more among = among
 among-back action (one ∷ some) more among = inr (among-back action some more among)
 
 -- ---- what the helper's answers and its loss bring
 
 module _ (P : Action → Type 0) (answered : (one : Settled) → P (Answered one)) (proved : (proving : Proving) → P (Proved proving)) where
-  each-proved : (found : Option Port) (verification : Verification) → Each P (proved_where_open found verification)
+  each-proved : (found : Option Port) (verification : Verification)
+      → Each P (proved_where_open found verification)
   each-proved None verification = tt
   each-proved (Some port) verification = (proved _, tt)
 
@@ -57,7 +60,8 @@ module _ (P : Action → Type 0) (answered : (one : Settled) → P (Answered one
       Each P (answer_by what one before).actions
   each-answer (answer.Signed signature) one before each =
       each-append P before.actions _ each (answered one, tt)
-  each-answer answer.Refused one before each = each-append P before.actions _ each (answered one, tt)
+  each-answer answer.Refused one before each =
+      each-append P before.actions _ each (answered one, tt)
   each-answer answer.True one before each =
       each-true (find_verification one.ask before.verifications) one before each
   each-answer answer.False one before each = each-append P before.actions _ each (answered one, tt)
@@ -69,7 +73,8 @@ module _ (P : Action → Type 0) (answered : (one : Settled) → P (Answered one
       each-answers later (answer_by one.answer one before) (each-answer one.answer one before each)
 
   -- and of all that the helper tells
-  pub each-tells : P Lost → (told : Telling) (state : State) → Each P (helper_tells told state).actions
+  pub each-tells : P Lost → (told : Telling) (state : State)
+      → Each P (helper_tells told state).actions
   each-tells lost told state =
       each-append P _ _ (each-answers told.settled _ tt) (by_fault told.fault _)
     where

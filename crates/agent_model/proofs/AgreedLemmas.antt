@@ -53,7 +53,7 @@ Settles number job outcome =
     (Unended job outcome.actions × Waits number job outcome.state.ports)
     ⊎ (IsAmong (Over job) outcome.actions × IsTold number (Refuses NotConfirmed) outcome.state.ports)
 
--- the same of a tied state, in which who was told so has it yet
+-- a tied state stays tied; who waits for the confirmation goes on waiting or is told; who was told so has it yet
 abbrev Ends : ℕ → ℕ → State → Outcome → Type 0
 Ends number job old outcome =
     IsTied old → IsTied outcome.state × (Waits number job old.ports → Settles number job outcome)
@@ -61,15 +61,18 @@ Ends number job old outcome =
 
 -- ---- which actions are there
 
-none_of : (action : Action) (some more : List Action) → (IsAmong action some → ⊥) → (IsAmong action more → ⊥) → IsAmong action (some ++ more) → ⊥
+none_of : (action : Action) (some more : List Action) → (IsAmong action some → ⊥)
+    → (IsAmong action more → ⊥) → IsAmong action (some ++ more) → ⊥
 none_of action [] more none nothing among = nothing among
 none_of action (one ∷ some) more none nothing (inl is) = none (inl is)
-none_of action (one ∷ some) more none nothing (inr there) = none_of action some more (λ among. none (inr among)) nothing there
+none_of action (one ∷ some) more none nothing (inr there) =
+    none_of action some more (λ among. none (inr among)) nothing there
 
 -- ---- confirmations
 
 -- another one's consent is none of its own
-only_grant : (job other : ℕ) (actions : List Action) → ArePlain actions → job ≢ other → (IsAmong (Granted job) (Granted other ∷ actions) → ⊥) × (IsAmong (Over job) (Granted other ∷ actions) → ⊥)
+only_grant : (job other : ℕ) (actions : List Action) → ArePlain actions → job ≢ other
+    → (IsAmong (Granted job) (Granted other ∷ actions) → ⊥) × (IsAmong (Over job) (Granted other ∷ actions) → ⊥)
 only_grant job other actions plain differs = (by_grant, by_over)
   where
     by_grant : IsAmong (Granted job) (Granted other ∷ actions) → ⊥
@@ -81,7 +84,8 @@ only_grant job other actions plain differs = (by_grant, by_over)
     by_over (inr later) = among-each IsPlain (Over job) actions (λ is. is) plain later
 
 -- none of two actions
-by_two : (action : Action) {one two : Action} → (one ≡ action → ⊥) → (two ≡ action → ⊥) → IsAmong action (one ∷ two ∷ []) → ⊥
+by_two : (action : Action) {one two : Action} → (one ≡ action → ⊥) → (two ≡ action → ⊥)
+    → IsAmong action (one ∷ two ∷ []) → ⊥
 by_two action not_one not_two (inl is) = not_one is
 by_two action not_one not_two (inr (inl is)) = not_two is
 by_two action not_one not_two (inr (inr none)) = none
@@ -96,7 +100,8 @@ module _ (number job : ℕ) (confirmation : Confirmation) (state : State) (there
       told-close_confirmer number _ confirmation.port state.ports (λ n port is. tied.raised.confirmers confirmation.job n confirmation port found_there is) told
 
   -- the confirmation is its own, or another's
-  own : (number ≡ confirmation.asker) ⊎ (number ≢ confirmation.asker) → ((job ≡ confirmation.job) × (number ≡ confirmation.asker)) ⊎ ((job ≢ confirmation.job) × (number ≢ confirmation.asker))
+  own : (number ≡ confirmation.asker) ⊎ (number ≢ confirmation.asker)
+      → ((job ≡ confirmation.job) × (number ≡ confirmation.asker)) ⊎ ((job ≢ confirmation.job) × (number ≢ confirmation.asker))
   own (inl same) =
       let waits : told.port.waits ≡ OnConfirmation confirmation.job = tied.raised.asking.asks confirmation.job confirmation told.port found_there (ap (λ n. find_port n state.ports) (sym same) ∙ told.found) in
       let both : OnConfirmation job ≡ OnConfirmation confirmation.job = sym told.waits ∙ waits in
@@ -113,11 +118,13 @@ module _ (number job : ℕ) (confirmation : Confirmation) (state : State) (there
       )
 
   -- another's leaves it
-  still : (verdict : Verdict) → number ≢ confirmation.asker → Waits number job (change_port confirmation.asker (tell verdict) (close_confirmer confirmation.port state.ports))
+  still : (verdict : Verdict) → number ≢ confirmation.asker
+      → Waits number job (change_port confirmation.asker (tell verdict) (close_confirmer confirmation.port state.ports))
   still verdict other = told-apart number confirmation.asker (Awaits (OnConfirmation job)) (tell verdict) _ (λ p. refl) other left_open
 
   -- its own tells it
-  now : (verdict : Verdict) → number ≡ confirmation.asker → IsTold number verdict (change_port confirmation.asker (tell verdict) (close_confirmer confirmation.port state.ports))
+  now : (verdict : Verdict) → number ≡ confirmation.asker
+      → IsTold number verdict (change_port confirmation.asker (tell verdict) (close_confirmer confirmation.port state.ports))
   now verdict same =
       subst (λ n. IsTold number verdict (change_port n (tell verdict) (close_confirmer confirmation.port state.ports))) same
       (told-here number (Awaits (OnConfirmation job)) verdict (tell verdict) _ (λ p. refl) (λ p. refl) (λ p none. ap (λ bytes. bytes ++ verdict_text verdict) none) (λ p waits. refl) left_open)
@@ -125,7 +132,8 @@ module _ (number job : ℕ) (confirmation : Confirmation) (state : State) (there
   settles-over : Settles number job (over confirmation state)
   settles-over = by_own (own (cases_eq number confirmation.asker))
     where
-      by_own : ((job ≡ confirmation.job) × (number ≡ confirmation.asker)) ⊎ ((job ≢ confirmation.job) × (number ≢ confirmation.asker)) → Settles number job (over confirmation state)
+      by_own : ((job ≡ confirmation.job) × (number ≡ confirmation.asker)) ⊎ ((job ≢ confirmation.job) × (number ≢ confirmation.asker))
+          → Settles number job (over confirmation state)
       by_own (inl mine) = inr (inl (ap Over (sym mine.0)), now (Refuses NotConfirmed) mine.1)
       by_own (inr other) = inl ((λ among. by_grant among, λ among. by_over among), still (Refuses NotConfirmed) other.1)
         where
@@ -140,16 +148,23 @@ module _ (number job : ℕ) (confirmation : Confirmation) (state : State) (there
   agreed-over : IsAgreed number job (over confirmation state).actions (over confirmation state).state.ports
   agreed-over = by_end settles-over
     where
-      by_end : Settles number job (over confirmation state) → IsAgreed number job (over confirmation state).actions (over confirmation state).state.ports
+      by_end : Settles number job (over confirmation state)
+          → IsAgreed number job (over confirmation state).actions (over confirmation state).state.ports
       by_end (inl waits) = unagreed waits.0.0 waits.0.1 waits.1
       by_end (inr ended) = disagreed ended.0 ended.1
 
-  agreed-grant : {chain : List Binding} {work : Work} → IsGranted chain confirmation state.moment.wall state.held (without_confirmation confirmation.job state.under_way) work → IsAgreed number job (grant_concluded work confirmation state).actions (grant_concluded work confirmation state).state.ports
+  agreed-grant : {chain : List Binding} {work : Work}
+      → IsGranted chain confirmation state.moment.wall state.held (without_confirmation confirmation.job state.under_way) work
+      → IsAgreed number job (grant_concluded work confirmation state).actions (grant_concluded work confirmation state).state.ports
   agreed-grant granted = by_own granted (own (cases_eq number confirmation.asker))
     where
-      by_own : {chain : List Binding} {work : Work} → IsGranted chain confirmation state.moment.wall state.held (without_confirmation confirmation.job state.under_way) work → ((job ≡ confirmation.job) × (number ≡ confirmation.asker)) ⊎ ((job ≢ confirmation.job) × (number ≢ confirmation.asker)) → IsAgreed number job (grant_concluded work confirmation state).actions (grant_concluded work confirmation state).state.ports
+      by_own : {chain : List Binding} {work : Work}
+          → IsGranted chain confirmation state.moment.wall state.held (without_confirmation confirmation.job state.under_way) work
+          → ((job ≡ confirmation.job) × (number ≡ confirmation.asker)) ⊎ ((job ≢ confirmation.job) × (number ≢ confirmation.asker))
+          → IsAgreed number job (grant_concluded work confirmation state).actions (grant_concluded work confirmation state).state.ports
       by_own (disallowed never) (inl mine) = ungranted NoLongerAllowed (inl (ap Granted (sym mine.0))) (now (Refuses NoLongerAllowed) mine.1)
-      by_own (unasked cause key may fault) (inl mine) = ungranted cause (inl (ap Granted (sym mine.0))) (now (Refuses cause) mine.1)
+      by_own (unasked cause key may fault) (inl mine) =
+          ungranted cause (inl (ap Granted (sym mine.0))) (now (Refuses cause) mine.1)
       by_own (allowed key may free) (inl mine) =
           agreed _ (inl (ap Granted (sym mine.0))) (inr (inl refl)) (sym mine.1) (now (Awaits (OnAsk (state.under_way.link.last + 1))) mine.1)
       by_own (disallowed never) (inr other) =
@@ -164,24 +179,32 @@ module _ (number job : ℕ) (confirmation : Confirmation) (state : State) (there
 
 -- ---- events
 
-agreed-plain : (number job : ℕ) (actions : List Action) (ports : List Port) → ArePlain actions → Waits number job ports → IsAgreed number job actions ports
+agreed-plain : (number job : ℕ) (actions : List Action) (ports : List Port) → ArePlain actions
+    → Waits number job ports → IsAgreed number job actions ports
 agreed-plain number job actions ports plain told =
     unagreed (among-each IsPlain (Granted job) actions (λ is. is) plain) (among-each IsPlain (Over job) actions (λ is. is) plain) told
 
 module _ (number job : ℕ) (body : List ℕ) (take : Port → Port) (keeps : (p : Port) → (take p).number ≡ p.number) (port : Port) (state : State) (found : find_port port.number state.ports ≡ Some port) (nothing : port.waits ≡ Nothing) (told : Waits number job state.ports) where
-  beside : (verdict : Verdict) → Waits number job (change_port port.number (tell verdict) (change_port port.number take state.ports))
+  beside : (verdict : Verdict)
+      → Waits number job (change_port port.number (tell verdict) (change_port port.number take state.ports))
   beside verdict = waits-served number (OnConfirmation job) (for_it job) take verdict port state.ports keeps found nothing told
 
-  agreed-served : {served : Served} → IsServed (asker_at state.moment port) state.held state.under_way served → IsAgreed number job (concluded port.number body served (changed port.number take state)).actions (concluded port.number body served (changed port.number take state)).state.ports
-  agreed-served (answered reply kept same) = agreed-plain number job _ _ (tt, tt) (beside (Replies reply))
+  agreed-served : {served : Served}
+      → IsServed (asker_at state.moment port) state.held state.under_way served
+      → IsAgreed number job (concluded port.number body served (changed port.number take state)).actions (concluded port.number body served (changed port.number take state)).state.ports
+  agreed-served (answered reply kept same) =
+      agreed-plain number job _ _ (tt, tt) (beside (Replies reply))
   agreed-served (refused cause) = agreed-plain number job _ _ (tt, tt) (beside (Refuses cause))
   agreed-served (asked errand free right) = agreed-plain number job _ _ (tt, (tt, tt)) (beside (Awaits (OnAsk (state.under_way.link.last + 1))))
   agreed-served (raised key signing free) = unagreed
       (λ among. by_two _ (λ is. absurd (cc)) (λ is. absurd (cc)) among) (λ among. by_two _ (λ is. absurd (cc)) (λ is. absurd (cc)) among)
       (beside (Awaits (OnConfirmation (state.under_way.last_job + 1))))
 
-agreed-makes : {event : Happening} {old : State} {outcome : Outcome} (number job : ℕ) → Makes event old outcome → event ≢ Ended number → IsTied old → Waits number job old.ports → IsAgreed number job outcome.actions outcome.state.ports
-agreed-makes number job (stays state) open_yet tied told = agreed-plain number job [] state.ports tt told
+agreed-makes : {event : Happening} {old : State} {outcome : Outcome} (number job : ℕ)
+    → Makes event old outcome → event ≢ Ended number → IsTied old → Waits number job old.ports
+    → IsAgreed number job outcome.actions outcome.state.ports
+agreed-makes number job (stays state) open_yet tied told =
+    agreed-plain number job [] state.ports tt told
 agreed-makes number job (first quiet rest) open_yet tied told = agreed-makes number job rest open_yet (tied-quiet quiet tied) (waits-quiet number (OnConfirmation job) (for_it job) quiet open_yet told)
 agreed-makes number job (serves body_len port state found door nothing owed own) open_yet tied told =
     let body : List ℕ = front_body body_len port.heard in
@@ -190,11 +213,14 @@ agreed-makes number job (tells piece state) open_yet tied told =
     agreed-plain number job _ _ (plain-tells (telling piece state.under_way.link) state)
     (still-tells number (Awaits (OnConfirmation job)) (not_ask job) piece state tied told)
 agreed-makes number job (loses state) open_yet tied told = agreed-plain number job _ _ (tt, tt) (still-lost number (Awaits (OnConfirmation job)) (not_ask job) state tied told)
-agreed-makes number job (overs confirmation state there) open_yet tied told = agreed-over number job confirmation state there tied told
+agreed-makes number job (overs confirmation state there) open_yet tied told =
+    agreed-over number job confirmation state there tied told
 agreed-makes number job (grants confirmation port state there opened) open_yet tied told =
     agreed-grant number job confirmation state there tied told (grant-ends port.chain confirmation state)
 
-agreed-admitted : (number job : ℕ) (room : Bool) (door : Door) (state : State) → Waits number job state.ports → IsAgreed number job [] (admitted room (suc state.last_port) door state.ports)
+agreed-admitted : (number job : ℕ) (room : Bool) (door : Door) (state : State)
+    → Waits number job state.ports
+    → IsAgreed number job [] (admitted room (suc state.last_port) door state.ports)
 agreed-admitted number job false door state told = agreed-plain number job [] _ tt told
 agreed-admitted number job true door state told =
     agreed-plain number job [] _ tt record { port = told.port; found = found_still number told.port state.ports _ told.found; door = told.door; owed = told.owed; waits = told.waits }
@@ -202,7 +228,8 @@ agreed-admitted number job true door state told =
 -- ---- a moment
 
 -- what a moment brings to who waits for the user
-time-settles : (number job : ℕ) (moment : Moment) (state : State) → IsTied state → Waits number job state.ports → Settles number job (time_passes moment state)
+time-settles : (number job : ℕ) (moment : Moment) (state : State) → IsTied state
+    → Waits number job state.ports → Settles number job (time_passes moment state)
 time-settles number job moment state tied told =
     (time_passes-brings (Ends number job) moment state
     (λ s at. (at, λ waits. inl ((λ among. among, λ among. among), waits), λ has. has))
@@ -226,25 +253,36 @@ time-settles number job moment state tied told =
     by_one other (inl is) = other is
     by_one other (inr none) = none
 
-    by_either : (before later : Outcome) → Settles number job before → (Waits number job before.state.ports → Settles number job later) → (IsTold number (Refuses NotConfirmed) before.state.ports → IsTold number (Refuses NotConfirmed) later.state.ports) → Settles number job (behind before later)
+    by_either : (before later : Outcome) → Settles number job before
+        → (Waits number job before.state.ports → Settles number job later)
+        → (IsTold number (Refuses NotConfirmed) before.state.ports → IsTold number (Refuses NotConfirmed) later.state.ports)
+        → Settles number job (behind before later)
     by_either before later (inl open_yet) goes stay = by_later (goes open_yet.1)
       where
         by_later : Settles number job later → Settles number job (behind before later)
         by_later (inl more) = inl ((none_of (Granted job) before.actions later.actions open_yet.0.0 more.0.0, none_of (Over job) before.actions later.actions open_yet.0.1 more.0.1), more.1)
-        by_later (inr ended) = inr (among-back (Over job) before.actions later.actions ended.0, ended.1)
-    by_either before later (inr ended) goes stay = inr (among-front (Over job) before.actions later.actions ended.0, stay ended.1)
+        by_later (inr ended) =
+            inr (among-back (Over job) before.actions later.actions ended.0, ended.1)
+    by_either before later (inr ended) goes stay =
+        inr (among-front (Over job) before.actions later.actions ended.0, stay ended.1)
 
 -- actions before that don't end it make no difference
-agreed-behind : (number job : ℕ) (some more : List Action) (ports : List Port) → Unended job some → IsAgreed number job more ports → IsAgreed number job (some ++ more) ports
+agreed-behind : (number job : ℕ) (some more : List Action) (ports : List Port) → Unended job some
+    → IsAgreed number job more ports → IsAgreed number job (some ++ more) ports
 agreed-behind number job some more ports none (unagreed not_granted not_over told) =
     unagreed (none_of (Granted job) some more none.0 not_granted) (none_of (Over job) some more none.1 not_over) told
-agreed-behind number job some more ports none (disagreed over_it told) = disagreed (among-back (Over job) some more over_it) told
+agreed-behind number job some more ports none (disagreed over_it told) =
+    disagreed (among-back (Over job) some more over_it) told
 agreed-behind number job some more ports none (agreed asking granted put its told) =
     agreed asking (among-back (Granted job) some more granted) (among-back (Asked asking) some more put) its told
-agreed-behind number job some more ports none (ungranted cause granted told) = ungranted cause (among-back (Granted job) some more granted) told
+agreed-behind number job some more ports none (ungranted cause granted told) =
+    ungranted cause (among-back (Granted job) some more granted) told
 
 -- each event
-pub step-agreed : (number job : ℕ) (state : State) (moment : Moment) (event : Happening) → event ≢ Ended number → ((count : ℕ) → event ≢ Took number count) → IsTied state → Waits number job state.ports → IsAgreed number job (step state moment event).actions (step state moment event).state.ports
+pub step-agreed : (number job : ℕ) (state : State) (moment : Moment) (event : Happening)
+    → event ≢ Ended number → ((count : ℕ) → event ≢ Took number count) → IsTied state
+    → Waits number job state.ports
+    → IsAgreed number job (step state moment event).actions (step state moment event).state.ports
 step-agreed number job state moment event open_yet untaken tied told = by_time (time-settles number job moment state tied told)
   where
     opened : State
@@ -253,7 +291,8 @@ step-agreed number job state moment event open_yet untaken tied told = by_time (
     tied_yet : IsTied (at_moment moment state)
     tied_yet = tied-opened moment state tied
 
-    by_time : Settles number job (time_passes moment state) → IsAgreed number job (step state moment event).actions (step state moment event).state.ports
+    by_time : Settles number job (time_passes moment state)
+        → IsAgreed number job (step state moment event).actions (step state moment event).state.ports
     by_time (inl waits) =
         agreed-behind number job (time_passes moment state).actions (handle event opened).actions (handle event opened).state.ports waits.0
         (by_event (λ outcome. IsAgreed number job outcome.actions outcome.state.ports) event opened

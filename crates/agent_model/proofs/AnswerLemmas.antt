@@ -11,11 +11,15 @@ use Rattle.agent_model.proofs.FateLemmas.{answers_as}
 use Rattle.agent_model.proofs.PortsLemmas.{find_port-apart, find_port-change_port}
 
 -- a number that isn't listed isn't the first, nor among the others
-parts_of : (number other : ℕ) (others : List ℕ) → (number == other || is_among number others) ≡ false → (number ≢ other) × (is_among number others ≡ false)
+parts_of : (number other : ℕ) (others : List ℕ)
+    → (number == other || is_among number others) ≡ false
+    → (number ≢ other) × (is_among number others ≡ false)
 parts_of number other others absent = (grind (arith, nat_tests), grind (arith, nat_tests))
 
 -- who didn't ask is told nothing
-pub others_are_told_nothing : (settled : List Settled) (before : Answering) (number : ℕ) → is_among number (askers_of settled) ≡ false → find_port number (answer_all settled before).ports ≡ find_port number before.ports
+pub others_are_told_nothing : (settled : List Settled) (before : Answering) (number : ℕ)
+    → is_among number (askers_of settled) ≡ false
+    → find_port number (answer_all settled before).ports ≡ find_port number before.ports
 others_are_told_nothing [] before number absent = refl
 others_are_told_nothing (one ∷ later) before number absent =
     let parts = parts_of number one.asker (askers_of later) absent in
@@ -24,7 +28,9 @@ others_are_told_nothing (one ∷ later) before number absent =
     ∙ ap (find_port number) told_as.ports ∙ find_port-apart number one.asker told_as.change before.ports told_as.number parts.0
 
 -- nor is who doesn't wait for the helper that is lost
-pub others_lose_nothing : (verdict : Verdict) (askers : List ℕ) (ports : List Port) (number : ℕ) → is_among number askers ≡ false → find_port number (tell_each verdict askers ports) ≡ find_port number ports
+pub others_lose_nothing : (verdict : Verdict) (askers : List ℕ) (ports : List Port) (number : ℕ)
+    → is_among number askers ≡ false
+    → find_port number (tell_each verdict askers ports) ≡ find_port number ports
 others_lose_nothing verdict [] ports number absent = refl
 others_lose_nothing verdict (asker ∷ others) ports number absent =
     let parts = parts_of number asker others absent in
@@ -32,6 +38,8 @@ others_lose_nothing verdict (asker ∷ others) ports number absent =
     ∙ find_port-apart number asker (tell verdict) ports (λ p. refl) parts.0
 
 -- who asked is told what was answered, and waits no more
-pub told_found : (asker : ℕ) (verdict : Verdict) (ports : List Port) (port : Port) → find_port asker ports ≡ Some port → find_port asker (change_port asker (tell verdict) ports) ≡ Some (tell verdict port)
+pub told_found : (asker : ℕ) (verdict : Verdict) (ports : List Port) (port : Port)
+    → find_port asker ports ≡ Some port
+    → find_port asker (change_port asker (tell verdict) ports) ≡ Some (tell verdict port)
 told_found asker verdict ports port found =
     find_port-change_port asker (tell verdict) ports (λ p. refl) ∙ ap (option_map (tell verdict)) found

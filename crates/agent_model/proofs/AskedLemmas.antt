@@ -24,11 +24,15 @@ one_for bind is_new number = record { ask = number; binding = binding_of bind; i
 
 module _ (asker : Asker) (errand : Errand) (last : ℕ) where
   -- what is noted of the new ask has its number, and is judged by the asker's chain
-  of_new : (errand : Errand) (ask : ℕ) (one : Verification) → MayPut asker errand → find_verification ask (noted_verification errand (last + 1)) ≡ Some one → (ask ≡ last + 1) × IsRight one asker.chain
+  of_new : (errand : Errand) (ask : ℕ) (one : Verification) → MayPut asker errand
+      → find_verification ask (noted_verification errand (last + 1)) ≡ Some one
+      → (ask ≡ last + 1) × IsRight one asker.chain
   of_new (Signs key signing) ask one right is = absurd (cc)
   of_new (Verifies bind is_new) ask one right is = by_test (last + 1 == ask) refl is
     where
-      by_test : (same : Bool) → (last + 1 == ask) ≡ same → cond same (Some (one_for bind is_new (last + 1))) None ≡ Some one → (ask ≡ last + 1) × IsRight one asker.chain
+      by_test : (same : Bool) → (last + 1 == ask) ≡ same
+          → cond same (Some (one_for bind is_new (last + 1))) None ≡ Some one
+          → (ask ≡ last + 1) × IsRight one asker.chain
       by_test true test some =
           let numbered : ask ≡ last + 1 = grind (arith, nat_tests) in
           let this : one_for bind is_new (last + 1) ≡ one = cc in
@@ -36,7 +40,8 @@ module _ (asker : Asker) (errand : Errand) (last : ℕ) where
       by_test false test some = absurd (cc)
 
   -- an ask to verify has its binding noted
-  noted_new : (errand : Errand) → kind_of errand ≡ kinds.Verifying → IsSome (find_verification (last + 1) (noted_verification errand (last + 1)))
+  noted_new : (errand : Errand) → kind_of errand ≡ kinds.Verifying
+      → IsSome (find_verification (last + 1) (noted_verification errand (last + 1)))
   noted_new (Signs key signing) is = absurd (cc)
   noted_new (Verifies bind is_new) is =
       let test : (last + 1 == last + 1) ≡ true = grind (arith, nat_tests) in
@@ -50,26 +55,37 @@ module _ (asker : Asker) (errand : Errand) (last : ℕ) where
     abbrev noted : List Verification
     noted = noted_verification errand (last + 1)
 
-    pushed : (ask : ℕ) → find_ask ask (asks ++ new ∷ []) ≡ cond (last + 1 == ask) (Some new) (find_ask ask asks)
+    pushed : (ask : ℕ)
+        → find_ask ask (asks ++ new ∷ []) ≡ cond (last + 1 == ask) (Some new) (find_ask ask asks)
     pushed ask = find-push ask 0 new asks last rise (omega arith)
 
     -- what is noted was, or is new
-    split : (ask : ℕ) (one : Verification) → MayPut asker errand → find_verification ask (verifications ++ noted) ≡ Some one → (find_verification ask verifications ≡ Some one) ⊎ ((ask ≡ last + 1) × IsRight one asker.chain)
+    split : (ask : ℕ) (one : Verification) → MayPut asker errand
+        → find_verification ask (verifications ++ noted) ≡ Some one
+        → (find_verification ask verifications ≡ Some one) ⊎ ((ask ≡ last + 1) × IsRight one asker.chain)
     split ask one right is = by_found (find_verification ask verifications) refl (sym (find_verification-append ask verifications noted) ∙ is)
       where
-        by_found : (was : Option Verification) → find_verification ask verifications ≡ was → option_or was (find_verification ask noted) ≡ Some one → (find_verification ask verifications ≡ Some one) ⊎ ((ask ≡ last + 1) × IsRight one asker.chain)
+        by_found : (was : Option Verification) → find_verification ask verifications ≡ was
+            → option_or was (find_verification ask noted) ≡ Some one
+            → (find_verification ask verifications ≡ Some one) ⊎ ((ask ≡ last + 1) × IsRight one asker.chain)
         by_found None was some = inr (of_new errand ask one right some)
         by_found (Some first) was some = inl (was ∙ some)
 
     -- what was judged stands, and the new one is judged
-    pub judged-asked : (old after : List Port) (port : Port) → KeepsChains old after → AreJudged old verifications asks → AreGiven verifications last → MayPut asker errand → find_port asker.port old ≡ Some port → port.chain ≡ asker.chain → AreJudged after (verifications ++ noted) (asks ++ new ∷ [])
+    pub judged-asked : (old after : List Port) (port : Port) → KeepsChains old after
+        → AreJudged old verifications asks → AreGiven verifications last → MayPut asker errand
+        → find_port asker.port old ≡ Some port → port.chain ≡ asker.chain
+        → AreJudged after (verifications ++ noted) (asks ++ new ∷ [])
     judged-asked old after port keeps judged given right found chain ask what one at noted_one there opened =
         by_test (last + 1 == ask) refl (sym (pushed ask) ∙ there) (split ask one right noted_one)
       where
         was : (was : Port) × (find_port what.asker old ≡ Some was) × (at.chain ≡ was.chain)
         was = keeps what.asker at opened
 
-        by_test : (same : Bool) → (last + 1 == ask) ≡ same → cond same (Some new) (find_ask ask asks) ≡ Some what → (find_verification ask verifications ≡ Some one) ⊎ ((ask ≡ last + 1) × IsRight one asker.chain) → IsRight one at.chain
+        by_test : (same : Bool) → (last + 1 == ask) ≡ same
+            → cond same (Some new) (find_ask ask asks) ≡ Some what
+            → (find_verification ask verifications ≡ Some one) ⊎ ((ask ≡ last + 1) × IsRight one asker.chain)
+            → IsRight one at.chain
         by_test true test is (inl noted_before) =
             let numbered : last + 1 ≡ ask = grind (arith, nat_tests) in
             absurd (omega (arith, numbered, given ask one noted_before))
@@ -87,18 +103,23 @@ module _ (asker : Asker) (errand : Errand) (last : ℕ) where
             absurd (cc)
 
     -- each ask to verify has its binding
-    pub noted-asked : AreNoted verifications asks → AreNoted (verifications ++ noted) (asks ++ new ∷ [])
+    pub noted-asked : AreNoted verifications asks
+        → AreNoted (verifications ++ noted) (asks ++ new ∷ [])
     noted-asked noted_before ask who put_at there = by_test (last + 1 == ask) refl (sym (pushed ask) ∙ there)
       where
-        some_of : (first later : Option Verification) → IsSome first → IsSome (option_or first later)
+        some_of : (first later : Option Verification) → IsSome first
+            → IsSome (option_or first later)
         some_of None later some = absurd (cc)
         some_of (Some one) later some = refl
 
-        some_behind : (first later : Option Verification) → IsSome later → IsSome (option_or first later)
+        some_behind : (first later : Option Verification) → IsSome later
+            → IsSome (option_or first later)
         some_behind None later some = some
         some_behind (Some one) later some = refl
 
-        by_test : (same : Bool) → (last + 1 == ask) ≡ same → cond same (Some new) (find_ask ask asks) ≡ Some (ask_of ask who kinds.Verifying put_at) → IsSome (find_verification ask (verifications ++ noted))
+        by_test : (same : Bool) → (last + 1 == ask) ≡ same
+            → cond same (Some new) (find_ask ask asks) ≡ Some (ask_of ask who kinds.Verifying put_at)
+            → IsSome (find_verification ask (verifications ++ noted))
         by_test true test is =
             let numbered : last + 1 ≡ ask = grind (arith, nat_tests) in
             let this : new ≡ ask_of ask who kinds.Verifying put_at = cc in
@@ -110,7 +131,8 @@ module _ (asker : Asker) (errand : Errand) (last : ℕ) where
             (some_of (find_verification ask verifications) (find_verification ask noted) (noted_before ask who put_at is))
 
     -- and is of an ask that was put
-    pub given-asked : MayPut asker errand → AreGiven verifications last → AreGiven (verifications ++ noted) (last + 1)
+    pub given-asked : MayPut asker errand → AreGiven verifications last
+        → AreGiven (verifications ++ noted) (last + 1)
     given-asked right given ask one is = elim (split ask one right is) [
       | inl was ↦ omega (arith, given ask one was)
       | inr new_one ↦ omega (arith, new_one.0)

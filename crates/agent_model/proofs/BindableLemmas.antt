@@ -23,22 +23,32 @@ use Rattle.agent_model.proofs.RoomLemmas.{RoomFor, free, full, no_ask, no_job, r
 
 -- what comes of a request to bind, and why
 pub data Comes (bind : BindRequest) (asker : Asker) (held : KeyState) (under_way : UnderWay) : Work → Type 0 where
-  refused : (cause : Cause) → IsBindRefusedFor cause bind asker held under_way → Comes bind asker held under_way (settles (Refuses cause) under_way)
-  put : (bindable : IsBindable bind asker held) → HasRoom under_way → Comes bind asker held under_way (put_unless None (Verifies bind bindable.is_new) asker.port under_way)
+  refused : (cause : Cause) → IsBindRefusedFor cause bind asker held under_way
+      → Comes bind asker held under_way (settles (Refuses cause) under_way)
+  put : (bindable : IsBindable bind asker held) → HasRoom under_way
+      → Comes bind asker held under_way (put_unless None (Verifies bind bindable.is_new) asker.port under_way)
 
 module _ (bind : BindRequest) (asker : Asker) (held : KeyState) (under_way : UnderWay) where
-  comes-put : {fault : Option Cause} (bindable : IsBindable bind asker held) → RoomFor under_way fault → Comes bind asker held under_way (put_unless fault (Verifies bind bindable.is_new) asker.port under_way)
+  comes-put : {fault : Option Cause} (bindable : IsBindable bind asker held)
+      → RoomFor under_way fault
+      → Comes bind asker held under_way (put_unless fault (Verifies bind bindable.is_new) asker.port under_way)
   comes-put bindable (free room) = put bindable room
   comes-put bindable (full more) = refused TooManyAsks (bindable, more)
   comes-put bindable (no_ask few spent) = refused AsksSpent (bindable, few, spent)
-  comes-put bindable (no_job few numbers none spent) = refused JobsSpent (bindable, few, numbers, none, spent)
+  comes-put bindable (no_job few numbers none spent) =
+      refused JobsSpent (bindable, few, numbers, none, spent)
 
-  comes-judged : (judgement : Judgement) → held.lock ≡ None → judge bind.host_key bind.session asker.chain ≡ judgement → Comes bind asker held under_way (bind_by judgement asker bind under_way)
+  comes-judged : (judgement : Judgement) → held.lock ≡ None
+      → judge bind.host_key bind.session asker.chain ≡ judgement
+      → Comes bind asker held under_way (bind_by judgement asker bind under_way)
   comes-judged (Refuse fault) unlocked is = refused (BindRefused fault) (unlocked, is)
-  comes-judged Same unlocked is = comes-put record { unlocked = unlocked; is_new = false; stands = is } (room-of under_way)
-  comes-judged New unlocked is = comes-put record { unlocked = unlocked; is_new = true; stands = is } (room-of under_way)
+  comes-judged Same unlocked is =
+      comes-put record { unlocked = unlocked; is_new = false; stands = is } (room-of under_way)
+  comes-judged New unlocked is =
+      comes-put record { unlocked = unlocked; is_new = true; stands = is } (room-of under_way)
 
-  comes-lock : (lock : Option (List ℕ)) → held.lock ≡ lock → Comes bind asker held under_way (serve_by lock (Bind bind) asker held under_way).work
+  comes-lock : (lock : Option (List ℕ)) → held.lock ≡ lock
+      → Comes bind asker held under_way (serve_by lock (Bind bind) asker held under_way).work
   comes-lock None is = comes-judged (judge bind.host_key bind.session asker.chain) is refl
   comes-lock (Some passphrase) is = refused Locked (subst IsSome (sym is) refl)
 
@@ -48,22 +58,29 @@ module _ (bind : BindRequest) (asker : Asker) (held : KeyState) (under_way : Und
 
   -- ---- the other way round
 
-  by_cause : {work : Work} (cause : Cause) → Comes bind asker held under_way work → work.verdict ≡ Refuses cause → IsBindRefusedFor cause bind asker held under_way
+  by_cause : {work : Work} (cause : Cause) → Comes bind asker held under_way work
+      → work.verdict ≡ Refuses cause → IsBindRefusedFor cause bind asker held under_way
   by_cause cause (refused other why) is =
       let same : other ≡ cause = cc in
       subst (λ c. IsBindRefusedFor c bind asker held under_way) same why
   by_cause cause (put bindable room) is = absurd (cc)
 
-  by_put : {work : Work} (ask : ℕ) → Comes bind asker held under_way work → work.verdict ≡ Awaits (OnAsk ask) → IsBindable bind asker held × HasRoom under_way × (ask ≡ under_way.link.last + 1)
+  by_put : {work : Work} (ask : ℕ) → Comes bind asker held under_way work
+      → work.verdict ≡ Awaits (OnAsk ask)
+      → IsBindable bind asker held × HasRoom under_way × (ask ≡ under_way.link.last + 1)
   by_put ask (refused cause why) is = absurd (cc)
-  by_put ask (put bindable room) is = let same : under_way.link.last + 1 ≡ ask = cc in (bindable, room, sym same)
+  by_put ask (put bindable room) is =
+      let same : under_way.link.last + 1 ≡ ask = cc in (bindable, room, sym same)
 
   -- what is judged counts
-  judged-work : (is_new : Bool) → bind_by (judged is_new) asker bind under_way ≡ put_unless (ask_fault under_way) (Verifies bind is_new) asker.port under_way
+  judged-work : (is_new : Bool)
+      → bind_by (judged is_new) asker bind under_way ≡ put_unless (ask_fault under_way) (Verifies bind is_new) asker.port under_way
   judged-work true = refl
   judged-work false = refl
 
-  bindable-put : (fault : Option Cause) (bindable : IsBindable bind asker held) → ask_fault under_way ≡ fault → (serve (Ok (Bind bind)) asker held under_way).work ≡ put_unless fault (Verifies bind bindable.is_new) asker.port under_way
+  bindable-put : (fault : Option Cause) (bindable : IsBindable bind asker held)
+      → ask_fault under_way ≡ fault
+      → (serve (Ok (Bind bind)) asker held under_way).work ≡ put_unless fault (Verifies bind bindable.is_new) asker.port under_way
   bindable-put fault bindable is =
       ap (λ lock. (serve_by lock (Bind bind) asker held under_way).work) bindable.unlocked
       ∙ ap (λ judgement. bind_by judgement asker bind under_way) bindable.stands
@@ -71,15 +88,19 @@ module _ (bind : BindRequest) (asker : Asker) (held : KeyState) (under_way : Und
       ∙ ap (λ f. put_unless f (Verifies bind bindable.is_new) asker.port under_way) is
 
   -- what may be put is
-  pub put-bindable : (bindable : IsBindable bind asker held) → HasRoom under_way → (serve (Ok (Bind bind)) asker held under_way).work ≡ put_unless None (Verifies bind bindable.is_new) asker.port under_way
+  pub put-bindable : (bindable : IsBindable bind asker held) → HasRoom under_way
+      → (serve (Ok (Bind bind)) asker held under_way).work ≡ put_unless None (Verifies bind bindable.is_new) asker.port under_way
   put-bindable bindable room = bindable-put None bindable (room-free under_way room)
 
-  because : (cause : Cause) → IsBindRefusedFor cause bind asker held under_way → (serve (Ok (Bind bind)) asker held under_way).work.verdict ≡ Refuses cause
+  because : (cause : Cause) → IsBindRefusedFor cause bind asker held under_way
+      → (serve (Ok (Bind bind)) asker held under_way).work.verdict ≡ Refuses cause
   because Locked why = by_lock held.lock refl why
     where
-      by_lock : (lock : Option (List ℕ)) → held.lock ≡ lock → IsSome held.lock → (serve_by held.lock (Bind bind) asker held under_way).work.verdict ≡ Refuses Locked
+      by_lock : (lock : Option (List ℕ)) → held.lock ≡ lock → IsSome held.lock
+          → (serve_by held.lock (Bind bind) asker held under_way).work.verdict ≡ Refuses Locked
       by_lock None is some = absurd (cc)
-      by_lock (Some passphrase) is some = ap (λ l. (serve_by l (Bind bind) asker held under_way).work.verdict) is
+      by_lock (Some passphrase) is some =
+          ap (λ l. (serve_by l (Bind bind) asker held under_way).work.verdict) is
   because (BindRefused fault) why =
       ap (λ lock. (serve_by lock (Bind bind) asker held under_way).work.verdict) why.0
       ∙ ap (λ judgement. (bind_by judgement asker bind under_way).verdict) why.1
@@ -101,7 +122,8 @@ bind_put-exactly ask bind asker held under_way = (
 
 -- ---- the host key
 
-malformed-by : (fault : KeyFault) (lock : Option (List ℕ)) → unread (key_fault fault) lock ≡ Malformed (key_fault fault)
+malformed-by : (fault : KeyFault) (lock : Option (List ℕ))
+    → unread (key_fault fault) lock ≡ Malformed (key_fault fault)
 malformed-by of_key.Short lock = refl
 malformed-by of_key.UnknownType lock = refl
 malformed-by of_key.BadLength lock = refl
@@ -110,12 +132,16 @@ malformed-by of_key.Trailing lock = refl
 malformed-by of_key.Memory lock = refl
 
 -- one that doesn't read makes the request malformed, locked or not
-pub unreadable-malformed : (body : List ℕ) (bind : BindRequest) (fault : KeyFault) (asker : Asker) (held : KeyState) (under_way : UnderWay) → request_of body ≡ Ok (Bind bind) → public_key_of bind.host_key ≡ Err fault → (serve (agent_request_of body) asker held under_way).work.verdict ≡ Refuses (Malformed (key_fault fault))
+pub unreadable-malformed : (body : List ℕ) (bind : BindRequest) (fault : KeyFault) (asker : Asker) (held : KeyState) (under_way : UnderWay)
+    → request_of body ≡ Ok (Bind bind) → public_key_of bind.host_key ≡ Err fault
+    → (serve (agent_request_of body) asker held under_way).work.verdict ≡ Refuses (Malformed (key_fault fault))
 unreadable-malformed body bind fault asker held under_way read is =
     ap (λ r. (serve (and_host_key r) asker held under_way).work.verdict) read
     ∙ ap (λ k. (serve (bind_with bind k) asker held under_way).work.verdict) is
     ∙ ap Refuses (malformed-by fault held.lock)
 
 -- and with one that reads it is what it reads as
-pub readable-bind_request : (body : List ℕ) (bind : BindRequest) (key : KeyParts) → request_of body ≡ Ok (Bind bind) → public_key_of bind.host_key ≡ Ok key → agent_request_of body ≡ Ok (Bind bind)
+pub readable-bind_request : (body : List ℕ) (bind : BindRequest) (key : KeyParts)
+    → request_of body ≡ Ok (Bind bind) → public_key_of bind.host_key ≡ Ok key
+    → agent_request_of body ≡ Ok (Bind bind)
 readable-bind_request body bind key read is = ap and_host_key read ∙ ap (bind_with bind) is

@@ -11,7 +11,8 @@ use Rattle.wire_text.specs.Bounds.{longest_body}
 -- a string that is a body's only field is shorter than the body
 pub text-within : (number : ℕ) (body text : List ℕ) → IsText number body text →
     length body ≤ longest_body → length text ≤ longest_body
-text-within number body text is within = omega (arith, ap length is.printed, length-string text, within)
+text-within number body text is within =
+    omega (arith, ap length is.printed, length-string text, within)
 
 -- the private string of an addition is shorter than its body
 pub private-within : (body : List ℕ) (addition : Addition) → IsRequest body (Add addition) →

@@ -48,7 +48,8 @@ taken-append (number ∷ some) more before mid after out rest =
     (out.0, taken-append some more (removed number before) mid after out.1 rest)
 
 -- where those that are kept are the same but for a lesser number, those that aren't are the same
-without-same : (low number : ℕ) (ns kept left : List ℕ) → IsRisingNumbers low ns → number < low + 1 →
+without-same : (low number : ℕ) (ns kept left : List ℕ) → IsRisingNumbers low ns
+    → number < low + 1 →
     ((x : ℕ) → x ≢ number → is_among x left ≡ is_among x kept) → without ns left ≡ without ns kept
 without-same low number [] kept left rising below others = refl
 without-same low number (n ∷ ns) kept left rising below others =
@@ -177,7 +178,8 @@ Closed old outcome = TakenOut outcome.closes (numbers old.ports) (numbers outcom
 closed-confirmer : (at : Option ℕ) (asker : ℕ) (verdict : Verdict) (ports : List Port) →
     TakenOut (confirmer_closes at ports) (numbers ports)
     (numbers (change_port asker (tell verdict) (close_confirmer at ports)))
-closed-confirmer None asker verdict ports = numbers-change_port asker (tell verdict) ports (λ p. refl)
+closed-confirmer None asker verdict ports =
+    numbers-change_port asker (tell verdict) ports (λ p. refl)
 closed-confirmer (Some port) asker verdict ports =
     taken-closing port ports [] _
     (numbers-change_port asker (tell verdict) (remove_port port ports) (λ p. refl))
@@ -203,7 +205,8 @@ closed-quiet : {event : Happening} {old new : State} (quiet : Quiet event old ne
     TakenOut out (numbers new.ports) after → TakenOut (shuts quiet out) (numbers old.ports) after
 closed-quiet {old = old} (alters number f change) out after rest =
     taken-changed number f old.ports out after (mild_of change).number rest
-closed-quiet {old = old} (closes number may) out after rest = taken-closing number old.ports out after rest
+closed-quiet {old = old} (closes number may) out after rest =
+    taken-closing number old.ports out after rest
 closed-quiet (goes_on new goes) out after rest = rest
 closed-quiet {old = old} (names job number new) out after rest =
     taken-changed number unheard old.ports out after (λ p. refl) rest
@@ -234,7 +237,8 @@ closed-makes (grants confirmation port state there opened) =
 -- ---- an event
 
 -- numbers that all stay aren't left out
-without-all : (xs ys : List ℕ) → ((x : ℕ) → is_among x xs ≡ true → is_among x ys ≡ true) → without xs ys ≡ []
+without-all : (xs ys : List ℕ) → ((x : ℕ) → is_among x xs ≡ true → is_among x ys ≡ true)
+    → without xs ys ≡ []
 without-all [] ys stay = refl
 without-all (x ∷ xs) ys stay =
     let here : is_among x ys ≡ true = stay x (grind (arith, nat_tests)) in
@@ -254,7 +258,8 @@ among-above number low high (port ∷ ports) above rising =
 numbers-append : (number : ℕ) (door : Door) (ports : List Port) →
     numbers (ports ++ new_port number door ∷ []) ≡ numbers ports ++ number ∷ []
 numbers-append number door [] = refl
-numbers-append number door (port ∷ ports) = ap (λ xs. port.number ∷ xs) (numbers-append number door ports)
+numbers-append number door (port ∷ ports) =
+    ap (λ xs. port.number ∷ xs) (numbers-append number door ports)
 
 -- what is taken out of numbers is taken out of them with one more behind
 taken-with : (number : ℕ) (out before after : List ℕ) → TakenOut out before after →

@@ -42,35 +42,48 @@ said job a b decided = consent-append job a b decided
 -- ---- confirmations
 
 -- it doesn't matter what was heard of one that ends
-remove-told : (job : ℕ) (piece : List ℕ) (confirmations : List Confirmation) → remove_job job (told job piece confirmations) ≡ remove_job job confirmations
-remove-told job piece confirmations = remove-change (has_key job_of job) (heard_more piece) confirmations (λ c. refl)
+remove-told : (job : ℕ) (piece : List ℕ) (confirmations : List Confirmation)
+    → remove_job job (told job piece confirmations) ≡ remove_job job confirmations
+remove-told job piece confirmations =
+    remove-change (has_key job_of job) (heard_more piece) confirmations (λ c. refl)
 
 module _ (piece : List ℕ) (confirmation : Confirmation) (chain : List Binding) (wall : ℕ) (held : KeyState) (under_way : UnderWay) where
-  unless-alike : (denial : Option Denial) (key : HeldKey) → grant_unless denial key (heard_more piece confirmation) under_way ≡ grant_unless denial key confirmation under_way
+  unless-alike : (denial : Option Denial) (key : HeldKey)
+      → grant_unless denial key (heard_more piece confirmation) under_way ≡ grant_unless denial key confirmation under_way
   unless-alike (Some denial) key = refl
   unless-alike None key = refl
 
-  with-alike : (found : Option HeldKey) → grant_with found chain (heard_more piece confirmation) wall under_way ≡ grant_with found chain confirmation wall under_way
+  with-alike : (found : Option HeldKey)
+      → grant_with found chain (heard_more piece confirmation) wall under_way ≡ grant_with found chain confirmation wall under_way
   with-alike None = refl
-  with-alike (Some key) = unless-alike (denial_under key.rules key.blob chain confirmation.message wall) key
+  with-alike (Some key) =
+      unless-alike (denial_under key.rules key.blob chain confirmation.message wall) key
 
   -- nor what was heard before it is granted
-  granted-alike : (lock : Option (List ℕ)) → grant_by lock held chain (heard_more piece confirmation) wall under_way ≡ grant_by lock held chain confirmation wall under_way
+  granted-alike : (lock : Option (List ℕ))
+      → grant_by lock held chain (heard_more piece confirmation) wall under_way ≡ grant_by lock held chain confirmation wall under_way
   granted-alike (Some passphrase) = refl
   granted-alike None = with-alike (find_number confirmation.addition held.table.identities)
 
 -- ---- the confirmer's port
 
-role-unhelped : (door : Door) (number : ℕ) (under_way : UnderWay) (confirmation : Confirmation) → role_of door number under_way ≡ Confirmer confirmation → is_linked_to number under_way.link.state ≡ false
+role-unhelped : (door : Door) (number : ℕ) (under_way : UnderWay) (confirmation : Confirmation)
+    → role_of door number under_way ≡ Confirmer confirmation
+    → is_linked_to number under_way.link.state ≡ false
 role-unhelped Clients number under_way confirmation is = absurd (cc)
 role-unhelped Children number under_way confirmation is = by_test (is_linked_to number under_way.link.state) refl is
   where
-    by_test : (linked : Bool) → is_linked_to number under_way.link.state ≡ linked → role_by_helper linked number under_way.confirmations ≡ Confirmer confirmation → is_linked_to number under_way.link.state ≡ false
+    by_test : (linked : Bool) → is_linked_to number under_way.link.state ≡ linked
+        → role_by_helper linked number under_way.confirmations ≡ Confirmer confirmation
+        → is_linked_to number under_way.link.state ≡ false
     by_test true at helper = absurd (cc)
     by_test false at other = at
 
 -- bytes there are the confirmer's
-pub handle-confirmer : (number : ℕ) (piece : List ℕ) (port : Port) (confirmation : Confirmation) (state : State) → find_port number state.ports ≡ Some port → role_of port.door port.number state.under_way ≡ Confirmer confirmation → handle (Heard number piece) state ≡ confirmer_heard confirmation piece state
+pub handle-confirmer : (number : ℕ) (piece : List ℕ) (port : Port) (confirmation : Confirmation) (state : State)
+    → find_port number state.ports ≡ Some port
+    → role_of port.door port.number state.under_way ≡ Confirmer confirmation
+    → handle (Heard number piece) state ≡ confirmer_heard confirmation piece state
 handle-confirmer number piece port confirmation state found role =
     ap (λ o. heard_at o piece state) found ∙ ap (λ r. heard_by_role r port piece state) role
 
@@ -94,7 +107,9 @@ module _ (moment : Moment) (state : State) (number : ℕ) (a b : List ℕ) (port
       (attended.askers confirmation.job confirmation (in-found confirmation 0 uw.last_job tied.raised.order (in-by_port port.number uw.confirmations confirmation linked)))
 
   -- its own port is closed with it
-  shut : (f : Port → Port) → ((p : Port) → (f p).number ≡ p.number) → ((p : Port) → (f p).door ≡ p.door) → find_port number (change_port confirmation.asker f (close_confirmer confirmation.port state.ports)) ≡ None
+  shut : (f : Port → Port) → ((p : Port) → (f p).number ≡ p.number)
+      → ((p : Port) → (f p).door ≡ p.door)
+      → find_port number (change_port confirmation.asker f (close_confirmer confirmation.port state.ports)) ≡ None
   shut f keeps doors =
       leads-absent number (close_confirmer confirmation.port state.ports) (changes confirmation.asker f _ keeps doors same)
       (ap (λ at. find_port number (close_confirmer at state.ports)) place ∙ find_port-remove_port number 0 state.last_port state.ports tied.rising)
@@ -132,14 +147,16 @@ module _ (moment : Moment) (state : State) (number : ℕ) (a b : List ℕ) (port
       ap (λ u. let o : Outcome = record (over confirmation state) { state = record (over confirmation state).state { under_way = u } } in o) left_same
 
   -- by what is said then, the rest brings what the whole brings
-  rest_alike : (says : Consent) → consent_by says confirmation (a ++ b) state ≡ consent_by says (heard_more a confirmation) b next
+  rest_alike : (says : Consent)
+      → consent_by says confirmation (a ++ b) state ≡ consent_by says (heard_more a confirmation) b next
   rest_alike NotYet =
       ap (λ confirmations. stay (record state { under_way = record uw { confirmations = confirmations } }))
       (sym (told-told confirmation.job a b uw.confirmations))
   rest_alike Yes = granted ∙ sym granted_next
   rest_alike No = sym over_next
 
-  whole_decided : (says : Consent) → consent confirmation.job (confirmation.heard ++ a) ≡ says → says ≢ NotYet → consent confirmation.job (confirmation.heard ++ (a ++ b)) ≡ says
+  whole_decided : (says : Consent) → consent confirmation.job (confirmation.heard ++ a) ≡ says
+      → says ≢ NotYet → consent confirmation.job (confirmation.heard ++ (a ++ b)) ≡ says
   whole_decided says is other =
       ap (consent confirmation.job) (sym (append_assoc confirmation.heard a b))
       ∙ said confirmation.job (confirmation.heard ++ a) b (λ not_yet. other (sym is ∙ not_yet)) ∙ is
@@ -160,7 +177,11 @@ module _ (moment : Moment) (state : State) (number : ℕ) (a b : List ℕ) (port
       ∙ rest_alike says ∙ sym (handle-confirmer number b port (heard_more a confirmation) next found next_role))
 
 -- two parts of a confirmer's piece are the piece
-pub confirmer_parts_agree : (state : State) (moment : Moment) (number : ℕ) (a b : List ℕ) (port : Port) (confirmation : Confirmation) → GiveTime state.under_way.limits → IsTied (at_moment moment state) → IsAttended (at_moment moment state) → find_port number (at_moment moment state).ports ≡ Some port → role_of port.door port.number (at_moment moment state).under_way ≡ Confirmer confirmation →
+pub confirmer_parts_agree : (state : State) (moment : Moment) (number : ℕ) (a b : List ℕ) (port : Port) (confirmation : Confirmation)
+    → GiveTime state.under_way.limits → IsTied (at_moment moment state)
+    → IsAttended (at_moment moment state)
+    → find_port number (at_moment moment state).ports ≡ Some port
+    → role_of port.door port.number (at_moment moment state).under_way ≡ Confirmer confirmation →
     Agree moment (step state moment (Heard number (a ++ b))) (step state moment (Heard number a))
     (step (step state moment (Heard number a)).state moment (Heard number b))
 confirmer_parts_agree state moment number a b port confirmation time tied attended found role =

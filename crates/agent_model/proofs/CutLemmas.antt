@@ -33,35 +33,46 @@ use Rattle.agent_model.proofs.TimeLemmas.{time_passes-brings}
 
 -- ---- answers
 
--- the same, behind what was done before
+-- an answering behind actions that were done before
 abbrev after_actions : List Action → Answering → Answering
 after_actions earlier answering = record answering { actions = earlier ++ answering.actions }
 
-asker-behind : (earlier actions : List Action) (one : List Action) (answering : Answering) → after_actions earlier (record answering { actions = actions ++ one }) ≡ record answering { actions = (earlier ++ actions) ++ one }
+asker-behind : (earlier actions : List Action) (one : List Action) (answering : Answering)
+    → after_actions earlier (record answering { actions = actions ++ one }) ≡ record answering { actions = (earlier ++ actions) ++ one }
 asker-behind earlier actions one answering = ap (λ all. let a : Answering = record answering { actions = all } in a) (sym (append_assoc earlier actions one))
 
 true-behind : (found : Option Verification) (one : Settled) (earlier : List Action) (before : Answering) → answer_true found one (after_actions earlier before) ≡ after_actions earlier (answer_true found one before)
-true-behind None one earlier before = sym (asker-behind earlier before.actions _ (answer_true None one before))
-true-behind (Some verification) one earlier before = sym (asker-behind earlier before.actions _ (answer_true (Some verification) one before))
+true-behind None one earlier before =
+    sym (asker-behind earlier before.actions _ (answer_true None one before))
+true-behind (Some verification) one earlier before =
+    sym (asker-behind earlier before.actions _ (answer_true (Some verification) one before))
 
-answer-behind : (what : Answer) (one : Settled) (earlier : List Action) (before : Answering) → answer_by what one (after_actions earlier before) ≡ after_actions earlier (answer_by what one before)
-answer-behind (answer.Signed signature) one earlier before = sym (asker-behind earlier before.actions _ (answer_by (answer.Signed signature) one before))
-answer-behind answer.Refused one earlier before = sym (asker-behind earlier before.actions _ (answer_by answer.Refused one before))
-answer-behind answer.True one earlier before = true-behind (find_verification one.ask before.verifications) one earlier before
-answer-behind answer.False one earlier before = sym (asker-behind earlier before.actions _ (answer_by answer.False one before))
+answer-behind : (what : Answer) (one : Settled) (earlier : List Action) (before : Answering)
+    → answer_by what one (after_actions earlier before) ≡ after_actions earlier (answer_by what one before)
+answer-behind (answer.Signed signature) one earlier before =
+    sym (asker-behind earlier before.actions _ (answer_by (answer.Signed signature) one before))
+answer-behind answer.Refused one earlier before =
+    sym (asker-behind earlier before.actions _ (answer_by answer.Refused one before))
+answer-behind answer.True one earlier before =
+    true-behind (find_verification one.ask before.verifications) one earlier before
+answer-behind answer.False one earlier before =
+    sym (asker-behind earlier before.actions _ (answer_by answer.False one before))
 
-all-behind : (settled : List Settled) (earlier : List Action) (before : Answering) → answer_all settled (after_actions earlier before) ≡ after_actions earlier (answer_all settled before)
+all-behind : (settled : List Settled) (earlier : List Action) (before : Answering)
+    → answer_all settled (after_actions earlier before) ≡ after_actions earlier (answer_all settled before)
 all-behind [] earlier before = refl
 all-behind (one ∷ later) earlier before =
     ap (answer_all later) (answer-behind one.answer one earlier before) ∙ all-behind later earlier (answer_by one.answer one before)
 
-all-append : (some more : List Settled) (before : Answering) → answer_all (some ++ more) before ≡ answer_all more (answer_all some before)
+all-append : (some more : List Settled) (before : Answering)
+    → answer_all (some ++ more) before ≡ answer_all more (answer_all some before)
 all-append [] more before = refl
 all-append (one ∷ some) more before = all-append some more (answer_by one.answer one before)
 
 -- what is answered at once is what is answered in turn
 abbrev fresh : State → Answering
-fresh state = record { ports = state.ports; verifications = state.under_way.verifications; actions = [] }
+fresh state =
+    record { ports = state.ports; verifications = state.under_way.verifications; actions = [] }
 
 in_turn : (some more : List Settled) (state : State) → answers_in (some ++ more) state ≡
     (let first : Answering = answers_in some state in
@@ -73,7 +84,9 @@ in_turn some more state =
     ∙ all-behind more first.actions (record first { actions = [] })
 
 -- an open port stays open, with its door
-stays_open : (number : ℕ) (settled : List Settled) (before : Answering) (port : Port) → find_port number before.ports ≡ Some port → (after : Port) × (find_port number (answer_all settled before).ports ≡ Some after) × (after.door ≡ port.door)
+stays_open : (number : ℕ) (settled : List Settled) (before : Answering) (port : Port)
+    → find_port number before.ports ≡ Some port
+    → (after : Port) × (find_port number (answer_all settled before).ports ≡ Some after) × (after.door ≡ port.door)
 stays_open number [] before port found = (port, found, refl)
 stays_open number (one ∷ later) before port found = elim (cases_eq number one.asker) [
   | inl equal ↦
@@ -92,7 +105,10 @@ stays_open number (one ∷ later) before port found = elim (cases_eq number one.
 -- ---- the helper's port
 
 -- bytes at the helper's port are the helper's
-pub handle-helper : (number : ℕ) (piece : List ℕ) (port : Port) (state : State) → find_port number state.ports ≡ Some port → port.door ≡ Children → state.under_way.link.state ≡ states.Linked number → handle (Heard number piece) state ≡ helper_tells (telling piece state.under_way.link) state
+pub handle-helper : (number : ℕ) (piece : List ℕ) (port : Port) (state : State)
+    → find_port number state.ports ≡ Some port → port.door ≡ Children
+    → state.under_way.link.state ≡ states.Linked number
+    → handle (Heard number piece) state ≡ helper_tells (telling piece state.under_way.link) state
 handle-helper number piece port state found door linked =
     let numbered : port.number ≡ number = found_number number state.ports port found in
     let here_it_is : (number == number) ≡ true = grind (arith, nat_tests) in
@@ -139,7 +155,10 @@ module _ (moment : Moment) (state : State) (number : ℕ) (a b : List ℕ) (port
       (lost-closed mid number (leads-rising 0 state.last_port state.ports (leads-answers state.ports first_told.settled (fresh state) same) rising) linked)
 
 -- two parts of the helper's piece are the piece
-pub helper_parts_agree : (state : State) (moment : Moment) (number : ℕ) (a b : List ℕ) (port : Port) → GiveTime state.under_way.limits → IsSound (at_moment moment state) → find_port number (at_moment moment state).ports ≡ Some port → port.door ≡ Children → (at_moment moment state).under_way.link.state ≡ states.Linked number →
+pub helper_parts_agree : (state : State) (moment : Moment) (number : ℕ) (a b : List ℕ) (port : Port)
+    → GiveTime state.under_way.limits → IsSound (at_moment moment state)
+    → find_port number (at_moment moment state).ports ≡ Some port → port.door ≡ Children
+    → (at_moment moment state).under_way.link.state ≡ states.Linked number →
     Agree moment (step state moment (Heard number (a ++ b))) (step state moment (Heard number a))
     (step (step state moment (Heard number a)).state moment (Heard number b))
 helper_parts_agree state moment number a b port time sound found door linked =
@@ -160,21 +179,28 @@ helper_parts_agree state moment number a b port time sound found door linked =
 
 -- where the link is still to that port, it is as it was, and no ask has ended
 record IsYet (ask number : ℕ) (old : State) (outcome : Outcome) : Type 0 where
-  pub link : outcome.state.under_way.link.state ≡ states.Linked number → outcome.state.under_way.link ≡ old.under_way.link
-  pub silent : outcome.state.under_way.link.state ≡ states.Linked number → fate_of ask outcome.actions ≡ Unanswered
+  pub link : outcome.state.under_way.link.state ≡ states.Linked number
+      → outcome.state.under_way.link ≡ old.under_way.link
+  pub silent : outcome.state.under_way.link.state ≡ states.Linked number
+      → fate_of ask outcome.actions ≡ Unanswered
 
-still-linked : (ask number : ℕ) (moment : Moment) (state : State) → IsYet ask number (taken_in moment state) (time_passes moment state)
+still-linked : (ask number : ℕ) (moment : Moment) (state : State)
+    → IsYet ask number (taken_in moment state) (time_passes moment state)
 still-linked ask number moment state =
     time_passes-brings (IsYet ask number) moment state (λ s. record { link = λ is. refl; silent = λ is. refl })
     (λ s. record { link = λ is. absurd (cc); silent = λ is. absurd (cc) }) (λ one s there. record { link = λ is. refl; silent = λ is. refl })
     (λ s before later one two. record {
-      link = λ is. two.link is ∙ one.link (ap (λ (l : HelperLink). l.state) (sym (two.link is)) ∙ is);
+      link =
+          λ is. two.link is ∙ one.link (ap (λ (l : HelperLink). l.state) (sym (two.link is)) ∙ is);
       silent = λ is. fate-append ask before.actions later.actions
           ∙ ap (λ fate. or_later fate (fate_of ask later.actions)) (one.silent (ap (λ (l : HelperLink). l.state) (sym (two.link is)) ∙ is)) ∙ two.silent is;
     })
 
 -- what the helper's stream says is what becomes of an ask
-pub stream-fate : (ask number : ℕ) (piece : List ℕ) (port : Port) (state : State) (moment : Moment) → find_port number (at_moment moment state).ports ≡ Some port → port.door ≡ Children → (at_moment moment state).under_way.link.state ≡ states.Linked number → fate_of ask (step state moment (Heard number piece)).actions ≡ or_later (settled_fate ask (telling piece state.under_way.link).settled) (fault_fate (telling piece state.under_way.link).fault)
+pub stream-fate : (ask number : ℕ) (piece : List ℕ) (port : Port) (state : State) (moment : Moment)
+    → find_port number (at_moment moment state).ports ≡ Some port → port.door ≡ Children
+    → (at_moment moment state).under_way.link.state ≡ states.Linked number
+    → fate_of ask (step state moment (Heard number piece)).actions ≡ or_later (settled_fate ask (telling piece state.under_way.link).settled) (fault_fate (telling piece state.under_way.link).fault)
 stream-fate ask number piece port state moment found door linked =
     let opened : State = at_moment moment state in
     let yet = still-linked ask number moment state in
@@ -189,6 +215,7 @@ stream-fate ask number piece port state moment found door linked =
     ∙ ap (or_later (settled_fate ask told.settled)) (by_fault told.fault (with_answers told.link answering opened))
     ∙ ap (λ (l : HelperLink). or_later (settled_fate ask (telling piece l).settled) (fault_fate (telling piece l).fault)) (yet.link linked)
   where
-    by_fault : (fault : Option LinkFault) (left : State) → fate_of ask (lose_if fault left).actions ≡ fault_fate fault
+    by_fault : (fault : Option LinkFault) (left : State)
+        → fate_of ask (lose_if fault left).actions ≡ fault_fate fault
     by_fault None left = refl
     by_fault (Some fault) left = refl

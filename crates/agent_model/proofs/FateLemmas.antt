@@ -24,12 +24,18 @@ use Rattle.agent_model.proofs.TieLemmas.{not_asker, tied-told}
 -- ---- what a client is told
 
 -- what another one is told changes nothing
-pub told-apart : (number at : ℕ) (verdict : Verdict) (f : Port → Port) (ports : List Port) → ((p : Port) → (f p).number ≡ p.number) → number ≢ at → IsTold number verdict ports → IsTold number verdict (change_port at f ports)
+pub told-apart : (number at : ℕ) (verdict : Verdict) (f : Port → Port) (ports : List Port)
+    → ((p : Port) → (f p).number ≡ p.number) → number ≢ at → IsTold number verdict ports
+    → IsTold number verdict (change_port at f ports)
 told-apart number at verdict f ports keeps other told =
     record { port = told.port; found = find_port-apart number at f ports keeps other ∙ told.found; door = told.door; owed = told.owed; waits = told.waits }
 
 -- the client itself is told more
-pub told-here : (number : ℕ) (old new : Verdict) (f : Port → Port) (ports : List Port) → ((p : Port) → (f p).number ≡ p.number) → ((p : Port) → (f p).door ≡ p.door) → ((p : Port) → p.owed ≡ verdict_text old → (f p).owed ≡ verdict_text new) → ((p : Port) → p.waits ≡ verdict_waits old → (f p).waits ≡ verdict_waits new) → IsTold number old ports → IsTold number new (change_port number f ports)
+pub told-here : (number : ℕ) (old new : Verdict) (f : Port → Port) (ports : List Port)
+    → ((p : Port) → (f p).number ≡ p.number) → ((p : Port) → (f p).door ≡ p.door)
+    → ((p : Port) → p.owed ≡ verdict_text old → (f p).owed ≡ verdict_text new)
+    → ((p : Port) → p.waits ≡ verdict_waits old → (f p).waits ≡ verdict_waits new)
+    → IsTold number old ports → IsTold number new (change_port number f ports)
 told-here number old new f ports keeps doors owes waits told = record {
   port = f told.port;
   found = find_port-change_port number f ports keeps ∙ ap (option_map f) told.found;
@@ -40,12 +46,14 @@ told-here number old new f ports keeps doors owes waits told = record {
 
 -- ---- what actions make of an ask
 
-pub or_later-assoc : (one two three : Fate) → or_later one (or_later two three) ≡ or_later (or_later one two) three
+pub or_later-assoc : (one two three : Fate)
+    → or_later one (or_later two three) ≡ or_later (or_later one two) three
 or_later-assoc Unanswered two three = refl
 or_later-assoc (Gets answer) two three = refl
 or_later-assoc Fails two three = refl
 
-pub fate-append : (ask : ℕ) (some more : List Action) → fate_of ask (some ++ more) ≡ or_later (fate_of ask some) (fate_of ask more)
+pub fate-append : (ask : ℕ) (some more : List Action)
+    → fate_of ask (some ++ more) ≡ or_later (fate_of ask some) (fate_of ask more)
 fate-append ask [] more = refl
 fate-append ask (action ∷ some) more =
     ap (or_later (fate_in ask action)) (fate-append ask some more) ∙ or_later-assoc (fate_in ask action) (fate_of ask some) (fate_of ask more)
@@ -69,10 +77,12 @@ pub record AnswersAs (verdict : Verdict) (one : Settled) (before after : Answeri
   pub door : (p : Port) → (change p).door ≡ p.door
   pub owed : (p : Port) → (change p).owed ≡ p.owed ++ verdict_text verdict
   pub waits : (p : Port) → (change p).waits ≡ Nothing
-  pub silent : (ask : ℕ) → (fate_of ask rest ≡ Unanswered) × (times_answered ask rest ≡ 0) × (times_asked ask rest ≡ 0)
+  pub silent : (ask : ℕ)
+      → (fate_of ask rest ≡ Unanswered) × (times_answered ask rest ≡ 0) × (times_asked ask rest ≡ 0)
   pub verifications : after.verifications ≡ remove_verification one.ask before.verifications
 
-as_told : (verdict : Verdict) (one : Settled) (before : Answering) → verdict_waits verdict ≡ Nothing → AnswersAs verdict one before (answer_asker verdict one before)
+as_told : (verdict : Verdict) (one : Settled) (before : Answering) → verdict_waits verdict ≡ Nothing
+    → AnswersAs verdict one before (answer_asker verdict one before)
 as_told verdict one before nothing = record {
   change = tell verdict;
   rest = [];
@@ -86,7 +96,8 @@ as_told verdict one before nothing = record {
   verifications = refl;
 }
 
-as_true : (found : Option Verification) (one : Settled) (before : Answering) → AnswersAs (Replies Success) one before (answer_true found one before)
+as_true : (found : Option Verification) (one : Settled) (before : Answering)
+    → AnswersAs (Replies Success) one before (answer_true found one before)
 as_true None one before = as_told (Replies Success) one before refl
 as_true (Some verification) one before = record {
   change = prove verification;
@@ -101,18 +112,23 @@ as_true (Some verification) one before = record {
   verifications = refl;
 }
   where
-    proved : (found : Option Port) (ask : ℕ) → (fate_of ask (proved_where_open found verification) ≡ Unanswered) × (times_answered ask (proved_where_open found verification) ≡ 0) × (times_asked ask (proved_where_open found verification) ≡ 0)
+    proved : (found : Option Port) (ask : ℕ)
+        → (fate_of ask (proved_where_open found verification) ≡ Unanswered) × (times_answered ask (proved_where_open found verification) ≡ 0) × (times_asked ask (proved_where_open found verification) ≡ 0)
     proved None ask = (refl, refl, refl)
     proved (Some port) ask = (refl, refl, refl)
 
-pub answers_as : (what : Answer) (one : Settled) (before : Answering) → AnswersAs (answer_verdict what) one before (answer_by what one before)
-answers_as (answer.Signed signature) one before = as_told (Replies (Signature signature)) one before refl
+pub answers_as : (what : Answer) (one : Settled) (before : Answering)
+    → AnswersAs (answer_verdict what) one before (answer_by what one before)
+answers_as (answer.Signed signature) one before =
+    as_told (Replies (Signature signature)) one before refl
 answers_as answer.Refused one before = as_told (Refuses HelperRefused) one before refl
-answers_as answer.True one before = as_true (find_verification one.ask before.verifications) one before
+answers_as answer.True one before =
+    as_true (find_verification one.ask before.verifications) one before
 answers_as answer.False one before = as_told (Refuses SignatureWrong) one before refl
 
 -- what is done at it for an ask
-pub answer-fate : (ask : ℕ) (one : Settled) (before : Answering) → fate_of ask (answer_by one.answer one before).actions ≡ or_later (fate_of ask before.actions) (if one.ask == ask then Gets one.answer else Unanswered)
+pub answer-fate : (ask : ℕ) (one : Settled) (before : Answering)
+    → fate_of ask (answer_by one.answer one before).actions ≡ or_later (fate_of ask before.actions) (if one.ask == ask then Gets one.answer else Unanswered)
 answer-fate ask one before =
     let told_as = answers_as one.answer one before in
     ap (fate_of ask) told_as.actions ∙ fate-append ask before.actions (Answered one ∷ told_as.rest)
@@ -125,7 +141,8 @@ answer-fate ask one before =
     ends Fails = refl
 
 -- the first answer of several counts
-pub settled-fates : (ask : ℕ) (settled : List Settled) (before : Answering) → fate_of ask (answer_all settled before).actions ≡ or_later (fate_of ask before.actions) (settled_fate ask settled)
+pub settled-fates : (ask : ℕ) (settled : List Settled) (before : Answering)
+    → fate_of ask (answer_all settled before).actions ≡ or_later (fate_of ask before.actions) (settled_fate ask settled)
 settled-fates ask [] before = ends (fate_of ask before.actions)
   where
     ends : (fate : Fate) → fate ≡ or_later fate Unanswered
@@ -138,7 +155,8 @@ settled-fates ask (one ∷ later) before =
     ∙ sym (or_later-assoc (fate_of ask before.actions) (if one.ask == ask then Gets one.answer else Unanswered) (settled_fate ask later))
     ∙ ap (or_later (fate_of ask before.actions)) (by_test (one.ask == ask))
   where
-    by_test : (equal : Bool) → or_later (if equal then Gets one.answer else Unanswered) (settled_fate ask later) ≡ (if equal then Gets one.answer else settled_fate ask later)
+    by_test : (equal : Bool)
+        → or_later (if equal then Gets one.answer else Unanswered) (settled_fate ask later) ≡ (if equal then Gets one.answer else settled_fate ask later)
     by_test true = refl
     by_test false = refl
 
@@ -146,21 +164,32 @@ settled-fates ask (one ∷ later) before =
 
 module _ (low last : ℕ) where
   -- what an answer leaves
-  pub one_answer : (one : Settled) (before : Answering) (asks : List Ask) → IsUnanswered one.ask one.asker (kind_answered one.answer) asks → RiseTo low asks last → AreTied before.ports asks → AreTied (answer_by one.answer one before).ports (remove_ask one.ask asks)
+  pub one_answer : (one : Settled) (before : Answering) (asks : List Ask)
+      → IsUnanswered one.ask one.asker (kind_answered one.answer) asks → RiseTo low asks last
+      → AreTied before.ports asks
+      → AreTied (answer_by one.answer one before).ports (remove_ask one.ask asks)
   one_answer one before asks found rise tied =
       let told_as = answers_as one.answer one before in
       subst (λ ports. AreTied ports (remove_ask one.ask asks)) (sym told_as.ports)
       (tied-told before.ports asks tied one.ask one.asker (kind_answered one.answer) told_as.change low last rise found told_as.number (λ p ask is. let no : Nothing ≡ OnAsk ask = sym (told_as.waits p) ∙ is in absurd (cc)))
 
   -- who waits is tied to the asks that are left
-  pub tied-answers : (settled : List Settled) (before : Answering) (asks left : List Ask) → LeadTo settled asks left → RiseTo low asks last → AreTied before.ports asks → AreTied (answer_all settled before).ports left
+  pub tied-answers : (settled : List Settled) (before : Answering) (asks left : List Ask)
+      → LeadTo settled asks left → RiseTo low asks last → AreTied before.ports asks
+      → AreTied (answer_all settled before).ports left
   tied-answers [] before asks left leads rise tied = subst (AreTied before.ports) (sym leads) tied
   tied-answers (one ∷ later) before asks left leads rise tied =
       tied-answers later (answer_by one.answer one before) (remove_ask one.ask asks) left leads.1 (remove_rises one.ask low asks last rise) (one_answer one before asks leads.0 rise tied)
 
   -- who doesn't wait is told nothing, and what came of its ask stays
-  pub told-answers : (number ask : ℕ) (verdict : Verdict) (fate : Fate) → verdict_waits verdict ≡ Nothing → ((later : Fate) → or_later fate later ≡ fate) → (settled : List Settled) (before : Answering) (asks left : List Ask) → LeadTo settled asks left → RiseTo low asks last → AreTied before.ports asks → fate_of ask before.actions ≡ fate → IsTold number verdict before.ports → (fate_of ask (answer_all settled before).actions ≡ fate) × IsTold number verdict (answer_all settled before).ports
-  told-answers number ask verdict fate nothing stays [] before asks left leads rise tied is told = (is, told)
+  pub told-answers : (number ask : ℕ) (verdict : Verdict) (fate : Fate)
+      → verdict_waits verdict ≡ Nothing → ((later : Fate) → or_later fate later ≡ fate)
+      → (settled : List Settled) (before : Answering) (asks left : List Ask)
+      → LeadTo settled asks left → RiseTo low asks last → AreTied before.ports asks
+      → fate_of ask before.actions ≡ fate → IsTold number verdict before.ports
+      → (fate_of ask (answer_all settled before).actions ≡ fate) × IsTold number verdict (answer_all settled before).ports
+  told-answers number ask verdict fate nothing stays [] before asks left leads rise tied is told =
+      (is, told)
   told-answers number ask verdict fate nothing stays (one ∷ later) before asks left leads rise tied is told =
       let told_as = answers_as one.answer one before in
       let other : number ≢ one.asker = not_asker before.ports asks tied number one.ask _ verdict leads.0.found told (λ waits. let no : Nothing ≡ OnAsk one.ask = sym nothing ∙ waits in absurd (cc)) in
@@ -169,8 +198,12 @@ module _ (low last : ℕ) where
       (subst (IsTold number verdict) (sym told_as.ports) (told-apart number one.asker verdict told_as.change before.ports told_as.number other told))
 
   -- who waits for an ask is told the first answer to it
-  pub fate-answers : (number ask : ℕ) (settled : List Settled) (before : Answering) (asks left : List Ask) → LeadTo settled asks left → RiseTo low asks last → AreTied before.ports asks → fate_of ask before.actions ≡ Unanswered → IsTold number (Awaits (OnAsk ask)) before.ports → IsTold number (fate_verdict (fate_of ask (answer_all settled before).actions) ask) (answer_all settled before).ports
-  fate-answers number ask [] before asks left leads rise tied is told = subst (λ f. IsTold number (fate_verdict f ask) before.ports) (sym is) told
+  pub fate-answers : (number ask : ℕ) (settled : List Settled) (before : Answering) (asks left : List Ask)
+      → LeadTo settled asks left → RiseTo low asks last → AreTied before.ports asks
+      → fate_of ask before.actions ≡ Unanswered → IsTold number (Awaits (OnAsk ask)) before.ports
+      → IsTold number (fate_verdict (fate_of ask (answer_all settled before).actions) ask) (answer_all settled before).ports
+  fate-answers number ask [] before asks left leads rise tied is told =
+      subst (λ f. IsTold number (fate_verdict f ask) before.ports) (sym is) told
   fate-answers number ask (one ∷ later) before asks left leads rise tied is told = elim (cases_eq one.ask ask) [
     | inl same ↦
         (let waiting = tied.waits number ask told.port told.found told.waits in
@@ -202,23 +235,30 @@ module _ (low last : ℕ) where
 
 -- ---- the loss of the helper
 
-first_ask : (one : Ask) (asks : List Ask) → (find_ask one.number (one ∷ asks) ≡ Some one) × (remove_ask one.number (one ∷ asks) ≡ asks)
+first_ask : (one : Ask) (asks : List Ask)
+    → (find_ask one.number (one ∷ asks) ≡ Some one) × (remove_ask one.number (one ∷ asks) ≡ asks)
 first_ask one asks = (grind (arith, nat_tests), grind (arith, nat_tests))
 
 -- one ask less
-pub one_lost : (low last : ℕ) (one : Ask) (asks : List Ask) (ports : List Port) → RiseTo low (one ∷ asks) last → AreTied ports (one ∷ asks) → AreTied (change_port one.asker (tell (Refuses HelperLost)) ports) asks
+pub one_lost : (low last : ℕ) (one : Ask) (asks : List Ask) (ports : List Port)
+    → RiseTo low (one ∷ asks) last → AreTied ports (one ∷ asks)
+    → AreTied (change_port one.asker (tell (Refuses HelperLost)) ports) asks
 one_lost low last one asks ports rise tied =
     subst (AreTied (change_port one.asker (tell (Refuses HelperLost)) ports)) (first_ask one asks).1
     (tied-told ports (one ∷ asks) tied one.number one.asker one.kind (tell (Refuses HelperLost)) low last rise record { put_at = one.put_at; found = (first_ask one asks).0 } (λ p. refl) (λ p ask is. absurd (cc)))
 
 -- nobody waits any more
-pub tied-lost : (low last : ℕ) (asks : List Ask) (ports : List Port) → RiseTo low asks last → AreTied ports asks → AreTied (tell_each (Refuses HelperLost) (askers asks) ports) []
+pub tied-lost : (low last : ℕ) (asks : List Ask) (ports : List Port) → RiseTo low asks last
+    → AreTied ports asks → AreTied (tell_each (Refuses HelperLost) (askers asks) ports) []
 tied-lost low last [] ports rise tied = tied
 tied-lost low last (one ∷ asks) ports rise tied =
     tied-lost one.number last asks (change_port one.asker (tell (Refuses HelperLost)) ports) rise.1 (one_lost low last one asks ports rise tied)
 
 -- who doesn't wait is told nothing
-pub told-lost : (number low last : ℕ) (verdict : Verdict) (asks : List Ask) (ports : List Port) → verdict_waits verdict ≡ Nothing → RiseTo low asks last → AreTied ports asks → IsTold number verdict ports → IsTold number verdict (tell_each (Refuses HelperLost) (askers asks) ports)
+pub told-lost : (number low last : ℕ) (verdict : Verdict) (asks : List Ask) (ports : List Port)
+    → verdict_waits verdict ≡ Nothing → RiseTo low asks last → AreTied ports asks
+    → IsTold number verdict ports
+    → IsTold number verdict (tell_each (Refuses HelperLost) (askers asks) ports)
 told-lost number low last verdict [] ports nothing rise tied told = told
 told-lost number low last verdict (one ∷ asks) ports nothing rise tied told =
     told-lost number one.number last verdict asks _ nothing rise.1 (one_lost low last one asks ports rise tied)
@@ -226,7 +266,9 @@ told-lost number low last verdict (one ∷ asks) ports nothing rise tied told =
     (not_asker ports (one ∷ asks) tied number one.number one verdict (first_ask one asks).0 told (λ waits. let no : Nothing ≡ OnAsk one.number = sym nothing ∙ waits in absurd (cc))) told)
 
 -- who waits is told so once
-pub waits-lost : (number ask low last : ℕ) (asks : List Ask) (ports : List Port) → RiseTo low asks last → AreTied ports asks → IsTold number (Awaits (OnAsk ask)) ports → IsTold number (Refuses HelperLost) (tell_each (Refuses HelperLost) (askers asks) ports)
+pub waits-lost : (number ask low last : ℕ) (asks : List Ask) (ports : List Port)
+    → RiseTo low asks last → AreTied ports asks → IsTold number (Awaits (OnAsk ask)) ports
+    → IsTold number (Refuses HelperLost) (tell_each (Refuses HelperLost) (askers asks) ports)
 waits-lost number ask low last [] ports rise tied told =
     let waiting = tied.waits number ask told.port told.found told.waits in
     let no : None ≡ Some (ask_of ask number waiting.kind waiting.put_at) = waiting.unanswered in

@@ -28,12 +28,17 @@ abbrev Ends : State → Outcome → Type 0
 Ends old outcome = IsTied old → Fated Tick old outcome × Stays old outcome
 
 -- what is told of an ask by one thing and then by another
-told_both : (number ask : ℕ) (first later : Outcome) → IsTold number (fate_verdict (fate_of ask first.actions) ask) first.state.ports → (IsTold number (Awaits (OnAsk ask)) first.state.ports → IsTold number (fate_verdict (fate_of ask later.actions) ask) later.state.ports) → ((verdict : Verdict) → HasHeard verdict → IsTold number verdict first.state.ports → IsTold number verdict later.state.ports) → IsTold number (fate_verdict (fate_of ask (first.actions ++ later.actions)) ask) later.state.ports
+told_both : (number ask : ℕ) (first later : Outcome)
+    → IsTold number (fate_verdict (fate_of ask first.actions) ask) first.state.ports
+    → (IsTold number (Awaits (OnAsk ask)) first.state.ports → IsTold number (fate_verdict (fate_of ask later.actions) ask) later.state.ports)
+    → ((verdict : Verdict) → HasHeard verdict → IsTold number verdict first.state.ports → IsTold number verdict later.state.ports)
+    → IsTold number (fate_verdict (fate_of ask (first.actions ++ later.actions)) ask) later.state.ports
 told_both number ask first later told more stay =
     subst (λ f. IsTold number (fate_verdict f ask) later.state.ports) (sym (fate-append ask first.actions later.actions))
     (by_fate (fate_of ask first.actions) told)
   where
-    by_fate : (fate : Fate) → IsTold number (fate_verdict fate ask) first.state.ports → IsTold number (fate_verdict (or_later fate (fate_of ask later.actions)) ask) later.state.ports
+    by_fate : (fate : Fate) → IsTold number (fate_verdict fate ask) first.state.ports
+        → IsTold number (fate_verdict (or_later fate (fate_of ask later.actions)) ask) later.state.ports
     by_fate Unanswered waits = more waits
     by_fate (Gets answer) has = stay (answer_verdict answer) (heard-answer answer) has
     by_fate Fails has = stay (Refuses HelperLost) (heard-refused HelperLost) has
@@ -43,7 +48,8 @@ ends_makes makes tied =
     (fated-makes makes tied, λ number verdict heard told. still-makes number verdict heard makes (λ is. absurd (cc)) (λ count is. absurd (cc)) tied told)
 
 -- what a moment brings
-pub time-fated : (moment : Moment) (state : State) → IsTied state → Fated Tick state (time_passes moment state) × Stays state (time_passes moment state)
+pub time-fated : (moment : Moment) (state : State) → IsTied state
+    → Fated Tick state (time_passes moment state) × Stays state (time_passes moment state)
 time-fated moment state tied =
     let ends = time_passes-makes Ends Tick moment state (λ s outcome makes. ends_makes makes)
     (λ s before later first rest at.
@@ -65,16 +71,22 @@ tied-opened moment state tied = (time-fated moment state tied).0.tied
 -- owed; and it goes on waiting where they make nothing of it
 pub record StepsFated (event : Happening) (old : State) (outcome : Outcome) : Type 0 where
   pub tied : IsTied outcome.state
-  pub told : (number ask : ℕ) → event ≢ Ended number → ((count : ℕ) → event ≢ Took number count) → IsTold number (Awaits (OnAsk ask)) old.ports → IsTold number (fate_verdict (fate_of ask outcome.actions) ask) outcome.state.ports
-  pub waits : (number ask : ℕ) → event ≢ Ended number → fate_of ask outcome.actions ≡ Unanswered → IsTold number (Awaits (OnAsk ask)) old.ports → IsTold number (Awaits (OnAsk ask)) outcome.state.ports
+  pub told : (number ask : ℕ) → event ≢ Ended number → ((count : ℕ) → event ≢ Took number count)
+      → IsTold number (Awaits (OnAsk ask)) old.ports
+      → IsTold number (fate_verdict (fate_of ask outcome.actions) ask) outcome.state.ports
+  pub waits : (number ask : ℕ) → event ≢ Ended number → fate_of ask outcome.actions ≡ Unanswered
+      → IsTold number (Awaits (OnAsk ask)) old.ports
+      → IsTold number (Awaits (OnAsk ask)) outcome.state.ports
 
-both_unanswered : (one two : Fate) → or_later one two ≡ Unanswered → (one ≡ Unanswered) × (two ≡ Unanswered)
+both_unanswered : (one two : Fate) → or_later one two ≡ Unanswered
+    → (one ≡ Unanswered) × (two ≡ Unanswered)
 both_unanswered Unanswered two is = (refl, is)
 both_unanswered (Gets answer) two is = absurd (cc)
 both_unanswered Fails two is = absurd (cc)
 
 -- each event
-pub step-fated : (state : State) (moment : Moment) (event : Happening) → IsTied state → StepsFated event state (step state moment event)
+pub step-fated : (state : State) (moment : Moment) (event : Happening) → IsTied state
+    → StepsFated event state (step state moment event)
 step-fated state moment event tied = record {
   tied = fated.tied;
   told = λ number ask open_yet untaken waits.
@@ -122,7 +134,10 @@ run-tied state [] tied = tied
 run-tied state (timed ∷ later) tied = run-tied (step state timed.moment timed.event).state later (step-fated state timed.moment timed.event tied).tied
 
 -- until its ask is answered or the helper lost, a client waits
-pub waits-until : (number ask : ℕ) (state : State) (events : List Timed) → IsTied state → NoneEnds number events → fate_of ask (actions_of state events) ≡ Unanswered → IsTold number (Awaits (OnAsk ask)) state.ports → IsTold number (Awaits (OnAsk ask)) (run state events).ports
+pub waits-until : (number ask : ℕ) (state : State) (events : List Timed) → IsTied state
+    → NoneEnds number events → fate_of ask (actions_of state events) ≡ Unanswered
+    → IsTold number (Awaits (OnAsk ask)) state.ports
+    → IsTold number (Awaits (OnAsk ask)) (run state events).ports
 waits-until number ask state [] tied none is told = told
 waits-until number ask state (timed ∷ later) tied none is told =
     let now = step-fated state timed.moment timed.event tied in

@@ -49,17 +49,20 @@ use Rattle.agent_model.proofs.FatedServeLemmas.{Fated, fated-served, linked-begu
 
 module _ (state : State) (tied : IsTied state) where
   -- its port isn't a client's
-  pub tied-close : (link : LinkState) → AreTied (close_helper link state.ports) state.under_way.link.asks
+  pub tied-close : (link : LinkState)
+      → AreTied (close_helper link state.ports) state.under_way.link.asks
   tied-close states.None = tied.tied
   tied-close (states.Starting job) = tied.tied
   tied-close (states.Linked at) = tied-fewer state.ports _ _ (fewer-removed at 0 state.last_port state.ports tied.rising) tied.tied
 
-  raised-close : (link : LinkState) → AreRaised state.under_way.confirmations state.under_way.last_job (close_helper link state.ports) state.last_port
+  raised-close : (link : LinkState)
+      → AreRaised state.under_way.confirmations state.under_way.last_job (close_helper link state.ports) state.last_port
   raised-close states.None = tied.raised
   raised-close (states.Starting job) = tied.raised
   raised-close (states.Linked at) = raised-fewer state.ports _ (fewer-removed at 0 state.last_port state.ports tied.rising) tied.raised
 
-  told-close : (number : ℕ) (verdict : Verdict) → IsTold number verdict state.ports → IsTold number verdict (close_helper state.under_way.link.state state.ports)
+  told-close : (number : ℕ) (verdict : Verdict) → IsTold number verdict state.ports
+      → IsTold number verdict (close_helper state.under_way.link.state state.ports)
   told-close number verdict told =
       told-close_helper number verdict state.under_way.link.state state.ports (λ at port is there. tied.helper at port is there) told
 
@@ -71,7 +74,8 @@ module _ (state : State) (tied : IsTied state) where
       (raised-lost 0 state.under_way.link.last state.under_way.link.asks _ tied.order (tied-close state.under_way.link.state) (raised-close state.under_way.link.state))
 
   -- who was told something already is told nothing more
-  told-loss : (number ask : ℕ) (fate : Fate) → IsTold number (fate_verdict fate ask) state.ports → IsTold number (fate_verdict (or_later fate Fails) ask) (lose state).state.ports
+  told-loss : (number ask : ℕ) (fate : Fate) → IsTold number (fate_verdict fate ask) state.ports
+      → IsTold number (fate_verdict (or_later fate Fails) ask) (lose state).state.ports
   told-loss number ask Unanswered told =
       waits-lost number ask 0 state.under_way.link.last state.under_way.link.asks _ tied.order (tied-close state.under_way.link.state) (told-close number _ told)
   told-loss number ask (Gets answer) told =
@@ -84,7 +88,8 @@ module _ (piece : List ℕ) (state : State) (tied : IsTied state) where
   told = telling piece state.under_way.link
 
   abbrev before : Answering
-  before = record { ports = state.ports; verifications = state.under_way.verifications; actions = [] }
+  before =
+      record { ports = state.ports; verifications = state.under_way.verifications; actions = [] }
 
   abbrev after : Answering
   after = answer_all told.settled before
@@ -95,7 +100,9 @@ module _ (piece : List ℕ) (state : State) (tied : IsTied state) where
   leads : LeadTo told.settled state.under_way.link.asks told.link.asks
   leads = settling_leads (state.under_way.link.heard ++ piece) state.under_way.link.asks
 
-  there : (answered : Bool) (ask : ℕ) (one : Ask) → cond answered None (find_ask ask state.under_way.link.asks) ≡ Some one → one.asker ≤ state.last_port
+  there : (answered : Bool) (ask : ℕ) (one : Ask)
+      → cond answered None (find_ask ask state.under_way.link.asks) ≡ Some one
+      → one.asker ≤ state.last_port
   there true ask one is = absurd (cc)
   there false ask one is = tied.askers ask one is
 
@@ -108,10 +115,12 @@ module _ (piece : List ℕ) (state : State) (tied : IsTied state) where
       (λ n is. is)
       (raised-answers 0 state.under_way.link.last told.settled before state.under_way.link.asks told.link.asks leads tied.order tied.tied tied.raised)
 
-  told_mid : (number ask : ℕ) → IsTold number (Awaits (OnAsk ask)) state.ports → IsTold number (fate_verdict (fate_of ask after.actions) ask) mid.ports
+  told_mid : (number ask : ℕ) → IsTold number (Awaits (OnAsk ask)) state.ports
+      → IsTold number (fate_verdict (fate_of ask after.actions) ask) mid.ports
   told_mid number ask waits = fate-answers 0 state.under_way.link.last number ask told.settled before state.under_way.link.asks told.link.asks leads tied.order tied.tied refl waits
 
-  fated-fault : (event : Happening) (fault : Option LinkFault) → Fated event state (and_then (acted after.actions mid) (lose_if fault))
+  fated-fault : (event : Happening) (fault : Option LinkFault)
+      → Fated event state (and_then (acted after.actions mid) (lose_if fault))
   fated-fault event None = record {
     tied = tied_mid;
     told = λ number ask open_yet waits. subst (λ actions. IsTold number (fate_verdict (fate_of ask actions) ask) mid.ports) (sym (append-nil after.actions)) (told_mid number ask waits);
@@ -121,7 +130,8 @@ module _ (piece : List ℕ) (state : State) (tied : IsTied state) where
     told = λ number ask open_yet waits. subst (λ f. IsTold number (fate_verdict f ask) (lose mid).state.ports) (sym (fate-append ask after.actions (Lost ∷ []))) (told-loss mid tied_mid number ask (fate_of ask after.actions) (told_mid number ask waits));
   }
 
-  fated-tells : (event : Happening) → Fated event state (helper_tells (telling piece state.under_way.link) state)
+  fated-tells : (event : Happening)
+      → Fated event state (helper_tells (telling piece state.under_way.link) state)
   fated-tells event = fated-fault event told.fault
 
 -- ---- a confirmation ends
@@ -147,19 +157,24 @@ module _ (event : Happening) (confirmation : Confirmation) (state : State) (ther
   rest_raised = raised-fewer state.ports rest rest_fewer tied.raised
 
   -- who waits for it
-  waits_for : (port : Port) → find_port confirmation.asker rest ≡ Some port → port.waits ≡ OnConfirmation confirmation.job
-  waits_for port found = rest_raised.asking.asks confirmation.job confirmation port found_there found
+  waits_for : (port : Port) → find_port confirmation.asker rest ≡ Some port
+      → port.waits ≡ OnConfirmation confirmation.job
+  waits_for port found =
+      rest_raised.asking.asks confirmation.job confirmation port found_there found
 
-  waits_on : (port : Port) → find_port confirmation.asker rest ≡ Some port → (ask : ℕ) → port.waits ≢ OnAsk ask
+  waits_on : (port : Port) → find_port confirmation.asker rest ≡ Some port → (ask : ℕ)
+      → port.waits ≢ OnAsk ask
   waits_on port found ask is =
       let no : OnConfirmation confirmation.job ≡ OnAsk ask = sym (waits_for port found) ∙ is in
       absurd (cc)
 
   -- a client's port stays
-  stays_open : (number : ℕ) (port : Port) → port.door ≡ Clients → find_port number state.ports ≡ Some port → find_port number rest ≡ Some port
+  stays_open : (number : ℕ) (port : Port) → port.door ≡ Clients
+      → find_port number state.ports ≡ Some port → find_port number rest ≡ Some port
   stays_open number port door found = by_port confirmation.port refl
     where
-      by_port : (at : Option ℕ) → confirmation.port ≡ at → find_port number (close_confirmer at state.ports) ≡ Some port
+      by_port : (at : Option ℕ) → confirmation.port ≡ at
+          → find_port number (close_confirmer at state.ports) ≡ Some port
       by_port None is = found
       by_port (Some at) is = find_port-removed_apart number at state.ports other ∙ found
         where
@@ -170,7 +185,8 @@ module _ (event : Happening) (confirmation : Confirmation) (state : State) (ther
               absurd (cc)
 
   -- who waits for an ask is told nothing
-  told_still : (number ask : ℕ) (verdict : Verdict) → IsTold number (Awaits (OnAsk ask)) state.ports → IsTold number (Awaits (OnAsk ask)) (change_port confirmation.asker (tell verdict) rest)
+  told_still : (number ask : ℕ) (verdict : Verdict) → IsTold number (Awaits (OnAsk ask)) state.ports
+      → IsTold number (Awaits (OnAsk ask)) (change_port confirmation.asker (tell verdict) rest)
   told_still number ask verdict told =
       let at = told-close_confirmer number (Awaits (OnAsk ask)) confirmation.port state.ports (λ n port is. tied.raised.confirmers confirmation.job n confirmation port found_there is) told in
       told-apart number confirmation.asker (Awaits (OnAsk ask)) (tell verdict) rest (λ p. refl)
@@ -180,14 +196,16 @@ module _ (event : Happening) (confirmation : Confirmation) (state : State) (ther
   abbrev over_left : KeyState → UnderWay → Verdict → State
   over_left held under_way verdict = record state { held = held; ports = change_port confirmation.asker (tell verdict) rest; under_way = under_way }
 
-  follows-over : (held : KeyState) (under_way : UnderWay) (verdict : Verdict) → Follows state (over_left held under_way verdict)
+  follows-over : (held : KeyState) (under_way : UnderWay) (verdict : Verdict)
+      → Follows state (over_left held under_way verdict)
   follows-over held under_way verdict = record {
     last = refl;
     ports = changes confirmation.asker (tell verdict) _ (λ p. refl) (λ p. refl) (leads-close_confirmer state.ports confirmation.port state.ports same);
   }
 
   -- the client waits for nothing any more
-  over_tied : (verdict : Verdict) → verdict_waits verdict ≡ Nothing → IsTied (over_left state.held (without_confirmation confirmation.job uw) verdict)
+  over_tied : (verdict : Verdict) → verdict_waits verdict ≡ Nothing
+      → IsTied (over_left state.held (without_confirmation confirmation.job uw) verdict)
   over_tied verdict nothing =
       assemble state _ (follows-over state.held (without_confirmation confirmation.job uw) verdict) tied tied.order
       (tied-silent rest uw.link.asks rest_tied confirmation.asker (tell verdict) waits_on (λ p. refl) (λ p a is. let no : Nothing ≡ OnAsk a = sym nothing ∙ is in absurd (cc)))
@@ -205,7 +223,9 @@ module _ (event : Happening) (confirmation : Confirmation) (state : State) (ther
     asking : IsAsking confirmation.asker confirmation.job port uw.confirmations
     asking = tied.raised.asking.waits confirmation.asker confirmation.job port opened (tied.raised.asking.asks confirmation.job confirmation port found_there opened)
 
-    fated-grant : {work : Work} → IsGranted port.chain confirmation state.moment.wall state.held (without_confirmation confirmation.job uw) work → Fated event state (grant_concluded work confirmation state)
+    fated-grant : {work : Work}
+        → IsGranted port.chain confirmation state.moment.wall state.held (without_confirmation confirmation.job uw) work
+        → Fated event state (grant_concluded work confirmation state)
     fated-grant (disallowed never) = record {
       tied = over_tied (Refuses NoLongerAllowed) refl;
       told = λ number ask open_yet told. told_still number ask (Refuses NoLongerAllowed) told;
@@ -232,7 +252,8 @@ module _ (event : Happening) (confirmation : Confirmation) (state : State) (ther
 
 -- ---- events
 
-pub fated-makes : {event : Happening} {old : State} {outcome : Outcome} → Makes event old outcome → IsTied old → Fated event old outcome
+pub fated-makes : {event : Happening} {old : State} {outcome : Outcome} → Makes event old outcome
+    → IsTied old → Fated event old outcome
 fated-makes (stays state) tied = record { tied = tied; told = λ number ask open_yet told. told }
 fated-makes (first quiet rest) tied =
     let later = fated-makes rest (tied-quiet quiet tied) in
@@ -243,18 +264,23 @@ fated-makes {event = event} (serves body_len port state found door nothing owed 
     (serve-ends (asker_at state.moment port) state.held state.under_way body)
 fated-makes {event = event} (tells piece state) tied = fated-tells piece state tied event
 fated-makes (loses state) tied = record { tied = lose-tied state tied; told = λ number ask open_yet told. told-loss state tied number ask Unanswered told }
-fated-makes {event = event} (overs confirmation state there) tied = fated-over event confirmation state there tied
+fated-makes {event = event} (overs confirmation state there) tied =
+    fated-over event confirmation state there tied
 fated-makes {event = event} (grants confirmation port state there opened) tied =
     fated-grant event confirmation state there tied port opened (grant-ends port.chain confirmation state)
 
 -- one more port that is there makes no difference to those that are found
-pub found_still : (number : ℕ) (port : Port) (ports more : List Port) → find_port number ports ≡ Some port → find_port number (ports ++ more) ≡ Some port
-found_still number port ports more found = find-before (has_key number_of number) ports more port found
+pub found_still : (number : ℕ) (port : Port) (ports more : List Port)
+    → find_port number ports ≡ Some port → find_port number (ports ++ more) ≡ Some port
+found_still number port ports more found =
+    find-before (has_key number_of number) ports more port found
 
-pub fated-admitted : (event : Happening) (door : Door) (state : State) (room : Bool) → IsTied state → Fated event state (record (stay (record state { ports = admitted room (suc state.last_port) door state.ports; last_port = suc state.last_port })) { closes = turned_away room (suc state.last_port) })
+pub fated-admitted : (event : Happening) (door : Door) (state : State) (room : Bool) → IsTied state
+    → Fated event state (record (stay (record state { ports = admitted room (suc state.last_port) door state.ports; last_port = suc state.last_port })) { closes = turned_away room (suc state.last_port) })
 fated-admitted event door state false tied = record {
   tied = record {
-    rising = rising_higher 0 state.last_port (suc state.last_port) state.ports (omega arith) tied.rising;
+    rising =
+        rising_higher 0 state.last_port (suc state.last_port) state.ports (omega arith) tied.rising;
     order = tied.order;
     tied = tied.tied;
     askers = λ ask one found. omega (arith, tied.askers ask one found);
@@ -280,9 +306,12 @@ fated-admitted event door state true tied = record {
   told = λ number ask open_yet told. record { port = told.port; found = found_still number told.port state.ports _ told.found; door = told.door; owed = told.owed; waits = told.waits };
 }
   where
-    by_port : (number ask : ℕ) (port : Port) → (find_port number state.ports ≡ Some port) ⊎ (port ≡ new_port (suc state.last_port) door) → port.waits ≡ OnAsk ask → IsWaiting number ask port state.under_way.link.asks
+    by_port : (number ask : ℕ) (port : Port)
+        → (find_port number state.ports ≡ Some port) ⊎ (port ≡ new_port (suc state.last_port) door)
+        → port.waits ≡ OnAsk ask → IsWaiting number ask port state.under_way.link.asks
     by_port number ask port (inl was) is = tied.tied.waits number ask port was is
-    by_port number ask port (inr new) is = let waits : Nothing ≡ OnAsk ask = sym (ap (λ (p : Port). p.waits) new) ∙ is in absurd (cc)
+    by_port number ask port (inr new) is =
+        let waits : Nothing ≡ OnAsk ask = sym (ap (λ (p : Port). p.waits) new) ∙ is in absurd (cc)
 
 -- what a moment takes in leaves it tied
 pub tied-taken : (moment : Moment) (state : State) → IsTied state → IsTied (taken_in moment state)

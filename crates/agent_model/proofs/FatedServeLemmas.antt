@@ -35,19 +35,24 @@ use Rattle.agent_model.proofs.TieLemmas.{tied-asked, tied-silent}
 -- the state is tied, and who waited before is told what the actions make of its ask, unless its port ended
 pub record Fated (event : Happening) (old : State) (outcome : Outcome) : Type 0 where
   pub tied : IsTied outcome.state
-  pub told : (number ask : ℕ) → event ≢ Ended number → IsTold number (Awaits (OnAsk ask)) old.ports → IsTold number (fate_verdict (fate_of ask outcome.actions) ask) outcome.state.ports
+  pub told : (number ask : ℕ) → event ≢ Ended number → IsTold number (Awaits (OnAsk ask)) old.ports
+      → IsTold number (fate_verdict (fate_of ask outcome.actions) ask) outcome.state.ports
 
 -- ---- a client that is served
 
 -- a helper is there only where one was
-pub linked-begun : (link : LinkState) (job number : ℕ) → begun_by link job ≡ states.Linked number → link ≡ states.Linked number
+pub linked-begun : (link : LinkState) (job number : ℕ) → begun_by link job ≡ states.Linked number
+    → link ≡ states.Linked number
 linked-begun states.None job number is = absurd (cc)
 linked-begun (states.Starting other) job number is = is
 linked-begun (states.Linked at) job number is = is
 
 -- who is to be answered by the new ask has a port that joined
-pub new_asker : (new : Bool) (pending : Option Ask) (ask : Ask) (one : Ask) (last : ℕ) → ask.asker ≤ last → ((other : Ask) → pending ≡ Some other → other.asker ≤ last) → cond new (Some ask) pending ≡ Some one → one.asker ≤ last
-new_asker true pending ask one last within known is = let new : ask ≡ one = cc in omega (arith, within, ap (λ (o : Ask). o.asker) new)
+pub new_asker : (new : Bool) (pending : Option Ask) (ask : Ask) (one : Ask) (last : ℕ)
+    → ask.asker ≤ last → ((other : Ask) → pending ≡ Some other → other.asker ≤ last)
+    → cond new (Some ask) pending ≡ Some one → one.asker ≤ last
+new_asker true pending ask one last within known is =
+    let new : ask ≡ one = cc in omega (arith, within, ap (λ (o : Ask). o.asker) new)
 new_asker false pending ask one last within known is = known one is
 
 module _ (event : Happening) (body : List ℕ) (take : Port → Port) (mild : IsMild take) (port : Port) (state : State) (found : find_port port.number state.ports ≡ Some port) (door : port.door ≡ Clients) (nothing : port.waits ≡ Nothing) (owed : port.owed ≡ []) (tied : IsTied state) where
@@ -59,29 +64,39 @@ module _ (event : Happening) (body : List ℕ) (take : Port → Port) (mild : Is
   abbrev left : KeyState → UnderWay → Verdict → State
   left held under_way verdict = record state { held = held; under_way = under_way; ports = change_port port.number (tell verdict) (change_port port.number take state.ports) }
 
-  follows-left : (held : KeyState) (under_way : UnderWay) (verdict : Verdict) → Follows state (left held under_way verdict)
+  follows-left : (held : KeyState) (under_way : UnderWay) (verdict : Verdict)
+      → Follows state (left held under_way verdict)
   follows-left held under_way verdict = record {
     last = refl;
     ports = changes port.number (tell verdict) _ (λ p. refl) (λ p. refl) (changes port.number take state.ports mild.number mild.door same);
   }
 
-  twice : (verdict : Verdict) → change_port port.number (λ p. tell verdict (take p)) state.ports ≡ change_port port.number (tell verdict) (change_port port.number take state.ports)
+  twice : (verdict : Verdict)
+      → change_port port.number (λ p. tell verdict (take p)) state.ports ≡ change_port port.number (tell verdict) (change_port port.number take state.ports)
   twice verdict = sym (change_port-twice port.number take (tell verdict) state.ports mild.number)
 
   -- another client goes on waiting
-  others : (held : KeyState) (under_way : UnderWay) (verdict : Verdict) (number ask : ℕ) → IsTold number (Awaits (OnAsk ask)) state.ports → IsTold number (Awaits (OnAsk ask)) (left held under_way verdict).ports
+  others : (held : KeyState) (under_way : UnderWay) (verdict : Verdict) (number ask : ℕ)
+      → IsTold number (Awaits (OnAsk ask)) state.ports
+      → IsTold number (Awaits (OnAsk ask)) (left held under_way verdict).ports
   others held under_way verdict number ask told =
       waits-served number (OnAsk ask) (λ is. absurd (cc)) take verdict port state.ports mild.number found nothing told
 
   -- the client waits for nothing
-  waits_not : (on : ℕ → Waits) → ((n : ℕ) → Nothing ≢ on n) → (p : Port) → find_port port.number state.ports ≡ Some p → (n : ℕ) → p.waits ≢ on n
+  waits_not : (on : ℕ → Waits) → ((n : ℕ) → Nothing ≢ on n) → (p : Port)
+      → find_port port.number state.ports ≡ Some p → (n : ℕ) → p.waits ≢ on n
   waits_not on other p there n is =
       let same_port : Some port ≡ Some p = sym found ∙ there in
       let equal : port ≡ p = cc in
       other n (sym nothing ∙ ap (λ (q : Port). q.waits) equal ∙ is)
 
   -- it waits for no ask
-  silent : (held : KeyState) (under_way : UnderWay) (verdict : Verdict) (actions : List Action) (put : List ToChildMessage) → under_way.link ≡ state.under_way.link → AreRaised under_way.confirmations under_way.last_job (change_port port.number (change verdict) state.ports) state.last_port → ((ask : ℕ) → verdict_waits verdict ≢ OnAsk ask) → ((ask : ℕ) → fate_of ask actions ≡ Unanswered) → Fated event state (record { state = left held under_way verdict; actions = actions; put = put; closes = [] })
+  silent : (held : KeyState) (under_way : UnderWay) (verdict : Verdict) (actions : List Action) (put : List ToChildMessage)
+      → under_way.link ≡ state.under_way.link
+      → AreRaised under_way.confirmations under_way.last_job (change_port port.number (change verdict) state.ports) state.last_port
+      → ((ask : ℕ) → verdict_waits verdict ≢ OnAsk ask)
+      → ((ask : ℕ) → fate_of ask actions ≡ Unanswered)
+      → Fated event state (record { state = left held under_way verdict; actions = actions; put = put; closes = [] })
   silent held under_way verdict actions put link consents waits fates = record {
     tied = assemble state (left held under_way verdict) (follows-left held under_way verdict) tied (rw link tied.order)
         (rw link (subst (λ ports. AreTied ports state.under_way.link.asks) (twice verdict) (tied-silent state.ports state.under_way.link.asks tied.tied port.number (change verdict) (waits_not OnAsk (λ n is. absurd (cc))) mild.number (λ p. waits))))
@@ -91,12 +106,14 @@ module _ (event : Happening) (body : List ℕ) (take : Port → Port) (mild : Is
   }
 
   -- and it doesn't wait for consent
-  quiet : (verdict : Verdict) → ((job : ℕ) → verdict_waits verdict ≢ OnConfirmation job) → AreRaised state.under_way.confirmations state.under_way.last_job (change_port port.number (change verdict) state.ports) state.last_port
+  quiet : (verdict : Verdict) → ((job : ℕ) → verdict_waits verdict ≢ OnConfirmation job)
+      → AreRaised state.under_way.confirmations state.under_way.last_job (change_port port.number (change verdict) state.ports) state.last_port
   quiet verdict waits =
       raised-silent state.ports tied.raised port.number (change verdict) (waits_not OnConfirmation (λ n is. absurd (cc))) mild.number mild.door (λ p. waits)
 
   -- it puts an ask
-  puts : (held : KeyState) (errand : Errand) → Fated event state (record { state = left held (with_ask errand port.number state.under_way) (Awaits (OnAsk (state.under_way.link.last + 1))); actions = Requested (record { port = port.number; body = body; verdict = Awaits (OnAsk (state.under_way.link.last + 1)) }) ∷ Asked (record { ask = state.under_way.link.last + 1; port = port.number; purpose = purpose_of errand }) ∷ []; put = message_of errand (state.under_way.link.last + 1) ∷ []; closes = [] })
+  puts : (held : KeyState) (errand : Errand)
+      → Fated event state (record { state = left held (with_ask errand port.number state.under_way) (Awaits (OnAsk (state.under_way.link.last + 1))); actions = Requested (record { port = port.number; body = body; verdict = Awaits (OnAsk (state.under_way.link.last + 1)) }) ∷ Asked (record { ask = state.under_way.link.last + 1; port = port.number; purpose = purpose_of errand }) ∷ []; put = message_of errand (state.under_way.link.last + 1) ∷ []; closes = [] })
   puts held errand =
       let link = state.under_way.link in
       let verdict : Verdict = Awaits (OnAsk (link.last + 1)) in
@@ -114,7 +131,9 @@ module _ (event : Happening) (body : List ℕ) (take : Port → Port) (mild : Is
       }
 
   -- by what comes of its request
-  pub fated-served : {served : Served} → IsServed (asker_at state.moment port) state.held state.under_way served → Fated event state (concluded port.number body served (changed port.number take state))
+  pub fated-served : {served : Served}
+      → IsServed (asker_at state.moment port) state.held state.under_way served
+      → Fated event state (concluded port.number body served (changed port.number take state))
   fated-served (answered reply kept keeps) = silent kept state.under_way (Replies reply) _ _ refl (quiet (Replies reply) (λ job is. absurd (cc))) (λ ask is. absurd (cc)) (λ ask. refl)
   fated-served (refused cause) = silent state.held state.under_way (Refuses cause) _ _ refl (quiet (Refuses cause) (λ job is. absurd (cc))) (λ ask is. absurd (cc)) (λ ask. refl)
   fated-served (asked errand free right) = puts (after_use (addition_of errand) state.held) errand

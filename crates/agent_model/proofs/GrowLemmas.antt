@@ -19,8 +19,10 @@ use Rattle.agent_model.proofs.ServeLemmas.{IsServed, answered, asked, raised, re
 -- the child processes that have named themselves stay who they are, the jobs of confirmations go on rising, and no
 -- number falls
 pub record AsksMore (old new : UnderWay) : Type 0 where
-  pub helper : (number : ℕ) → is_linked_to number new.link.state ≡ is_linked_to number old.link.state
-  pub confirmers : (number : ℕ) → find_linked number new.confirmations ≡ find_linked number old.confirmations
+  pub helper : (number : ℕ)
+      → is_linked_to number new.link.state ≡ is_linked_to number old.link.state
+  pub confirmers : (number : ℕ)
+      → find_linked number new.confirmations ≡ find_linked number old.confirmations
   pub order : JobsRise 0 old.confirmations old.last_job → JobsRise 0 new.confirmations new.last_job
   pub jobs : old.last_job ≤ new.last_job
   pub asks : old.link.last ≤ new.link.last
@@ -30,7 +32,8 @@ pub record AsksMore (old new : UnderWay) : Type 0 where
 nothing_more : (under_way : UnderWay) → AsksMore under_way under_way
 nothing_more under_way = record { helper = λ number. refl; confirmers = λ number. refl; order = λ rise. rise; jobs = omega arith; asks = omega arith; few = omega arith }
 
-linked-begun : (state : LinkState) (job number : ℕ) → is_linked_to number (begun_by state job) ≡ is_linked_to number state
+linked-begun : (state : LinkState) (job number : ℕ)
+    → is_linked_to number (begun_by state job) ≡ is_linked_to number state
 linked-begun states.None job number = refl
 linked-begun (states.Starting other) job number = refl
 linked-begun (states.Linked port) job number = refl
@@ -42,7 +45,8 @@ jobs-for (states.Starting job) last = omega arith
 jobs-for (states.Linked port) last = omega arith
 
 -- an ask is put, or not
-pub more-put : (fault : Option Cause) (errand : Errand) (asker : ℕ) (under_way : UnderWay) → AsksMore under_way (put_unless fault errand asker under_way).under_way
+pub more-put : (fault : Option Cause) (errand : Errand) (asker : ℕ) (under_way : UnderWay)
+    → AsksMore under_way (put_unless fault errand asker under_way).under_way
 more-put (Some cause) errand asker under_way = nothing_more under_way
 more-put None errand asker under_way = record {
   helper = λ number. linked-begun under_way.link.state (under_way.last_job + 1) number;
@@ -54,14 +58,19 @@ more-put None errand asker under_way = record {
 }
 
 -- a confirmation whose child process hasn't come is nobody's
-linked-behind : (number : ℕ) (one : Confirmation) (confirmations : List Confirmation) → one.port ≡ None → find_linked number (confirmations ++ one ∷ []) ≡ find_linked number confirmations
-linked-behind number one confirmations nowhere = find-push_other (came_to number) confirmations one (ap (is_at number) nowhere)
+linked-behind : (number : ℕ) (one : Confirmation) (confirmations : List Confirmation)
+    → one.port ≡ None
+    → find_linked number (confirmations ++ one ∷ []) ≡ find_linked number confirmations
+linked-behind number one confirmations nowhere =
+    find-push_other (came_to number) confirmations one (ap (is_at number) nowhere)
 
 -- whatever is asked
-pub asks_more : {asker : Asker} {held : KeyState} {under_way : UnderWay} {served : Served} → IsServed asker held under_way served → AsksMore under_way served.work.under_way
+pub asks_more : {asker : Asker} {held : KeyState} {under_way : UnderWay} {served : Served}
+    → IsServed asker held under_way served → AsksMore under_way served.work.under_way
 asks_more {under_way = under_way} (answered reply kept same) = nothing_more under_way
 asks_more {under_way = under_way} (refused cause) = nothing_more under_way
-asks_more {asker = asker} {under_way = under_way} (asked errand free right) = more-put None errand asker.port under_way
+asks_more {asker = asker} {under_way = under_way} (asked errand free right) =
+    more-put None errand asker.port under_way
 asks_more {asker = asker} {under_way = under_way} (raised key signing free) = record {
   helper = λ number. refl;
   confirmers = λ number. linked-behind number (confirmation_of (under_way.last_job + 1) (held_for asker.port key signing) (prompt_for key.comment key.blob) under_way.second) under_way.confirmations refl;

@@ -50,7 +50,8 @@ judged-by old new keeps judged = record {
   chains = chains-keep old.ports new.ports keeps.ports judged.chains;
 }
 
-pub keeps-quiet : {event : Happening} {old new : State} → Quiet event old new → IsRising 0 old.last_port old.ports → Keeps old new
+pub keeps-quiet : {event : Happening} {old new : State} → Quiet event old new
+    → IsRising 0 old.last_port old.ports → Keeps old new
 keeps-quiet {old = old} (alters number f change) rising = record { ports = keeps-changed number f old.ports (mild_of change).number (mild_of change).chain; asks = refl; last = refl; verifications = refl }
 keeps-quiet {old = old} (closes number may) rising = record { ports = keeps-removed number 0 old.last_port old.ports rising; asks = refl; last = refl; verifications = refl }
 keeps-quiet {old = old} (goes_on new goes) rising = record { ports = keeps-same old.ports; asks = (same_asks goes).asks; last = (same_asks goes).last; verifications = (same_asks goes).verifications }
@@ -61,15 +62,19 @@ keeps-quiet {old = old} (links job number new) rising = record { ports = keeps-c
 
 -- whoever is open was, and is bound to what was proved besides; and nothing is proved for a port that isn't open
 pub record Binds (number : ℕ) (old : List Port) (outcome : Outcome) : Type 0 where
-  pub bound : (port : Port) → find_port number outcome.state.ports ≡ Some port → (was : Port) × (find_port number old ≡ Some was) × (port.chain ≡ bound_after number outcome.actions was.chain)
-  pub silent : (chain : List Binding) → find_port number old ≡ None → bound_after number outcome.actions chain ≡ chain
+  pub bound : (port : Port) → find_port number outcome.state.ports ≡ Some port
+      → (was : Port) × (find_port number old ≡ Some was) × (port.chain ≡ bound_after number outcome.actions was.chain)
+  pub silent : (chain : List Binding) → find_port number old ≡ None
+      → bound_after number outcome.actions chain ≡ chain
 
 pub record Judges (old : State) (outcome : Outcome) : Type 0 where
   pub judged : IsJudged outcome.state
   pub binds : (number : ℕ) → Binds number old.ports outcome
 
 -- nothing is proved
-by_keeping : (old : State) (outcome : Outcome) → KeepsChains old.ports outcome.state.ports → ((number : ℕ) (chain : List Binding) → bound_after number outcome.actions chain ≡ chain) → IsJudged outcome.state → Judges old outcome
+by_keeping : (old : State) (outcome : Outcome) → KeepsChains old.ports outcome.state.ports
+    → ((number : ℕ) (chain : List Binding) → bound_after number outcome.actions chain ≡ chain)
+    → IsJudged outcome.state → Judges old outcome
 by_keeping old outcome keeps silent judged = record {
   judged = judged;
   binds = λ number. record {
@@ -82,7 +87,8 @@ by_keeping old outcome keeps silent judged = record {
 
 module _ (body : List ℕ) (take : Port → Port) (number_kept : (p : Port) → (take p).number ≡ p.number) (chain_kept : (p : Port) → (take p).chain ≡ p.chain) (port : Port) (state : State) (found : find_port port.number state.ports ≡ Some port) (tied : IsTied state) (judged : IsJudged state) where
   abbrev ports_after : Verdict → List Port
-  ports_after verdict = change_port port.number (tell verdict) (change_port port.number take state.ports)
+  ports_after verdict =
+      change_port port.number (tell verdict) (change_port port.number take state.ports)
 
   kept : (verdict : Verdict) → KeepsChains state.ports (ports_after verdict)
   kept verdict = keeps-in_turn state.ports (change_port port.number take state.ports) (ports_after verdict)
@@ -90,7 +96,9 @@ module _ (body : List ℕ) (take : Port → Port) (number_kept : (p : Port) → 
       (keeps-changed port.number (tell verdict) (change_port port.number take state.ports) (λ p. refl) (λ p. refl))
 
   -- by what comes of its request
-  judged-served : {served : Served} → IsServed (asker_at state.moment port) state.held state.under_way served → IsJudged (concluded port.number body served (changed port.number take state)).state
+  judged-served : {served : Served}
+      → IsServed (asker_at state.moment port) state.held state.under_way served
+      → IsJudged (concluded port.number body served (changed port.number take state)).state
   judged-served (answered reply held going) = judged-by state _ record { ports = kept (Replies reply); asks = refl; last = refl; verifications = refl } judged
   judged-served (refused cause) = judged-by state _ record { ports = kept (Refuses cause); asks = refl; last = refl; verifications = refl } judged
   judged-served (asked errand free right) =
@@ -107,7 +115,8 @@ module _ (body : List ℕ) (take : Port → Port) (number_kept : (p : Port) → 
       judged-by state _ record { ports = kept (Awaits (OnConfirmation (state.under_way.last_job + 1))); asks = refl; last = refl; verifications = refl } judged
 
 -- a request proves nothing
-pub silent_served : {asker : Asker} {held : KeyState} {under_way : UnderWay} {served : Served} (number : ℕ) (chain : List Binding) → IsServed asker held under_way served → bound_after number served.work.actions chain ≡ chain
+pub silent_served : {asker : Asker} {held : KeyState} {under_way : UnderWay} {served : Served} (number : ℕ) (chain : List Binding)
+    → IsServed asker held under_way served → bound_after number served.work.actions chain ≡ chain
 silent_served number chain (answered reply held going) = refl
 silent_served number chain (refused cause) = refl
 silent_served number chain (asked errand free right) = refl
@@ -115,23 +124,28 @@ silent_served number chain (raised key signing free) = refl
 
 -- ---- the helper answers, or is lost
 
-keeps-tell_each : (verdict : Verdict) (numbers : List ℕ) (ports : List Port) → KeepsChains ports (tell_each verdict numbers ports)
+keeps-tell_each : (verdict : Verdict) (numbers : List ℕ) (ports : List Port)
+    → KeepsChains ports (tell_each verdict numbers ports)
 keeps-tell_each verdict [] ports = keeps-same ports
 keeps-tell_each verdict (number ∷ others) ports =
     keeps-in_turn ports (change_port number (tell verdict) ports) _ (keeps-changed number (tell verdict) ports (λ p. refl) (λ p. refl)) (keeps-tell_each verdict others (change_port number (tell verdict) ports))
 
-keeps-close_helper : (link : LinkState) (low high : ℕ) (ports : List Port) → IsRising low high ports → KeepsChains ports (close_helper link ports)
+keeps-close_helper : (link : LinkState) (low high : ℕ) (ports : List Port) → IsRising low high ports
+    → KeepsChains ports (close_helper link ports)
 keeps-close_helper states.None low high ports rising = keeps-same ports
 keeps-close_helper (states.Starting job) low high ports rising = keeps-same ports
-keeps-close_helper (states.Linked port) low high ports rising = keeps-removed port low high ports rising
+keeps-close_helper (states.Linked port) low high ports rising =
+    keeps-removed port low high ports rising
 
-keeps-lose : (state : State) → IsRising 0 state.last_port state.ports → KeepsChains state.ports (lose state).state.ports
+keeps-lose : (state : State) → IsRising 0 state.last_port state.ports
+    → KeepsChains state.ports (lose state).state.ports
 keeps-lose state rising =
     keeps-in_turn state.ports (close_helper state.under_way.link.state state.ports) _ (keeps-close_helper state.under_way.link.state 0 state.last_port state.ports rising)
     (keeps-tell_each (Refuses HelperLost) (askers state.under_way.link.asks) (close_helper state.under_way.link.state state.ports))
 
 -- nothing is verified any more
-judged-lost : (state : State) → IsRising 0 state.last_port state.ports → AreChains state.ports → IsJudged (lose state).state
+judged-lost : (state : State) → IsRising 0 state.last_port state.ports → AreChains state.ports
+    → IsJudged (lose state).state
 judged-lost state rising chains = record {
   verified = λ ask what one port noted there found. absurd (cc);
   noted = λ ask asker put_at there. absurd (cc);
@@ -144,7 +158,8 @@ module _ (piece : List ℕ) (state : State) (tied : IsTied state) (judged : IsJu
   told = telling piece state.under_way.link
 
   abbrev before : Answering
-  before = record { ports = state.ports; verifications = state.under_way.verifications; actions = [] }
+  before =
+      record { ports = state.ports; verifications = state.under_way.verifications; actions = [] }
 
   abbrev after : Answering
   after = answer_all told.settled before
@@ -165,7 +180,9 @@ module _ (piece : List ℕ) (state : State) (tied : IsTied state) (judged : IsJu
   judged_mid = record { verified = at_last.judged; noted = at_last.noted; given = at_last.given; chains = at_last.chains }
 
   -- a port that is open after the answers was before
-  was_open : (number : ℕ) (found : Option Port) → find_port number state.ports ≡ found → (port : Port) → find_port number after.ports ≡ Some port → (was : Port) × (find_port number state.ports ≡ Some was) × (port.chain ≡ bound_after number after.actions was.chain)
+  was_open : (number : ℕ) (found : Option Port) → find_port number state.ports ≡ found
+      → (port : Port) → find_port number after.ports ≡ Some port
+      → (was : Port) × (find_port number state.ports ≡ Some was) × (port.chain ≡ bound_after number after.actions was.chain)
   was_open number None is port opened = absurd (
       let gone : find_port number after.ports ≡ None = leads-absent number state.ports (leads-answers state.ports told.settled before same) is in
       let no : None ≡ Some port = sym gone ∙ opened in
@@ -175,13 +192,15 @@ module _ (piece : List ℕ) (state : State) (tied : IsTied state) (judged : IsJu
       let bound = bound_answers 0 state.under_way.link.last told.settled before state.under_way.link.asks told.link.asks was.chain number leads at_first (ap (chain_in was.chain) is) in
       (was, is, ap (chain_in was.chain) (sym opened) ∙ bound)
 
-  never_open : (number : ℕ) (chain : List Binding) → find_port number state.ports ≡ None → bound_after number after.actions chain ≡ chain
+  never_open : (number : ℕ) (chain : List Binding) → find_port number state.ports ≡ None
+      → bound_after number after.actions chain ≡ chain
   never_open number chain none =
       let gone : find_port number after.ports ≡ None = leads-absent number state.ports (leads-answers state.ports told.settled before same) none in
       let bound = bound_answers 0 state.under_way.link.last told.settled before state.under_way.link.asks told.link.asks chain number leads at_first (ap (chain_in chain) none) in
       sym bound ∙ ap (chain_in chain) gone
 
-  judges-fault : (fault : Option LinkFault) → Judges state (and_then (acted after.actions mid) (lose_if fault))
+  judges-fault : (fault : Option LinkFault)
+      → Judges state (and_then (acted after.actions mid) (lose_if fault))
   judges-fault None = record {
     judged = judged_mid;
     binds = λ number. record {
@@ -209,7 +228,9 @@ module _ (confirmation : Confirmation) (state : State) (tied : IsTied state) whe
   keeps-close_confirmer None = keeps-same state.ports
   keeps-close_confirmer (Some at) = keeps-removed at 0 state.last_port state.ports tied.rising
 
-  keeps-over : (f : Port → Port) → ((p : Port) → (f p).number ≡ p.number) → ((p : Port) → (f p).chain ≡ p.chain) → KeepsChains state.ports (change_port confirmation.asker f (close_confirmer confirmation.port state.ports))
+  keeps-over : (f : Port → Port) → ((p : Port) → (f p).number ≡ p.number)
+      → ((p : Port) → (f p).chain ≡ p.chain)
+      → KeepsChains state.ports (change_port confirmation.asker f (close_confirmer confirmation.port state.ports))
   keeps-over f number chain =
       keeps-in_turn state.ports (close_confirmer confirmation.port state.ports) _ (keeps-close_confirmer confirmation.port)
       (keeps-changed confirmation.asker f (close_confirmer confirmation.port state.ports) number chain)
@@ -219,14 +240,17 @@ module _ (confirmation : Confirmation) (state : State) (tied : IsTied state) whe
     abbrev asking : Asker
     asking = record { port = confirmation.asker; chain = port.chain; attempted = port.attempted; mono = state.moment.mono; wall = state.moment.wall }
 
-    refused_so : (cause : Cause) → Judges state (grant_concluded (settles (Refuses cause) (without_confirmation confirmation.job state.under_way)) confirmation state)
+    refused_so : (cause : Cause)
+        → Judges state (grant_concluded (settles (Refuses cause) (without_confirmation confirmation.job state.under_way)) confirmation state)
     refused_so cause =
         let kept_over = keeps-over (tell (Refuses cause)) (λ p. refl) (λ p. refl) in
         by_keeping state _ kept_over (λ number chain. refl)
         (judged-by state _ record { ports = kept_over; asks = refl; last = refl; verifications = refl } judged)
 
     -- no binding is verified by a signature
-    judges-granted : {work : Work} → IsGranted port.chain confirmation state.moment.wall state.held (without_confirmation confirmation.job state.under_way) work → Judges state (grant_concluded work confirmation state)
+    judges-granted : {work : Work}
+        → IsGranted port.chain confirmation state.moment.wall state.held (without_confirmation confirmation.job state.under_way) work
+        → Judges state (grant_concluded work confirmation state)
     judges-granted (disallowed never) = refused_so NoLongerAllowed
     judges-granted (unasked cause key may fault) = refused_so cause
     judges-granted (allowed key may free) =
@@ -243,8 +267,10 @@ module _ (confirmation : Confirmation) (state : State) (tied : IsTied state) whe
 
 -- ---- events
 
-pub judges-makes : {event : Happening} {old : State} {outcome : Outcome} → Makes event old outcome → IsTied old → IsJudged old → Judges old outcome
-judges-makes (stays state) tied judged = by_keeping state (stay state) (keeps-same state.ports) (λ number chain. refl) judged
+pub judges-makes : {event : Happening} {old : State} {outcome : Outcome} → Makes event old outcome
+    → IsTied old → IsJudged old → Judges old outcome
+judges-makes (stays state) tied judged =
+    by_keeping state (stay state) (keeps-same state.ports) (λ number chain. refl) judged
 judges-makes {old = old} (first {mid = mid} {outcome = outcome} quiet rest) tied judged =
     let keeps = keeps-quiet quiet tied.rising in
     let later = judges-makes rest (tied-quiet quiet tied) (judged-by old mid keeps judged) in
@@ -264,7 +290,8 @@ judges-makes (serves body_len port state found door nothing owed own) tied judge
     let ends = serve-ends (asker_at state.moment port) state.held state.under_way body in
     by_keeping state _ (kept body take (λ p. refl) (λ p. refl) port state found tied judged _) (λ number chain. silent_served number chain ends)
     (judged-served body take (λ p. refl) (λ p. refl) port state found tied judged ends)
-judges-makes (tells piece state) tied judged = judges-fault piece state tied judged (telling piece state.under_way.link).fault
+judges-makes (tells piece state) tied judged =
+    judges-fault piece state tied judged (telling piece state.under_way.link).fault
 judges-makes (loses state) tied judged =
     by_keeping state (lose state) (keeps-lose state tied.rising) (λ number chain. refl) (judged-lost state tied.rising judged.chains)
 judges-makes (overs confirmation state there) tied judged =

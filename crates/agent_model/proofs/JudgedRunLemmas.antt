@@ -36,8 +36,10 @@ use Rattle.agent_model.proofs.TimeLemmas.{AreEnds, at_moment-keeps, end, loss, n
 -- whoever is open is bound to what it was bound to and to what was proved besides; and nothing is proved for a port that
 -- isn't open
 pub record Adds (number : ℕ) (old : List Port) (outcome : Outcome) : Type 0 where
-  pub bound : (port : Port) → find_port number outcome.state.ports ≡ Some port → port.chain ≡ bound_after number outcome.actions (chain_at number old)
-  pub silent : (chain : List Binding) → find_port number old ≡ None → bound_after number outcome.actions chain ≡ chain
+  pub bound : (port : Port) → find_port number outcome.state.ports ≡ Some port
+      → port.chain ≡ bound_after number outcome.actions (chain_at number old)
+  pub silent : (chain : List Binding) → find_port number old ≡ None
+      → bound_after number outcome.actions chain ≡ chain
 
 pub record Goes (old : State) (outcome : Outcome) : Type 0 where
   pub judged : IsJudged outcome.state
@@ -59,7 +61,8 @@ module _ (door : Door) (state : State) (tied : IsTied state) (judged : IsJudged 
   abbrev with_port : Bool → State
   with_port room = record state { ports = admitted room (suc state.last_port) door state.ports; last_port = suc state.last_port }
 
-  goes-admitted : (room : Bool) → Goes state (record (stay (with_port room)) { closes = turned_away room (suc state.last_port) })
+  goes-admitted : (room : Bool)
+      → Goes state (record (stay (with_port room)) { closes = turned_away room (suc state.last_port) })
   goes-admitted false = record {
     judged = record { verified = judged.verified; noted = judged.noted; given = judged.given; chains = judged.chains };
     adds = λ number. record { bound = λ port found. ap chain_of (sym found); silent = λ chain none. refl };
@@ -95,7 +98,8 @@ record Keeps (start state : State) : Type 0 where
   judged : IsJudged state
   chains : KeepsChains start.ports state.ports
 
-keeps-time : (moment : Moment) (state : State) → IsTied state → IsJudged state → Keeps state (at_moment moment state)
+keeps-time : (moment : Moment) (state : State) → IsTied state → IsJudged state
+    → Keeps state (at_moment moment state)
 keeps-time moment state tied judged =
     at_moment-keeps (Keeps state) moment state
     (λ s kept. keep (loses s) (λ number chain. refl) kept) (λ one s there kept. keep (overs one s there) (λ number chain. refl) kept)
@@ -105,7 +109,9 @@ keeps-time moment state tied judged =
       chains = keeps-same state.ports;
     }
   where
-    keep : {old : State} {outcome : Outcome} → Makes Tick old outcome → ((number : ℕ) (chain : List Binding) → bound_after number outcome.actions chain ≡ chain) → Keeps state old → Keeps state outcome.state
+    keep : {old : State} {outcome : Outcome} → Makes Tick old outcome
+        → ((number : ℕ) (chain : List Binding) → bound_after number outcome.actions chain ≡ chain)
+        → Keeps state old → Keeps state outcome.state
     keep {old} {outcome} makes silent kept =
         let judges = judges-makes makes kept.tied kept.judged in
         record {
@@ -116,10 +122,13 @@ keeps-time moment state tied judged =
         }
 
 -- it binds nobody
-ends-bind_none : (number : ℕ) (actions : List Action) (chain : List Binding) → AreEnds actions → bound_after number actions chain ≡ chain
+ends-bind_none : (number : ℕ) (actions : List Action) (chain : List Binding) → AreEnds actions
+    → bound_after number actions chain ≡ chain
 ends-bind_none number actions chain no_more = refl
-ends-bind_none number actions chain (one_more action later loss ends) = ends-bind_none number later chain ends
-ends-bind_none number actions chain (one_more action later (end job) ends) = ends-bind_none number later chain ends
+ends-bind_none number actions chain (one_more action later loss ends) =
+    ends-bind_none number later chain ends
+ends-bind_none number actions chain (one_more action later (end job) ends) =
+    ends-bind_none number later chain ends
 
 bound-time : (number : ℕ) (moment : Moment) (state : State) (more : List Action) (chain : List Binding) → bound_after number ((time_passes moment state).actions ++ more) chain ≡ bound_after number more chain
 bound-time number moment state more chain =
@@ -127,7 +136,8 @@ bound-time number moment state more chain =
     ∙ ap (bound_after number more) (ends-bind_none number (time_passes moment state).actions chain (time_passes-ends moment state))
 
 -- each event
-pub step-judged : (state : State) (moment : Moment) (event : Happening) → IsTied state → IsJudged state → Goes state (step state moment event)
+pub step-judged : (state : State) (moment : Moment) (event : Happening) → IsTied state
+    → IsJudged state → Goes state (step state moment event)
 step-judged state moment event tied judged = record {
   judged = goes.judged;
   adds = λ number. record {
@@ -150,7 +160,9 @@ step-judged state moment event tied judged = record {
     goes = by_event (Goes opened) event opened (λ door. goes-admitted door opened kept.tied kept.judged (has_room door opened.ports opened.under_way)) (λ outcome makes. goes-made opened outcome (judges-makes makes kept.tied kept.judged))
 
     -- one that wasn't open joined
-    by_test : (number : ℕ) (port : Port) → find_port number handled.state.ports ≡ Some port → (above : Bool) → nat_lt opened.last_port number ≡ above → find_port number opened.ports ≡ None → chain_of None ≡ chain_at number state.ports
+    by_test : (number : ℕ) (port : Port) → find_port number handled.state.ports ≡ Some port
+        → (above : Bool) → nat_lt opened.last_port number ≡ above
+        → find_port number opened.ports ≡ None → chain_of None ≡ chain_at number state.ports
     by_test number port found true is none =
         let follows = at_moment-follows moment state in
         let over : opened.last_port < number = grind (arith, nat_tests) in
@@ -160,7 +172,9 @@ step-judged state moment event tied judged = record {
         let gone : None ≡ Some port = sym (handle-unused opened event number under none) ∙ found in
         absurd (cc)
 
-    by_open : (number : ℕ) (port : Port) → find_port number handled.state.ports ≡ Some port → (was : Option Port) → find_port number opened.ports ≡ was → port.chain ≡ bound_after number handled.actions (chain_at number state.ports)
+    by_open : (number : ℕ) (port : Port) → find_port number handled.state.ports ≡ Some port
+        → (was : Option Port) → find_port number opened.ports ≡ was
+        → port.chain ≡ bound_after number handled.actions (chain_at number state.ports)
     by_open number port found None is =
         (goes.adds number).bound port found
         ∙ ap (λ o. bound_after number handled.actions (chain_of o)) is
@@ -181,13 +195,16 @@ first-judged settings = record {
   chains = λ number port found. absurd (cc);
 }
 
-pub run-judged : (state : State) (events : List Timed) → IsTied state → IsJudged state → IsJudged (run state events)
+pub run-judged : (state : State) (events : List Timed) → IsTied state → IsJudged state
+    → IsJudged (run state events)
 run-judged state [] tied judged = judged
 run-judged state (timed ∷ later) tied judged =
     run-judged (step state timed.moment timed.event).state later (step-fated state timed.moment timed.event tied).tied (step-judged state timed.moment timed.event tied judged).judged
 
 -- the bindings of a connection are those that were proved
-pub run-bound : (number : ℕ) (state : State) (events : List Timed) → IsTied state → IsJudged state → (port : Port) → find_port number (run state events).ports ≡ Some port → port.chain ≡ bound_after number (actions_of state events) (chain_at number state.ports)
+pub run-bound : (number : ℕ) (state : State) (events : List Timed) → IsTied state → IsJudged state
+    → (port : Port) → find_port number (run state events).ports ≡ Some port
+    → port.chain ≡ bound_after number (actions_of state events) (chain_at number state.ports)
 run-bound number state [] tied judged port found = ap chain_of (sym found)
 run-bound number state (timed ∷ later) tied judged port found =
     run-bound number mid later tied_mid goes.judged port found
@@ -203,7 +220,9 @@ run-bound number state (timed ∷ later) tied judged port found =
     goes : Goes state (step state timed.moment timed.event)
     goes = step-judged state timed.moment timed.event tied judged
 
-    by_test : (above : Bool) → nat_lt mid.last_port number ≡ above → find_port number mid.ports ≡ None → [] ≡ bound_after number (step state timed.moment timed.event).actions (chain_at number state.ports)
+    by_test : (above : Bool) → nat_lt mid.last_port number ≡ above
+        → find_port number mid.ports ≡ None
+        → [] ≡ bound_after number (step state timed.moment timed.event).actions (chain_at number state.ports)
     by_test true is none =
         let rises : state.last_port ≤ mid.last_port = step-rises state timed.moment timed.event in
         let over : mid.last_port < number = grind (arith, nat_tests) in
@@ -214,27 +233,34 @@ run-bound number state (timed ∷ later) tied judged port found =
         let gone : None ≡ Some port = sym (run-unused mid later number under none) ∙ found in
         absurd (cc)
 
-    by_found : (opened : Option Port) → find_port number mid.ports ≡ opened → chain_of opened ≡ bound_after number (step state timed.moment timed.event).actions (chain_at number state.ports)
+    by_found : (opened : Option Port) → find_port number mid.ports ≡ opened
+        → chain_of opened ≡ bound_after number (step state timed.moment timed.event).actions (chain_at number state.ports)
     by_found None is = by_test (nat_lt mid.last_port number) refl is
     by_found (Some between) is = (goes.adds number).bound between is
 
 -- ---- what a client sends
 
 -- nothing is proved by it
-silent_look : (number : ℕ) (chain : List Binding) (answer : Front) (port : Port) (state : State) → bound_after number (look_front answer port state).actions chain ≡ chain
+silent_look : (number : ℕ) (chain : List Binding) (answer : Front) (port : Port) (state : State)
+    → bound_after number (look_front answer port state).actions chain ≡ chain
 silent_look number chain (Whole body_len) port state =
     silent_served number chain (serve-ends (asker_at state.moment port) state.held state.under_way (front_body body_len port.heard))
 silent_look number chain (Bad announced) port state = refl
 silent_look number chain More port state = refl
 
-silent_looked : (number at : ℕ) (chain : List Binding) (found : Option Port) (state : State) → find_port at state.ports ≡ found → bound_after number (looked at state).actions chain ≡ chain
-silent_looked number at chain None state is = ap (λ (o : Option Port). bound_after number (look_port o state).actions chain) is
+silent_looked : (number at : ℕ) (chain : List Binding) (found : Option Port) (state : State)
+    → find_port at state.ports ≡ found → bound_after number (looked at state).actions chain ≡ chain
+silent_looked number at chain None state is =
+    ap (λ (o : Option Port). bound_after number (look_port o state).actions chain) is
 silent_looked number at chain (Some port) state is =
     ap (λ (o : Outcome). bound_after number o.actions chain) (looked-found at port state (due port) is refl)
     ∙ silent_look number chain (due port) port state
 
 -- so it binds nobody
-pub client-binds_none : (state : State) (moment : Moment) (at : ℕ) (piece : List ℕ) (client : Port) (number : ℕ) (port : Port) → IsTied state → IsJudged state → find_port at state.ports ≡ Some client → client.door ≡ Clients → find_port number (step state moment (Heard at piece)).state.ports ≡ Some port → port.chain ≡ chain_at number state.ports
+pub client-binds_none : (state : State) (moment : Moment) (at : ℕ) (piece : List ℕ) (client : Port) (number : ℕ) (port : Port)
+    → IsTied state → IsJudged state → find_port at state.ports ≡ Some client → client.door ≡ Clients
+    → find_port number (step state moment (Heard at piece)).state.ports ≡ Some port
+    → port.chain ≡ chain_at number state.ports
 client-binds_none state moment at piece client number port tied judged there door found =
     ((step-judged state moment (Heard at piece) tied judged).adds number).bound port found
     ∙ bound-time number moment state (handle (Heard at piece) opened).actions (chain_at number state.ports)
@@ -243,7 +269,8 @@ client-binds_none state moment at piece client number port tied judged there doo
     opened : State
     opened = at_moment moment state
 
-    by_open : (still : Option Port) → find_port at opened.ports ≡ still → bound_after number (handle (Heard at piece) opened).actions (chain_at number state.ports) ≡ chain_at number state.ports
+    by_open : (still : Option Port) → find_port at opened.ports ≡ still
+        → bound_after number (handle (Heard at piece) opened).actions (chain_at number state.ports) ≡ chain_at number state.ports
     by_open None is = ap (λ o. bound_after number (heard_at o piece opened).actions (chain_at number state.ports)) is
     by_open (Some now) is =
         let follows = at_moment-follows moment state in

@@ -39,13 +39,16 @@ behind one two = record { jobs = omega (arith, one.jobs, two.jobs); asks = omega
 by_more : {old new : UnderWay} → AsksMore old new → Grows old new
 by_more more = record { jobs = more.jobs; asks = more.asks; order = more.order }
 
-grows-lose_if : (fault : Option LinkFault) (state : State) → Grows state.under_way (lose_if fault state).state.under_way
+grows-lose_if : (fault : Option LinkFault) (state : State)
+    → Grows state.under_way (lose_if fault state).state.under_way
 grows-lose_if None state = same state.under_way
-grows-lose_if (Some fault) state = record { jobs = omega arith; asks = omega arith; order = λ rise. rise }
+grows-lose_if (Some fault) state =
+    record { jobs = omega arith; asks = omega arith; order = λ rise. rise }
 
 -- ---- consent
 
-grows-granted : {chain : List Binding} {confirmation : Confirmation} {wall : ℕ} {held : KeyState} {under_way : UnderWay} {work : Work} → IsGranted chain confirmation wall held under_way work → Grows under_way work.under_way
+grows-granted : {chain : List Binding} {confirmation : Confirmation} {wall : ℕ} {held : KeyState} {under_way : UnderWay} {work : Work}
+    → IsGranted chain confirmation wall held under_way work → Grows under_way work.under_way
 grows-granted {under_way = under_way} (disallowed never) = same under_way
 grows-granted {under_way = under_way} (unasked cause key may fault) = same under_way
 grows-granted {confirmation = confirmation} {under_way = under_way} (allowed key may free) =
@@ -58,11 +61,13 @@ without job under_way =
 
 -- ---- events
 
-order-kept : (last : ℕ) {old new : List Confirmation} → Kept old new → JobsRise 0 old last → JobsRise 0 new last
+order-kept : (last : ℕ) {old new : List Confirmation} → Kept old new → JobsRise 0 old last
+    → JobsRise 0 new last
 order-kept last unchanged rise = rise
 order-kept last {old = old} (altered job f faint) rise = jobs-change job 0 f old last faint.job rise
 
-grows-quiet : {event : Happening} {old new : State} → Quiet event old new → Grows old.under_way new.under_way
+grows-quiet : {event : Happening} {old new : State} → Quiet event old new
+    → Grows old.under_way new.under_way
 grows-quiet {old = old} (alters number f change) = same old.under_way
 grows-quiet {old = old} (closes number may) = same old.under_way
 grows-quiet {old = old} (goes_on new goes) = record {
@@ -70,14 +75,16 @@ grows-quiet {old = old} (goes_on new goes) = record {
   asks = omega (arith, (same_asks goes).last);
   order = λ rise. rw (same_asks goes).jobs (order-kept old.under_way.last_job (same_asks goes).kept rise);
 }
-grows-quiet (names job number new) = record { jobs = omega arith; asks = omega arith; order = λ rise. rise }
+grows-quiet (names job number new) =
+    record { jobs = omega arith; asks = omega arith; order = λ rise. rise }
 grows-quiet {old = old} (links job number new) = record {
   jobs = omega arith;
   asks = omega arith;
   order = jobs-change job 0 (linked_at number) old.under_way.confirmations old.under_way.last_job (λ c. refl);
 }
 
-grows-makes : {event : Happening} {old : State} {outcome : Outcome} → Makes event old outcome → Grows old.under_way outcome.state.under_way
+grows-makes : {event : Happening} {old : State} {outcome : Outcome} → Makes event old outcome
+    → Grows old.under_way outcome.state.under_way
 grows-makes (stays state) = same state.under_way
 grows-makes (first quiet rest) = behind (grows-quiet quiet) (grows-makes rest)
 grows-makes (serves body_len port state found door waits owed own) =
@@ -92,23 +99,27 @@ grows-makes (grants confirmation port state there opened) =
     behind (without confirmation.job state.under_way) (grows-granted (grant-ends port.chain confirmation state))
 
 -- no moment makes a number fall
-pub moment-grows : (state : State) (moment : Moment) → Grows state.under_way (at_moment moment state).under_way
+pub moment-grows : (state : State) (moment : Moment)
+    → Grows state.under_way (at_moment moment state).under_way
 moment-grows state moment =
     at_moment-keeps (λ s. Grows state.under_way s.under_way) moment state (λ s grows. record { jobs = grows.jobs; asks = grows.asks; order = grows.order })
     (λ one s there grows. behind grows (without one.job s.under_way)) record { jobs = omega arith; asks = omega arith; order = λ rise. rise }
 
 -- nor does what an event brings
-pub handle-grows : (event : Happening) (state : State) → Grows state.under_way (handle event state).state.under_way
+pub handle-grows : (event : Happening) (state : State)
+    → Grows state.under_way (handle event state).state.under_way
 handle-grows event state =
     by_event (λ outcome. Grows state.under_way outcome.state.under_way) event state (λ door. same state.under_way) (λ outcome. grows-makes)
 
 -- no event makes a number fall
-pub step-grows : (state : State) (moment : Moment) (event : Happening) → Grows state.under_way (step state moment event).state.under_way
+pub step-grows : (state : State) (moment : Moment) (event : Happening)
+    → Grows state.under_way (step state moment event).state.under_way
 step-grows state moment event =
     behind (moment-grows state moment) (handle-grows event (at_moment moment state))
 
 -- nor do events one after another
-pub run-grows : (state : State) (events : List Timed) → Grows state.under_way (run state events).under_way
+pub run-grows : (state : State) (events : List Timed)
+    → Grows state.under_way (run state events).under_way
 run-grows state [] = same state.under_way
 run-grows state (timed ∷ later) =
     behind (step-grows state timed.moment timed.event) (run-grows (step state timed.moment timed.event).state later)

@@ -11,32 +11,41 @@ use Rattle.agent_model.specs.Budget.{asking_bytes, port_budget, ports_budget}
 use Rattle.agent_model.specs.State.{Helper, Port, Role, UnderWay, change_port, find_port, is_linked_to, is_some_bytes, number_of, owed_as, remove_port, role_by_helper, role_by_link, role_of}
 
 -- a change of the port of this number changes its part of the budget alone
-pub budget-change : (under_way : UnderWay) (number : ℕ) (f : Port → Port) (ports : List Port) (port : Port) → find_port number ports ≡ Some port → ports_budget under_way (change_port number f ports) + port_budget under_way port ≡ ports_budget under_way ports + port_budget under_way (f port)
+pub budget-change : (under_way : UnderWay) (number : ℕ) (f : Port → Port) (ports : List Port) (port : Port)
+    → find_port number ports ≡ Some port
+    → ports_budget under_way (change_port number f ports) + port_budget under_way port ≡ ports_budget under_way ports + port_budget under_way (f port)
 budget-change under_way number f [] port found = absurd (cc)
 budget-change under_way number f (first ∷ ports) port found =
     let later = budget-change under_way number f ports port in
     grind (arith, nat_tests)
 
 -- the port of this number takes its part of the budget with it
-pub budget-remove : (under_way : UnderWay) (number : ℕ) (ports : List Port) → ports_budget under_way (remove_port number ports) ≤ ports_budget under_way ports
+pub budget-remove : (under_way : UnderWay) (number : ℕ) (ports : List Port)
+    → ports_budget under_way (remove_port number ports) ≤ ports_budget under_way ports
 budget-remove under_way number [] = omega arith
 budget-remove under_way number (first ∷ ports) =
     let later : ports_budget under_way (remove_port number ports) ≤ ports_budget under_way ports = budget-remove under_way number ports in
     grind (arith, nat_tests)
 
 -- exactly that, where it is there
-pub budget-removed : (under_way : UnderWay) (number : ℕ) (ports : List Port) (port : Port) → find_port number ports ≡ Some port → ports_budget under_way (remove_port number ports) + port_budget under_way port ≡ ports_budget under_way ports
+pub budget-removed : (under_way : UnderWay) (number : ℕ) (ports : List Port) (port : Port)
+    → find_port number ports ≡ Some port
+    → ports_budget under_way (remove_port number ports) + port_budget under_way port ≡ ports_budget under_way ports
 budget-removed under_way number [] port found = absurd (cc)
 budget-removed under_way number (first ∷ ports) port found =
     let later = budget-removed under_way number ports port in
     grind (arith, nat_tests)
 
 -- the port that was changed is found so, where its number stays
-pub found_changed : (number : ℕ) (f : Port → Port) (ports : List Port) (port : Port) → ((p : Port) → (f p).number ≡ p.number) → find_port number ports ≡ Some port → find_port number (change_port number f ports) ≡ Some (f port)
-found_changed number f ports port keeps found = find_by-change number_of number f ports keeps ∙ ap (option_map f) found
+pub found_changed : (number : ℕ) (f : Port → Port) (ports : List Port) (port : Port)
+    → ((p : Port) → (f p).number ≡ p.number) → find_port number ports ≡ Some port
+    → find_port number (change_port number f ports) ≡ Some (f port)
+found_changed number f ports port keeps found =
+    find_by-change number_of number f ports keeps ∙ ap (option_map f) found
 
 -- what a client has of the budget
-pub client_budget : (under_way : UnderWay) (port : Port) → port.door ≡ Clients → port_budget under_way port ≡ length port.heard + (if is_some_bytes port.owed then 1 else 0)
+pub client_budget : (under_way : UnderWay) (port : Port) → port.door ≡ Clients
+    → port_budget under_way port ≡ length port.heard + (if is_some_bytes port.owed then 1 else 0)
 client_budget under_way port door =
     ap (λ d. asking_bytes d port.heard + (if is_some_bytes (owed_as (role_of d port.number under_way) port under_way) then 1 else 0)) door
 
@@ -46,29 +55,37 @@ one_or_none false = omega arith
 
 -- what a port is owed counts as one, by its door
 abbrev pub unit_as : Door → Port → UnderWay → ℕ
-unit_as door port under_way = if is_some_bytes (owed_as (role_of door port.number under_way) port under_way) then 1 else 0
+unit_as door port under_way =
+    if is_some_bytes (owed_as (role_of door port.number under_way) port under_way) then 1 else 0
 
 -- who is at a child process's port, by whether it is the helper and by the confirmation that is linked to it
 abbrev pub by_helper : Bool → Option Confirmation → Role
 by_helper true found = Helper
 by_helper false found = role_by_link found
 
-pub role-by : (linked : Bool) (number : ℕ) (confirmations : List Confirmation) → role_by_helper linked number confirmations ≡ by_helper linked (find_linked number confirmations)
+pub role-by : (linked : Bool) (number : ℕ) (confirmations : List Confirmation)
+    → role_by_helper linked number confirmations ≡ by_helper linked (find_linked number confirmations)
 role-by true number confirmations = refl
 role-by false number confirmations = refl
 
-pub role-children : (number : ℕ) (under_way : UnderWay) → role_of Children number under_way ≡ by_helper (is_linked_to number under_way.link.state) (find_linked number under_way.confirmations)
-role-children number under_way = role-by (is_linked_to number under_way.link.state) number under_way.confirmations
+pub role-children : (number : ℕ) (under_way : UnderWay)
+    → role_of Children number under_way ≡ by_helper (is_linked_to number under_way.link.state) (find_linked number under_way.confirmations)
+role-children number under_way =
+    role-by (is_linked_to number under_way.link.state) number under_way.confirmations
 
 -- ---- ports whose parts fall
 
 -- where no port's part is higher the whole isn't
-pub all_lower : (ports : List Port) (old new : UnderWay) → ((port : Port) → port_budget new port ≤ port_budget old port) → ports_budget new ports ≤ ports_budget old ports
+pub all_lower : (ports : List Port) (old new : UnderWay)
+    → ((port : Port) → port_budget new port ≤ port_budget old port)
+    → ports_budget new ports ≤ ports_budget old ports
 all_lower [] old new lower = omega arith
 all_lower (port ∷ ports) old new lower = omega (arith, lower port, all_lower ports old new lower)
 
 -- and it falls where one port's part does
-pub one_lower : (number : ℕ) (ports : List Port) (port : Port) (old new : UnderWay) → ((p : Port) → port_budget new p ≤ port_budget old p) → find_port number ports ≡ Some port → port_budget new port < port_budget old port → ports_budget new ports < ports_budget old ports
+pub one_lower : (number : ℕ) (ports : List Port) (port : Port) (old new : UnderWay)
+    → ((p : Port) → port_budget new p ≤ port_budget old p) → find_port number ports ≡ Some port
+    → port_budget new port < port_budget old port → ports_budget new ports < ports_budget old ports
 one_lower number [] port old new all found lower = absurd (cc)
 one_lower number (first ∷ ports) port old new all found lower =
     let here = all first in
@@ -77,10 +94,14 @@ one_lower number (first ∷ ports) port old new all found lower =
     grind (arith, nat_tests)
 
 apart_not_same : {a b : ℕ} → (a == b) ≡ false → b ≡ a → ⊥
-apart_not_same {a} {b} apart same = let equal : (a == b) ≡ true = grind (arith, nat_tests) in absurd (cc)
+apart_not_same {a} {b} apart same =
+    let equal : (a == b) ≡ true = grind (arith, nat_tests) in absurd (cc)
 
--- the same where no port has this number, whose part may be higher
-pub all_lower_but : (number : ℕ) (ports : List Port) (old new : UnderWay) → find_port number ports ≡ None → ((port : Port) → number ≢ port.number → port_budget new port ≤ port_budget old port) → ports_budget new ports ≤ ports_budget old ports
+-- where no port has this number, the budget doesn't rise if the part of no other port does
+pub all_lower_but : (number : ℕ) (ports : List Port) (old new : UnderWay)
+    → find_port number ports ≡ None
+    → ((port : Port) → number ≢ port.number → port_budget new port ≤ port_budget old port)
+    → ports_budget new ports ≤ ports_budget old ports
 all_lower_but number [] old new absent lower = omega arith
 all_lower_but number (port ∷ ports) old new absent lower =
     let both = some_or_later (port.number == number) port (find_port number ports) absent in

@@ -30,19 +30,25 @@ use Rattle.agent_model.proofs.PiecesLemmas.{after_nothing, agree-over, agree-ste
 -- ---- the first part holds a whole request
 
 -- it is the same whatever follows
-whole_longer : (heard a b : List ℕ) (body_len : ℕ) → front longest_body (heard ++ a) ≡ Whole body_len → front longest_body (heard ++ (a ++ b)) ≡ Whole body_len
+whole_longer : (heard a b : List ℕ) (body_len : ℕ)
+    → front longest_body (heard ++ a) ≡ Whole body_len
+    → front longest_body (heard ++ (a ++ b)) ≡ Whole body_len
 whole_longer heard a b body_len whole =
     ap (front longest_body) (sym (append_assoc heard a b)) ∙ front-append_whole longest_body (heard ++ a) b body_len whole
 
-bad_longer : (heard a b : List ℕ) (announced : ℕ) → front longest_body (heard ++ a) ≡ Bad announced → front longest_body (heard ++ (a ++ b)) ≡ Bad announced
+bad_longer : (heard a b : List ℕ) (announced : ℕ) → front longest_body (heard ++ a) ≡ Bad announced
+    → front longest_body (heard ++ (a ++ b)) ≡ Bad announced
 bad_longer heard a b announced bad =
     ap (front longest_body) (sym (append_assoc heard a b)) ∙ front-append_bad longest_body (heard ++ a) b announced bad
 
 -- nothing else is to be taken of a client that waits for nothing and is owed nothing
-due-idle : (port : Port) → port.waits ≡ Nothing → port.owed ≡ [] → due port ≡ front longest_body port.heard
+due-idle : (port : Port) → port.waits ≡ Nothing → port.owed ≡ []
+    → due port ≡ front longest_body port.heard
 due-idle port waits owed = ap (λ (w : Waits). due_front w port.owed port.heard) waits ∙ ap (λ (bytes : List ℕ). due_front Nothing bytes port.heard) owed
 
-after_request : (moment : Moment) (state : State) (number : ℕ) (a b : List ℕ) (port : Port) (body_len : ℕ) → find_port number state.ports ≡ Some port → port.door ≡ Clients → port.waits ≡ Nothing → port.owed ≡ [] → front longest_body (port.heard ++ a) ≡ Whole body_len →
+after_request : (moment : Moment) (state : State) (number : ℕ) (a b : List ℕ) (port : Port) (body_len : ℕ)
+    → find_port number state.ports ≡ Some port → port.door ≡ Clients → port.waits ≡ Nothing
+    → port.owed ≡ [] → front longest_body (port.heard ++ a) ≡ Whole body_len →
     Agree moment (handle (Heard number (a ++ b)) state) (handle (Heard number a) state)
     (heard_next moment number b (handle (Heard number a) state).state)
 after_request moment state number a b port body_len found door waits owed whole =
@@ -108,7 +114,9 @@ after_request moment state number a b port body_len found door waits owed whole 
 
 -- ---- the first part holds a bad length
 
-after_bad : (moment : Moment) (state : State) (number last : ℕ) (a b : List ℕ) (port : Port) (announced : ℕ) → IsRising 0 last state.ports → find_port number state.ports ≡ Some port → port.door ≡ Clients → port.waits ≡ Nothing → port.owed ≡ [] → front longest_body (port.heard ++ a) ≡ Bad announced →
+after_bad : (moment : Moment) (state : State) (number last : ℕ) (a b : List ℕ) (port : Port) (announced : ℕ)
+    → IsRising 0 last state.ports → find_port number state.ports ≡ Some port → port.door ≡ Clients
+    → port.waits ≡ Nothing → port.owed ≡ [] → front longest_body (port.heard ++ a) ≡ Bad announced →
     Agree moment (handle (Heard number (a ++ b)) state) (handle (Heard number a) state)
     (heard_next moment number b (handle (Heard number a) state).state)
 after_bad moment state number last a b port announced rising found door waits owed bad =
@@ -129,7 +137,10 @@ after_bad moment state number last a b port announced rising found door waits ow
 -- ---- all of them
 
 -- by what stands at the front of a client's bytes that waits for nothing and is owed nothing
-by_front : (answer : Front) (moment : Moment) (state : State) (number last : ℕ) (a b : List ℕ) (port : Port) → taken_in moment state ≡ state → IsRising 0 last state.ports → find_port number state.ports ≡ Some port → port.door ≡ Clients → port.waits ≡ Nothing → port.owed ≡ [] → front longest_body (port.heard ++ a) ≡ answer →
+by_front : (answer : Front) (moment : Moment) (state : State) (number last : ℕ) (a b : List ℕ) (port : Port)
+    → taken_in moment state ≡ state → IsRising 0 last state.ports
+    → find_port number state.ports ≡ Some port → port.door ≡ Clients → port.waits ≡ Nothing
+    → port.owed ≡ [] → front longest_body (port.heard ++ a) ≡ answer →
     Agree moment (handle (Heard number (a ++ b)) state) (handle (Heard number a) state)
     (heard_next moment number b (handle (Heard number a) state).state)
 by_front (Whole body_len) moment state number last a b port same rising found door waits owed is =
@@ -140,7 +151,10 @@ by_front More moment state number last a b port same rising found door waits owe
     after_nothing moment state number a b port same found door (due-idle (heard_more a port) waits owed ∙ is)
 
 -- by what it waits for and is owed
-by_port : (waits : Waits) (owed : List ℕ) (moment : Moment) (state : State) (number last : ℕ) (a b : List ℕ) (port : Port) → taken_in moment state ≡ state → IsRising 0 last state.ports → find_port number state.ports ≡ Some port → port.door ≡ Clients → port.waits ≡ waits → port.owed ≡ owed →
+by_port : (waits : Waits) (owed : List ℕ) (moment : Moment) (state : State) (number last : ℕ) (a b : List ℕ) (port : Port)
+    → taken_in moment state ≡ state → IsRising 0 last state.ports
+    → find_port number state.ports ≡ Some port → port.door ≡ Clients → port.waits ≡ waits
+    → port.owed ≡ owed →
     Agree moment (handle (Heard number (a ++ b)) state) (handle (Heard number a) state)
     (heard_next moment number b (handle (Heard number a) state).state)
 by_port Nothing [] moment state number last a b port same rising found door waits owed =
@@ -154,7 +168,9 @@ by_port (OnConfirmation job) owed moment state number last a b port same rising 
     after_nothing moment state number a b port same found door (ap (λ (w : Waits). due_front w port.owed (port.heard ++ a)) waits)
 
 -- a port that isn't open hears nothing
-by_found : (is : Option Port) (moment : Moment) (state : State) (number last : ℕ) (a b : List ℕ) → taken_in moment state ≡ state → IsRising 0 last state.ports → find_port number state.ports ≡ is → IfSome is (λ port. port.door ≡ Clients) →
+by_found : (is : Option Port) (moment : Moment) (state : State) (number last : ℕ) (a b : List ℕ)
+    → taken_in moment state ≡ state → IsRising 0 last state.ports
+    → find_port number state.ports ≡ is → IfSome is (λ port. port.door ≡ Clients) →
     Agree moment (handle (Heard number (a ++ b)) state) (handle (Heard number a) state)
     (heard_next moment number b (handle (Heard number a) state).state)
 by_found None moment state number last a b same rising found door =
@@ -166,7 +182,9 @@ by_found (Some port) moment state number last a b same rising found door =
     by_port port.waits port.owed moment state number last a b port same rising found door refl refl
 
 -- two parts of a client's piece are the piece
-pub parts_agree : (state : State) (moment : Moment) (number : ℕ) (a b : List ℕ) → GiveTime state.under_way.limits → IsSound (at_moment moment state) → IfSome (find_port number (at_moment moment state).ports) (λ port. port.door ≡ Clients) →
+pub parts_agree : (state : State) (moment : Moment) (number : ℕ) (a b : List ℕ)
+    → GiveTime state.under_way.limits → IsSound (at_moment moment state)
+    → IfSome (find_port number (at_moment moment state).ports) (λ port. port.door ≡ Clients) →
     Agree moment (step state moment (Heard number (a ++ b))) (step state moment (Heard number a))
     (step (step state moment (Heard number a)).state moment (Heard number b))
 parts_agree state moment number a b time sound door =

@@ -23,7 +23,8 @@ use Rattle.agent_model.proofs.TimeLemmas.{on_time-step}
 
 -- ---- a moment that is taken in again
 
-taken_in-twice : (moment : Moment) (state : State) → taken_in moment (taken_in moment state) ≡ taken_in moment state
+taken_in-twice : (moment : Moment) (state : State)
+    → taken_in moment (taken_in moment state) ≡ taken_in moment state
 taken_in-twice moment state =
     let t = max state.moment.mono moment.mono in
     let once : max t moment.mono ≡ t = max-eq_left (le-max_right state.moment.mono moment.mono) in
@@ -35,8 +36,10 @@ taken_in-twice moment state =
     ap (λ n. put n (expired n (expired t state.held))) once ∙ ap (put t) (expired-twice t state.held)
 
 -- brings nothing more
-pub at_moment-taken_in : (moment : Moment) (state : State) → at_moment moment (taken_in moment state) ≡ at_moment moment state
-at_moment-taken_in moment state = ap (λ s. (and_then (lose_late s) end_late).state) (taken_in-twice moment state)
+pub at_moment-taken_in : (moment : Moment) (state : State)
+    → at_moment moment (taken_in moment state) ≡ at_moment moment state
+at_moment-taken_in moment state =
+    ap (λ s. (and_then (lose_late s) end_late).state) (taken_in-twice moment state)
 
 -- ---- two ways to agree
 
@@ -81,7 +84,8 @@ module _ (moment : Moment) (number : ℕ) (b : List ℕ) where
 -- ---- two events at one moment
 
 -- parts that agree behind the moment agree, as nothing is late as the second one comes
-pub agree-stepped : (state : State) (moment : Moment) (number : ℕ) (a b : List ℕ) → GiveTime state.under_way.limits →
+pub agree-stepped : (state : State) (moment : Moment) (number : ℕ) (a b : List ℕ)
+    → GiveTime state.under_way.limits →
     Agree moment (handle (Heard number (a ++ b)) (at_moment moment state)) (handle (Heard number a) (at_moment moment state))
     (heard_next moment number b (handle (Heard number a) (at_moment moment state)).state) →
     Agree moment (step state moment (Heard number (a ++ b))) (step state moment (Heard number a))
@@ -103,16 +107,22 @@ agree-stepped state moment number a b time parts =
 -- ---- one port
 
 -- two parts, one after the other, are heard as one
-heard-twice : (a b : List ℕ) (port : Port) → heard_more b (heard_more a port) ≡ heard_more (a ++ b) port
-heard-twice a b port = ap (λ bytes. let q : Port = record port { heard = bytes } in q) (append_assoc port.heard a b)
+heard-twice : (a b : List ℕ) (port : Port)
+    → heard_more b (heard_more a port) ≡ heard_more (a ++ b) port
+heard-twice a b port =
+    ap (λ bytes. let q : Port = record port { heard = bytes } in q) (append_assoc port.heard a b)
 
 -- among all ports
-ports-twice : (number : ℕ) (a b : List ℕ) (ports : List Port) (port : Port) → find_port number ports ≡ Some port → change_port number (heard_more b) (change_port number (heard_more a) ports) ≡ change_port number (heard_more (a ++ b)) ports
+ports-twice : (number : ℕ) (a b : List ℕ) (ports : List Port) (port : Port)
+    → find_port number ports ≡ Some port
+    → change_port number (heard_more b) (change_port number (heard_more a) ports) ≡ change_port number (heard_more (a ++ b)) ports
 ports-twice number a b ports port found =
     change_port-twice number (heard_more a) (heard_more b) ports (λ p. refl)
     ∙ change_port-by number (λ p. heard_more b (heard_more a p)) (heard_more (a ++ b)) ports port found (heard-twice a b port)
 
-pub found_more : (number : ℕ) (piece : List ℕ) (ports : List Port) (port : Port) → find_port number ports ≡ Some port → find_port number (change_port number (heard_more piece) ports) ≡ Some (heard_more piece port)
+pub found_more : (number : ℕ) (piece : List ℕ) (ports : List Port) (port : Port)
+    → find_port number ports ≡ Some port
+    → find_port number (change_port number (heard_more piece) ports) ≡ Some (heard_more piece port)
 found_more number piece ports port found =
     find_port-change_port number (heard_more piece) ports (λ p. refl) ∙ ap (option_map (heard_more piece)) found
 

@@ -37,7 +37,8 @@ use Rattle.agent_model.proofs.TimeKeptLemmas.{keeps_time-handle}
 use Rattle.agent_model.proofs.TimeLemmas.{at_moment-keeps}
 
 -- what has just begun isn't late
-not_at_once : (limit : Option ℕ) (since second : ℕ) → GivesTime limit → since ≡ second → has_lasted limit since second ≡ false
+not_at_once : (limit : Option ℕ) (since second : ℕ) → GivesTime limit → since ≡ second
+    → has_lasted limit since second ≡ false
 not_at_once None since second time now = refl
 not_at_once (Some limit) since second time now =
     let less : second < since + limit = omega (arith, time, now) in
@@ -46,25 +47,35 @@ not_at_once (Some limit) since second time now =
 -- ---- asks
 
 -- one more
-asks-push : (limit : Option ℕ) (second : ℕ) (asks : List Ask) (one : Ask) → is_one_late limit second asks ≡ false → has_lasted limit one.put_at second ≡ false → is_one_late limit second (asks ++ one ∷ []) ≡ false
-asks-push limit second [] one none prompt = or_from (has_lasted limit one.put_at second) false prompt refl
+asks-push : (limit : Option ℕ) (second : ℕ) (asks : List Ask) (one : Ask)
+    → is_one_late limit second asks ≡ false → has_lasted limit one.put_at second ≡ false
+    → is_one_late limit second (asks ++ one ∷ []) ≡ false
+asks-push limit second [] one none prompt =
+    or_from (has_lasted limit one.put_at second) false prompt refl
 asks-push limit second (ask ∷ asks) one none prompt =
     let both = or_parts (has_lasted limit ask.put_at second) (is_one_late limit second asks) none in
     or_from (has_lasted limit ask.put_at second) (is_one_late limit second (asks ++ one ∷ [])) both.0 (asks-push limit second asks one both.1 prompt)
 
 -- one less
-asks-remove : (limit : Option ℕ) (second number : ℕ) (asks : List Ask) → is_one_late limit second asks ≡ false → is_one_late limit second (remove_ask number asks) ≡ false
+asks-remove : (limit : Option ℕ) (second number : ℕ) (asks : List Ask)
+    → is_one_late limit second asks ≡ false
+    → is_one_late limit second (remove_ask number asks) ≡ false
 asks-remove limit second number [] none = refl
 asks-remove limit second number (ask ∷ asks) none =
     let both = or_parts (has_lasted limit ask.put_at second) (is_one_late limit second asks) none in
     by_test (ask.number == number) both.0 both.1 (asks-remove limit second number asks both.1)
   where
-    by_test : (is : Bool) → has_lasted limit ask.put_at second ≡ false → is_one_late limit second asks ≡ false → is_one_late limit second (remove_ask number asks) ≡ false → is_one_late limit second (cond is asks (ask ∷ remove_ask number asks)) ≡ false
+    by_test : (is : Bool) → has_lasted limit ask.put_at second ≡ false
+        → is_one_late limit second asks ≡ false
+        → is_one_late limit second (remove_ask number asks) ≡ false
+        → is_one_late limit second (cond is asks (ask ∷ remove_ask number asks)) ≡ false
     by_test true this others left = others
     by_test false this others left = or_from (has_lasted limit ask.put_at second) (is_one_late limit second (remove_ask number asks)) this left
 
 -- those that answers leave
-asks-left : (limit : Option ℕ) (second : ℕ) (settled : List Settled) (asks left : List Ask) → LeadTo settled asks left → is_one_late limit second asks ≡ false → is_one_late limit second left ≡ false
+asks-left : (limit : Option ℕ) (second : ℕ) (settled : List Settled) (asks left : List Ask)
+    → LeadTo settled asks left → is_one_late limit second asks ≡ false
+    → is_one_late limit second left ≡ false
 asks-left limit second [] asks left leads none = ap (is_one_late limit second) leads ∙ none
 asks-left limit second (one ∷ later) asks left leads none =
     asks-left limit second later (remove_ask one.ask asks) left leads.1 (asks-remove limit second one.ask asks none)
@@ -84,7 +95,8 @@ record IsPrompt (bounds : TimeLimits) (now : ℕ) (under_way : UnderWay) : Type 
 
 module _ (limits : TimeLimits) (second : ℕ) (time : GiveTime limits) where
   -- a confirmation ends
-  prompt-without : (job : ℕ) (under_way : UnderWay) → IsPrompt limits second under_way → IsPrompt limits second (without_confirmation job under_way)
+  prompt-without : (job : ℕ) (under_way : UnderWay) → IsPrompt limits second under_way
+      → IsPrompt limits second (without_confirmation job under_way)
   prompt-without job under_way prompt = record {
     limits = prompt.limits;
     second = prompt.second;
@@ -93,7 +105,8 @@ module _ (limits : TimeLimits) (second : ℕ) (time : GiveTime limits) where
   }
 
   -- an ask is put
-  prompt-asked : (errand : Errand) (asker : ℕ) (under_way : UnderWay) → IsPrompt limits second under_way → IsPrompt limits second (with_ask errand asker under_way)
+  prompt-asked : (errand : Errand) (asker : ℕ) (under_way : UnderWay)
+      → IsPrompt limits second under_way → IsPrompt limits second (with_ask errand asker under_way)
   prompt-asked errand asker under_way prompt = record {
     limits = prompt.limits;
     second = prompt.second;
@@ -102,10 +115,13 @@ module _ (limits : TimeLimits) (second : ℕ) (time : GiveTime limits) where
     user = prompt.user;
   }
 
-  prompt-served : {asker : Asker} {held : KeyState} {under_way : UnderWay} {served : Served} → IsServed asker held under_way served → IsPrompt limits second under_way → IsPrompt limits second served.work.under_way
+  prompt-served : {asker : Asker} {held : KeyState} {under_way : UnderWay} {served : Served}
+      → IsServed asker held under_way served → IsPrompt limits second under_way
+      → IsPrompt limits second served.work.under_way
   prompt-served (answered reply kept same) prompt = prompt
   prompt-served (refused cause) prompt = prompt
-  prompt-served {asker = asker} {under_way = under_way} (asked errand free right) prompt = prompt-asked errand asker.port under_way prompt
+  prompt-served {asker = asker} {under_way = under_way} (asked errand free right) prompt =
+      prompt-asked errand asker.port under_way prompt
   prompt-served {asker = asker} {under_way = under_way} (raised key signing free) prompt = record {
     limits = prompt.limits;
     second = prompt.second;
@@ -115,23 +131,31 @@ module _ (limits : TimeLimits) (second : ℕ) (time : GiveTime limits) where
         (not_at_once limits.confirmation under_way.second second time.confirmation prompt.second) ∙ prompt.user;
   }
 
-  prompt-granted : {chain : List Binding} {confirmation : Confirmation} {wall : ℕ} {held : KeyState} {under_way : UnderWay} {work : Work} → IsGranted chain confirmation wall held under_way work → IsPrompt limits second under_way → IsPrompt limits second work.under_way
+  prompt-granted : {chain : List Binding} {confirmation : Confirmation} {wall : ℕ} {held : KeyState} {under_way : UnderWay} {work : Work}
+      → IsGranted chain confirmation wall held under_way work → IsPrompt limits second under_way
+      → IsPrompt limits second work.under_way
   prompt-granted (disallowed never) prompt = prompt
   prompt-granted (unasked cause key may fault) prompt = prompt
   prompt-granted {confirmation = confirmation} {under_way = under_way} (allowed key may free) prompt =
       prompt-asked (Signs key (signing_of key confirmation)) confirmation.asker under_way prompt
 
   -- a confirmation that is changed began when it did
-  changed-prompt : (job : ℕ) (f : Confirmation → Confirmation) (all : List Confirmation) → ((c : Confirmation) → (f c).raised_at ≡ c.raised_at) → find (lasts limits.confirmation second) all ≡ None → find (lasts limits.confirmation second) (change_job job f all) ≡ None
+  changed-prompt : (job : ℕ) (f : Confirmation → Confirmation) (all : List Confirmation)
+      → ((c : Confirmation) → (f c).raised_at ≡ c.raised_at)
+      → find (lasts limits.confirmation second) all ≡ None
+      → find (lasts limits.confirmation second) (change_job job f all) ≡ None
   changed-prompt job f all began none =
       find-change_none (lasts limits.confirmation second) (has_key job_of job) f all
       (λ one fails. ap (λ since. has_lasted limits.confirmation since second) (began one) ∙ fails) none
 
-  kept-prompt : {old new : List Confirmation} → Kept old new → find (lasts limits.confirmation second) old ≡ None → find (lasts limits.confirmation second) new ≡ None
+  kept-prompt : {old new : List Confirmation} → Kept old new
+      → find (lasts limits.confirmation second) old ≡ None
+      → find (lasts limits.confirmation second) new ≡ None
   kept-prompt unchanged none = none
   kept-prompt {old = old} (altered job f faint) none = changed-prompt job f old faint.raised_at none
 
-  prompt-quiet : {event : Happening} {old new : State} → Quiet event old new → IsPrompt limits second old.under_way → IsPrompt limits second new.under_way
+  prompt-quiet : {event : Happening} {old new : State} → Quiet event old new
+      → IsPrompt limits second old.under_way → IsPrompt limits second new.under_way
   prompt-quiet (alters number f change) prompt = prompt
   prompt-quiet (closes number may) prompt = prompt
   prompt-quiet (goes_on new goes) prompt = record {
@@ -149,11 +173,15 @@ module _ (limits : TimeLimits) (second : ℕ) (time : GiveTime limits) where
     user = changed-prompt job (linked_at number) old.under_way.confirmations (λ c. refl) prompt.user;
   }
 
-  prompt-lose_if : (fault : Option LinkFault) (state : State) → IsPrompt limits second state.under_way → IsPrompt limits second (lose_if fault state).state.under_way
+  prompt-lose_if : (fault : Option LinkFault) (state : State)
+      → IsPrompt limits second state.under_way
+      → IsPrompt limits second (lose_if fault state).state.under_way
   prompt-lose_if None state prompt = prompt
-  prompt-lose_if (Some fault) state prompt = record { limits = prompt.limits; second = prompt.second; helper = refl; user = prompt.user }
+  prompt-lose_if (Some fault) state prompt =
+      record { limits = prompt.limits; second = prompt.second; helper = refl; user = prompt.user }
 
-  prompt-makes : {event : Happening} {old : State} {outcome : Outcome} → Makes event old outcome → IsPrompt limits second old.under_way → IsPrompt limits second outcome.state.under_way
+  prompt-makes : {event : Happening} {old : State} {outcome : Outcome} → Makes event old outcome
+      → IsPrompt limits second old.under_way → IsPrompt limits second outcome.state.under_way
   prompt-makes (stays state) prompt = prompt
   prompt-makes (first quiet rest) prompt = prompt-makes rest (prompt-quiet quiet prompt)
   prompt-makes (serves body_len port state found door nothing owed own) prompt =
@@ -167,13 +195,16 @@ module _ (limits : TimeLimits) (second : ℕ) (time : GiveTime limits) where
             (settling_leads (state.under_way.link.heard ++ piece) state.under_way.link.asks) prompt.helper;
         user = prompt.user;
       }
-  prompt-makes (loses state) prompt = record { limits = prompt.limits; second = prompt.second; helper = refl; user = prompt.user }
-  prompt-makes (overs confirmation state there) prompt = prompt-without confirmation.job state.under_way prompt
+  prompt-makes (loses state) prompt =
+      record { limits = prompt.limits; second = prompt.second; helper = refl; user = prompt.user }
+  prompt-makes (overs confirmation state there) prompt =
+      prompt-without confirmation.job state.under_way prompt
   prompt-makes (grants confirmation port state there opened) prompt =
       prompt-granted (grant-ends port.chain confirmation state) (prompt-without confirmation.job state.under_way prompt)
 
   -- whatever happens
-  prompt-handle : (event : Happening) (state : State) → IsPrompt limits second state.under_way → IsPrompt limits second (handle event state).state.under_way
+  prompt-handle : (event : Happening) (state : State) → IsPrompt limits second state.under_way
+      → IsPrompt limits second (handle event state).state.under_way
   prompt-handle event state =
       by_event (λ outcome. IsPrompt limits second state.under_way → IsPrompt limits second outcome.state.under_way) event state
       (λ door prompt. prompt) (λ outcome. prompt-makes)
@@ -181,7 +212,8 @@ module _ (limits : TimeLimits) (second : ℕ) (time : GiveTime limits) where
 -- ---- an event at its moment
 
 -- where each limit gives time nothing is late behind an event, at the same moment
-pub step-on_time : (moment : Moment) (state : State) (event : Happening) → GiveTime state.under_way.limits → IsOnTime moment (step state moment event).state
+pub step-on_time : (moment : Moment) (state : State) (event : Happening)
+    → GiveTime state.under_way.limits → IsOnTime moment (step state moment event).state
 step-on_time moment state event time =
     let after : State = (handle event opened).state in
     let prompt = prompt-handle state.under_way.limits now time event opened prompt_opened in

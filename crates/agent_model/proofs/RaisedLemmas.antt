@@ -30,24 +30,31 @@ use Rattle.agent_model.proofs.TieLemmas.{IsOf, apart, found_after, found_joined,
 abbrev pub Fewer : List Port → List Port → Type 0
 Fewer old new = (number : ℕ) (port : Port) → find_port number new ≡ Some port → (was : Port) × (find_port number old ≡ Some was) × (port.waits ≡ was.waits) × (was.owed ≡ [] → port.owed ≡ []) × (port.door ≡ was.door)
 
-pub fewer-changed : (at : ℕ) (f : Port → Port) (ports : List Port) → IsMild f → Fewer ports (change_port at f ports)
+pub fewer-changed : (at : ℕ) (f : Port → Port) (ports : List Port) → IsMild f
+    → Fewer ports (change_port at f ports)
 fewer-changed at f ports mild number port found = by_port (found_after number at f ports port mild.number found)
   where
-    by_port : IsOf number at f ports port → (was : Port) × (find_port number ports ≡ Some was) × (port.waits ≡ was.waits) × (was.owed ≡ [] → port.owed ≡ []) × (port.door ≡ was.door)
+    by_port : IsOf number at f ports port
+        → (was : Port) × (find_port number ports ≡ Some was) × (port.waits ≡ was.waits) × (was.owed ≡ [] → port.owed ≡ []) × (port.door ≡ was.door)
     by_port (here old equal was is) = (old, was, ap (λ (p : Port). p.waits) is ∙ mild.waits old, λ none. ap (λ (p : Port). p.owed) is ∙ mild.owed old none, ap (λ (p : Port). p.door) is ∙ mild.door old)
     by_port (apart other was) = (port, was, refl, λ none. none, refl)
 
-pub fewer-removed : (at low high : ℕ) (ports : List Port) → IsRising low high ports → Fewer ports (remove_port at ports)
+pub fewer-removed : (at low high : ℕ) (ports : List Port) → IsRising low high ports
+    → Fewer ports (remove_port at ports)
 fewer-removed at low high ports rising number port found =
     (port, find_port-left number at low high ports port rising found, refl, λ none. none, refl)
 
-pub fewer-closed : (at : Option ℕ) (low high : ℕ) (ports : List Port) → IsRising low high ports → Fewer ports (close_confirmer at ports)
+pub fewer-closed : (at : Option ℕ) (low high : ℕ) (ports : List Port) → IsRising low high ports
+    → Fewer ports (close_confirmer at ports)
 fewer-closed None low high ports rising number port found = (port, found, refl, λ none. none, refl)
-fewer-closed (Some at) low high ports rising number port found = fewer-removed at low high ports rising number port found
+fewer-closed (Some at) low high ports rising number port found =
+    fewer-removed at low high ports rising number port found
 
 -- ---- where the list of confirmations stays
 
-pub raised-fewer : {confirmations : List Confirmation} {last_job last_port : ℕ} (old new : List Port) → Fewer old new → AreRaised confirmations last_job old last_port → AreRaised confirmations last_job new last_port
+pub raised-fewer : {confirmations : List Confirmation} {last_job last_port : ℕ} (old new : List Port)
+    → Fewer old new → AreRaised confirmations last_job old last_port
+    → AreRaised confirmations last_job new last_port
 raised-fewer old new fewer raised = record {
   order = raised.order;
   asking = record {
@@ -67,7 +74,10 @@ raised-fewer old new fewer raised = record {
 }
 
 -- more jobs and ports may come
-pub raised-later : {confirmations : List Confirmation} {ports : List Port} (last_job more_jobs last_port more_ports : ℕ) → last_job ≤ more_jobs → last_port ≤ more_ports → AreRaised confirmations last_job ports last_port → AreRaised confirmations more_jobs ports more_ports
+pub raised-later : {confirmations : List Confirmation} {ports : List Port} (last_job more_jobs last_port more_ports : ℕ)
+    → last_job ≤ more_jobs → last_port ≤ more_ports
+    → AreRaised confirmations last_job ports last_port
+    → AreRaised confirmations more_jobs ports more_ports
 raised-later {confirmations = confirmations} last_job more_jobs last_port more_ports jobs numbers raised = record {
   order = jobs-higher 0 confirmations last_job more_jobs jobs raised.order;
   asking = raised.asking;
@@ -77,7 +87,9 @@ raised-later {confirmations = confirmations} last_job more_jobs last_port more_p
 }
 
 -- a port that joins waits for nothing
-pub raised-joined : {confirmations : List Confirmation} {last_job : ℕ} (last : ℕ) (door : Door) (ports : List Port) → AreRaised confirmations last_job ports last → AreRaised confirmations last_job (ports ++ new_port (suc last) door ∷ []) (suc last)
+pub raised-joined : {confirmations : List Confirmation} {last_job : ℕ} (last : ℕ) (door : Door) (ports : List Port)
+    → AreRaised confirmations last_job ports last
+    → AreRaised confirmations last_job (ports ++ new_port (suc last) door ∷ []) (suc last)
 raised-joined {confirmations = confirmations} last door ports raised = record {
   order = raised.order;
   asking = record {
@@ -89,13 +101,19 @@ raised-joined {confirmations = confirmations} last door ports raised = record {
   known = λ job number one found at. omega (arith, raised.known job number one found at);
 }
   where
-    by_port : (number job : ℕ) (port : Port) → (find_port number ports ≡ Some port) ⊎ (port ≡ new_port (suc last) door) → port.waits ≡ OnConfirmation job → IsAsking number job port confirmations
+    by_port : (number job : ℕ) (port : Port)
+        → (find_port number ports ≡ Some port) ⊎ (port ≡ new_port (suc last) door)
+        → port.waits ≡ OnConfirmation job → IsAsking number job port confirmations
     by_port number job port (inl was) is = raised.asking.waits number job port was is
     by_port number job port (inr new) is = let waits : Nothing ≡ OnConfirmation job = sym (ap (λ (p : Port). p.waits) new) ∙ is in absurd (cc)
 
 module _ {confirmations : List Confirmation} {last_job last_port : ℕ} (ports : List Port) (raised : AreRaised confirmations last_job ports last_port) where
   -- a client that doesn't wait for consent is told something else
-  pub raised-silent : (number : ℕ) (f : Port → Port) → ((port : Port) → find_port number ports ≡ Some port → (job : ℕ) → port.waits ≢ OnConfirmation job) → ((p : Port) → (f p).number ≡ p.number) → ((p : Port) → (f p).door ≡ p.door) → ((p : Port) (job : ℕ) → (f p).waits ≢ OnConfirmation job) → AreRaised confirmations last_job (change_port number f ports) last_port
+  pub raised-silent : (number : ℕ) (f : Port → Port)
+      → ((port : Port) → find_port number ports ≡ Some port → (job : ℕ) → port.waits ≢ OnConfirmation job)
+      → ((p : Port) → (f p).number ≡ p.number) → ((p : Port) → (f p).door ≡ p.door)
+      → ((p : Port) (job : ℕ) → (f p).waits ≢ OnConfirmation job)
+      → AreRaised confirmations last_job (change_port number f ports) last_port
   raised-silent number f before keeps doors silent = record {
     order = raised.order;
     asking = record {
@@ -107,22 +125,31 @@ module _ {confirmations : List Confirmation} {last_job last_port : ℕ} (ports :
     known = raised.known;
   }
     where
-      by_port : (n job : ℕ) (p : Port) → IsOf n number f ports p → p.waits ≡ OnConfirmation job → IsAsking n job p confirmations
-      by_port n job p (here old same was is) waits = absurd (silent old job (ap (λ (q : Port). q.waits) (sym is) ∙ waits))
+      by_port : (n job : ℕ) (p : Port) → IsOf n number f ports p → p.waits ≡ OnConfirmation job
+          → IsAsking n job p confirmations
+      by_port n job p (here old same was is) waits =
+          absurd (silent old job (ap (λ (q : Port). q.waits) (sym is) ∙ waits))
       by_port n job p (apart other was) waits = raised.asking.waits n job p was waits
 
-      by_asker : (job : ℕ) (one : Confirmation) (p : Port) → find_job job confirmations ≡ Some one → IsOf one.asker number f ports p → p.waits ≡ OnConfirmation job
+      by_asker : (job : ℕ) (one : Confirmation) (p : Port) → find_job job confirmations ≡ Some one
+          → IsOf one.asker number f ports p → p.waits ≡ OnConfirmation job
       by_asker job one p was (here old same found is) =
           absurd (before old (ap (λ n. find_port n ports) (sym same) ∙ found) job (raised.asking.asks job one old was found))
       by_asker job one p was (apart other found) = raised.asking.asks job one p was found
 
-      by_confirmer : (job n : ℕ) (one : Confirmation) (p : Port) → find_job job confirmations ≡ Some one → one.port ≡ Some n → IsOf n number f ports p → p.door ≡ Children
+      by_confirmer : (job n : ℕ) (one : Confirmation) (p : Port)
+          → find_job job confirmations ≡ Some one → one.port ≡ Some n → IsOf n number f ports p
+          → p.door ≡ Children
       by_confirmer job n one p there at (here old same was is) =
           ap (λ (q : Port). q.door) is ∙ doors old ∙ raised.confirmers job n one old there at was
-      by_confirmer job n one p there at (apart other was) = raised.confirmers job n one p there at was
+      by_confirmer job n one p there at (apart other was) =
+          raised.confirmers job n one p there at was
 
   -- a confirmation is changed, and perhaps linked to a port of a child process
-  pub raised-change : (at : ℕ) (f : Confirmation → Confirmation) → ((c : Confirmation) → (f c).job ≡ c.job) → ((c : Confirmation) → (f c).asker ≡ c.asker) → ((c : Confirmation) (n : ℕ) → (f c).port ≡ Some n → (c.port ≡ Some n) ⊎ (((port : Port) → find_port n ports ≡ Some port → port.door ≡ Children) × (n ≤ last_port))) → AreRaised (change_job at f confirmations) last_job ports last_port
+  pub raised-change : (at : ℕ) (f : Confirmation → Confirmation)
+      → ((c : Confirmation) → (f c).job ≡ c.job) → ((c : Confirmation) → (f c).asker ≡ c.asker)
+      → ((c : Confirmation) (n : ℕ) → (f c).port ≡ Some n → (c.port ≡ Some n) ⊎ (((port : Port) → find_port n ports ≡ Some port → port.door ≡ Children) × (n ≤ last_port)))
+      → AreRaised (change_job at f confirmations) last_job ports last_port
   raised-change at f jobs whose places = record {
     order = jobs-change at 0 f confirmations last_job jobs raised.order;
     asking = record {
@@ -149,20 +176,33 @@ module _ {confirmations : List Confirmation} {last_job last_port : ℕ} (ports :
       same_asker one was (inl same) = ap (λ (c : Confirmation). c.asker) same
       same_asker one was (inr changed) = ap (λ (c : Confirmation). c.asker) changed ∙ whose was
 
-      place : (one was : Confirmation) (number : ℕ) → (one ≡ was) ⊎ (one ≡ f was) → one.port ≡ Some number → (was.port ≡ Some number) ⊎ (((port : Port) → find_port number ports ≡ Some port → port.door ≡ Children) × (number ≤ last_port))
+      place : (one was : Confirmation) (number : ℕ) → (one ≡ was) ⊎ (one ≡ f was)
+          → one.port ≡ Some number
+          → (was.port ≡ Some number) ⊎ (((port : Port) → find_port number ports ≡ Some port → port.door ≡ Children) × (number ≤ last_port))
       place one was number (inl same) is = inl (ap (λ (c : Confirmation). c.port) (sym same) ∙ is)
-      place one was number (inr changed) is = places was number (ap (λ (c : Confirmation). c.port) (sym changed) ∙ is)
+      place one was number (inr changed) is =
+          places was number (ap (λ (c : Confirmation). c.port) (sym changed) ∙ is)
 
-      by_place : (job number : ℕ) (was : Confirmation) (port : Port) → find_job job confirmations ≡ Some was → find_port number ports ≡ Some port → (was.port ≡ Some number) ⊎ (((port : Port) → find_port number ports ≡ Some port → port.door ≡ Children) × (number ≤ last_port)) → port.door ≡ Children
-      by_place job number was port there found (inl at_it) = raised.confirmers job number was port there at_it found
+      by_place : (job number : ℕ) (was : Confirmation) (port : Port)
+          → find_job job confirmations ≡ Some was → find_port number ports ≡ Some port
+          → (was.port ≡ Some number) ⊎ (((port : Port) → find_port number ports ≡ Some port → port.door ≡ Children) × (number ≤ last_port))
+          → port.door ≡ Children
+      by_place job number was port there found (inl at_it) =
+          raised.confirmers job number was port there at_it found
       by_place job number was port there found (inr new) = new.0 port found
 
-      by_known : (job number : ℕ) (was : Confirmation) → find_job job confirmations ≡ Some was → (was.port ≡ Some number) ⊎ (((port : Port) → find_port number ports ≡ Some port → port.door ≡ Children) × (number ≤ last_port)) → number ≤ last_port
+      by_known : (job number : ℕ) (was : Confirmation) → find_job job confirmations ≡ Some was
+          → (was.port ≡ Some number) ⊎ (((port : Port) → find_port number ports ≡ Some port → port.door ≡ Children) × (number ≤ last_port))
+          → number ≤ last_port
       by_known job number was there (inl at_it) = raised.known job number was there at_it
       by_known job number was there (inr new) = new.1
 
   -- the asker is told that its confirmation is over, or that its ask is put
-  pub raised-over : (confirmation : Confirmation) (f : Port → Port) → find_job confirmation.job confirmations ≡ Some confirmation → ((p : Port) → (f p).number ≡ p.number) → ((p : Port) → (f p).door ≡ p.door) → ((p : Port) (job : ℕ) → (f p).waits ≢ OnConfirmation job) → AreRaised (remove_job confirmation.job confirmations) last_job (change_port confirmation.asker f ports) last_port
+  pub raised-over : (confirmation : Confirmation) (f : Port → Port)
+      → find_job confirmation.job confirmations ≡ Some confirmation
+      → ((p : Port) → (f p).number ≡ p.number) → ((p : Port) → (f p).door ≡ p.door)
+      → ((p : Port) (job : ℕ) → (f p).waits ≢ OnConfirmation job)
+      → AreRaised (remove_job confirmation.job confirmations) last_job (change_port confirmation.asker f ports) last_port
   raised-over confirmation f is_there keeps doors silent = record {
     order = jobs-remove confirmation.job 0 confirmations last_job raised.order;
     asking = record {
@@ -174,18 +214,26 @@ module _ {confirmations : List Confirmation} {last_job last_port : ℕ} (ports :
     known = λ job n one left at. raised.known job n one (left_of job one left).1 at;
   }
     where
-      removed : (job : ℕ) → find_job job (remove_job confirmation.job confirmations) ≡ cond (confirmation.job == job) None (find_job job confirmations)
+      removed : (job : ℕ)
+          → find_job job (remove_job confirmation.job confirmations) ≡ cond (confirmation.job == job) None (find_job job confirmations)
       removed job = find_job-remove job confirmation.job 0 confirmations last_job raised.order
 
-      left_of : (job : ℕ) (one : Confirmation) → find_job job (remove_job confirmation.job confirmations) ≡ Some one → (confirmation.job ≢ job) × (find_job job confirmations ≡ Some one)
+      left_of : (job : ℕ) (one : Confirmation)
+          → find_job job (remove_job confirmation.job confirmations) ≡ Some one
+          → (confirmation.job ≢ job) × (find_job job confirmations ≡ Some one)
       left_of job one left = by_test (confirmation.job == job) refl (sym (removed job) ∙ left)
         where
-          by_test : (same : Bool) → (confirmation.job == job) ≡ same → cond same None (find_job job confirmations) ≡ Some one → (confirmation.job ≢ job) × (find_job job confirmations ≡ Some one)
+          by_test : (same : Bool) → (confirmation.job == job) ≡ same
+              → cond same None (find_job job confirmations) ≡ Some one
+              → (confirmation.job ≢ job) × (find_job job confirmations ≡ Some one)
           by_test true is some = absurd (cc)
           by_test false is some = (λ equal. grind (arith, nat_tests), some)
 
-      by_port : (n job : ℕ) (p : Port) → IsOf n confirmation.asker f ports p → p.waits ≡ OnConfirmation job → IsAsking n job p (remove_job confirmation.job confirmations)
-      by_port n job p (here old same was is) waits = absurd (silent old job (ap (λ (q : Port). q.waits) (sym is) ∙ waits))
+      by_port : (n job : ℕ) (p : Port) → IsOf n confirmation.asker f ports p
+          → p.waits ≡ OnConfirmation job
+          → IsAsking n job p (remove_job confirmation.job confirmations)
+      by_port n job p (here old same was is) waits =
+          absurd (silent old job (ap (λ (q : Port). q.waits) (sym is) ∙ waits))
       by_port n job p (apart other was) waits =
           let asks = raised.asking.waits n job p was waits in
           let differs : confirmation.job ≢ job = λ same.
@@ -200,7 +248,9 @@ module _ {confirmations : List Confirmation} {last_job last_port : ℕ} (ports :
             door = asks.door;
           }
 
-      by_asker : (job : ℕ) (one : Confirmation) (p : Port) → (confirmation.job ≢ job) × (find_job job confirmations ≡ Some one) → IsOf one.asker confirmation.asker f ports p → p.waits ≡ OnConfirmation job
+      by_asker : (job : ℕ) (one : Confirmation) (p : Port)
+          → (confirmation.job ≢ job) × (find_job job confirmations ≡ Some one)
+          → IsOf one.asker confirmation.asker f ports p → p.waits ≡ OnConfirmation job
       by_asker job one p left (here old same was is) =
           let first : old.waits ≡ OnConfirmation job = raised.asking.asks job one old left.1 was in
           let second : old.waits ≡ OnConfirmation confirmation.job = raised.asking.asks confirmation.job confirmation old is_there (ap (λ n. find_port n ports) (sym same) ∙ was) in
@@ -209,13 +259,23 @@ module _ {confirmations : List Confirmation} {last_job last_port : ℕ} (ports :
           absurd (left.0 equal)
       by_asker job one p left (apart other was) = raised.asking.asks job one p left.1 was
 
-      by_confirmer : (job n : ℕ) (one : Confirmation) (p : Port) → find_job job confirmations ≡ Some one → one.port ≡ Some n → IsOf n confirmation.asker f ports p → p.door ≡ Children
+      by_confirmer : (job n : ℕ) (one : Confirmation) (p : Port)
+          → find_job job confirmations ≡ Some one → one.port ≡ Some n
+          → IsOf n confirmation.asker f ports p → p.door ≡ Children
       by_confirmer job n one p there at (here old same was is) =
           ap (λ (q : Port). q.door) is ∙ doors old ∙ raised.confirmers job n one old there at was
-      by_confirmer job n one p there at (apart other was) = raised.confirmers job n one p there at was
+      by_confirmer job n one p there at (apart other was) =
+          raised.confirmers job n one p there at was
 
   -- a client that waits for nothing and is owed nothing is to be confirmed something
-  pub raised-raised : (number : ℕ) (new : Confirmation) (port : Port) (f : Port → Port) → new.job ≡ last_job + 1 → new.asker ≡ number → new.port ≡ None → number ≤ last_port → find_port number ports ≡ Some port → port.waits ≡ Nothing → port.owed ≡ [] → port.door ≡ Clients → ((p : Port) → (f p).number ≡ p.number) → ((p : Port) → (f p).door ≡ p.door) → ((p : Port) → (f p).waits ≡ OnConfirmation (last_job + 1)) → ((p : Port) → p.owed ≡ [] → (f p).owed ≡ []) → AreRaised (confirmations ++ new ∷ []) (last_job + 1) (change_port number f ports) last_port
+  pub raised-raised : (number : ℕ) (new : Confirmation) (port : Port) (f : Port → Port)
+      → new.job ≡ last_job + 1 → new.asker ≡ number → new.port ≡ None → number ≤ last_port
+      → find_port number ports ≡ Some port → port.waits ≡ Nothing → port.owed ≡ []
+      → port.door ≡ Clients → ((p : Port) → (f p).number ≡ p.number)
+      → ((p : Port) → (f p).door ≡ p.door)
+      → ((p : Port) → (f p).waits ≡ OnConfirmation (last_job + 1))
+      → ((p : Port) → p.owed ≡ [] → (f p).owed ≡ [])
+      → AreRaised (confirmations ++ new ∷ []) (last_job + 1) (change_port number f ports) last_port
   raised-raised number new port f numbered for_it nowhere within there nothing owed door keeps doors waits owes = record {
     order = jobs-push 0 new confirmations last_job numbered raised.order;
     asking = record {
@@ -227,13 +287,17 @@ module _ {confirmations : List Confirmation} {last_job last_port : ℕ} (ports :
     known = λ job n one found at. raised.known job n one (linked (new.job == job) job n one (sym (pushed job) ∙ found) at) at;
   }
     where
-      pushed : (job : ℕ) → find_job job (confirmations ++ new ∷ []) ≡ cond (new.job == job) (Some new) (find_job job confirmations)
-      pushed job = find_job-push job 0 new confirmations last_job raised.order (omega (arith, numbered))
+      pushed : (job : ℕ)
+          → find_job job (confirmations ++ new ∷ []) ≡ cond (new.job == job) (Some new) (find_job job confirmations)
+      pushed job =
+          find_job-push job 0 new confirmations last_job raised.order (omega (arith, numbered))
 
       is_port : (n : ℕ) (old : Port) → n ≡ number → find_port n ports ≡ Some old → old ≡ port
-      is_port n old same was = let is : Some old ≡ Some port = sym was ∙ ap (λ m. find_port m ports) same ∙ there in cc
+      is_port n old same was =
+          let is : Some old ≡ Some port = sym was ∙ ap (λ m. find_port m ports) same ∙ there in cc
 
-      by_port : (n job : ℕ) (p : Port) → IsOf n number f ports p → p.waits ≡ OnConfirmation job → IsAsking n job p (confirmations ++ new ∷ [])
+      by_port : (n job : ℕ) (p : Port) → IsOf n number f ports p → p.waits ≡ OnConfirmation job
+          → IsAsking n job p (confirmations ++ new ∷ [])
       by_port n job p (here old same was is) waiting =
           let number_is : OnConfirmation (last_job + 1) ≡ OnConfirmation job = sym (waits old) ∙ ap (λ (q : Port). q.waits) (sym is) ∙ waiting in
           let equal : last_job + 1 ≡ job = cc in
@@ -243,8 +307,10 @@ module _ {confirmations : List Confirmation} {last_job last_port : ℕ} (ports :
             confirmation = new;
             found = pushed job ∙ ap (λ b. cond b (Some new) (find_job job confirmations)) test;
             asker = for_it ∙ sym same;
-            owed = ap (λ (q : Port). q.owed) is ∙ owes old (ap (λ (q : Port). q.owed) old_is ∙ owed);
-            door = ap (λ (q : Port). q.door) is ∙ doors old ∙ ap (λ (q : Port). q.door) old_is ∙ door;
+            owed =
+                ap (λ (q : Port). q.owed) is ∙ owes old (ap (λ (q : Port). q.owed) old_is ∙ owed);
+            door =
+                ap (λ (q : Port). q.door) is ∙ doors old ∙ ap (λ (q : Port). q.door) old_is ∙ door;
           }
       by_port n job p (apart other was) waiting =
           let asks = raised.asking.waits n job p was waiting in
@@ -257,7 +323,9 @@ module _ {confirmations : List Confirmation} {last_job last_port : ℕ} (ports :
             door = asks.door;
           }
 
-      by_asker : (same : Bool) (job : ℕ) (one : Confirmation) (p : Port) → (new.job == job) ≡ same → cond same (Some new) (find_job job confirmations) ≡ Some one → IsOf one.asker number f ports p → p.waits ≡ OnConfirmation job
+      by_asker : (same : Bool) (job : ℕ) (one : Confirmation) (p : Port) → (new.job == job) ≡ same
+          → cond same (Some new) (find_job job confirmations) ≡ Some one
+          → IsOf one.asker number f ports p → p.waits ≡ OnConfirmation job
       by_asker true job one p equal some (here old same was at) =
           let number_is : last_job + 1 ≡ job = grind (arith, nat_tests) in
           ap (λ (q : Port). q.waits) at ∙ waits old ∙ ap OnConfirmation number_is
@@ -269,29 +337,39 @@ module _ {confirmations : List Confirmation} {last_job last_port : ℕ} (ports :
           absurd (cc)
       by_asker false job one p equal some (apart other was) = raised.asking.asks job one p some was
 
-      by_known : (same : Bool) (job : ℕ) (one : Confirmation) → cond same (Some new) (find_job job confirmations) ≡ Some one → one.asker ≤ last_port
+      by_known : (same : Bool) (job : ℕ) (one : Confirmation)
+          → cond same (Some new) (find_job job confirmations) ≡ Some one → one.asker ≤ last_port
       by_known true job one some = let is_new : new ≡ one = cc in omega (arith, within, for_it, ap (λ (c : Confirmation). c.asker) is_new)
       by_known false job one some = raised.askers job one some
 
       -- it isn't the new one that is at a port
-      linked : (same : Bool) (job n : ℕ) (one : Confirmation) → cond same (Some new) (find_job job confirmations) ≡ Some one → one.port ≡ Some n → find_job job confirmations ≡ Some one
+      linked : (same : Bool) (job n : ℕ) (one : Confirmation)
+          → cond same (Some new) (find_job job confirmations) ≡ Some one → one.port ≡ Some n
+          → find_job job confirmations ≡ Some one
       linked true job n one some at =
           let is_new : new ≡ one = cc in
           let no : None ≡ Some n = sym nowhere ∙ ap (λ (c : Confirmation). c.port) is_new ∙ at in
           absurd (cc)
       linked false job n one some at = some
 
-      by_confirmer : (job n : ℕ) (one : Confirmation) (p : Port) → find_job job confirmations ≡ Some one → one.port ≡ Some n → IsOf n number f ports p → p.door ≡ Children
+      by_confirmer : (job n : ℕ) (one : Confirmation) (p : Port)
+          → find_job job confirmations ≡ Some one → one.port ≡ Some n → IsOf n number f ports p
+          → p.door ≡ Children
       by_confirmer job n one p was at (here old same found is) =
           ap (λ (q : Port). q.door) is ∙ doors old ∙ raised.confirmers job n one old was at found
-      by_confirmer job n one p was at (apart other found) = raised.confirmers job n one p was at found
+      by_confirmer job n one p was at (apart other found) =
+          raised.confirmers job n one p was at found
 
-pub raised-kept : {old new : List Confirmation} {last_job last_port : ℕ} (ports : List Port) → Kept old new → AreRaised old last_job ports last_port → AreRaised new last_job ports last_port
+pub raised-kept : {old new : List Confirmation} {last_job last_port : ℕ} (ports : List Port)
+    → Kept old new → AreRaised old last_job ports last_port → AreRaised new last_job ports last_port
 raised-kept ports unchanged raised = raised
 raised-kept ports (altered job f faint) raised =
     raised-change ports raised job f faint.job faint.asker (λ c n is. inl (sym (faint.port c) ∙ is))
 
-pub raised-linked : {confirmations : List Confirmation} {last_job last_port : ℕ} (ports : List Port) (job number : ℕ) → ((port : Port) → find_port number ports ≡ Some port → port.door ≡ Children) → number ≤ last_port → AreRaised confirmations last_job ports last_port → AreRaised (change_job job (linked_at number) confirmations) last_job ports last_port
+pub raised-linked : {confirmations : List Confirmation} {last_job last_port : ℕ} (ports : List Port) (job number : ℕ)
+    → ((port : Port) → find_port number ports ≡ Some port → port.door ≡ Children)
+    → number ≤ last_port → AreRaised confirmations last_job ports last_port
+    → AreRaised (change_job job (linked_at number) confirmations) last_job ports last_port
 raised-linked {last_port = last_port} ports job number child within raised =
     raised-change ports raised job (linked_at number) (λ c. refl) (λ c. refl) (λ c n is.
     let same : number ≡ n = cc in
@@ -301,7 +379,10 @@ raised-linked {last_port = last_port} ports job number child within raised =
 
 module _ {confirmations : List Confirmation} {last_job last_port : ℕ} (low last : ℕ) where
   -- who is answered waits for an ask
-  pub raised-answers : (settled : List Settled) (before : Answering) (asks left : List Ask) → LeadTo settled asks left → RiseTo low asks last → AreTied before.ports asks → AreRaised confirmations last_job before.ports last_port → AreRaised confirmations last_job (answer_all settled before).ports last_port
+  pub raised-answers : (settled : List Settled) (before : Answering) (asks left : List Ask)
+      → LeadTo settled asks left → RiseTo low asks last → AreTied before.ports asks
+      → AreRaised confirmations last_job before.ports last_port
+      → AreRaised confirmations last_job (answer_all settled before).ports last_port
   raised-answers [] before asks left leads rise tied raised = raised
   raised-answers (one ∷ later) before asks left leads rise tied raised =
       let told = answers_as one.answer one before in
@@ -311,7 +392,9 @@ module _ {confirmations : List Confirmation} {last_job last_port : ℕ} (low las
       (λ port opened job is. let no : OnAsk one.ask ≡ OnConfirmation job = sym (tied.asks one.ask _ port leads.0.found opened) ∙ is in absurd (cc))
       told.number told.door (λ p job is. let no : Nothing ≡ OnConfirmation job = sym (told.waits p) ∙ is in absurd (cc))))
 
-pub raised-lost : {confirmations : List Confirmation} {last_job last_port : ℕ} (low last : ℕ) (asks : List Ask) (ports : List Port) → RiseTo low asks last → AreTied ports asks → AreRaised confirmations last_job ports last_port → AreRaised confirmations last_job (tell_each (Refuses HelperLost) (askers asks) ports) last_port
+pub raised-lost : {confirmations : List Confirmation} {last_job last_port : ℕ} (low last : ℕ) (asks : List Ask) (ports : List Port)
+    → RiseTo low asks last → AreTied ports asks → AreRaised confirmations last_job ports last_port
+    → AreRaised confirmations last_job (tell_each (Refuses HelperLost) (askers asks) ports) last_port
 raised-lost low last [] ports rise tied raised = raised
 raised-lost low last (one ∷ asks) ports rise tied raised =
     let first : find_ask one.number (one ∷ asks) ≡ Some one = grind (arith, nat_tests) in

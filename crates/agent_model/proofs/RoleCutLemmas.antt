@@ -37,7 +37,8 @@ module _ (state : State) (moment : Moment) (number : ℕ) (a b : List ℕ) (time
   by_role (Confirmer confirmation) port found is both =
       confirmer_parts_agree state moment number a b port confirmation time both.0 both.1 found is
 
-  by_found : (there : Option Port) → find_port number start.ports ≡ there → MayBeCut there start → AgreeInParts
+  by_found : (there : Option Port) → find_port number start.ports ≡ there → MayBeCut there start
+      → AgreeInParts
   by_found None found sound =
       parts_agree state moment number a b time sound (subst (λ f. IfSome f (λ p. p.door ≡ Clients)) (sym found) tt)
   by_found (Some port) found may =

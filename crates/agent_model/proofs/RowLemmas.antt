@@ -29,15 +29,19 @@ plain state (event ∷ later) = plain (plain_at (moment_at 0) event state) later
 abbrev HasNone : State → Type 0
 HasNone state = state.under_way.limits ≡ no_limits
 
-plain-keeps : (moment : Moment) (event : Happening) (state : State) → HasNone state → HasNone (plain_at moment event state)
-plain-keeps moment event state none = (keeps_time-handle event (taken_in moment state)).limits ∙ none
+plain-keeps : (moment : Moment) (event : Happening) (state : State) → HasNone state
+    → HasNone (plain_at moment event state)
+plain-keeps moment event state none =
+    (keeps_time-handle event (taken_in moment state)).limits ∙ none
 
-step-plain : (moment : Moment) (event : Happening) (state : State) → HasNone state → (step state moment event).state ≡ plain_at moment event state
+step-plain : (moment : Moment) (event : Happening) (state : State) → HasNone state
+    → (step state moment event).state ≡ plain_at moment event state
 step-plain moment event state none =
     ap (λ (o : Outcome). o.state) (on_time-step moment state event
     (unlimited-on_time moment state (ap (λ (l : TimeLimits). l.ask) none) (ap (λ (l : TimeLimits). l.confirmation) none)))
 
-then-plain : (state : State) (events : List Happening) → HasNone state → then state events ≡ plain state events
+then-plain : (state : State) (events : List Happening) → HasNone state
+    → then state events ≡ plain state events
 then-plain state [] none = refl
 then-plain state (event ∷ later) none =
     ap (λ s. then s later) (step-plain (moment_at 0) event state none)
@@ -67,7 +71,8 @@ plain_unanswered (suc count) =
 
 unanswered-keeps : (count : ℕ) → HasNone (plain_unanswered count)
 unanswered-keeps zero = many-keep (first_state no_settings) asks_begin refl
-unanswered-keeps (suc count) = many-keep (plain_unanswered count) (one_asks count) (unanswered-keeps count)
+unanswered-keeps (suc count) =
+    many-keep (plain_unanswered count) (one_asks count) (unanswered-keeps count)
 
 unanswered-plain : (count : ℕ) → unanswered count ≡ plain_unanswered count
 unanswered-plain zero = then-plain (first_state no_settings) asks_begin refl
@@ -76,7 +81,8 @@ unanswered-plain (suc count) =
     ∙ then-plain (plain_unanswered count) (one_asks count) (unanswered-keeps count)
 
 -- and then an event
-pub event-plain : (count : ℕ) (event : Happening) → with_event event (unanswered count) ≡ plain_at (moment_at 0) event (plain_unanswered count)
+pub event-plain : (count : ℕ) (event : Happening)
+    → with_event event (unanswered count) ≡ plain_at (moment_at 0) event (plain_unanswered count)
 event-plain count event =
     ap (with_event event) (unanswered-plain count) ∙ step-plain (moment_at 0) event (plain_unanswered count) (unanswered-keeps count)
 
@@ -113,7 +119,8 @@ bound-plain =
     (step-plain (moment_of 0 150) (Heard 1 sign_login) before_login (many-keep (first_state no_settings) binds refl))
     ∙ then-plain (plain_at (moment_of 0 150) (Heard 1 sign_login) before_login) child_comes login-keeps
 
-pub at_second-plain : (mono wall : ℕ) (event : Happening) → at_second mono wall event bound_to_host ≡ plain_at (record { mono = mono; wall = wall }) event plain_bound
+pub at_second-plain : (mono wall : ℕ) (event : Happening)
+    → at_second mono wall event bound_to_host ≡ plain_at (record { mono = mono; wall = wall }) event plain_bound
 at_second-plain mono wall event =
     ap (at_second mono wall event) bound-plain
     ∙ step-plain (record { mono = mono; wall = wall }) event plain_bound (many-keep (plain_at (moment_of 0 150) (Heard 1 sign_login) before_login) child_comes login-keeps)

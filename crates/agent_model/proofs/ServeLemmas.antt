@@ -28,23 +28,40 @@ MayPut asker (Verifies bind is_new) = IsOk (public_key_of bind.host_key) × (jud
 
 -- the four ends of a request; no answer changes the greatest second of the table
 pub data IsServed (asker : Asker) (held : KeyState) (under_way : UnderWay) : Served → Type 0 where
-  answered : (reply : Reply) (kept : KeyState) → (asker.mono ≡ held.table.greatest → kept.table.greatest ≡ held.table.greatest) → IsServed asker held under_way (answers reply kept under_way)
+  answered : (reply : Reply) (kept : KeyState)
+      → (asker.mono ≡ held.table.greatest → kept.table.greatest ≡ held.table.greatest)
+      → IsServed asker held under_way (answers reply kept under_way)
   refused : (cause : Cause) → IsServed asker held under_way (refuses cause held under_way)
-  asked : (errand : Errand) → ask_fault under_way ≡ None → MayPut asker errand → IsServed asker held under_way (uses held (put_unless None errand asker.port under_way))
-  raised : (key : HeldKey) (signing : Signing) → raise_fault under_way ≡ None → IsServed asker held under_way (uses held (raise_unless None key signing asker.port under_way))
+  asked : (errand : Errand) → ask_fault under_way ≡ None → MayPut asker errand
+      → IsServed asker held under_way (uses held (put_unless None errand asker.port under_way))
+  raised : (key : HeldKey) (signing : Signing) → raise_fault under_way ≡ None
+      → IsServed asker held under_way (uses held (raise_unless None key signing asker.port under_way))
 
 -- the ends of a request, one for each effect
 pub data Serves (read : Result ClientRequest MsgFault) (asker : Asker) (held : KeyState) (under_way : UnderWay) : Served → Type 0 where
   denies : (cause : Cause) → Serves read asker held under_way (refuses cause held under_way)
-  lists : (identities : List (List ℕ × List ℕ)) → read ≡ Ok ListIdentities → Serves read asker held under_way (answers (Identities identities) held under_way)
-  adds : (addition : Addition) → read ≡ Ok (Add addition) → Serves read asker held under_way (answers Success (record held { table = with_addition addition asker.mono held.table }) under_way)
-  removes : (blob : List ℕ) → read ≡ Ok (Remove blob) → Serves read asker held under_way (answers Success (with_identities (remove_identity blob held.table.identities) held) under_way)
-  empties : read ≡ Ok RemoveAll → Serves read asker held under_way (answers Success (with_identities [] held) under_way)
-  locks : (passphrase : List ℕ) → read ≡ Ok (Lock passphrase) → Serves read asker held under_way (answers Success (record held { lock = Some passphrase }) under_way)
-  unlocks : (passphrase : List ℕ) → read ≡ Ok (Unlock passphrase) → Serves read asker held under_way (answers Success (record held { lock = None }) under_way)
-  signs : (signing : Signing) (key : HeldKey) → read ≡ Ok (Sign signing) → find_identity signing.blob held.table.identities ≡ Some key → key.confirm ≡ false → ask_fault under_way ≡ None → Serves read asker held under_way (uses held (put_unless None (Signs key signing) asker.port under_way))
-  confirms : (signing : Signing) (key : HeldKey) → read ≡ Ok (Sign signing) → find_identity signing.blob held.table.identities ≡ Some key → raise_fault under_way ≡ None → Serves read asker held under_way (uses held (raise_unless None key signing asker.port under_way))
-  verifies : (bind : BindRequest) (is_new : Bool) → read ≡ Ok (Bind bind) → judge bind.host_key bind.session asker.chain ≡ judged is_new → ask_fault under_way ≡ None → Serves read asker held under_way (keeps held (put_unless None (Verifies bind is_new) asker.port under_way))
+  lists : (identities : List (List ℕ × List ℕ)) → read ≡ Ok ListIdentities
+      → Serves read asker held under_way (answers (Identities identities) held under_way)
+  adds : (addition : Addition) → read ≡ Ok (Add addition)
+      → Serves read asker held under_way (answers Success (record held { table = with_addition addition asker.mono held.table }) under_way)
+  removes : (blob : List ℕ) → read ≡ Ok (Remove blob)
+      → Serves read asker held under_way (answers Success (with_identities (remove_identity blob held.table.identities) held) under_way)
+  empties : read ≡ Ok RemoveAll
+      → Serves read asker held under_way (answers Success (with_identities [] held) under_way)
+  locks : (passphrase : List ℕ) → read ≡ Ok (Lock passphrase)
+      → Serves read asker held under_way (answers Success (record held { lock = Some passphrase }) under_way)
+  unlocks : (passphrase : List ℕ) → read ≡ Ok (Unlock passphrase)
+      → Serves read asker held under_way (answers Success (record held { lock = None }) under_way)
+  signs : (signing : Signing) (key : HeldKey) → read ≡ Ok (Sign signing)
+      → find_identity signing.blob held.table.identities ≡ Some key → key.confirm ≡ false
+      → ask_fault under_way ≡ None
+      → Serves read asker held under_way (uses held (put_unless None (Signs key signing) asker.port under_way))
+  confirms : (signing : Signing) (key : HeldKey) → read ≡ Ok (Sign signing)
+      → find_identity signing.blob held.table.identities ≡ Some key → raise_fault under_way ≡ None
+      → Serves read asker held under_way (uses held (raise_unless None key signing asker.port under_way))
+  verifies : (bind : BindRequest) (is_new : Bool) → read ≡ Ok (Bind bind)
+      → judge bind.host_key bind.session asker.chain ≡ judged is_new → ask_fault under_way ≡ None
+      → Serves read asker held under_way (keeps held (put_unless None (Verifies bind is_new) asker.port under_way))
 
 -- where it is a request to bind, its host key is one that is read
 abbrev IsReadable : ClientRequest → Type 0
@@ -55,7 +72,8 @@ abbrev AreReadable : Result ClientRequest MsgFault → Type 0
 AreReadable (Ok request) = IsReadable request
 AreReadable (Err fault) = Unit {0}
 
-readable-bind : (read : Result KeyParts KeyFault) (bind : BindRequest) → public_key_of bind.host_key ≡ read → AreReadable (bind_with bind read)
+readable-bind : (read : Result KeyParts KeyFault) (bind : BindRequest)
+    → public_key_of bind.host_key ≡ read → AreReadable (bind_with bind read)
 readable-bind (Ok key) bind is = subst IsOk (sym is) refl
 readable-bind (Err fault) bind is = tt
 
@@ -106,7 +124,8 @@ module _ (read : Result ClientRequest MsgFault) (asker : Asker) (held : KeyState
       serves-permitted (Some denial) = denies (DestinationDenied denial)
       serves-permitted None = serves-with key.confirm refl
 
-    serves-sign : (found : Option HeldKey) → find_identity signing.blob held.table.identities ≡ found →
+    serves-sign : (found : Option HeldKey)
+        → find_identity signing.blob held.table.identities ≡ found →
         Is (uses held (sign_by found asker signing under_way))
     serves-sign None found = denies NotHeld
     serves-sign (Some key) found =
@@ -116,7 +135,8 @@ module _ (read : Result ClientRequest MsgFault) (asker : Asker) (held : KeyState
   -- ---- additions and removals
 
   module _ (addition : Addition) (is : read ≡ Ok (Add addition)) where
-    serves-unless : (fault : Option Cause) → Is (add_unless fault addition asker.mono held under_way)
+    serves-unless : (fault : Option Cause)
+        → Is (add_unless fault addition asker.mono held under_way)
     serves-unless (Some cause) = denies cause
     serves-unless None = adds addition is
 
@@ -142,7 +162,8 @@ module _ (read : Result ClientRequest MsgFault) (asker : Asker) (held : KeyState
 
   -- ---- the lock, and bindings
 
-  serves-lock : (passphrase : List ℕ) → read ≡ Ok (Lock passphrase) → Is (lock_by passphrase held under_way)
+  serves-lock : (passphrase : List ℕ) → read ≡ Ok (Lock passphrase)
+      → Is (lock_by passphrase held under_way)
   serves-lock [] is = denies NoPassphrase
   serves-lock (byte ∷ bytes) is = locks (byte ∷ bytes) is
 
@@ -158,7 +179,8 @@ module _ (read : Result ClientRequest MsgFault) (asker : Asker) (held : KeyState
     serves-bind_put is_new (Some cause) fault stands = denies cause
     serves-bind_put is_new None fault stands = verifies bind is_new is stands fault
 
-    serves-bind : (judgement : Judgement) → judge bind.host_key bind.session asker.chain ≡ judgement →
+    serves-bind : (judgement : Judgement)
+        → judge bind.host_key bind.session asker.chain ≡ judgement →
         Is (keeps held (bind_by judgement asker bind under_way))
     serves-bind (Refuse fault) stands = denies (BindRefused fault)
     serves-bind Same stands = serves-bind_put false (ask_fault under_way) refl stands
@@ -166,17 +188,20 @@ module _ (read : Result ClientRequest MsgFault) (asker : Asker) (held : KeyState
 
   -- ---- the table of requests
 
-  serves-unlocked : (request : ClientRequest) → read ≡ Ok request → Is (serve_unlocked request asker held under_way)
+  serves-unlocked : (request : ClientRequest) → read ≡ Ok request
+      → Is (serve_unlocked request asker held under_way)
   serves-unlocked ListIdentities is = lists (seen_by asker held) is
   serves-unlocked (Sign signing) is =
       serves-sign signing is (find_identity signing.blob held.table.identities) refl
   serves-unlocked (Add addition) is =
       serves-add addition is (find_identity addition.key.blob held.table.identities)
-  serves-unlocked (Remove blob) is = serves-remove blob (find_identity blob held.table.identities) is
+  serves-unlocked (Remove blob) is =
+      serves-remove blob (find_identity blob held.table.identities) is
   serves-unlocked RemoveAll is = empties is
   serves-unlocked (Lock passphrase) is = serves-lock passphrase is
   serves-unlocked (Unlock passphrase) is = denies NotLocked
-  serves-unlocked (Bind bind) is = serves-bind bind is (judge bind.host_key bind.session asker.chain) refl
+  serves-unlocked (Bind bind) is =
+      serves-bind bind is (judge bind.host_key bind.session asker.chain) refl
   serves-unlocked (OtherExtension name) is = denies Unserved
   serves-unlocked (Unsupported number) is = denies Unserved
 
@@ -208,9 +233,12 @@ module _ (read : Result ClientRequest MsgFault) (asker : Asker) (held : KeyState
   serves-any = serves-read read refl
 
 -- the four ends of it
-served-ends : {read : Result ClientRequest MsgFault} {asker : Asker} {held : KeyState} {under_way : UnderWay} {served : Served} → AreReadable read → Serves read asker held under_way served → IsServed asker held under_way served
+served-ends : {read : Result ClientRequest MsgFault} {asker : Asker} {held : KeyState} {under_way : UnderWay} {served : Served}
+    → AreReadable read → Serves read asker held under_way served
+    → IsServed asker held under_way served
 served-ends readable (denies cause) = refused cause
-served-ends {held = held} readable (lists identities is) = answered (Identities identities) held (λ same. refl)
+served-ends {held = held} readable (lists identities is) =
+    answered (Identities identities) held (λ same. refl)
 served-ends readable (adds addition is) = answered Success _ (λ same. same)
 served-ends readable (removes blob is) = answered Success _ (λ same. refl)
 served-ends readable (empties is) = answered Success _ (λ same. refl)
@@ -218,7 +246,10 @@ served-ends readable (locks passphrase is) = answered Success _ (λ same. refl)
 served-ends readable (unlocks passphrase is) = answered Success _ (λ same. refl)
 served-ends readable (signs signing key is found asks free) = asked (Signs key signing) free tt
 served-ends readable (confirms signing key is found free) = raised key signing free
-served-ends readable (verifies bind is_new is stands free) = asked (Verifies bind is_new) free (subst AreReadable is readable, stands)
+served-ends readable (verifies bind is_new is stands free) =
+    asked (Verifies bind is_new) free (subst AreReadable is readable, stands)
 
-pub serve-ends : (asker : Asker) (held : KeyState) (under_way : UnderWay) (body : List ℕ) → IsServed asker held under_way (serve (agent_request_of body) asker held under_way)
-serve-ends asker held under_way body = served-ends (readable-agent body) (serves-any (agent_request_of body) asker held under_way)
+pub serve-ends : (asker : Asker) (held : KeyState) (under_way : UnderWay) (body : List ℕ)
+    → IsServed asker held under_way (serve (agent_request_of body) asker held under_way)
+serve-ends asker held under_way body =
+    served-ends (readable-agent body) (serves-any (agent_request_of body) asker held under_way)

@@ -41,7 +41,9 @@ use Rattle.agent_model.proofs.WaitLemmas.{told-close_confirmer, told-close_helpe
 -- ---- who waits for no ask is told nothing by the helper
 
 module _ (number : ℕ) (verdict : Verdict) (unasked : (ask : ℕ) → verdict_waits verdict ≢ OnAsk ask) where
-  pub still-answers : (low last : ℕ) (settled : List Settled) (before : Answering) (asks left : List Ask) → LeadTo settled asks left → RiseTo low asks last → AreTied before.ports asks → IsTold number verdict before.ports → IsTold number verdict (answer_all settled before).ports
+  pub still-answers : (low last : ℕ) (settled : List Settled) (before : Answering) (asks left : List Ask)
+      → LeadTo settled asks left → RiseTo low asks last → AreTied before.ports asks
+      → IsTold number verdict before.ports → IsTold number verdict (answer_all settled before).ports
   still-answers low last [] before asks left leads rise tied told = told
   still-answers low last (one ∷ later) before asks left leads rise tied told =
       let told_as = answers_as one.answer one before in
@@ -49,7 +51,9 @@ module _ (number : ℕ) (verdict : Verdict) (unasked : (ask : ℕ) → verdict_w
       still-answers low last later (answer_by one.answer one before) (remove_ask one.ask asks) left leads.1 (remove_rises one.ask low asks last rise) (one_answer low last one before asks leads.0 rise tied)
       (subst (IsTold number verdict) (sym told_as.ports) (told-apart number one.asker verdict told_as.change before.ports told_as.number other told))
 
-  still-tell_each : (low last : ℕ) (asks : List Ask) (ports : List Port) → RiseTo low asks last → AreTied ports asks → IsTold number verdict ports → IsTold number verdict (tell_each (Refuses HelperLost) (askers asks) ports)
+  still-tell_each : (low last : ℕ) (asks : List Ask) (ports : List Port) → RiseTo low asks last
+      → AreTied ports asks → IsTold number verdict ports
+      → IsTold number verdict (tell_each (Refuses HelperLost) (askers asks) ports)
   still-tell_each low last [] ports rise tied told = told
   still-tell_each low last (one ∷ asks) ports rise tied told =
       let here : find_ask one.number (one ∷ asks) ≡ Some one = grind (arith, nat_tests) in
@@ -57,16 +61,20 @@ module _ (number : ℕ) (verdict : Verdict) (unasked : (ask : ℕ) → verdict_w
       (told-apart number one.asker verdict (tell (Refuses HelperLost)) ports (λ p. refl)
       (not_asker ports (one ∷ asks) tied number one.number one verdict here told (unasked one.number)) told)
 
-  pub still-lost : (state : State) → IsTied state → IsTold number verdict state.ports → IsTold number verdict (lose state).state.ports
+  pub still-lost : (state : State) → IsTied state → IsTold number verdict state.ports
+      → IsTold number verdict (lose state).state.ports
   still-lost state tied told =
       still-tell_each 0 state.under_way.link.last state.under_way.link.asks _ tied.order (tied-close state tied state.under_way.link.state)
       (told-close_helper number _ state.under_way.link.state state.ports (λ at port is there. tied.helper at port is there) told)
 
-  pub still-fault : (fault : Option LinkFault) (state : State) → IsTied state → IsTold number verdict state.ports → IsTold number verdict (lose_if fault state).state.ports
+  pub still-fault : (fault : Option LinkFault) (state : State) → IsTied state
+      → IsTold number verdict state.ports → IsTold number verdict (lose_if fault state).state.ports
   still-fault None state tied told = told
   still-fault (Some fault) state tied told = still-lost state tied told
 
-  pub still-tells : (piece : List ℕ) (state : State) → IsTied state → IsTold number verdict state.ports → IsTold number verdict (lose_if (telling piece state.under_way.link).fault (with_answers (telling piece state.under_way.link).link (answers_in (telling piece state.under_way.link).settled state) state)).state.ports
+  pub still-tells : (piece : List ℕ) (state : State) → IsTied state
+      → IsTold number verdict state.ports
+      → IsTold number verdict (lose_if (telling piece state.under_way.link).fault (with_answers (telling piece state.under_way.link).link (answers_in (telling piece state.under_way.link).settled state) state)).state.ports
   still-tells piece state tied told =
       let said = telling piece state.under_way.link in
       let before : Answering = record { ports = state.ports; verifications = state.under_way.verifications; actions = [] } in
@@ -86,24 +94,31 @@ module _ (number : ℕ) (verdict : Verdict) (heard : HasHeard verdict) where
   unasked ask is = let no : Nothing ≡ OnAsk ask = sym heard.waits ∙ is in absurd (cc)
 
   -- its port is found where it is
-  its_port : (at : ℕ) (ports : List Port) (port : Port) (told : IsTold number verdict ports) → number ≡ at → find_port at ports ≡ Some port → told.port ≡ port
+  its_port : (at : ℕ) (ports : List Port) (port : Port) (told : IsTold number verdict ports)
+      → number ≡ at → find_port at ports ≡ Some port → told.port ≡ port
   its_port at ports port told equal found =
       let is : Some told.port ≡ Some port = sym told.found ∙ ap (λ n. find_port n ports) equal ∙ found in cc
 
   -- who is owed nothing is another one
-  owes_other : (at : ℕ) (ports : List Port) (port : Port) → IsTold number verdict ports → find_port at ports ≡ Some port → port.owed ≡ [] → number ≢ at
+  owes_other : (at : ℕ) (ports : List Port) (port : Port) → IsTold number verdict ports
+      → find_port at ports ≡ Some port → port.owed ≡ [] → number ≢ at
   owes_other at ports port told found none equal =
       heard.some (sym told.owed ∙ ap (λ (p : Port). p.owed) (its_port at ports port told equal found) ∙ none)
 
   -- what it has stays
-  still-kept : (at : ℕ) (f : Port → Port) (ports : List Port) → ((p : Port) → (f p).number ≡ p.number) → ((p : Port) → (f p).door ≡ p.door) → ((p : Port) → (f p).waits ≡ p.waits) → ((number ≡ at) → (p : Port) → (f p).owed ≡ p.owed) → IsTold number verdict ports → IsTold number verdict (change_port at f ports)
+  still-kept : (at : ℕ) (f : Port → Port) (ports : List Port)
+      → ((p : Port) → (f p).number ≡ p.number) → ((p : Port) → (f p).door ≡ p.door)
+      → ((p : Port) → (f p).waits ≡ p.waits) → ((number ≡ at) → (p : Port) → (f p).owed ≡ p.owed)
+      → IsTold number verdict ports → IsTold number verdict (change_port at f ports)
   still-kept at f ports numbers doors waits owes told = elim (cases_eq number at) [
     | inl same ↦ subst (λ n. IsTold number verdict (change_port n f ports)) same
         (told-here number verdict verdict f ports numbers doors (λ p is. owes same p ∙ is) (λ p is. waits p ∙ is) told)
     | inr other ↦ told-apart number at verdict f ports numbers other told
   ]
 
-  still-quiet : {event : Happening} {old new : State} → Quiet event old new → event ≢ Ended number → ((count : ℕ) → event ≢ Took number count) → IsTold number verdict old.ports → IsTold number verdict new.ports
+  still-quiet : {event : Happening} {old new : State} → Quiet event old new → event ≢ Ended number
+      → ((count : ℕ) → event ≢ Took number count) → IsTold number verdict old.ports
+      → IsTold number verdict new.ports
   still-quiet {event = event} {old = old} (alters at f change) open_yet untaken told =
       still-kept at f old.ports (mild_of change).number (mild_of change).door (mild_of change).waits (owes change) told
     where
@@ -114,7 +129,8 @@ module _ (number : ℕ) (verdict : Verdict) (heard : HasHeard verdict) where
       told-removed number verdict at old.ports (other may) told
     where
       other : MayClose event at old.ports old.under_way.confirmations → number ≢ at
-      other (idle port found nothing none client) equal = owes_other at old.ports port told found none equal
+      other (idle port found nothing none client) equal =
+          owes_other at old.ports port told found none equal
       other (child port found door free) equal =
           let doors : Clients ≡ Children = sym told.door ∙ ap (λ (p : Port). p.door) (its_port at old.ports port told equal found) ∙ door in
           absurd (cc)
@@ -126,7 +142,10 @@ module _ (number : ℕ) (verdict : Verdict) (heard : HasHeard verdict) where
       still-kept at unheard old.ports (λ p. refl) (λ p. refl) (λ p. refl) (λ same p. refl) told
 
   -- another's confirmation ends
-  still-over : (confirmation : Confirmation) (state : State) (new : Verdict) → IsIn confirmation state.under_way.confirmations → IsTied state → IsTold number verdict state.ports → IsTold number verdict (change_port confirmation.asker (tell new) (close_confirmer confirmation.port state.ports))
+  still-over : (confirmation : Confirmation) (state : State) (new : Verdict)
+      → IsIn confirmation state.under_way.confirmations → IsTied state
+      → IsTold number verdict state.ports
+      → IsTold number verdict (change_port confirmation.asker (tell new) (close_confirmer confirmation.port state.ports))
   still-over confirmation state new there tied told =
       told-apart number confirmation.asker verdict (tell new) _ (λ p. refl) other
       (told-close_confirmer number verdict confirmation.port state.ports (λ n port is. tied.raised.confirmers confirmation.job n confirmation port found_there is) told)
@@ -140,26 +159,34 @@ module _ (number : ℕ) (verdict : Verdict) (heard : HasHeard verdict) where
           let no : Nothing ≡ OnConfirmation confirmation.job = sym heard.waits ∙ sym told.waits ∙ waits in
           absurd (cc)
 
-  pub still-makes : {event : Happening} {old : State} {outcome : Outcome} → Makes event old outcome → event ≢ Ended number → ((count : ℕ) → event ≢ Took number count) → IsTied old → IsTold number verdict old.ports → IsTold number verdict outcome.state.ports
+  pub still-makes : {event : Happening} {old : State} {outcome : Outcome} → Makes event old outcome
+      → event ≢ Ended number → ((count : ℕ) → event ≢ Took number count) → IsTied old
+      → IsTold number verdict old.ports → IsTold number verdict outcome.state.ports
   still-makes (stays state) open_yet untaken tied told = told
   still-makes (first quiet rest) open_yet untaken tied told =
       still-makes rest open_yet untaken (tied-quiet quiet tied) (still-quiet quiet open_yet untaken told)
   still-makes (serves body_len port state found door nothing owed own) open_yet untaken tied told =
       let other = owes_other port.number state.ports port told found owed in
       told-apart number port.number verdict _ _ (λ p. refl) other (told-apart number port.number verdict _ state.ports (λ p. refl) other told)
-  still-makes (tells piece state) open_yet untaken tied told = still-tells number verdict unasked piece state tied told
-  still-makes (loses state) open_yet untaken tied told = still-lost number verdict unasked state tied told
-  still-makes (overs confirmation state there) open_yet untaken tied told = still-over confirmation state (Refuses NotConfirmed) there tied told
+  still-makes (tells piece state) open_yet untaken tied told =
+      still-tells number verdict unasked piece state tied told
+  still-makes (loses state) open_yet untaken tied told =
+      still-lost number verdict unasked state tied told
+  still-makes (overs confirmation state there) open_yet untaken tied told =
+      still-over confirmation state (Refuses NotConfirmed) there tied told
   still-makes (grants confirmation port state there opened) open_yet untaken tied told =
       still-over confirmation state (grant_work port.chain confirmation state).verdict there tied told
 
-  still-admitted : (room : Bool) (at : ℕ) (door : Door) (ports : List Port) → IsTold number verdict ports → IsTold number verdict (admitted room at door ports)
+  still-admitted : (room : Bool) (at : ℕ) (door : Door) (ports : List Port)
+      → IsTold number verdict ports → IsTold number verdict (admitted room at door ports)
   still-admitted false at door ports told = told
   still-admitted true at door ports told =
       record { port = told.port; found = found_still number told.port ports _ told.found; door = told.door; owed = told.owed; waits = told.waits }
 
   -- unless its port ended, or took some of what it has, it has it yet
-  pub still-handle : (event : Happening) (state : State) → event ≢ Ended number → ((count : ℕ) → event ≢ Took number count) → IsTied state → IsTold number verdict state.ports → IsTold number verdict (handle event state).state.ports
+  pub still-handle : (event : Happening) (state : State) → event ≢ Ended number
+      → ((count : ℕ) → event ≢ Took number count) → IsTied state → IsTold number verdict state.ports
+      → IsTold number verdict (handle event state).state.ports
   still-handle event state open_yet untaken tied told =
       by_event (λ outcome. IsTold number verdict outcome.state.ports) event state
       (λ door. still-admitted (has_room door state.ports state.under_way) _ door state.ports told)
@@ -177,7 +204,8 @@ some_bytes byte text is =
 
 -- whoever was told what became of its ask has something, and waits for nothing
 pub heard-answer : (what : Answer) → HasHeard (answer_verdict what)
-heard-answer (answer.Signed signature) = record { waits = refl; some = some_bytes 14 (string signature) }
+heard-answer (answer.Signed signature) =
+    record { waits = refl; some = some_bytes 14 (string signature) }
 heard-answer answer.Refused = record { waits = refl; some = some_bytes 5 [] }
 heard-answer answer.True = record { waits = refl; some = some_bytes 6 [] }
 heard-answer answer.False = record { waits = refl; some = some_bytes 5 [] }

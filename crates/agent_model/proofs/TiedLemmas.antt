@@ -18,7 +18,13 @@ use Rattle.agent_model.proofs.RaisedLemmas.{Fewer, fewer-changed, fewer-removed,
 use Rattle.agent_model.proofs.RunLemmas.{leads-found, leads-rising, rising_behind}
 
 -- what follows a tied state is tied, by its asks
-pub assemble : (old new : State) → Follows old new → IsTied old → RiseTo 0 new.under_way.link.asks new.under_way.link.last → AreTied new.ports new.under_way.link.asks → ((ask : ℕ) (one : Ask) → find_ask ask new.under_way.link.asks ≡ Some one → one.asker ≤ old.last_port) → ((number : ℕ) → new.under_way.link.state ≡ states.Linked number → old.under_way.link.state ≡ states.Linked number) → AreRaised new.under_way.confirmations new.under_way.last_job new.ports old.last_port → IsTied new
+pub assemble : (old new : State) → Follows old new → IsTied old
+    → RiseTo 0 new.under_way.link.asks new.under_way.link.last
+    → AreTied new.ports new.under_way.link.asks
+    → ((ask : ℕ) (one : Ask) → find_ask ask new.under_way.link.asks ≡ Some one → one.asker ≤ old.last_port)
+    → ((number : ℕ) → new.under_way.link.state ≡ states.Linked number → old.under_way.link.state ≡ states.Linked number)
+    → AreRaised new.under_way.confirmations new.under_way.last_job new.ports old.last_port
+    → IsTied new
 assemble old new follows tied order ties askers linked consents = record {
   rising = rising_behind old new follows tied.rising;
   order = order;
@@ -33,7 +39,8 @@ assemble old new follows tied order ties askers linked consents = record {
 
 -- ---- quiet changes
 
-pub tied-fewer : (old new : List Port) (asks : List Ask) → Fewer old new → AreTied old asks → AreTied new asks
+pub tied-fewer : (old new : List Port) (asks : List Ask) → Fewer old new → AreTied old asks
+    → AreTied new asks
 tied-fewer old new asks fewer tied = record {
   waits = λ number ask port found is.
       let was = fewer number port found in
@@ -47,7 +54,8 @@ tied-fewer old new asks fewer tied = record {
 linked_number : (a b : ℕ) → states.Linked a ≡ states.Linked b → a ≡ b
 linked_number a b is = cc
 
-pub tied-quiet : {event : Happening} {old new : State} → Quiet event old new → IsTied old → IsTied new
+pub tied-quiet : {event : Happening} {old new : State} → Quiet event old new → IsTied old
+    → IsTied new
 tied-quiet {event = event} {old = old} (alters number f change) tied =
     assemble old _ (follows-quiet event old (alters number f change) record { last = refl; ports = same }) tied tied.order (tied-fewer old.ports _ _ (fewer-changed number f old.ports (mild_of change)) tied.tied) tied.askers (λ n is. is) (raised-fewer old.ports _ (fewer-changed number f old.ports (mild_of change)) tied.raised)
 tied-quiet {event = event} {old = old} (closes number may) tied =

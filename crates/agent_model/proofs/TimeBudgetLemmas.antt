@@ -34,30 +34,39 @@ use Rattle.agent_model.proofs.TimeLemmas.{time_passes-brings}
 -- ---- clients that are told
 
 -- who is told may be owed bytes then
-told_unit : (under_way : UnderWay) (verdict : Verdict) (port : Port) → port_budget under_way (tell verdict port) ≤ port_budget under_way port + 1
-told_unit under_way verdict port = omega (arith, one_or_none (is_some_bytes (owed_by_port (tell verdict port) under_way)))
+told_unit : (under_way : UnderWay) (verdict : Verdict) (port : Port)
+    → port_budget under_way (tell verdict port) ≤ port_budget under_way port + 1
+told_unit under_way verdict port =
+    omega (arith, one_or_none (is_some_bytes (owed_by_port (tell verdict port) under_way)))
 
 -- and was, if it was
-told_some : (under_way : UnderWay) (verdict : Verdict) (port : Port) → is_some_bytes (owed_by_port port under_way) ≡ true → port_budget under_way (tell verdict port) ≤ port_budget under_way port
+told_some : (under_way : UnderWay) (verdict : Verdict) (port : Port)
+    → is_some_bytes (owed_by_port port under_way) ≡ true
+    → port_budget under_way (tell verdict port) ≤ port_budget under_way port
 told_some under_way verdict port some =
     omega (arith, one_or_none (is_some_bytes (owed_by_port (tell verdict port) under_way)), ap {B = ℕ} (λ b. if b then 1 else 0) some)
 
-told_one : (under_way : UnderWay) (verdict : Verdict) (number : ℕ) (ports : List Port) → ports_budget under_way (change_port number (tell verdict) ports) ≤ ports_budget under_way ports + 1
+told_one : (under_way : UnderWay) (verdict : Verdict) (number : ℕ) (ports : List Port)
+    → ports_budget under_way (change_port number (tell verdict) ports) ≤ ports_budget under_way ports + 1
 told_one under_way verdict number ports = by_found (find_port number ports) refl
   where
-    by_found : (found : Option Port) → find_port number ports ≡ found → ports_budget under_way (change_port number (tell verdict) ports) ≤ ports_budget under_way ports + 1
+    by_found : (found : Option Port) → find_port number ports ≡ found
+        → ports_budget under_way (change_port number (tell verdict) ports) ≤ ports_budget under_way ports + 1
     by_found None is =
         let nowhere : change_port number (tell verdict) ports ≡ ports = changed_nowhere (has_key number_of number) (tell verdict) ports is in
         omega (arith, ap (ports_budget under_way) nowhere)
     by_found (Some port) is = omega (arith, budget-change under_way number (tell verdict) ports port is, told_unit under_way verdict port)
 
-told_each : (under_way : UnderWay) (verdict : Verdict) (clients : List ℕ) (ports : List Port) → ports_budget under_way (tell_each verdict clients ports) ≤ ports_budget under_way ports + length clients
+told_each : (under_way : UnderWay) (verdict : Verdict) (clients : List ℕ) (ports : List Port)
+    → ports_budget under_way (tell_each verdict clients ports) ≤ ports_budget under_way ports + length clients
 told_each under_way verdict [] ports = omega arith
 told_each under_way verdict (number ∷ others) ports =
     omega (arith, told_each under_way verdict others (change_port number (tell verdict) ports), told_one under_way verdict number ports)
 
 -- a port that is owed bytes isn't told, or costs nothing more
-told_at : (under_way : UnderWay) (verdict : Verdict) (clients : List ℕ) (ports : List Port) (number : ℕ) (port : Port) → find_port number ports ≡ Some port → is_some_bytes (owed_by_port port under_way) ≡ true → (find_port number (tell_each verdict clients ports) ≡ Some port) ⊎ (ports_budget under_way (tell_each verdict clients ports) < ports_budget under_way ports + length clients)
+told_at : (under_way : UnderWay) (verdict : Verdict) (clients : List ℕ) (ports : List Port) (number : ℕ) (port : Port)
+    → find_port number ports ≡ Some port → is_some_bytes (owed_by_port port under_way) ≡ true
+    → (find_port number (tell_each verdict clients ports) ≡ Some port) ⊎ (ports_budget under_way (tell_each verdict clients ports) < ports_budget under_way ports + length clients)
 told_at under_way verdict [] ports number port found some = inl found
 told_at under_way verdict (client ∷ others) ports number port found some = elim (cases_eq number client) [
   | inl is ↦
@@ -73,19 +82,25 @@ told_at under_way verdict (client ∷ others) ports number port found some = eli
 -- ---- a port that is closed, and clients that are told
 
 -- what an open port is owed counts
-counts_one : (under_way : UnderWay) (port : Port) → is_some_bytes (owed_by_port port under_way) ≡ true → 1 ≤ port_budget under_way port
+counts_one : (under_way : UnderWay) (port : Port)
+    → is_some_bytes (owed_by_port port under_way) ≡ true → 1 ≤ port_budget under_way port
 counts_one under_way port some = omega (arith, ap {B = ℕ} (λ b. if b then 1 else 0) some)
 
-owed_alike : (port : Port) (old new : UnderWay) → owed_by_port port new ≡ owed_by_port port old → port_budget new port ≡ port_budget old port
-owed_alike port old new alike = ap (λ bytes. asking_bytes port.door port.heard + (if is_some_bytes bytes then 1 else 0)) alike
+owed_alike : (port : Port) (old new : UnderWay) → owed_by_port port new ≡ owed_by_port port old
+    → port_budget new port ≡ port_budget old port
+owed_alike port old new alike =
+    ap (λ bytes. asking_bytes port.door port.heard + (if is_some_bytes bytes then 1 else 0)) alike
 
 -- the port is left as it was, and owed the same
 abbrev IsSpared : ℕ → Port → List Port → UnderWay → UnderWay → Type 0
-IsSpared number port after old new = (find_port number after ≡ Some port) × (owed_by_port port new ≡ owed_by_port port old)
+IsSpared number port after old new =
+    (find_port number after ≡ Some port) × (owed_by_port port new ≡ owed_by_port port old)
 
 module _ (old new : UnderWay) (verdict : Verdict) (clients : List ℕ) (ports : List Port) (last : ℕ) (rising : IsRising 0 last ports) where
   -- what is left is no dearer
-  left_most : (closes : Option ℕ) → ((port : Port) → closes ≢ Some port.number → owed_by_port port new ≡ owed_by_port port old) → ports_budget new (close_confirmer closes ports) ≤ ports_budget old ports
+  left_most : (closes : Option ℕ)
+      → ((port : Port) → closes ≢ Some port.number → owed_by_port port new ≡ owed_by_port port old)
+      → ports_budget new (close_confirmer closes ports) ≤ ports_budget old ports
   left_most None alike = all_lower ports old new (λ port. omega (arith, owed_alike port old new (alike port (λ is. absurd (cc)))))
   left_most (Some number) alike =
       omega (
@@ -98,11 +113,17 @@ module _ (old new : UnderWay) (verdict : Verdict) (clients : List ℕ) (ports : 
       same_number : {a b : ℕ} → Some a ≡ Some b → a ≡ b
       same_number is = cc
 
-  closed_most : (closes : Option ℕ) → ((port : Port) → closes ≢ Some port.number → owed_by_port port new ≡ owed_by_port port old) → ports_budget new (tell_each verdict clients (close_confirmer closes ports)) ≤ ports_budget old ports + length clients
+  closed_most : (closes : Option ℕ)
+      → ((port : Port) → closes ≢ Some port.number → owed_by_port port new ≡ owed_by_port port old)
+      → ports_budget new (tell_each verdict clients (close_confirmer closes ports)) ≤ ports_budget old ports + length clients
   closed_most closes alike = omega (arith, told_each new verdict clients (close_confirmer closes ports), left_most closes alike)
 
   -- a port that is owed bytes is spared, or the budget falls
-  closed_at : (closes : Option ℕ) → ((port : Port) → closes ≢ Some port.number → owed_by_port port new ≡ owed_by_port port old) → (number : ℕ) (port : Port) → find_port number ports ≡ Some port → port.number ≡ number → is_some_bytes (owed_by_port port old) ≡ true → IsSpared number port (tell_each verdict clients (close_confirmer closes ports)) old new ⊎ (ports_budget new (tell_each verdict clients (close_confirmer closes ports)) < ports_budget old ports + length clients)
+  closed_at : (closes : Option ℕ)
+      → ((port : Port) → closes ≢ Some port.number → owed_by_port port new ≡ owed_by_port port old)
+      → (number : ℕ) (port : Port) → find_port number ports ≡ Some port → port.number ≡ number
+      → is_some_bytes (owed_by_port port old) ≡ true
+      → IsSpared number port (tell_each verdict clients (close_confirmer closes ports)) old new ⊎ (ports_budget new (tell_each verdict clients (close_confirmer closes ports)) < ports_budget old ports + length clients)
   closed_at None alike number port found own some =
       let same = alike port (λ is. absurd (cc)) in
       elim (told_at new verdict clients ports number port found (ap is_some_bytes same ∙ some)) [
@@ -131,13 +152,19 @@ module _ (old new : UnderWay) (verdict : Verdict) (clients : List ℕ) (ports : 
 -- ---- what a port is owed
 
 -- by who is there
-owed_by_role : (linked : Bool) (found : Option Confirmation) (port : Port) (old new : UnderWay) → (linked ≡ true → new.link ≡ old.link) → owed_as (by_helper linked found) port new ≡ owed_as (by_helper linked found) port old
+owed_by_role : (linked : Bool) (found : Option Confirmation) (port : Port) (old new : UnderWay)
+    → (linked ≡ true → new.link ≡ old.link)
+    → owed_as (by_helper linked found) port new ≡ owed_as (by_helper linked found) port old
 owed_by_role true found port old new links =
     ap (λ (l : HelperLink). owed_as Helper port (record old { link = l })) (links refl)
 owed_by_role false None port old new links = refl
 owed_by_role false (Some confirmation) port old new links = refl
 
-owed_same : (door : Door) (port : Port) (old new : UnderWay) → is_linked_to port.number new.link.state ≡ is_linked_to port.number old.link.state → find_linked port.number new.confirmations ≡ find_linked port.number old.confirmations → (is_linked_to port.number old.link.state ≡ true → new.link ≡ old.link) → owed_as (role_of door port.number new) port new ≡ owed_as (role_of door port.number old) port old
+owed_same : (door : Door) (port : Port) (old new : UnderWay)
+    → is_linked_to port.number new.link.state ≡ is_linked_to port.number old.link.state
+    → find_linked port.number new.confirmations ≡ find_linked port.number old.confirmations
+    → (is_linked_to port.number old.link.state ≡ true → new.link ≡ old.link)
+    → owed_as (role_of door port.number new) port new ≡ owed_as (role_of door port.number old) port old
 owed_same Clients port old new helper confirmers links = refl
 owed_same Children port old new helper confirmers links =
     let linked : Bool = is_linked_to port.number old.link.state in
@@ -153,7 +180,9 @@ elsewhere (Some at) number other =
     grind (arith, nat_tests)
 
 -- who asks the user at a port goes on, where another confirmation ends
-pub linked-removed : (number : ℕ) (one : Confirmation) (below last : ℕ) (all : List Confirmation) → JobsRise below all last → IsIn one all → came_to number one ≡ false → find_linked number (remove_job one.job all) ≡ find_linked number all
+pub linked-removed : (number : ℕ) (one : Confirmation) (below last : ℕ) (all : List Confirmation)
+    → JobsRise below all last → IsIn one all → came_to number one ≡ false
+    → find_linked number (remove_job one.job all) ≡ find_linked number all
 linked-removed number one below last all rise (here others) elsewhere =
     let own : (one.job == one.job) ≡ true = grind (arith, nat_tests) in
     ap (λ b. find_linked number (cond b others (one ∷ remove_job one.job others))) own ∙ sym (ap (λ b. cond b (Some one) (find_linked number others)) elsewhere)
@@ -169,7 +198,9 @@ linked-removed number one below last all rise (behind first others there) elsewh
 pub record Ends (old new : State) : Type 0 where
   pub steady : IsSteady old → IsSteady new
   pub most : IsSteady old → budget new ≤ budget old
-  pub port : IsSteady old → (number : ℕ) (port : Port) → find_port number old.ports ≡ Some port → is_some_bytes (owed_by_port port old.under_way) ≡ true → IsSpared number port new.ports old.under_way new.under_way ⊎ (budget new < budget old)
+  pub port : IsSteady old → (number : ℕ) (port : Port) → find_port number old.ports ≡ Some port
+      → is_some_bytes (owed_by_port port old.under_way) ≡ true
+      → IsSpared number port new.ports old.under_way new.under_way ⊎ (budget new < budget old)
 
 nothing_ends : (state : State) → Ends state state
 nothing_ends state = record { steady = λ steady. steady; most = λ steady. omega arith; port = λ steady number port found some. inl (found, refl) }
@@ -193,13 +224,15 @@ helper_at states.None = None
 helper_at (states.Starting job) = None
 helper_at (states.Linked port) = Some port
 
-pub helper-closed : (link : LinkState) (ports : List Port) → close_helper link ports ≡ close_confirmer (helper_at link) ports
+pub helper-closed : (link : LinkState) (ports : List Port)
+    → close_helper link ports ≡ close_confirmer (helper_at link) ports
 helper-closed states.None ports = refl
 helper-closed (states.Starting job) ports = refl
 helper-closed (states.Linked port) ports = refl
 
 -- whoever isn't there isn't the helper
-pub not_helper : (link : LinkState) (number : ℕ) → helper_at link ≢ Some number → is_linked_to number link ≡ false
+pub not_helper : (link : LinkState) (number : ℕ) → helper_at link ≢ Some number
+    → is_linked_to number link ≡ false
 not_helper states.None number other = refl
 not_helper (states.Starting job) number other = refl
 not_helper (states.Linked port) number other =
@@ -238,16 +271,19 @@ lose_ends state = record {
     as_many : length (askers old.link.asks) ≡ length old.link.asks
     as_many = length-map old.link.asks (λ (ask : Ask). ask.asker)
 
-    alike : (port : Port) → helper_at old.link.state ≢ Some port.number → owed_by_port port new ≡ owed_by_port port old
+    alike : (port : Port) → helper_at old.link.state ≢ Some port.number
+        → owed_by_port port new ≡ owed_by_port port old
     alike port other =
         let no_helper = not_helper old.link.state port.number other in
         owed_same port.door port old new (sym no_helper) refl (λ linked. let no : true ≡ false = sym linked ∙ no_helper in absurd (cc))
 
-over_ends : (one : Confirmation) (state : State) → IsIn one state.under_way.confirmations → Ends state (over one state).state
+over_ends : (one : Confirmation) (state : State) → IsIn one state.under_way.confirmations
+    → Ends state (over one state).state
 over_ends one state there = record {
   steady = λ steady. record {
     rising = rising_behind state (over one state).state (follows-makes Tick state (overs one state there) record { last = refl; ports = same }) steady.rising;
-    order = jobs-remove one.job 0 state.under_way.confirmations state.under_way.last_job steady.order;
+    order =
+        jobs-remove one.job 0 state.under_way.confirmations state.under_way.last_job steady.order;
   };
   most = λ steady.
       let most = closed_most old new (Refuses NotConfirmed) (one.asker ∷ []) state.ports state.last_port steady.rising one.port (alike steady) in
@@ -265,7 +301,8 @@ over_ends one state there = record {
     new : UnderWay
     new = (over one state).state.under_way
 
-    alike : IsSteady state → (port : Port) → one.port ≢ Some port.number → owed_by_port port new ≡ owed_by_port port old
+    alike : IsSteady state → (port : Port) → one.port ≢ Some port.number
+        → owed_by_port port new ≡ owed_by_port port old
     alike steady port other =
         owed_same port.door port old new refl
         (linked-removed port.number one 0 old.last_job old.confirmations steady.order there (elsewhere one.port port.number other)) (λ linked. refl)

@@ -24,8 +24,10 @@ pub record KeepsTime (old new : State) : Type 0 where
   pub moment : new.moment ≡ old.moment
   pub limits : new.under_way.limits ≡ old.under_way.limits
 
-keeps_time-in_turn : (old mid new : State) → KeepsTime old mid → KeepsTime mid new → KeepsTime old new
-keeps_time-in_turn old mid new one two = record { moment = two.moment ∙ one.moment; limits = two.limits ∙ one.limits }
+keeps_time-in_turn : (old mid new : State) → KeepsTime old mid → KeepsTime mid new
+    → KeepsTime old new
+keeps_time-in_turn old mid new one two =
+    record { moment = two.moment ∙ one.moment; limits = two.limits ∙ one.limits }
 
 keeps_time-quiet : {event : Happening} {old new : State} → Quiet event old new → KeepsTime old new
 keeps_time-quiet (alters number f change) = record { moment = refl; limits = refl }
@@ -47,11 +49,13 @@ granted-limits (disallowed never) = refl
 granted-limits (unasked cause key may fault) = refl
 granted-limits (allowed key may free) = refl
 
-keeps_time-lose_if : (fault : Option LinkFault) (state : State) → KeepsTime state (lose_if fault state).state
+keeps_time-lose_if : (fault : Option LinkFault) (state : State)
+    → KeepsTime state (lose_if fault state).state
 keeps_time-lose_if None state = record { moment = refl; limits = refl }
 keeps_time-lose_if (Some fault) state = record { moment = refl; limits = refl }
 
-keeps_time-makes : {event : Happening} {old : State} {outcome : Outcome} → Makes event old outcome → KeepsTime old outcome.state
+keeps_time-makes : {event : Happening} {old : State} {outcome : Outcome} → Makes event old outcome
+    → KeepsTime old outcome.state
 keeps_time-makes (stays state) = record { moment = refl; limits = refl }
 keeps_time-makes {old = old} (first {mid = mid} {outcome = outcome} quiet rest) =
     keeps_time-in_turn old mid outcome.state (keeps_time-quiet quiet) (keeps_time-makes rest)
@@ -66,16 +70,19 @@ keeps_time-makes (tells piece state) =
     record { moment = left.moment; limits = left.limits }
 keeps_time-makes (loses state) = record { moment = refl; limits = refl }
 keeps_time-makes (overs confirmation state there) = record { moment = refl; limits = refl }
-keeps_time-makes (grants confirmation port state there opened) = record { moment = refl; limits = granted-limits (grant-ends port.chain confirmation state) }
+keeps_time-makes (grants confirmation port state there opened) =
+    record { moment = refl; limits = granted-limits (grant-ends port.chain confirmation state) }
 
 -- whatever happens
-pub keeps_time-handle : (event : Happening) (state : State) → KeepsTime state (handle event state).state
+pub keeps_time-handle : (event : Happening) (state : State)
+    → KeepsTime state (handle event state).state
 keeps_time-handle event state =
     by_event (λ outcome. KeepsTime state outcome.state) event state (λ door. record { moment = refl; limits = refl })
     (λ outcome. keeps_time-makes)
 
 -- what a moment brings leaves the limits
-pub at_moment-limits : (moment : Moment) (state : State) → (at_moment moment state).under_way.limits ≡ state.under_way.limits
+pub at_moment-limits : (moment : Moment) (state : State)
+    → (at_moment moment state).under_way.limits ≡ state.under_way.limits
 at_moment-limits moment state =
     at_moment-keeps (λ s. s.under_way.limits ≡ state.under_way.limits) moment state (λ s is. is)
     (λ one s there is. is) refl

@@ -27,8 +27,12 @@ owed_more [] heard some = elim (nothing_below some) [ ]
 owed_more (byte ∷ bytes) heard some = refl
 
 -- nor of one that was served and was owed nothing
-pub told_more : {asker : Asker} {held : KeyState} {under_way : UnderWay} {served : Served} → IsServed asker held under_way served → (heard : List ℕ) → due_front (verdict_waits served.work.verdict) (verdict_text served.work.verdict) heard ≡ More
-told_more (answered reply kept same) heard = owed_more (reply_text reply) heard (reply_is_some reply)
-told_more (refused cause) heard = owed_more (string (5 ∷ [])) heard (omega (arith, length-string (5 ∷ [])))
+pub told_more : {asker : Asker} {held : KeyState} {under_way : UnderWay} {served : Served}
+    → IsServed asker held under_way served → (heard : List ℕ)
+    → due_front (verdict_waits served.work.verdict) (verdict_text served.work.verdict) heard ≡ More
+told_more (answered reply kept same) heard =
+    owed_more (reply_text reply) heard (reply_is_some reply)
+told_more (refused cause) heard =
+    owed_more (string (5 ∷ [])) heard (omega (arith, length-string (5 ∷ [])))
 told_more (asked errand free right) heard = refl
 told_more (raised key signing free) heard = refl

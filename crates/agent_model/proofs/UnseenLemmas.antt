@@ -21,11 +21,13 @@ use Rattle.agent_model.specs.Verdicts.{Cause, Identities, Refuses, Replies, verd
 -- ---- lists of keys
 
 -- what comes first is found
-find_identity-append : (blob : List ℕ) (some more : List HeldKey) → find_identity blob (some ++ more) ≡ option_or (find_identity blob some) (find_identity blob more)
+find_identity-append : (blob : List ℕ) (some more : List HeldKey)
+    → find_identity blob (some ++ more) ≡ option_or (find_identity blob some) (find_identity blob more)
 unfolding find_identity
 find_identity-append blob some more = find-append (has_blob blob) some more
 
-pub find_identity-cons : (blob : List ℕ) (key : HeldKey) (keys : List HeldKey) → find_identity blob (key ∷ keys) ≡ cond (bytes_eq key.blob blob) (Some key) (find_identity blob keys)
+pub find_identity-cons : (blob : List ℕ) (key : HeldKey) (keys : List HeldKey)
+    → find_identity blob (key ∷ keys) ≡ cond (bytes_eq key.blob blob) (Some key) (find_identity blob keys)
 unfolding find_identity
 find_identity-cons blob key keys = refl
 
@@ -39,10 +41,12 @@ pub data Finds (blob : List ℕ) (key : HeldKey) : (with without : Option HeldKe
   same : (found : Option HeldKey) → Finds blob key found found
 
 module _ (key : HeldKey) (before after : List HeldKey) (alone : find_identity key.blob (before ++ after) ≡ None) where
-  found_with : (blob : List ℕ) → find_identity blob (before ++ key ∷ after) ≡ option_or (find_identity blob before) (cond (bytes_eq key.blob blob) (Some key) (find_identity blob after))
+  found_with : (blob : List ℕ)
+      → find_identity blob (before ++ key ∷ after) ≡ option_or (find_identity blob before) (cond (bytes_eq key.blob blob) (Some key) (find_identity blob after))
   found_with blob = find_identity-append blob before (key ∷ after) ∙ ap (option_or (find_identity blob before)) (find_identity-cons blob key after)
 
-  finds-by : (blob : List ℕ) (equal : Bool) → bytes_eq key.blob blob ≡ equal → Finds blob key (option_or (find_identity blob before) (cond equal (Some key) (find_identity blob after))) (option_or (find_identity blob before) (find_identity blob after))
+  finds-by : (blob : List ℕ) (equal : Bool) → bytes_eq key.blob blob ≡ equal
+      → Finds blob key (option_or (find_identity blob before) (cond equal (Some key) (find_identity blob after))) (option_or (find_identity blob before) (find_identity blob after))
   finds-by blob true is =
       let none : option_or (find_identity blob before) (find_identity blob after) ≡ None =
       sym (find_identity-append blob before after) ∙ ap (λ b. find_identity b (before ++ after)) (sym ((bytes_eq-Decides key.blob blob).0 is)) ∙ alone in
@@ -51,26 +55,32 @@ module _ (key : HeldKey) (before after : List HeldKey) (alone : find_identity ke
       (subst (λ second. Finds blob key (Some key) second) (sym both.1) this)
   finds-by blob false is = same (option_or (find_identity blob before) (find_identity blob after))
 
-  pub finds : (blob : List ℕ) → Finds blob key (find_identity blob (before ++ key ∷ after)) (find_identity blob (before ++ after))
+  pub finds : (blob : List ℕ)
+      → Finds blob key (find_identity blob (before ++ key ∷ after)) (find_identity blob (before ++ after))
   finds blob =
       subst (λ found. Finds blob key found (find_identity blob (before ++ after))) (sym (found_with blob))
       (subst (Finds blob key _) (sym (find_identity-append blob before after)) (finds-by blob (bytes_eq key.blob blob) refl))
 
 -- a list without what doesn't pass
-filter-between : (p : HeldKey → Bool) (key : HeldKey) (before after : List HeldKey) → p key ≡ false → filter p (before ++ key ∷ after) ≡ filter p (before ++ after)
+filter-between : (p : HeldKey → Bool) (key : HeldKey) (before after : List HeldKey) → p key ≡ false
+    → filter p (before ++ key ∷ after) ≡ filter p (before ++ after)
 filter-between p key [] after fails = ap (λ b. cond b (key ∷ filter p after) (filter p after)) fails
-filter-between p key (first ∷ before) after fails = ap (λ rest. cond (p first) (first ∷ rest) rest) (filter-between p key before after fails)
+filter-between p key (first ∷ before) after fails =
+    ap (λ rest. cond (p first) (first ∷ rest) rest) (filter-between p key before after fails)
 
 -- ---- what is denied
 
 -- a key without constraints is seen
-seen_always : (chain : List Binding) (attempted : Bool) (wall : ℕ) → visible [] chain attempted wall ≡ false → ⊥
+seen_always : (chain : List Binding) (attempted : Bool) (wall : ℕ)
+    → visible [] chain attempted wall ≡ false → ⊥
 unfolding visible
 seen_always chain attempted wall is = absurd (cc)
 
 -- what isn't seen isn't signed with
-pub unseen-denied : (rules : List Constraint) (blob : List ℕ) (chain : List Binding) (message : List ℕ) (wall : ℕ) (attempted : Bool) → visible rules chain attempted wall ≡ false → denial_under rules blob chain message wall ≢ None
-unseen-denied [] blob chain message wall attempted unseen none = absurd (seen_always chain attempted wall unseen)
+pub unseen-denied : (rules : List Constraint) (blob : List ℕ) (chain : List Binding) (message : List ℕ) (wall : ℕ) (attempted : Bool)
+    → visible rules chain attempted wall ≡ false → denial_under rules blob chain message wall ≢ None
+unseen-denied [] blob chain message wall attempted unseen none =
+    absurd (seen_always chain attempted wall unseen)
 unseen-denied (rule ∷ rules) blob chain message wall attempted unseen none =
     let seen : visible (rule ∷ rules) chain attempted wall ≡ true = signed_is_visible (rule ∷ rules) blob chain message wall attempted none in
     absurd (cc)
@@ -81,7 +91,8 @@ pub same_work : (work : Work) → IsSameReply work work
 same_work work = record { text = refl; waits = refl; under_way = refl; put = refl }
 
 -- two failures are told alike
-pub both_fail : (one two : Cause) (under_way : UnderWay) → IsSameReply (settles (Refuses one) under_way) (settles (Refuses two) under_way)
+pub both_fail : (one two : Cause) (under_way : UnderWay)
+    → IsSameReply (settles (Refuses one) under_way) (settles (Refuses two) under_way)
 both_fail one two under_way = record { text = refl; waits = refl; under_way = refl; put = refl }
 
 module _ (asker : Asker) (key : HeldKey) (before after : List HeldKey) (held : KeyState) (under_way : UnderWay) (unseen : sees asker key ≡ false) (alone : find_identity key.blob (before ++ after) ≡ None) where
@@ -94,43 +105,53 @@ module _ (asker : Asker) (key : HeldKey) (before after : List HeldKey) (held : K
   listed : seen_by asker with ≡ seen_by asker without
   listed = ap (map shown) (filter-between (sees asker) key before after unseen)
 
-  same-signed : {one two : Option HeldKey} (signing : Signing) → Finds signing.blob key one two → IsSameReply (sign_by one asker signing under_way) (sign_by two asker signing under_way)
+  same-signed : {one two : Option HeldKey} (signing : Signing) → Finds signing.blob key one two
+      → IsSameReply (sign_by one asker signing under_way) (sign_by two asker signing under_way)
   same-signed signing (same found) = same_work (sign_by found asker signing under_way)
   same-signed signing this = by_denial (denial_under key.rules signing.blob asker.chain signing.message asker.wall) refl
     where
-      by_denial : (result : Option Denial) → denial_under key.rules signing.blob asker.chain signing.message asker.wall ≡ result → IsSameReply (sign_unless result asker key signing under_way) (sign_by None asker signing under_way)
+      by_denial : (result : Option Denial)
+          → denial_under key.rules signing.blob asker.chain signing.message asker.wall ≡ result
+          → IsSameReply (sign_unless result asker key signing under_way) (sign_by None asker signing under_way)
       by_denial None is = absurd (unseen-denied key.rules signing.blob asker.chain signing.message asker.wall asker.attempted unseen is)
       by_denial (Some denial) is = both_fail _ _ under_way
 
-  same-removed_seen : (seen : Bool) (blob : List ℕ) → IsSameReply (remove_seen seen blob with under_way).work (remove_seen seen blob without under_way).work
+  same-removed_seen : (seen : Bool) (blob : List ℕ)
+      → IsSameReply (remove_seen seen blob with under_way).work (remove_seen seen blob without under_way).work
   same-removed_seen true blob = same_work _
   same-removed_seen false blob = same_work _
 
-  same-removed_by : (found : Option HeldKey) (blob : List ℕ) → IsSameReply (remove_by found asker blob with under_way).work (remove_by found asker blob without under_way).work
+  same-removed_by : (found : Option HeldKey) (blob : List ℕ)
+      → IsSameReply (remove_by found asker blob with under_way).work (remove_by found asker blob without under_way).work
   same-removed_by None blob = same_work _
   same-removed_by (Some found) blob = same-removed_seen (sees asker found) blob
 
-  same-removed : {one two : Option HeldKey} (blob : List ℕ) → Finds blob key one two → IsSameReply (remove_by one asker blob with under_way).work (remove_by two asker blob without under_way).work
+  same-removed : {one two : Option HeldKey} (blob : List ℕ) → Finds blob key one two
+      → IsSameReply (remove_by one asker blob with under_way).work (remove_by two asker blob without under_way).work
   same-removed blob (same found) = same-removed_by found blob
   same-removed blob this = subst (λ seen. IsSameReply (remove_seen seen blob with under_way).work (remove_by None asker blob without under_way).work) (sym unseen) (both_fail _ _ under_way)
 
-  same-locked_by : (passphrase : List ℕ) → IsSameReply (lock_by passphrase with under_way).work (lock_by passphrase without under_way).work
+  same-locked_by : (passphrase : List ℕ)
+      → IsSameReply (lock_by passphrase with under_way).work (lock_by passphrase without under_way).work
   same-locked_by [] = same_work _
   same-locked_by (byte ∷ bytes) = same_work _
 
-  same-unlocked_by : (same : Bool) → IsSameReply (unlock_by same with under_way).work (unlock_by same without under_way).work
+  same-unlocked_by : (same : Bool)
+      → IsSameReply (unlock_by same with under_way).work (unlock_by same without under_way).work
   same-unlocked_by true = same_work _
   same-unlocked_by false = same_work _
 
   -- of an agent that isn't locked
-  same-unlocked : (request : ClientRequest) → ((addition : Addition) → request ≢ Add addition) → IsSameReply (serve_unlocked request asker with under_way).work (serve_unlocked request asker without under_way).work
+  same-unlocked : (request : ClientRequest) → ((addition : Addition) → request ≢ Add addition)
+      → IsSameReply (serve_unlocked request asker with under_way).work (serve_unlocked request asker without under_way).work
   same-unlocked ListIdentities other = record {
     text = ap (λ all. verdict_text (Replies (Identities all))) listed;
     waits = refl;
     under_way = refl;
     put = refl;
   }
-  same-unlocked (Sign signing) other = same-signed signing (finds key before after alone signing.blob)
+  same-unlocked (Sign signing) other =
+      same-signed signing (finds key before after alone signing.blob)
   same-unlocked (Add addition) other = absurd (other addition refl)
   same-unlocked (Remove blob) other = same-removed blob (finds key before after alone blob)
   same-unlocked RemoveAll other = same_work _
@@ -141,7 +162,8 @@ module _ (asker : Asker) (key : HeldKey) (before after : List HeldKey) (held : K
   same-unlocked (Unsupported number) other = same_work _
 
   -- of one that is
-  same-locked : (passphrase : List ℕ) (request : ClientRequest) → IsSameReply (serve_locked passphrase request with under_way).work (serve_locked passphrase request without under_way).work
+  same-locked : (passphrase : List ℕ) (request : ClientRequest)
+      → IsSameReply (serve_locked passphrase request with under_way).work (serve_locked passphrase request without under_way).work
   same-locked passphrase ListIdentities = same_work _
   same-locked passphrase (Sign signing) = same_work _
   same-locked passphrase (Add addition) = same_work _
@@ -153,10 +175,13 @@ module _ (asker : Asker) (key : HeldKey) (before after : List HeldKey) (held : K
   same-locked passphrase (OtherExtension name) = same_work _
   same-locked passphrase (Unsupported number) = same_work _
 
-  same-by : (lock : Option (List ℕ)) (request : ClientRequest) → ((addition : Addition) → request ≢ Add addition) → IsSameReply (serve_by lock request asker with under_way).work (serve_by lock request asker without under_way).work
+  same-by : (lock : Option (List ℕ)) (request : ClientRequest)
+      → ((addition : Addition) → request ≢ Add addition)
+      → IsSameReply (serve_by lock request asker with under_way).work (serve_by lock request asker without under_way).work
   same-by None request other = same-unlocked request other
   same-by (Some passphrase) request other = same-locked passphrase request
 
   -- whatever is asked, but for an addition
-  pub unseen-reply : (request : ClientRequest) → ((addition : Addition) → request ≢ Add addition) → IsSameReply (serve (Ok request) asker with under_way).work (serve (Ok request) asker without under_way).work
+  pub unseen-reply : (request : ClientRequest) → ((addition : Addition) → request ≢ Add addition)
+      → IsSameReply (serve (Ok request) asker with under_way).work (serve (Ok request) asker without under_way).work
   unseen-reply request other = same-by held.lock request other

@@ -90,7 +90,8 @@ module _ (number : ℕ) (on : Waits) (some : on ≢ Nothing) where
   -- its port stays unless it ended
   pub waits-quiet : {event : Happening} {old new : State} → Quiet event old new →
       event ≢ Ended number → IsPending old.ports → IsPending new.ports
-  waits-quiet {old = old} (alters at f change) open_yet told = waits-mild at f old.ports (mild_of change) told
+  waits-quiet {old = old} (alters at f change) open_yet told =
+      waits-mild at f old.ports (mild_of change) told
   waits-quiet {event = event} {old = old} (closes at may) open_yet told =
       told-removed number (Awaits on) at old.ports (other may) told
     where

@@ -33,18 +33,18 @@ bind_body tag of forwarding =
 abbrev pub bind : ℕ → ℕ → ℕ → List ℕ
 bind tag of forwarding = 0 ∷ 0 ∷ 0 ∷ 128 ∷ bind_body tag of forwarding
 
--- the same with a byte behind it, and with a host key whose last byte is missing
+-- the frame of a bind request with a byte too many at its end
 abbrev pub bind_trailing : List ℕ
 bind_trailing = 0 ∷ 0 ∷ 0 ∷ 129 ∷ (bind_body 161 193 1 ++ 0 ∷ [])
 
--- such a request whose host key lacks its last byte
+-- the frame of a bind request whose host key lacks its last byte
 abbrev pub bind_unreadable : List ℕ
 bind_unreadable =
     0 ∷ 0 ∷ 0 ∷ 127 ∷ 27 ∷ 0 ∷ 0 ∷ 0 ∷ 24 ∷ (codes "session-bind@openssh.com" ++ 0 ∷ 0 ∷ 0 ∷ 50
     ∷ 0 ∷ 0 ∷ 0 ∷ 11 ∷ (codes "ssh-ed25519" ++ 0 ∷ 0 ∷ 0 ∷ 32 ∷ (replicate 31 161
     ++ 0 ∷ 0 ∷ 0 ∷ 32 ∷ (session 193 ++ 0 ∷ 0 ∷ 0 ∷ 3 ∷ (codes "sig" ++ 1 ∷ [])))))
 
--- the same with a session of this length, by the frame's length in front
+-- the frame, of this length, of a bind request whose session has this length
 abbrev pub bind_long : ℕ → ℕ → ℕ → List ℕ
 bind_long frame_len len of =
     0 ∷ 0 ∷ 0 ∷ frame_len ∷ 27 ∷ 0 ∷ 0 ∷ 0 ∷ 24 ∷ (codes "session-bind@openssh.com"
@@ -88,7 +88,7 @@ bound_to forwarding events = binding_to forwarding (Heard 2 (right 1) ∷ Took 1
 abbrev pub once_more : ℕ → ℕ → List Happening
 once_more ask of = Heard 1 (bind 161 of 1) ∷ Took 2 111 ∷ Heard 2 (right ask) ∷ Took 1 5 ∷ []
 
--- the same for so many sessions, under the asks behind the first
+-- it asks to bind it to the host 161 again for so many sessions, under the asks behind the first
 abbrev pub many_more : ℕ → List Happening
 many_more zero = []
 many_more (suc count) = many_more count ++ once_more (suc (suc count)) (suc count)

@@ -19,7 +19,7 @@ abbrev pub holding : List Happening → State
 holding events =
     then (first_state no_settings) (Joined Clients ∷ Heard 1 (add 17) ∷ Took 1 5 ∷ events)
 
--- the same where the key has one use, and where it has two
+-- the client of port 1 added the key of tag 17 with one use, and these events came
 abbrev pub holding_once : List Happening → State
 holding_once events =
     then (first_state no_settings) (Joined Clients ∷ Heard 1 (add_once 17) ∷ Took 1 5 ∷ events)

@@ -77,7 +77,7 @@ abbrev pub GivesTime : Option ℕ → Type 0
 GivesTime None = Unit {0}
 GivesTime (Some limit) = 0 < limit
 
--- so is each of these
+-- both limits, where they are set, are at least a second
 pub record GiveTime (limits : TimeLimits) : Type 0 where
   pub ask : GivesTime limits.ask
   pub confirmation : GivesTime limits.confirmation

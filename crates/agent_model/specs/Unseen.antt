@@ -14,7 +14,7 @@ pub record IsSameReply (one two : Work) : Type 0 where
   pub under_way : one.under_way ≡ two.under_way
   pub put : one.put ≡ two.put
 
--- the same of two events: every port is owed and waits for the same
+-- every port is owed and waits for the same after two events, and the same is under way and put to the helper
 pub record IsSameFor (one two : Outcome) : Type 0 where
   pub ports : one.state.ports ≡ two.state.ports
   pub under_way : one.state.under_way ≡ two.state.under_way

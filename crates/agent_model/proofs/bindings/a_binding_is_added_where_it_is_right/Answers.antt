@@ -20,4 +20,5 @@ pub returns-clause-judged : goal.returns-clause-judged
 returns-clause-judged c = λ settings events. run-judged (first_state settings) events (first-tied settings) (first-judged settings)
 
 pub returns-clause-step : goal.returns-clause-step
-returns-clause-step c = λ state moment event tied judged. (step-judged state moment event tied judged).judged
+returns-clause-step c =
+    λ state moment event tied judged. (step-judged state moment event tied judged).judged

@@ -7,7 +7,8 @@ pub returns-clause-proved : goal.returns-clause-proved
 returns-clause-proved c = λ settings events number. run-bound number (first_state settings) events (first-tied settings) (first-judged settings)
 
 pub returns-clause-since : goal.returns-clause-since
-returns-clause-since c = λ state events number port tied judged. run-bound number state events tied judged port
+returns-clause-since c =
+    λ state events number port tied judged. run-bound number state events tied judged port
 
 pub returns-clause-apart : goal.returns-clause-apart
 returns-clause-apart c = λ settings events number port found. ((run-judged (first_state settings) events (first-tied settings) (first-judged settings)).chains number port found).1

@@ -35,14 +35,16 @@ unfolding front split_up_to split uint32 uint64 string announced_len uint32_at u
 plain-permitted = search rules
 
 pub returns-clause-permitted : goal.returns-clause-permitted
-returns-clause-permitted c = ap (λ (s : State). owed_of 1 s) (at_second-plain 0 199 (Heard 3 (granted 2))) ∙ plain-permitted
+returns-clause-permitted c =
+    ap (λ (s : State). owed_of 1 s) (at_second-plain 0 199 (Heard 3 (granted 2))) ∙ plain-permitted
 
 plain-denied : owed_of 1 (plain_at (record { mono = 0; wall = 200 }) (Heard 3 (granted 2)) plain_bound) ≡ failed
 unfolding front split_up_to split uint32 uint64 string announced_len uint32_at uint64_at string_len string_at blob_fields_at certificate_blob_at blob_at added_key_at private_at form_named public_key_of field_at fields_at after_fields form_at restrict_destination uses_name kind_at contents_at next_at terms_up_to terms_of request_of_number request_of is_addition session_bind bind_front names_bind find_identity put_identity remove_identity spend_identity alive_at entries_len find_number visible denial bad_place is_hop judge from_child_of_kind from_child_of verdict settling is_match names_at holder_at times_at signer_at certificate_at are_strings_up_to are_strings names_host_up_to is_valid after_byte after_text session_at method_named method_at after_key host_key_at auth_of all_up_to all_of key_at after_reserved hop_in as_from as_to constraint_in constraint_at rules_in consent
 plain-denied = search rules
 
 pub returns-clause-denied : goal.returns-clause-denied
-returns-clause-denied c = ap (λ (s : State). owed_of 1 s) (at_second-plain 0 200 (Heard 3 (granted 2))) ∙ plain-denied
+returns-clause-denied c =
+    ap (λ (s : State). owed_of 1 s) (at_second-plain 0 200 (Heard 3 (granted 2))) ∙ plain-denied
 
 plain-asked : (plain_at (record { mono = 0; wall = 199 }) (Heard 3 (granted 2)) plain_bound).under_way.link.last ≡ 2
 unfolding front split_up_to split uint32 uint64 string announced_len uint32_at uint64_at string_len string_at blob_fields_at certificate_blob_at blob_at added_key_at private_at form_named public_key_of field_at fields_at after_fields form_at restrict_destination uses_name kind_at contents_at next_at terms_up_to terms_of request_of_number request_of is_addition session_bind bind_front names_bind find_identity put_identity remove_identity spend_identity alive_at entries_len find_number visible denial bad_place is_hop judge from_child_of_kind from_child_of verdict settling is_match names_at holder_at times_at signer_at certificate_at are_strings_up_to are_strings names_host_up_to is_valid after_byte after_text session_at method_named method_at after_key host_key_at auth_of all_up_to all_of key_at after_reserved hop_in as_from as_to constraint_in constraint_at rules_in consent

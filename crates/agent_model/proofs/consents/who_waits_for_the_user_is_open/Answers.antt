@@ -10,4 +10,5 @@ pub returns-clause-step : goal.returns-clause-step
 returns-clause-step c = step-attended
 
 pub returns-clause-waits : goal.returns-clause-waits
-returns-clause-waits c = λ state number job port tied found waits. tied.raised.asking.waits number job port found waits
+returns-clause-waits c =
+    λ state number job port tied found waits. tied.raised.asking.waits number job port found waits

@@ -9,7 +9,8 @@ pub returns-clause-signed : goal.returns-clause-signed
 returns-clause-signed c = λ one signature before port found. told_found one.asker (Replies (Signature signature)) before.ports port found
 
 pub returns-clause-refused : goal.returns-clause-refused
-returns-clause-refused c = λ one before port found. told_found one.asker (Refuses HelperRefused) before.ports port found
+returns-clause-refused c =
+    λ one before port found. told_found one.asker (Refuses HelperRefused) before.ports port found
 
 pub returns-clause-lost : goal.returns-clause-lost
 returns-clause-lost c = others_lose_nothing (Refuses HelperLost)

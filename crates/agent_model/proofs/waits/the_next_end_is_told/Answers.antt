@@ -4,7 +4,8 @@ use Rattle.agent_model.proofs.TimeLemmas.{on_time-stays, on_time-step}
 use Rattle.agent_model.proofs.waits.the_next_end_is_told.Goals as goal
 
 pub returns-clause-before : goal.returns-clause-before
-returns-clause-before c = λ moment state small ahead. on_time-stays moment state (ahead-on_time moment state small ahead)
+returns-clause-before c =
+    λ moment state small ahead. on_time-stays moment state (ahead-on_time moment state small ahead)
 
 pub returns-clause-event : goal.returns-clause-event
 returns-clause-event c = λ moment state event small ahead. on_time-step moment state event (ahead-on_time moment state small ahead)
